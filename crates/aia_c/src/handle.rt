@@ -53,8 +53,9 @@ impl Handle {
         }
     }
 
-    /// Puts an engine in, so the handle is open; one that was there is let go.
+    /// Puts an engine into the handle, which is closed, so it is open.
     pub fn put(&mut self, engine: Box<Engine>)
+        requires { self.old.engine ≡ None }
         ensures { self.new.engine ≡ Some engine.value }
     {
         *self = Handle::of(Block::of(engine));

@@ -41,8 +41,8 @@ head_lines = Machine 2 2 63 8 ∷ Vm 2 0x38 0 ∷ Vm 2 0x38 1 ∷ []
 
 -- ---- the body
 
--- The MSI address of virtual hart c of a VM, in the VM's own space: by the mask of the head the
--- next one's is 8 pages on, whatever lies between the files of the machine.
+-- The MSI address of virtual hart c of a VM, in the VM's own space: by the mask of the head, each
+-- one's is 8 pages above the one before, whatever lies between the files of the machine.
 abbrev pub own_address : ℕ → ℕ
 own_address c = PATTERN * PAGE + c * OWN_STRIDE
 

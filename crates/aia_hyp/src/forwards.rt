@@ -156,8 +156,8 @@ impl Core {
     /// Delivers an MSI of an APLIC to the file in whose page its address lies: a machine-level or a
     /// supervisor file that is there, or, of a passed source, the guest file of its virtual hart;
     /// elsewhere it is dropped. An MSI of a passed source goes where its pass leads. Where that is
-    /// its notice hart, the hypervisor takes its identity there again, and gives the interrupt on
-    /// to the slot of the virtual hart, with a notice where one is due. Profile.
+    /// its notice hart, the hypervisor takes the pass's identity back there, and gives the
+    /// interrupt on to the slot of the virtual hart, with a notice where one is due. Profile.
     pub fn deliver(&mut self, msi: Msi)
         requires { MayGo self.old (Delivered msi) }
         ensures { CoreHears self.old self.new msi }

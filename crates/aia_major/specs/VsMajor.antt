@@ -151,7 +151,7 @@ sie_value m = majors_word m.enabled
 -- ---- the major on top
 
 -- A major that may be on top: the lower its priority number, the higher its priority; of two with
--- the same one that with the lower rank comes first.
+-- the same priority number, the one with the lower rank comes first.
 pub record Candidate : Type 0 where
   pub major : ℕ
   pub number : ℕ

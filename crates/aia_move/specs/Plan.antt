@@ -97,8 +97,8 @@ abbrev pub StepsTo : Option Aim → World → Moving → World → Next → Type
 StepsTo None w m u next = OnceLanded w m (λ landed. Advances landed m u next)
 StepsTo (Some aim) w m u next = MatchNext next (λ p. GoesAiming w m u (moving_of p)) (λ o. ⊥)
 
--- The same by the phase of the step; None: it aims. A step of the first phase alone lands stores
--- that are in flight, before its access.
+-- The same by the phase of the step; None: it aims. Stores in flight land before one step alone,
+-- the fence of the entry, which is of the first phase.
 abbrev pub StepsByPhase : Option Phase → World → Moving → World → Next → Type 0
 StepsByPhase None w m u next = StepsTo (Some (aim_of m)) w m u next
 StepsByPhase (Some FirstPhase) w m u next = StepsTo None w m u next

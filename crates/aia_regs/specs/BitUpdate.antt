@@ -8,7 +8,7 @@ pub data BitUpdate : Type 0 where
   Nothing : BitUpdate
 
 -- Whether a bit is a one after an event, given what the event says of it and whether it was one
--- before. So a bit is a one exactly where its newest word asks for it.
+-- before. So a bit is a one exactly where the newest event that says something of it asks for it.
 abbrev pub settle : BitUpdate → Bool → Bool
 settle Ask was = true
 settle Clear was = false

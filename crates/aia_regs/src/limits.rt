@@ -36,7 +36,7 @@ pub const SLOTS: u32 = VCPUS;
 /// The most ones that a VM's mask has; it has at least 1.
 pub const MASK_ONES: u32 = 4;
 
-/// How many bits a VM's mask has, the lowest: its ones are all among them.
+/// The ones of a VM's mask are all among its lowest bits, as many as this.
 pub const MASK_BITS: u32 = 15;
 
 /// The entries of a VM's MSI page table: as many as [`MASK_ONES`] bits number.

@@ -370,8 +370,7 @@ const TWO_IN_HAND: [Step; 16] = [
     Step::Wake,
 ];
 
-/// What refused plans lose: the enables; 9, which a device stores before the late fence; and 11,
-/// which another virtual hart stores before the late G fence. The lost ones stay in the old file.
+/// What two refused plans lose: the enables; and 9, which a device stores before the late fence.
 fn loses(rt: &impl Abort, files: (FileLease, FileLease), fabric: &mut Fabric)
     requires first { IsFileThere fabric.old (places.File files.0) }
     requires second { IsFileThere fabric.old (places.File files.1) }
@@ -389,7 +388,7 @@ fn loses(rt: &impl Abort, files: (FileLease, FileLease), fabric: &mut Fabric)
     drop(second);
 }
 
-/// The same of the late G fence.
+/// What a third one loses: 11, which another virtual hart stores before the late G fence.
 fn loses_a_peer(rt: &impl Abort, files: (FileLease, FileLease), fabric: &mut Fabric)
     requires first { IsFileThere fabric.old (places.File files.0) }
     requires second { IsFileThere fabric.old (places.File files.1) }

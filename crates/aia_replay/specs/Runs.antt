@@ -38,7 +38,7 @@ HasAtMost count None = ⊥
 HasAtMost count (Some script) = length script ≤ count
 
 -- The script has at most so many bytes: the source tells that; or, what a source that tells no
--- bytes can say too, its count of the bytes that it gave did not rise by one more than those.
+-- bytes can say too, its count of the bytes that it gave did not rise by one more than so many.
 abbrev pub FitsIn : ℕ → Supply → Supply → Type 0
 FitsIn count left rest =
     HasAtMost count left.to_come ⊎ (¬ RoseBy (count + 1) left.given rest.given)

@@ -23,8 +23,8 @@ use Rattle.aia_replay.specs.declared.machine.Machine.{Machine}
 
 -- ---- a machine
 
--- The core stands for a history, the APLIC for a past; while MSIs wait that is not yet the past
--- that the history gives, `acts_of`.
+-- The core stands for a history, the APLIC for a past; while MSIs wait, that past is not yet
+-- `acts_of` of the history.
 pub record MachineHolds (m : Machine) (h : History) (past : Past) : Type 0 where
   pub core : CoreStands m.core h
   pub aplic : AplicStands m.wires.aplic past

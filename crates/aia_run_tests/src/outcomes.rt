@@ -56,7 +56,7 @@ pub(crate) fn outcome_of(
     ending(alloc, status, sink)
 }
 
-/// Makes the source of a script.
+/// Makes the source of a script or a plan.
 pub(crate) fn source_of(alloc: Global, script: &[u8], ends: Ends) -> Result<MemSource, AllocError> {
     let failing = vec![in alloc; ends.failing_read]?;
     let script = Vec::from_slice(alloc, script)?;

@@ -2,7 +2,7 @@
 //! line. Lines are read and printed by its rows.
 //!
 //! Those that end with a CSR instruction or a part of an image, `begin`, and those that have a word
-//! of their own behind a hart, have functions beside it.
+//! of their own behind a hart or a virtual hart, have functions beside it.
 
 ghost use Rattle.std.specs.Prelude.{◌≡◌, ◌≤◌, [], ◌∷◌, length, map};
 ghost use Rattle.std.specs.List.{join_with_byte, AllByRecursion};
@@ -69,7 +69,7 @@ macro_rules! majors {
     };
 }
 
-/// Hands on the rows of what is made of a machine and what it shows, likewise.
+/// Hands on the rows of the machine, VMs, passes, pins and entries, likewise.
 macro_rules! machine {
     (($take:ident $args:tt) $($rows:tt)*) => {
         $take! { $args $($rows)*
@@ -185,7 +185,7 @@ fn load_part_at(words: &mut Words<'_>) -> Option<Line>
     load_part_of(vm, number, words)
 }
 
-/// Reads the line that a text spells, of what is made of a machine or what it shows; `None` where
+/// Reads the line that a text spells, of the machine, a VM, a pass, pins or an entry; `None` where
 /// it spells none.
 #[inline(always)]
 fn machine_line(text: &[u8]) -> Option<Line>
