@@ -36,9 +36,9 @@ impl Engine {
         Engine { machine: None }
     }
 
-    /// Answers a line. Only an accepted `machine` line takes memory; where there is none, no
-    /// machine stands and all is as before. After a refused line it stands for the same history.
-    /// The line's CSR is one that lines of its form name.
+    /// Answers a line. `Err` is want of memory, which an accepted `machine` line alone takes: no
+    /// machine stands then, and all is as before. After a refused line it stands for the same
+    /// history. The line's CSR is one that lines of its form name.
     pub fn line(&mut self, alloc: Global, line: &Line) -> Result<Answer, AllocError>
         requires { IsListed line.now }
         ensures serves { IfOk result (Serves self.old self.new line.now) }
@@ -112,7 +112,8 @@ impl Engine {
     }
 
     /// Answers a text of a script, by what it reads as: `None` exactly for a skipped text, and
-    /// `Bad` for one that is neither skipped nor a line. Both change nothing.
+    /// `Bad` for one that is neither skipped nor a line. Both change nothing. `Err` is as of
+    /// [`Engine::line`].
     #[inline(always)]
     pub fn text(&mut self, alloc: Global, text: &[u8]) -> Result<Option<Answer>, AllocError>
         ensures serves { IfOk result (ServesText self.old self.new (reading text.now)) }

@@ -151,8 +151,9 @@ impl Replayer {
         Ok(())
     }
 
-    /// Reads the source to its end, or to its limit, and answers what it gives: `Done`, `ReadFault`
-    /// or `TooLong`.
+    /// Reads the source to its end, or to its limit, and answers the lines that it gives. The
+    /// status is `Done`, `ReadFault` or `TooLong`; `Err` is a sink that failed, or want of memory
+    /// for a machine.
     pub fn read_all<S: Source, K: Sink>(
         &mut self,
         alloc: Global,
