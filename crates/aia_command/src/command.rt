@@ -15,12 +15,9 @@ use std::alloc::{AllocError, Global};
 pub(crate) fn command<'a>(alloc: Global) -> Result<Command<'a>, AllocError>
     ensures { IfOk result (λ made. app_of made ≡ the_command) }
 {
-    let generate = generate_command(alloc)?;
-    let audit = audit_command(alloc)?;
-    let whole = bare_command(alloc)
-        .subcommand(replay_command(alloc))?
-        .subcommand(generate)?
-        .subcommand(audit)?;
+    let with_replay = bare_command(alloc).subcommand(replay_command(alloc))?;
+    let with_generate = with_replay.subcommand(generate_command(alloc)?)?;
+    let whole = with_generate.subcommand(audit_command(alloc)?)?;
     Ok(whole)
 }
 

@@ -6,8 +6,8 @@ use Rattle.aia_command.proofs.command.command.Goals as goal
 pub returns : goal.returns
 unfolding the_command
 returns c =
-    let first : app_of c.in_ok-subcommand.field-0 ≡ with_subcommand bare_command replay_command.top = c.in_ok-subcommand.ensures.shape (search rules)
+    let first : app_of c.in_ok-with_replay.with_replay ≡ with_subcommand bare_command replay_command.top = c.in_ok-with_replay.ensures.shape (search rules)
     ∙ ap₂ with_subcommand c.bare_command.ensures.shape (ap (λ (a : App). a.top) c.replay_command.ensures.shape) in
-    let second : app_of c.in_ok-subcommand-2.field-0 ≡ with_subcommand (with_subcommand bare_command replay_command.top) generate_command.top = c.in_ok-subcommand-2.ensures.shape (search rules)
-    ∙ ap₂ with_subcommand first (ap (λ (a : App). a.top) c.in_ok-generate.ensures.shape) in
-    c.in_ok-whole.ensures.shape (search rules) ∙ ap₂ with_subcommand second (ap (λ (a : App). a.top) c.in_ok-audit.ensures.shape)
+    let second : app_of c.in_ok-with_generate.with_generate ≡ with_subcommand (with_subcommand bare_command replay_command.top) generate_command.top = c.in_ok-with_generate.ensures.shape (search rules)
+    ∙ ap₂ with_subcommand first (ap (λ (a : App). a.top) c.in_ok-generate_command.ensures.shape) in
+    c.in_ok-whole.ensures.shape (search rules) ∙ ap₂ with_subcommand second (ap (λ (a : App). a.top) c.in_ok-audit_command.ensures.shape)
