@@ -143,8 +143,9 @@ def answers():
     first = {}
     for text in shapes("part_shape"):
         first[("part_shape", text)] = text.split()[0]
-    for name in ("answer_word", "refusal_word", "entry_text"):
-        for pattern, right in clauses("aia_model", "AnswerText", name):
+    stand_in = {"answer_word": "Answer", "refusal_word": "AnswerText", "entry_text": "AnswerText"}
+    for name, module in stand_in.items():
+        for pattern, right in clauses("aia_model", module, name):
             if match := re.match(r'codes "(\w+)', right):
                 key = pattern.strip("()").split()[0].split(".")[-1]
                 first[(name, key)] = match.group(1)

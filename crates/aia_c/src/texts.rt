@@ -1,7 +1,7 @@
 //! Texts and scripts, answered into room that C lends.
 
 ghost use Rattle.std.specs.Prelude.{◌≡◌, ◌⊎◌, ◌-◌, ◌<◌, ◌≤◌, [], ◌∷◌, ◌++◌, length, take, drop, IfOk, OnErr};
-ghost use Rattle.aia_model.specs.AnswerText.{answer_text};
+ghost use Rattle.aia_model.specs.Answer.{answer_text};
 ghost use Rattle.aia_replay.specs.Runs.{NoEnd, IsWhole};
 ghost use Rattle.aia_c.specs.Calls.{Answers, Takes, WantsMemory};
 ghost use Rattle.aia_c.specs.Codes.{number};

@@ -21,14 +21,14 @@ use Rattle.aia_moving.specs.declared.turn.Closed.TheVariants as closed
 use Rattle.aia_moving.specs.Move.{Moving, width, MoveFits}
 use Rattle.aia_moving.specs.Targets.{aims, passes_of, has_unaimed, one_aimed, aim_if}
 use Rattle.aia_moving.specs.Carrier.{CarrierState, progress_of, moving, one_aim_done}
-use Rattle.aia_moving.specs.Turns.{IsIn, IsAtAims, IsInDrain, IsMove, GoesOn, AimsOn, MatchClosed}
+use Rattle.aia_moving.specs.Turns.{IsIn, IsAtAims, IsMove, GoesOn, AimsOn, MatchClosed}
 use Rattle.aia_moving.specs.Landings.{OnceLanded}
 use Rattle.aia_moving.proofs.PhaseSteps.{middle, begins_on}
 use Rattle.aia_moving.proofs.LandingLemmas.{past_fence, none_lands}
 use Rattle.aia_moving.proofs.StepLemmas.{steps_are}
 use Rattle.aia_move.specs.declared.plan.Plan.{Plan}
 use Rattle.aia_move.specs.declared.plan.Next.{Next}
-use Rattle.aia_move.specs.Plan.{moving_of, is_in_aim, NextStepIsOf, IsInPhase, IsLastOf, phase_of, StepsTo, Advances, StepsByPhase, InPlaceByPhase, EndsPhaseOrAims, StepsInPlace}
+use Rattle.aia_move.specs.Plan.{moving_of, is_in_aim, IsInDrain, NextStepIsOf, IsInPhase, IsLastOf, phase_of, StepsTo, Advances, StepsByPhase, InPlaceByPhase, EndsPhaseOrAims, StepsInPlace}
 
 -- ---- when a step aims
 

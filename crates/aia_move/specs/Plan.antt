@@ -10,9 +10,9 @@ use Rattle.aia_move.specs.declared.plan.Next.TheVariants.{Again, Finished}
 use Rattle.aia_moving.specs.declared.turn.Outcome.{Outcome}
 use Rattle.aia_world.specs.World.{World}
 use Rattle.aia_moving.specs.Move.{Moving, width, MoveFits, Goes}
-use Rattle.aia_moving.specs.Targets.{Aim, aim_of, next_aim, one_aimed}
+use Rattle.aia_moving.specs.Targets.{Aim, aims, aim_of, next_aim, one_aimed}
 use Rattle.aia_moving.specs.Landings.{OnceLanded}
-use Rattle.aia_moving.specs.Turns.{IsIn, IsAtAims, IsInDrain, GoesOn, EndsAs}
+use Rattle.aia_moving.specs.Turns.{IsIn, IsAtAims, GoesOn, EndsAs}
 
 -- ---- a plan and its phase
 
@@ -63,6 +63,11 @@ phase_of (ShiftLast m) = Some LastPhase
 -- Whether it is in the phase of aims.
 abbrev pub is_in_aim : Plan → Bool
 is_in_aim plan = is_none (phase_of plan)
+
+-- A move is in the phase of the pending set, and all passed sources are aimed.
+pub record IsInDrain (words : ℕ) (m : Moving) : Type 0 where
+  pub phase : IsIn DrainPhase words m
+  pub aimed : aims m ≡ false
 
 -- The next step of a move, of files of so many words, is a step of this phase; None: it aims. The
 -- pending set is carried once all passed sources are aimed.

@@ -6,8 +6,8 @@ ghost use Rattle.aia_home.specs.Phases.{begins, after_enable};
 ghost use Rattle.aia_home.specs.Phases.Phase.{ClosingPhase, DrainPhase, EnablePhase};
 ghost use Rattle.aia_moving.specs.Move.{MoveFits, old_at, new_at, width};
 ghost use Rattle.aia_moving.specs.Targets.{ArePasses, aim_of, has_unaimed};
-ghost use Rattle.aia_moving.specs.Turns.{IsIn, IsAtAims, IsInDrain, GoesOn, AimsOn, MatchTurn, MatchClosed};
-ghost use Rattle.aia_move.specs.Plan.{GoesInPlace};
+ghost use Rattle.aia_moving.specs.Turns.{IsIn, IsAtAims, GoesOn, AimsOn, MatchTurn, MatchClosed};
+ghost use Rattle.aia_move.specs.Plan.{IsInDrain, GoesInPlace};
 
 use crate::carrier::Carrier;
 use crate::kind::Kind;

@@ -1,7 +1,7 @@
 ghost use Rattle.std.specs.Prelude.{◌≡◌, ℕ, ◌+◌, ◌*◌, ◌^◌, ◌<◌, ◌≤◌, List, [], ◌++◌, length, Option, OnOk, OnErr};
 ghost use Rattle.std.specs.Io.KnownBytes.{Appends};
 ghost use Rattle.aia_io.specs.Ends.{Rose, CutOff};
-ghost use Rattle.aia_model.specs.AnswerText.{answer_text};
+ghost use Rattle.aia_model.specs.Answer.{answer_text};
 ghost use Rattle.aia_replay.specs.Buffered.{Gathers};
 
 use crate::limits::BUFFER_BYTES;

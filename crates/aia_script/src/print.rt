@@ -3,7 +3,8 @@
 ghost use Rattle.std.specs.Prelude.{◌≡◌, ◌+◌, ◌≤◌, [], ◌++◌};
 ghost use Rattle.arrayvec.specs.ArrayVec.{array_vec_len};
 ghost use Rattle.aia_model.specs.declared.limits.TheConstants.{ANSWER_BYTES};
-ghost use Rattle.aia_model.specs.AnswerText.{level_text, entry_text, refusal_word, answer_word, answer_text};
+ghost use Rattle.aia_model.specs.Answer.{answer_word, answer_text};
+ghost use Rattle.aia_model.specs.AnswerText.{level_text, entry_text, refusal_word};
 
 use crate::number::Radix;
 use crate::parts::push_part;
@@ -108,7 +109,7 @@ pub fn print_answer(answer: &Answer, out: &mut ArrayVec<u8, ANSWER_BYTES>)
 
 /// Appends an answer: its word and an LF, at most [`ANSWER_BYTES`] bytes in all, for which there is
 /// room.
-#[tactic(auto, unfolding(aia_model::specs::AnswerText::answer_text))]
+#[tactic(auto, unfolding(aia_model::specs::Answer::answer_text))]
 pub fn push_answer<const N: usize>(out: &mut ArrayVec<u8, N>, answer: &Answer)
     requires { array_vec_len out.old + ANSWER_BYTES ≤ N }
     ensures text { out.new.items ≡ out.old.items ++ answer_text answer.now }

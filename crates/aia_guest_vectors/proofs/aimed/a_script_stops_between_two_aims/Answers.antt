@@ -16,8 +16,8 @@ use Rattle.aia_model.specs.SourceOf.{wire_of, enabled, target, pending, genmsi_w
 use Rattle.aia_source.specs.Top.{least_pair}
 use Rattle.aia_model.specs.AddressOf.{addresses_of}
 use Rattle.aia_model.specs.Sent.{all_senders}
-use Rattle.aia_model.specs.Answer.{answer, after}
-use Rattle.aia_model.specs.AnswerText.{hex_digits, answer_text}
+use Rattle.aia_model.specs.Answer.{answer, answer_text, after}
+use Rattle.aia_model.specs.AnswerText.{hex_digits}
 use Rattle.aia_vectors.specs.Rows.{script_of}
 use Rattle.aia_model.proofs.HistoryLemmas.{script_happens}
 use Rattle.aia_model.proofs.PassesStandLemmas.{passes_stand}
