@@ -11,7 +11,7 @@ pub data Phase : Type 0 where
   FirstPhase : Phase
   -- so does the G-stage record
   ClosingPhase : Phase
-  -- the pending set is carried, then the enabled set
+  -- passed sources are aimed and the pending set is carried, then the enabled set is
   DrainPhase : Phase
   EnablePhase : Phase
   -- both sets are looked at in memory
@@ -21,6 +21,7 @@ pub data Phase : Type 0 where
   -- all steps are done
   AllDone : Phase
 
+-- The phase after a phase, as a leave has them.
 abbrev pub following : Phase → Phase
 following FirstPhase = ClosingPhase
 following ClosingPhase = DrainPhase
@@ -30,7 +31,8 @@ following LookPhase = LastPhase
 following phase = AllDone
 
 -- How many steps are done as a phase of a plan begins, of files of so many words: all those before
--- its first access.
+-- its first access. Where a plan has no looks LookPhase begins where LastPhase does, and no step is
+-- in it.
 abbrev pub leave_begins : ℕ → Phase → ℕ
 leave_begins words FirstPhase = leave_step words TakeDelivery
 leave_begins words ClosingPhase = leave_step words Map

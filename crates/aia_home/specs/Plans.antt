@@ -62,7 +62,7 @@ shift_plan words =
     (TakeDelivery ∷ WriteEntry ∷ Fence ∷ Map ∷ GFence ∷ [])
     ++ all_words words ++ TakeThreshold ∷ PutThreshold ∷ PutDelivery ∷ []
 
--- How many steps each of them has.
+-- How many steps each of them has, those that aim passed sources aside.
 abbrev pub leave_steps : ℕ → ℕ
 leave_steps words = 8 + 5 * words
 
@@ -125,7 +125,8 @@ is_in_shift words WriteNotice = false
 is_in_shift words Post = false
 is_in_shift words access = true
 
--- The step of a leave that makes an access; of an arrival; of a shift.
+-- The step of a leave that makes an access; of an arrival; of a shift. It says nothing of an access
+-- that the plan does not have.
 abbrev pub leave_step : ℕ → Access → ℕ
 leave_step words TakeDelivery = 0
 leave_step words WriteNotice = 1
