@@ -18,7 +18,7 @@ use Rattle.aia_model.specs.Act.Act.{Aimed}
 -- ---- where a pass leads
 
 -- The guest file that a pass reaches, by its number; None: the slot of its virtual hart, by the
--- supervisor file of the virtual hart's notice hart.
+-- supervisor file of the virtual hart's notice hart; and which hart that is.
 abbrev pub pass_reach : History → ℕ → Option Place
 pass_reach h p = pass_reaches (rank_of h p) (home h (nth_pass h p).to)
 
