@@ -1,4 +1,4 @@
--- The words that a cursor has left.
+-- The words that a cursor, which is the code's `Words`, has left.
 use Rattle.std.specs.Prelude.{ℕ, nat_eq, if◌then◌else◌, List, [], ◌∷◌, Option, Some, None}
 use Rattle.std.specs.Borrow.{Bor}
 use Rattle.aia_model.specs.Text.{words_of}

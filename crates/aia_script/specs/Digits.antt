@@ -1,4 +1,4 @@
--- The digits of a number, by their base.
+-- The digits of a number, by their base, and the number that a text begins with.
 use Rattle.std.specs.Prelude.{ℕ, zero, suc, ◌+◌, ◌*◌, ◌^◌, nat_eq, if◌then◌else◌, List, [], ◌∷◌, length, Option, Some, None}
 use Rattle.aia_model.specs.Text.{decimal_digit, hex_digit, below, ◌>>=◌}
 use Rattle.aia_script.specs.Cursor.{words_after}
@@ -32,8 +32,8 @@ number_from radix (suc most) n (c ∷ cs) =
 abbrev pub below_limit : Option (ℕ × List (List ℕ)) → Option (ℕ × List (List ℕ))
 below_limit found = found >>= λ p. below (2 ^ 64) p.0 >>= λ n. Some (n, p.1)
 
--- The number of a text's first word, with the words after it, by what it begins with: `0x` and a
--- digit, another word that begins with `0`, or a decimal digit.
+-- The number of a text's first word, with the words after it; given what follows `0x`, what follows
+-- `0`, or the whole text.
 abbrev pub after_x : List ℕ → Option (ℕ × List (List ℕ))
 after_x [] = None
 after_x (c ∷ cs) = hex_digit c >>= λ d. below_limit (number_from Hexadecimal 15 d cs)

@@ -378,8 +378,11 @@ fn push_line(line: &Line, out: &mut ArrayVec<u8, LINE_BYTES>)
 /// Appends the printing spelling of a line to `out`, which is empty. The line's CSR is one that
 /// lines of its form name.
 ///
-/// A single space stands between two fields. Addresses, values and operands are `0x` and lower-case
-/// digits, all other numbers are decimal, and none has leading zeros.
+/// A single space stands between two fields. Addresses, masks, the words of `entry`, operands of
+/// CSR instructions, and the values of `st`, `hvictl` and `hviprio` are `0x` and lower-case digits
+/// without leading zeros; in a part of an image the select number, the registers of majors and both
+/// words are `0x` and sixteen digits. All other numbers are decimal, those stored by `msi`, `send`
+/// and `ipi` too.
 ///
 /// `parse_line(print_line(x)) = Line(x)`: the clause `again` says that the reading of what is
 /// printed is `Line(line)`, and `parse_line` returns the reading of its text. Nothing is allocated.

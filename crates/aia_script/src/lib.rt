@@ -1,7 +1,7 @@
 //! A script's text: what line a text spells, and how an answer is printed. A plan's text: what step
 //! a text spells.
 //!
-//! `aia_model` states the grammar as a table of fields.
+//! `aia_model` states the grammar as a table of forms.
 #![tactic(auto)]
 
 mod forms;

@@ -23,9 +23,10 @@ pub fn is_skipped(text: &[u8]) -> bool
 
 /// Reads a text of a script, which is cut into texts at LF.
 ///
-/// `Line(line)` says that the text spells `line`, and no other line. `Skip` says that it is empty,
-/// or a comment: it begins with `#` and has at most 128 bytes. `Bad` says that it is neither: it
-/// spells no line, as every text of more than 128 bytes. Nothing is allocated.
+/// `Line(line)` says that the text spells `line`, and no other line; its CSR, if it has one, is one
+/// that lines of its form name. `Skip` says that it is empty, or a comment: it begins with `#` and
+/// has at most 128 bytes. `Bad` says that it is neither: it spells no line, as every text of more
+/// than 128 bytes. Nothing is allocated.
 #[inline(always)]
 pub fn parse_line(text: &[u8]) -> Parsed
     ensures line { (line : Line) → (result ≡ Parsed.Line line) ↔ Spells text.now line }
