@@ -229,8 +229,8 @@ impl Carrier {
         self.aims < self.who.passes.len()
     }
 
-    /// Aims the next passed source at a guest file, `None`: at the slot, whose forwards the notice
-    /// hart makes.
+    /// Aims the next passed source at a guest file, `None`: at the notice hart, where its MSIs are
+    /// given on to the slot.
     pub fn aim<T: Targets>(&mut self, targets: &mut T, to: Option<&FileLease>)
         requires more { self.old.aims < passes_of self.old.who }
         requires passes { ArePasses self.old.who }

@@ -115,15 +115,14 @@ hand_after access m w = m.hand
 abbrev pub IsWho : World → Who → Type 0
 IsWho w who = IsFound w who.found
 
--- Its places are there: the virtual hart with its slot and notice hart, and the files of its home;
--- and no word 0 that it carries has identity 0.
+-- The next step of a move can be made: the virtual hart is there, with its slot and notice hart, so
+-- are the files of its home, and no word 0 that is carried has identity 0.
 pub record MoveFits (w : World) (m : Moving) : Type 0 where
   pub there : is_vcpu_in w.vms (mover m) ≡ true
   pub slot : m.who.found.slot ≡ slot_of w.vms (mover m)
   pub notice : m.who.found.notice ≡ notice_hart w.vms (mover m)
   pub own : (p : Place) → own_file m.home ≡ Some p → IsThere w.imsic (spot_of p)
   pub next : (p : Place) → next_file m.home ≡ Some p → IsThere w.imsic (spot_of p)
-  -- a word 0 that is carried has no identity 0
   pub no_pending_zero : is_carried (width w) m.home (TakePending 0) ≡ true
       → has_bit m.hand.word 0 ≡ false
   pub no_enabled_zero : is_carried (width w) m.home (TakeEnables 0) ≡ true

@@ -27,7 +27,7 @@ pub record AimsOne (old : TargetMap) (source target : ℕ) (new : TargetMap) : T
 
 -- ---- passes
 
--- Each has an identity that a file may have, and a number below that of all passes.
+-- Each has an identity up to the greatest that a file may have, and a number below `PASSES`.
 abbrev pub ArePasses : Who → Type 0
 ArePasses who =
     All (λ (p : Pass). (p.identity ≤ IDENTITIES) × (p.number < PASSES)) who.passes.items

@@ -2,7 +2,7 @@ use aia_regs::limits::PASSES;
 use aia_world::Found;
 use arrayvec::ArrayVec;
 
-/// A wired source that is passed to a virtual hart. Profile: passes.
+/// A wired source that is passed to a virtual hart, as a plan of its moves has it. Profile: passes.
 #[derive(Clone, Copy, Debug, Default, PartialEq, Eq)]
 pub struct Pass {
     /// The source.
@@ -22,8 +22,8 @@ pub struct Who {
     pub passes: ArrayVec<Pass, PASSES>,
 }
 
-/// What the hypervisor keeps of a parked virtual hart's interrupt file: its numbers, which its slot
-/// of memory has no room for.
+/// What the hypervisor keeps of the interrupt file of a virtual hart whose interrupts rest in
+/// memory: its numbers, which its slot has no room for.
 #[derive(Clone, Copy, Debug, PartialEq, Eq)]
 pub struct KeptNumbers {
     /// eidelivery, 0 or 1.

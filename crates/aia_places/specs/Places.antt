@@ -79,11 +79,12 @@ entry_word q (Some p) = basic_word (guest_page p.hart p.file / PAGE)
 abbrev pub second_word : ℕ → ℕ → ℕ
 second_word q notice_hart = notice_word (supervisor_page notice_hart / PAGE) (q + 1)
 
--- A guest file that a machine may have, which are numbered from 1; the files of a home
--- are such ones. Profile: how many harts and guest files there are.
+-- A guest file that a machine may have: they are numbered from 1. Profile: how many harts and guest
+-- files there are.
 abbrev pub IsInMap : Place → Type 0
 IsInMap p = (p.hart < HARTS) × (p.file ≤ GUEST_FILES) × (1 ≤ p.file)
 
+-- The guest files of a home are such ones.
 pub record FilesFit (there : Home) : Type 0 where
   pub own : (p : Place) → own_file there ≡ Some p → IsInMap p
   pub next : (p : Place) → next_file there ≡ Some p → IsInMap p

@@ -105,7 +105,7 @@ pub record StepMade (q hart : ℕ) (access : Access) (there : Home) (v : Places)
   pub places : u ≡ places_after q hart access there v hand
   pub carried : CarriedAfter access there v hand now
 
--- ---- a move ends, and a store lands
+-- ---- a move ends
 
 -- The places of a virtual hart whose move has ended: the file that it left is its own no more.
 abbrev pub places_ended : ℕ → Home → Places → Places

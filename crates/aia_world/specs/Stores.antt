@@ -48,8 +48,8 @@ pub record StoresIn (w u : World) (spot : Spot) (offset value : ℕ) : Type 0 wh
   pub lands : LandsIn w.imsic u.imsic spot offset value
   pub rest : u ≡ record w { imsic = u.imsic }
 
--- A basic entry leads to a guest's file: the store of a device to any other page is dropped.
--- Profile.
+-- A store that is led to a guest file lands there; one that is led to any other page, or nowhere,
+-- is dropped. Profile.
 abbrev pub StoresAt : World → World → Spot → ℕ → ℕ → Type 0
 StoresAt w u (GuestFile hart file) offset value = StoresIn w u (GuestFile hart file) offset value
 StoresAt w u spot offset value = u ≡ w
@@ -108,7 +108,7 @@ Reaches route w u offset value = u ≡ w
 
 -- ---- where a record leads
 
--- The guest file that a record names; a record may name one that is not there.
+-- The guest file that a record names; Nowhere if it is not there, which a record may name too.
 abbrev pub named_spot : ImsicState → Place → Spot
 named_spot i p =
     if nat_lt p.hart i.harts && is_in_range 1 i.guests p.file

@@ -72,7 +72,7 @@ pub fn a_new_vm_is_reached_in_its_slots()
 /// virtual hart's own alone: the guest file at which stores are to reach it, or its slot, and, in
 /// the file of its notice hart, its notice identity. So the places of every other virtual hart, as
 /// those of all other VMs, stay as they are, whatever its home is, if it does not hold that guest
-/// file. It is so wherever the entries of the VM lead to its own.
+/// file. Of a device it is so wherever the entries of its VM lead to the VM's own.
 pub fn a_store_touches_one_virtual_hart_alone()
     ensures devices { (w u : World) (v addr value : ℕ) (reach : Vcpu → Option Place) → IsWhole w
         → LeadsToOwn w v reach
