@@ -20,9 +20,9 @@ use aia_word::Bank;
 impl Fabric {
     // ---- the sets of a place
 
-    /// Makes `v` word `k` of the pending set of a place that is there, below `FILE_WORDS` of a slot
-    /// and those of its identities of a file, and gives what stood there: word 0 has no identity 0,
-    /// before and after.
+    /// Makes `v` word `k` of the pending set of a place that is there, and gives what stood there:
+    /// a slot has the words below `FILE_WORDS`, a file those of the machine's identities. Word 0
+    /// has no identity 0, before and after.
     pub fn swap_pending(&mut self, at: At, k: usize, v: u64) -> u64
         requires place { IsPlaceThere self.old at }
         requires word { k < words_at self.old at }

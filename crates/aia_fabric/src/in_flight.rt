@@ -22,8 +22,8 @@ impl Fabric {
     }
 
     /// Sends a 32-bit store of `value` at `addr` of a device of a VM that stands and has fewer than
-    /// 8 in flight, and tells its route. Where the entry in force leads it to a place, it is in
-    /// flight from now on, to that place; else nothing is kept. All else stays.
+    /// `STORES_IN_FLIGHT` in flight, and tells its route. Where the entry in force leads it to a
+    /// place, it is in flight from now on, to that place; else nothing is kept. All else stays.
     ///
     /// AIA 1.0, IOMMU Support for MSIs to Virtual Machines. Profile: how many may be in flight.
     pub fn send(&mut self, vm: u32, addr: u64, value: u32) -> Route

@@ -1,5 +1,5 @@
 //! All that stores reach: the interrupt files, memory, the MSI page tables of VMs, and the G-stage
-//! records of virtual harts.
+//! records of virtual harts; and the stores that are in flight.
 //!
 //! AIA 1.0, IOMMU Support for MSIs to Virtual Machines; the hypervisor extension 1.0.
 #![tactic(auto)]

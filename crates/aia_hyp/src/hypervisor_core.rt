@@ -256,11 +256,10 @@ impl Core {
     }
 
     /// Takes a 32-bit store of a device of a VM at an address: it asks at the virtual hart that
-    /// the address names. Where its interrupts are in memory, a notice is sent if the identity that
-    /// is asked for is enabled there.
-    /// `Err` is `Range` where the VM doesn't stand, `Fault` where the address is no multiple of 4,
-    /// `Other` where it is no MSI address of the VM, `NotValid` where it names no virtual hart;
-    /// nothing is changed then.
+    /// the address names. Where the entry in force leads it to the slot, a notice is sent if the
+    /// identity that it asks for is enabled in the slot. `Err` is `Range` where the VM doesn't
+    /// stand, `Fault` where the address is no multiple of 4, `Other` where it is no MSI address of
+    /// the VM, `NotValid` where it names no virtual hart; nothing is changed then.
     ///
     /// AIA 1.0, IOMMU Support for MSIs to Virtual Machines.
     pub fn msi(&mut self, vm: u64, addr: u64, value: u32) -> Result<(), Refusal>

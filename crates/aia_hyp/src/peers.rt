@@ -8,10 +8,10 @@ use aia_model::Refusal;
 impl Core {
     /// Takes a store of `value` by virtual hart `number` of a VM at the place, in its own address
     /// space, of the interrupt file of virtual hart `to` of its VM, which may be itself: it asks
-    /// there for the identity that the value names, and where the interrupts of `to` are in memory,
-    /// a notice is sent if that one is enabled. `Err` is `Range` where the sender isn't there,
-    /// `Away` where it does not run, `GFault` where there is no virtual hart `to`; nothing is
-    /// changed then.
+    /// there for the identity that the value names, and where the G-stage record in force leads to
+    /// the slot of `to`, a notice is sent if that one is enabled in the slot. `Err` is `Range`
+    /// where the sender isn't there, `Away` where it does not run, `GFault` where there is no
+    /// virtual hart `to`; nothing is changed then.
     ///
     /// AIA 1.0, Interprocessor Interrupts (IPIs); the hypervisor extension 1.0.
     pub fn ipi(&mut self, vm: u64, number: u64, to: u64, value: u32) -> Result<(), Refusal>

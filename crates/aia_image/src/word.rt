@@ -28,8 +28,8 @@ pub fn save_word(fabric: &Fabric, slot: u32, w: u32) -> Part
     }
 }
 
-/// Makes the ones of word `w` of the pending set of a slot pending, and writes word `w` of its
-/// enables; all else stays, what was pending there too.
+/// Makes the ones of `pending` pending in word `w` of a slot, and writes `enable` there as the
+/// enables, of the identities that files have; all else stays, what was pending there too.
 ///
 /// Profile.
 pub fn load_word(fabric: &mut Fabric, slot: u32, w: u32, pending: u64, enable: u64)
