@@ -39,7 +39,8 @@ pub record StandsForSome (m : Machine) : Type 0 where
   pub stands : MachineStands m past
 
 -- What has happened to the APLIC when a line is accepted, and its MSIs are still to be sent: of a
--- line about moves and of a landing what they aim, of any other one what it is to the APLIC too.
+-- line about moves what its steps aim, of a landing nothing, of any other line what it aims, then
+-- what it is to the APLIC.
 abbrev pub acts_by : LineDeed → History → Line → Past
 acts_by NoMove h line =
     with_act (act_of line) (with_act (aimed_by h (Accepted line)) (acts_of h))

@@ -17,8 +17,8 @@ use itoa::Buffer;
 /// How many bytes an answer has at most, its LF too.
 const ANSWER: usize = 32;
 
-/// The steps of a plan so far, of files whose sets have `words` words of 64 identities; or which
-/// text, counted from 1, is bad.
+/// The steps of a plan so far, of files whose sets have `words` words of 64 identities; or which of
+/// the texts that are not skipped is the first bad one, counted from 1.
 #[derive(Drop)]
 pub struct PlanSoFar {
     words: u32,

@@ -96,9 +96,9 @@ before_leaving = Accepted (lines.Ipi 0 0 1 1)
     ∷ Accepted (guest_write Reg 2) ∷ Accepted (guest_write Select 0xc0)
     ∷ Accepted (guest_write Reg 1) ∷ Accepted (guest_write Select 0x70) ∷ both_arrived
 
--- It begins to leave, and is to put there the one word of the pending set next: eidelivery is
--- taken, all routes lead to its slot of memory, the source is aimed at its notice hart, and that
--- word is taken.
+-- It begins to leave, and is to put the one word of the pending set into its slot next: eidelivery
+-- is taken, all routes lead to the slot, the source is aimed at its notice hart, and that word is
+-- taken.
 abbrev pub so_far : Progress
 so_far = record { steps = leave_step 1 (PutPending 0); aims = 1 }
 

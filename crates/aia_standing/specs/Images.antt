@@ -6,7 +6,7 @@ use Rattle.aia_model.specs.Image.{GuestState}
 use Rattle.aia_standing.specs.Core.{CoreState, no_record}
 use Rattle.aia_standing.specs.Memory.{file_in_memory}
 
--- All that the interrupts are of the virtual hart of a slot that rest in memory, with the two
+-- All that the interrupts of the virtual hart of a slot are, where they rest in memory, by the two
 -- numbers that are kept beside it.
 abbrev pub state_in : CoreState → ℕ → KeptNumbers → GuestState
 state_in x slot kept = record {

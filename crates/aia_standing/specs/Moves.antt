@@ -51,8 +51,8 @@ use Rattle.aia_standing.specs.Passes.{StepsAim}
 
 -- ---- a move begins
 
--- A virtual hart is moved by a plan that has this move, and is in its first phase whatever the size
--- of files.
+-- A virtual hart is moved by a plan that has this move, whose next step is of the plan's phase,
+-- whatever the size of files.
 abbrev pub IsBegun : Stay → Moving → Type 0
 IsBegun (stays.Moving plan) m = (moving_of plan ≡ m) × ((words : ℕ) → IsInPhase words plan)
 IsBegun stay m = ⊥
@@ -61,7 +61,7 @@ IsBegun stay m = ⊥
 abbrev pub empty_hand : Hand
 empty_hand = record { word = 0; delivery = 0; threshold = 0; seen = false }
 
--- Below, `old` and `new` is where a virtual hart is before and after, `was` and `now` the leases.
+-- Below, `old` and `new` are where a virtual hart is before and after, `was` and `now` the leases.
 -- What begins is refused with a word, and nothing is changed.
 abbrev pub Refuses : Refusal → Stay → Stay → Leases → Leases → Answer → Type 0
 Refuses word old new was now given = (given ≡ Refused word) × (new ≡ old) × (now ≡ was)

@@ -29,7 +29,8 @@ use Rattle.aia_standing.specs.Core.{CoreState}
 abbrev pub pass_shown : Passed → Pass
 pass_shown p = record { source = p.source; to = vcpu p.vm p.number; identity = p.identity }
 
--- The number of the pass of a source, if there is one, among some passes.
+-- The number that the pass of a source has among some passes; None where it has none, or no source
+-- is given.
 abbrev pub pass_in : List Pass → Option ℕ → Option ℕ
 pass_in passes None = None
 pass_in passes (Some s) =

@@ -108,9 +108,8 @@ HoldApart h = (a b : Vcpu) (p : Place) → has_vcpu h a ≡ true → has_vcpu h 
 -- Each file of the host that is there stands for the history, and each virtual hart that is there.
 -- The stores in flight of each VM are the history's; each is for a virtual hart that is there, and
 -- leads where it may. The passes are the history's. The guest files that are out are those that a
--- virtual hart holds. What nobody
--- has is empty: guest files, entries, slots and G-stage records past the last virtual hart's; and
--- the history asked for nothing at virtual harts that aren't there.
+-- virtual hart holds. What nobody has is empty: guest files, entries, slots and G-stage records
+-- past the last virtual hart's; and to the history a virtual hart that isn't there is as a new one.
 pub record CoreStands (x : CoreState) (h : History) : Type 0 where
   pub there : has_machine h ≡ true
   pub harts : x.world.imsic.harts ≡ harts_of h

@@ -1,4 +1,4 @@
-/// A wired source that is passed to a virtual hart.
+/// A wired source that is passed to a virtual hart, as the core keeps it.
 #[derive(Clone, Copy, Debug, Default, PartialEq, Eq)]
 pub struct Passed {
     /// The source, from 1 on.
