@@ -225,7 +225,7 @@ class Move:
         """Gives where a word stands that an access takes: `old`, `hand` or `new`."""
         if not self.is_made(take, w, steps):
             return "old"
-        return "hand" if self.ask("is_carried", take, w, steps) else "new"
+        return "hand" if self.ask("is_last_made", take, w, steps) else "new"
 
     def number_at(self, number, steps):
         """Gives where eidelivery or eithreshold stands: `old`, `new` or `hand`, which keeps it."""

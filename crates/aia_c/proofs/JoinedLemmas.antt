@@ -11,7 +11,7 @@ use Rattle.aia_model.specs.Text.{texts_of}
 use Rattle.aia_model.specs.Reading.{reading}
 use Rattle.aia_model.specs.Answer.{answer}
 use Rattle.aia_model.specs.Script.{printed, text_answer, after_text, after_texts, answers_from}
-use Rattle.aia_replay.specs.Runs.{NoEnd, IsWhole}
+use Rattle.aia_replay.specs.Runs.{NoEnd, AreWholeLines}
 use Rattle.aia_replay.specs.Stands.{EngineState, StandsFor}
 use Rattle.aia_replay.proofs.CutLemmas.{texts_front}
 use Rattle.aia_c.specs.Calls.{Gives, Answers, Does}
@@ -49,12 +49,12 @@ line_and_more [] rest = refl
 line_and_more (b ∷ front) rest = splits_by b front rest (nat_eq b 10) refl (line_and_more front rest)
 
 -- the texts of whole lines, and of more after them
-pub texts_whole : (front rest : List ℕ) → IsWhole front → texts_of (front ++ rest) ≡ texts_of front ++ texts_of rest
+pub texts_whole : (front rest : List ℕ) → AreWholeLines front → texts_of (front ++ rest) ≡ texts_of front ++ texts_of rest
 texts_whole front rest (inl none) = rw none refl
 texts_whole front rest (inr (lines, e)) = rw e (line_and_more lines rest)
 
-pub whole_again : (front more : List ℕ) → IsWhole front → IsWhole more → IsWhole (front ++ more)
-whole_again front more (inl none) whole = subst IsWhole (sym (ap (λ xs. xs ++ more) none)) whole
+pub whole_again : (front more : List ℕ) → AreWholeLines front → AreWholeLines more → AreWholeLines (front ++ more)
+whole_again front more (inl none) whole = subst AreWholeLines (sym (ap (λ xs. xs ++ more) none)) whole
 whole_again front more (inr lines) (inl none) = inr (lines.0, ap (λ xs. front ++ xs) none ∙ append-nil front ∙ lines.1)
 whole_again front more whole (inr lines) = inr (front ++ lines.0, ap (λ xs. front ++ xs) lines.1 ∙ sym (append_assoc front lines.0 (10 ∷ [])))
 
@@ -74,7 +74,7 @@ after_more h (text ∷ texts) more = after_more (after_text h (reading text)) te
 pub nothing_answered : (e : EngineState) → Answers e e [] []
 nothing_answered e = record { answers = λ h stands. refl; stands = λ h stands. stands }
 
-pub answered_more : (old mid new : EngineState) (script more bytes others : List ℕ) → IsWhole script → Answers old mid script bytes → Answers mid new more others → Answers old new (script ++ more) (bytes ++ others)
+pub answered_more : (old mid new : EngineState) (script more bytes others : List ℕ) → AreWholeLines script → Answers old mid script bytes → Answers mid new more others → Answers old new (script ++ more) (bytes ++ others)
 answered_more old mid new script more bytes others whole one two = record {
   answers = λ h stands.
       let next = after_texts h (texts_of script) in

@@ -8,7 +8,7 @@ use Rattle.aia_model.specs.declared.answer.Answer.{Answer}
 use Rattle.aia_model.specs.Text.{texts_of}
 use Rattle.aia_model.specs.Reading.{reading}
 use Rattle.aia_model.specs.Script.{printed, text_answer, after_texts, answers_from}
-use Rattle.aia_replay.specs.Runs.{NoEnd, IsWhole}
+use Rattle.aia_replay.specs.Runs.{NoEnd, AreWholeLines}
 use Rattle.aia_replay.specs.Stands.{EngineState, StandsFor, ServesText, ReadsAsMachine}
 use Rattle.aia_replay.proofs.CutLemmas.{texts_front}
 use Rattle.aia_replay.proofs.HeldLemmas.{one_text}
@@ -74,7 +74,7 @@ pub record SoFar (old now : EngineState) (script before room : List ℕ) (t w : 
   pub taken : t ≤ length script
   pub written : w ≤ length before
   pub same : length room ≡ length before
-  pub lines : IsWhole (take t script) ⊎ (t ≡ length script)
+  pub lines : AreWholeLines (take t script) ⊎ (t ≡ length script)
   pub answers : Answers old now (take t script) (take w room)
   pub rest : drop w room ≡ drop w before
 
@@ -89,7 +89,7 @@ nothing_yet e script before = record {
 }
 
 -- the front is whole lines while more is to come
-whole_front : {old now : EngineState} {script before room : List ℕ} {t w : ℕ} → SoFar old now script before room t w → t < length script → IsWhole (take t script)
+whole_front : {old now : EngineState} {script before room : List ℕ} {t w : ℕ} → SoFar old now script before room t w → t < length script → AreWholeLines (take t script)
 whole_front {old} {now} {script} {before} {room} {t} {w} s low = elim s.lines [ inl whole ↦ whole | inr all ↦ absurd (omega (arith, low, all)) ]
 
 -- the room with what was written behind its first w bytes
@@ -98,15 +98,15 @@ room_is a new w =
     let past : drop (length a - w) (drop w a) ≡ [] = drop_all (length a - w) (drop w a) (omega (arith, length-drop w a)) in
     ap (λ (end : List ℕ). take w a ++ (new ++ end)) past ∙ ap (λ (end : List ℕ). take w a ++ end) (append-nil new)
 
-lines_more : (script rest : List ℕ) (t line : ℕ) → rest ≡ drop t script → t ≤ length script → IsWhole (take t script) → IsWhole (take line rest) ⊎ (line ≡ length rest)
-    → IsWhole (take (t + line) script) ⊎ (t + line ≡ length script)
+lines_more : (script rest : List ℕ) (t line : ℕ) → rest ≡ drop t script → t ≤ length script → AreWholeLines (take t script) → AreWholeLines (take line rest) ⊎ (line ≡ length rest)
+    → AreWholeLines (take (t + line) script) ⊎ (t + line ≡ length script)
 lines_more script rest t line is low whole (inl lines) =
-    inl (subst IsWhole (sym (take-add t line script)) (whole_again (take t script) (take line (drop t script)) whole (subst (λ (xs : List ℕ). IsWhole (take line xs)) is lines)))
+    inl (subst AreWholeLines (sym (take-add t line script)) (whole_again (take t script) (take line (drop t script)) whole (subst (λ (xs : List ℕ). AreWholeLines (take line xs)) is lines)))
 lines_more script rest t line is low whole (inr all) = inr (omega (arith, all, ap length is, length-drop t script, low))
 
 -- one text more
 pub one_more : (old mid new : EngineState) (script before a rest part room : List ℕ) (t w line x : ℕ) → SoFar old mid script before a t w → t < length script → rest ≡ drop t script → part ≡ drop w a
-    → line ≤ length rest → x ≤ length part → length room ≡ length part → IsWhole (take line rest) ⊎ (line ≡ length rest) → Answers mid new (take line rest) (take x room) → drop x room ≡ drop x part
+    → line ≤ length rest → x ≤ length part → length room ≡ length part → AreWholeLines (take line rest) ⊎ (line ≡ length rest) → Answers mid new (take line rest) (take x room) → drop x room ≡ drop x part
     → SoFar old new script before (put_mid w (length a - w) a room) (t + line) (w + x)
 one_more old mid new script before a rest part room t w line x s low is place few small same lines answers kept =
     let whole = whole_front s low in

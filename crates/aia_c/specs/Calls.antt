@@ -9,7 +9,7 @@ use Rattle.aia_model.specs.Refusal.{makes_machine}
 use Rattle.aia_model.specs.Answer.{answer, after}
 use Rattle.aia_model.specs.Script.{printed, text_answer, after_text, answers_from, after_texts}
 use Rattle.aia_replay.specs.Stands.{EngineState, StandsFor, Serves, ReadsAsMachine}
-use Rattle.aia_replay.specs.Runs.{IsWhole}
+use Rattle.aia_replay.specs.Runs.{AreWholeLines}
 use Rattle.aia_c.specs.declared.code.Code.{Code}
 use Rattle.aia_c.specs.declared.code.Code.TheVariants.{Done, NoMemory, Closed, Open, NoRoom, NoLine}
 use Rattle.aia_model.specs.declared.limits.TheConstants.{ANSWER_BYTES}
@@ -90,7 +90,7 @@ Stops new rest room code =
 pub record Takes (old new : EngineState) (taken rest bytes : List ℕ) (room : ℕ) (code : ℤ)
     : Type 0 where
   pub answers : Answers old new taken bytes
-  pub lines : IsWhole taken ⊎ (rest ≡ [])
+  pub lines : AreWholeLines taken ⊎ (rest ≡ [])
   pub stops : Stops new rest room code
 
 -- A call with a script, of which it takes the front and leaves the rest; it writes these bytes, and

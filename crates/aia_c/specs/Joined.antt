@@ -6,7 +6,7 @@ use Rattle.aia_model.specs.Text.{texts_of}
 use Rattle.aia_model.specs.Reading.{reading}
 use Rattle.aia_model.specs.Script.{text_answer, after_texts}
 use Rattle.aia_replay.specs.Stands.{EngineState, StandsFor}
-use Rattle.aia_replay.specs.Runs.{IsWhole}
+use Rattle.aia_replay.specs.Runs.{AreWholeLines}
 use Rattle.aia_c.specs.Codes.{number, code_of}
 use Rattle.aia_c.specs.Calls.{Answers}
 
@@ -24,12 +24,12 @@ Moves old new script =
 
 -- A call with a text or a script, which answered it.
 pub record IsAnswered (old : EngineState) (call : Call) : Type 0 where
-  pub lines : IsWhole call.script
+  pub lines : AreWholeLines call.script
   pub answers : Answers old call.engine call.script call.bytes
 
 -- Any call, with text or without.
 pub record IsDone (old : EngineState) (call : Call) : Type 0 where
-  pub lines : IsWhole call.script
+  pub lines : AreWholeLines call.script
   pub moves : Moves old call.engine call.script
 
 -- So is each of the calls, by the engine that the one before it left.

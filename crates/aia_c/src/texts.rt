@@ -2,7 +2,7 @@
 
 ghost use Rattle.std.specs.Prelude.{◌≡◌, ◌⊎◌, ◌-◌, ◌<◌, ◌≤◌, [], ◌∷◌, ◌++◌, length, take, drop, IfOk, OnErr};
 ghost use Rattle.aia_model.specs.Answer.{answer_text};
-ghost use Rattle.aia_replay.specs.Runs.{NoEnd, IsWhole};
+ghost use Rattle.aia_replay.specs.Runs.{NoEnd, AreWholeLines};
 ghost use Rattle.aia_c.specs.Calls.{Answers, Takes, WantsMemory};
 ghost use Rattle.aia_c.specs.Codes.{number};
 ghost use Rattle.aia_model.specs.declared.limits.TheConstants.{ANSWER_BYTES};
@@ -65,7 +65,7 @@ fn answer_first(
     requires room { ANSWER_BYTES ≤ length room.old }
     ensures within { IfOk result (λ r. (0 < r.0) × (r.0 ≤ length script.now)
         × (r.1 ≤ length room.old)) }
-    ensures lines { IfOk result (λ r. IsWhole (take r.0 script.now)
+    ensures lines { IfOk result (λ r. AreWholeLines (take r.0 script.now)
         ⊎ (r.0 ≡ length script.now)) }
     ensures answers { IfOk result (λ r. Answers engine.old engine.new
         (take r.0 script.now) (take r.1 room.new)) }

@@ -56,14 +56,14 @@ route_of table addr =
 
 -- The byte of memory at which the entry of a file begins. Profile: two words of eight bytes an
 -- entry.
-abbrev pub entry_place : TableState → ℕ → ℕ
-entry_place table file = table.start + 16 * file
+abbrev pub entry_byte : TableState → ℕ → ℕ
+entry_byte table file = table.start + 16 * file
 
 -- What the two words of an entry say in memory.
 abbrev pub written_entry : List ℕ → TableState → ℕ → Entry
 written_entry words table file =
-    decoded (slice_index words (entry_place table file / 8))
-    (slice_index words ((entry_place table file + 8) / 8))
+    decoded (slice_index words (entry_byte table file / 8))
+    (slice_index words ((entry_byte table file + 8) / 8))
 
 -- A table after a fence of a file: the entry is in force as it is written.
 abbrev pub fenced : List ℕ → ℕ → TableState → TableState

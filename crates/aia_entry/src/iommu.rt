@@ -2,7 +2,7 @@ ghost use Rattle.std.specs.Prelude.{◌≡◌, ℕ, ◌+◌, ◌^◌, ◌<◌, �
 ghost use Rattle.aia_word.specs.Packed.{ones};
 ghost use Rattle.aia_ram.specs.Words.{HasWordAt};
 ghost use Rattle.aia_entry.specs.Translation.{IsMask, is_msi_address};
-ghost use Rattle.aia_entry.specs.Tables.{new_table, table_of, entry_place, fenced, fenced_at, route_of};
+ghost use Rattle.aia_entry.specs.Tables.{new_table, table_of, entry_byte, fenced, fenced_at, route_of};
 
 use crate::table::{Route, Table};
 use aia_ram::Ram;
@@ -70,8 +70,8 @@ impl Iommu {
     pub fn fence(&mut self, vm: u32, file: u32, ram: &Ram)
         requires vm { vm < length self.old }
         requires file { file < 2 ^ ones 64 (table_of self.old vm).mask }
-        requires word0 { HasWordAt ram.now (entry_place (table_of self.old vm) file) }
-        requires word1 { HasWordAt ram.now (entry_place (table_of self.old vm) file + 8) }
+        requires word0 { HasWordAt ram.now (entry_byte (table_of self.old vm) file) }
+        requires word1 { HasWordAt ram.now (entry_byte (table_of self.old vm) file + 8) }
         ensures { self.new ≡ fenced_at self.old vm file ram.now }
     {
         fetch_at(&mut self.tables, vm as usize, file, ram);
@@ -85,8 +85,8 @@ impl Iommu {
     pub fn refetch(&mut self, vm: u32, file: u32, ram: &Ram)
         requires vm { vm < length self.old }
         requires file { file < 2 ^ ones 64 (table_of self.old vm).mask }
-        requires word0 { HasWordAt ram.now (entry_place (table_of self.old vm) file) }
-        requires word1 { HasWordAt ram.now (entry_place (table_of self.old vm) file + 8) }
+        requires word0 { HasWordAt ram.now (entry_byte (table_of self.old vm) file) }
+        requires word1 { HasWordAt ram.now (entry_byte (table_of self.old vm) file + 8) }
         ensures { self.new ≡ fenced_at self.old vm file ram.now }
     {
         fetch_at(&mut self.tables, vm as usize, file, ram);
@@ -97,8 +97,8 @@ impl Iommu {
 fn fetch_at(tables: &mut [Table], vm: usize, file: u32, ram: &Ram)
     requires vm { vm < length tables.old }
     requires file { file < 2 ^ ones 64 (table_of tables.old vm).mask }
-    requires word0 { HasWordAt ram.now (entry_place (table_of tables.old vm) file) }
-    requires word1 { HasWordAt ram.now (entry_place (table_of tables.old vm) file + 8) }
+    requires word0 { HasWordAt ram.now (entry_byte (table_of tables.old vm) file) }
+    requires word1 { HasWordAt ram.now (entry_byte (table_of tables.old vm) file + 8) }
     ensures { tables.new ≡ fenced_at tables.old vm file ram.now }
 {
     tables[vm].fence(file, ram);

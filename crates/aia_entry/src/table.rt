@@ -3,7 +3,7 @@ ghost use Rattle.std.specs.Int.{is_in_range};
 ghost use Rattle.aia_word.specs.Packed.{ones};
 ghost use Rattle.aia_ram.specs.Words.{HasWordAt};
 ghost use Rattle.aia_entry.specs.Translation.{IsMask, is_mask, is_msi_address, file_number};
-ghost use Rattle.aia_entry.specs.Tables.{new_table, entry_in_force, entry_place, fenced, leads_by, route_of};
+ghost use Rattle.aia_entry.specs.Tables.{new_table, entry_in_force, entry_byte, fenced, leads_by, route_of};
 
 use crate::{Entry, decode};
 use aia_ram::Ram;
@@ -84,8 +84,8 @@ impl Table {
     #[tactic(auto, using(crate::proofs::TableLemmas::has_entry))]
     pub fn fence(&mut self, file: u32, ram: &Ram)
         requires file { file < 2 ^ ones 64 self.old.mask }
-        requires word0 { HasWordAt ram.now (entry_place self.old file) }
-        requires word1 { HasWordAt ram.now (entry_place self.old file + 8) }
+        requires word0 { HasWordAt ram.now (entry_byte self.old file) }
+        requires word1 { HasWordAt ram.now (entry_byte self.old file + 8) }
         ensures { self.new ≡ fenced ram.now file self.old }
     {
         let end = ram.len();

@@ -122,7 +122,7 @@ impl Fabric {
         ensures { self.new ≡ with_entry_word self.old found.vm found.number which v }
     {
         let ram = &mut self.ram;
-        let at = map::table_place(found.vm) + 16 * found.number as usize + 8 * which as usize;
+        let at = map::table_byte(found.vm) + 16 * found.number as usize + 8 * which as usize;
         ram.store(at, v);
     }
 

@@ -386,7 +386,7 @@ impl Fabric {
         ensures { self.new ≡ with_vm self.old vm }
     {
         let number = self.vms.count();
-        self.iommu.vm(vm.mask, map::table_place(number));
+        self.iommu.vm(vm.mask, map::table_byte(number));
         self.flights.add();
         self.vms.push(vm);
     }
@@ -401,7 +401,7 @@ impl Fabric {
         ensures { self.new ≡ with_entry self.old vm file slot page }
     {
         let ram = &mut self.ram;
-        let at = map::table_place(vm) + 16 * file as usize;
+        let at = map::table_byte(vm) + 16 * file as usize;
         map::write_entry(ram, at, slot, page);
         self.iommu.fence(vm, file, &self.ram);
     }

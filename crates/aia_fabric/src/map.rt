@@ -7,7 +7,7 @@ ghost use Rattle.aia_regs.specs.declared.limits.TheConstants.{HARTS, VMS, VCPUS,
 ghost use Rattle.aia_entry.specs.Format.{mrif_word, notice_word};
 ghost use Rattle.aia_ram.specs.Words.{HasWordAt};
 ghost use Rattle.aia_world.specs.Stores.{slot_at};
-ghost use Rattle.aia_world.specs.Making.{table_place};
+ghost use Rattle.aia_world.specs.Making.{table_byte};
 
 use aia_entry::mrif;
 use aia_ram::Ram;
@@ -31,9 +31,9 @@ pub fn slot_at(addr: u64) -> Option<u32>
 }
 
 /// Gives the byte of memory at which the table of a VM begins.
-pub fn table_place(vm: u32) -> usize
+pub fn table_byte(vm: u32) -> usize
     requires { vm < VMS }
-    ensures { result ≡ table_place vm }
+    ensures { result ≡ table_byte vm }
 {
     (table_address(vm) - MEMORY) as usize
 }

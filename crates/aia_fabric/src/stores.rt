@@ -6,7 +6,7 @@ ghost use Rattle.aia_entry.specs.Tables.{table_of, route_of};
 ghost use Rattle.aia_home.specs.Vms.{Vcpu, vcpu, vcpus_in, is_vcpu_in, slot_of};
 ghost use Rattle.aia_world.specs.World.{OnlyStores, stage_of};
 ghost use Rattle.aia_world.specs.Found.{IsFound};
-ghost use Rattle.aia_world.specs.Stores.{Relays, Reaches, ReachesBy, StoresAt, StoresInSlot, NoticedAt, page_spot};
+ghost use Rattle.aia_world.specs.Stores.{ReachesByRecord, Reaches, ReachesBy, StoresInGuestFile, StoresInSlot, NoticedAt, page_spot};
 
 use crate::map::slot_at;
 use crate::{Fabric, Found};
@@ -42,10 +42,10 @@ impl Fabric {
     /// due. All but files, memory and the count of notices stays.
     ///
     /// The hypervisor extension 1.0; profile.
-    #[tactic(auto, using(aia_world::proofs::FrameLemmas::relays_rest, aia_world::proofs::FoundLemmas::found_there))]
+    #[tactic(auto, using(aia_world::proofs::FrameLemmas::record_rest, aia_world::proofs::FoundLemmas::found_there))]
     pub fn guest_store(&mut self, to: Found, value: u32)
         requires { IsFound self.old to }
-        ensures relays { Relays (stage_of self.old (vcpu to.vm to.number)).in_force
+        ensures reaches { ReachesByRecord (stage_of self.old (vcpu to.vm to.number)).in_force
             self.old self.new (vcpu to.vm to.number) value }
         ensures rest { OnlyStores self.old self.new }
     {
@@ -73,7 +73,7 @@ impl Fabric {
     pub fn slot_store(&mut self, q: u32, value: u32)
         requires { q < vcpus_in self.old.vms }
         ensures stores { (g : Vcpu) → is_vcpu_in self.old.vms g ≡ true → slot_of self.old.vms g ≡ q
-            → Relays None self.old self.new g value }
+            → ReachesByRecord None self.old self.new g value }
         ensures rest { OnlyStores self.old self.new }
     {
         let _whole = self.words();
@@ -100,7 +100,7 @@ impl Fabric {
     /// Takes a store to the page of this number: it lands in a guest file, and is dropped at every
     /// other page.
     fn store_at(&mut self, page: u64, offset: u32, value: u32)
-        ensures { StoresAt self.old self.new (page_spot self.old.imsic page) offset value }
+        ensures { StoresInGuestFile self.old self.new (page_spot self.old.imsic page) offset value }
     {
         let spot = self.page_spot(page);
         self.store_guest(spot, offset, value);
@@ -109,7 +109,7 @@ impl Fabric {
     /// Takes a store to a guest file; at every other file it is dropped.
     fn store_guest(&mut self, spot: Spot, offset: u32, value: u32)
         requires { spot ≢ Spot.Nowhere → IsThere self.old.imsic spot }
-        ensures { StoresAt self.old self.new spot offset value }
+        ensures { StoresInGuestFile self.old self.new spot offset value }
     {
         match spot {
             Spot::GuestFile(_, _) => self.host_store(spot, offset, value),

@@ -4,21 +4,21 @@ use Rattle.std.proofs.lemmas.Bool.Decides.{nat_tests}
 use Rattle.aia_home.specs.declared.place.Place.{Place}
 use Rattle.aia_home.specs.Home.{Home, is_moving}
 use Rattle.aia_home.specs.Home.Home.{Leaving, Arriving, Shifting}
-use Rattle.aia_home.specs.Plans.{is_carried, steps_done, pending_step, enables_step}
+use Rattle.aia_home.specs.Plans.{is_last_made, steps_done, pending_step, enables_step}
 use Rattle.aia_home.specs.Plans.Access.{TakePending, TakeEnables}
 use Rattle.aia_home.specs.Phases.{has_come}
 use Rattle.aia_home.specs.Phases.Phase.{ClosingPhase, DrainPhase, EnablePhase, LookPhase, LastPhase}
-use Rattle.aia_home.specs.BySteps.{new_file, is_drained, is_disabled, is_enabled_moved}
+use Rattle.aia_home.specs.BySteps.{new_file, is_drained, is_enable_taken, is_enable_put}
 use Rattle.aia_home.specs.Routes.{is_closed, is_stage_closed, MayReach}
 
 -- the word that is carried was taken by the last step
-pub carried_pending : (words w : ℕ) (there : Home) → is_carried words there (TakePending w) ≡ true → steps_done there ≡ pending_step there w + 1
+pub carried_pending : (words w : ℕ) (there : Home) → is_last_made words there (TakePending w) ≡ true → steps_done there ≡ pending_step there w + 1
 carried_pending words w (Leaving from at) e = grind (arith, nat_tests)
 carried_pending words w (Arriving to at) e = grind (arith, nat_tests)
 carried_pending words w (Shifting from to at) e = grind (arith, nat_tests)
 carried_pending words w there e = absurd (cc)
 
-pub carried_enables : (words w : ℕ) (there : Home) → is_carried words there (TakeEnables w) ≡ true → steps_done there ≡ enables_step words there w + 1
+pub carried_enables : (words w : ℕ) (there : Home) → is_last_made words there (TakeEnables w) ≡ true → steps_done there ≡ enables_step words there w + 1
 carried_enables words w (Leaving from at) e = grind (arith, nat_tests)
 carried_enables words w (Arriving to at) e = grind (arith, nat_tests)
 carried_enables words w (Shifting from to at) e = grind (arith, nat_tests)
@@ -42,14 +42,14 @@ drain_closed words (Shifting from to at) moves come = (grind (arith, nat_tests),
 drain_closed words there moves come = absurd (cc)
 
 pub enable_drained : (words w : ℕ) (there : Home) → is_moving there ≡ true → w < words → has_come words there EnablePhase ≡ true
-    → (is_drained words there w ≡ true) × (is_carried words there (TakePending w) ≡ false)
+    → (is_drained words there w ≡ true) × (is_last_made words there (TakePending w) ≡ false)
 enable_drained words w (Leaving from at) moves low come = (grind (arith, nat_tests), grind (arith, nat_tests))
 enable_drained words w (Arriving to at) moves low come = (grind (arith, nat_tests), grind (arith, nat_tests))
 enable_drained words w (Shifting from to at) moves low come = (grind (arith, nat_tests), grind (arith, nat_tests))
 enable_drained words w there moves low come = absurd (cc)
 
 pub looks_moved : (words w : ℕ) (there : Home) → is_moving there ≡ true → w < words → has_come words there LookPhase ≡ true
-    → (is_disabled words there w ≡ true) × (is_enabled_moved words there w ≡ true)
+    → (is_enable_taken words there w ≡ true) × (is_enable_put words there w ≡ true)
 looks_moved words w (Leaving from at) moves low come = (grind (arith, nat_tests), grind (arith, nat_tests))
 looks_moved words w (Arriving to at) moves low come = (grind (arith, nat_tests), grind (arith, nat_tests))
 looks_moved words w (Shifting from to at) moves low come = (grind (arith, nat_tests), grind (arith, nat_tests))

@@ -6,7 +6,7 @@ use Rattle.aia_regs.specs.declared.limits.TheConstants.{FIRST_PASS_IDENTITY}
 use Rattle.aia_home.specs.declared.place.Place.{Place}
 use Rattle.aia_home.specs.Home.{Home, Progress}
 use Rattle.aia_home.specs.Home.Home.{Leaving, Arriving, Shifting}
-use Rattle.aia_home.specs.Plans.{has_access, is_carried, steps_done, stepped, first_take}
+use Rattle.aia_home.specs.Plans.{has_access, is_last_made, steps_done, stepped, first_take}
 use Rattle.aia_home.specs.Plans.Access.{GFence}
 use Rattle.aia_home.specs.BySteps.{new_file}
 use Rattle.aia_home.specs.Routes.{origin}
@@ -24,7 +24,7 @@ aims_done there = 0
 -- G-stage record is the last access made, and one is still to be aimed.
 abbrev pub is_aiming : ℕ → Home → Bool
 is_aiming passes there =
-    has_access 0 there GFence && is_carried 0 there GFence
+    has_access 0 there GFence && is_last_made 0 there GFence
     && nat_lt (aims_done there) passes
 
 -- One more is aimed.

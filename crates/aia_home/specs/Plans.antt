@@ -197,8 +197,8 @@ abbrev pub is_made : ℕ → Home → Access → Bool
 is_made words there access = nat_lt (step_of words there access) (steps_done there)
 
 -- Whether it is the last one made: what it took, if it took something, is carried still.
-abbrev pub is_carried : ℕ → Home → Access → Bool
-is_carried words there access = nat_eq (steps_done there) (step_of words there access + 1)
+abbrev pub is_last_made : ℕ → Home → Access → Bool
+is_last_made words there access = nat_eq (steps_done there) (step_of words there access + 1)
 
 -- Whether it is the one that the next step makes; the same as a fact.
 abbrev pub is_next : ℕ → Home → Access → Bool

@@ -17,7 +17,7 @@ ghost use Rattle.aia_model.specs.Refusal.{refusal};
 ghost use Rattle.aia_standing.specs.Core.{resident_at};
 ghost use Rattle.aia_world.specs.Found.{IsFound};
 ghost use Rattle.aia_standing.specs.Moves.{UnlessRefused};
-ghost use Rattle.aia_standing.specs.Passes.{AimsBy, TellsOf, pass_in};
+ghost use Rattle.aia_standing.specs.Passes.{AimsBy, TellsOf, number_of_pass};
 ghost use Rattle.aia_standing.specs.Stands.{CoreStands, CorePasses, CoreHears, CoreGoes, MayPass, RefusesPass, MayGo, answer_by};
 
 use crate::hypervisor_core::{Core, is_host};
@@ -177,7 +177,7 @@ impl Core {
 
     /// Tells the number of the pass of a source, if there is one. `None` where it is not passed.
     fn pass_of(&self, source: Option<u32>) -> Option<u32>
-        ensures passes { result ≡ pass_in self.now.passes source }
+        ensures passes { result ≡ number_of_pass self.now.passes source }
     {
         self.passes.number_of(source?)
     }
@@ -188,7 +188,7 @@ impl Core {
         requires at { spot
             ≡ spot_at self.old.world.imsic.harts self.old.world.imsic.guests msi.address }
         requires there { spot ≢ Spot.Nowhere → IsThere self.old.world.imsic spot }
-        requires none { pass_in self.old.passes msi.source ≡ None }
+        requires none { number_of_pass self.old.passes msi.source ≡ None }
         ensures { CoreHears self.old self.new msi }
     {
         let _few = self.fabric.harts();
@@ -204,7 +204,7 @@ impl Core {
         requires at { spot
             ≡ spot_at self.old.world.imsic.harts self.old.world.imsic.guests msi.address }
         requires there { spot ≢ Spot.Nowhere → IsThere self.old.world.imsic spot }
-        requires pass { pass_in self.old.passes msi.source ≡ Some number }
+        requires pass { number_of_pass self.old.passes msi.source ≡ Some number }
         ensures { CoreGoes self.old self.new (Delivered msi) }
     {
         let _whole = self.fabric.words();

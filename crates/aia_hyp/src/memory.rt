@@ -14,7 +14,7 @@ ghost use Rattle.aia_world.specs.Whole.{IsWhole};
 ghost use Rattle.aia_model.specs.declared.line.Line.TheVariants.{Enter, Exit, GuestCsr};
 ghost use Rattle.aia_model.specs.declared.answer.Answer.TheVariants.{Okay, Wide};
 ghost use Rattle.aia_standing.specs.Core.{no_record, record_of, resident_at, entered_at};
-ghost use Rattle.aia_standing.specs.Memory.{Enters, is_number, kept_after, kept_value, TopDone};
+ghost use Rattle.aia_standing.specs.Memory.{Enters, is_outside_sets, kept_after, kept_value, TopDone};
 ghost use Rattle.aia_world.specs.Found.{IsFound};
 ghost use Rattle.aia_standing.specs.Stands.{CoreTakes, answer_by};
 
@@ -114,7 +114,7 @@ impl Core {
         let slot = found.slot;
         match self.guest_reached(found, csr, op) {
             CsrAccess::Select => Ok(access_select_in(&mut self.vcpus, slot, op)),
-            CsrAccess::File(reg) if is_number(reg) => {
+            CsrAccess::File(reg) if is_outside_sets(reg) => {
                 let modulus = 64 * u64::from(self.fabric.words());
                 Ok(access_kept_in(&mut self.vcpus, slot, kept, reg, op, modulus))
             }
@@ -145,8 +145,8 @@ fn slot_is_live(fabric: &mut Fabric, slot: u32) -> bool
 }
 
 /// Tells whether a register is none of the sets'.
-fn is_number(reg: FileReg) -> bool
-    ensures { result ≡ is_number reg }
+fn is_outside_sets(reg: FileReg) -> bool
+    ensures { result ≡ is_outside_sets reg }
 {
     !matches!(reg, FileReg::Pending(_) | FileReg::Enable(_))
 }
@@ -186,7 +186,7 @@ fn access_kept_in(
 ) -> u64
     requires slot { slot < length vcpus.old.items }
     requires some { 0 < modulus }
-    requires number { is_number reg ≡ true }
+    requires number { is_outside_sets reg ≡ true }
     ensures value { result ≡ kept_value kept reg }
     ensures after { vcpus.new.items ≡ slice_set vcpus.old.items slot
         (record (slice_index_or vcpus.old.items slot no_record) {

@@ -29,7 +29,7 @@ use Rattle.aia_places.specs.Stores.{places_landed, AreApart}
 use Rattle.aia_places.proofs.StoreLemmas.{lands}
 use Rattle.aia_world.specs.World.{World, stage_of}
 use Rattle.aia_world.specs.Whole.{IsWhole}
-use Rattle.aia_world.specs.Stores.{StoresIn, StoresAt, NoticedBy, StoresInSlot, Reaches, ReachesBy, Relays, with_store, page_spot}
+use Rattle.aia_world.specs.Stores.{StoresIn, StoresInGuestFile, NoticedBy, StoresInSlot, Reaches, ReachesBy, ReachesByRecord, with_store, page_spot}
 use Rattle.aia_world.specs.Changes.{spot_of, file_in, places_of}
 use Rattle.aia_world.specs.Own.{TouchesOwn}
 use Rattle.aia_home.proofs.HomeLemmas.{same_place, landing_is_held}
@@ -130,7 +130,7 @@ module _ (w u : World) (plan : Plan) (reach : Option Place) (file : InterruptFil
   -- a device's, where its entry in force leads
   entry_lands : (place : Option Place) → MayLand (width w) mv.home place → Reaches (leads_by (leads_to (slot_of w.vms (mover mv)) (notice_hart w.vms (mover mv)) place)) w u offset value
       → Lands w u (mover mv) place offset value
-  entry_lands (Some p) may reaches = subst (λ (s : Spot). StoresAt w u s offset value) (guest_spot w.imsic p whole.harts whole.guests (held_there w mv knows.fits p (landing_is_held (width w) mv.home (Some p) p may refl))) reaches
+  entry_lands (Some p) may reaches = subst (λ (s : Spot). StoresInGuestFile w u s offset value) (guest_spot w.imsic p whole.harts whole.guests (held_there w mv knows.fits p (landing_is_held (width w) mv.home (Some p) p may refl))) reaches
   entry_lands None may reaches =
       let hart = notice_hart_there w (mover mv) whole knows.fits.there in
       subst (λ (s : Spot). StoresInSlot w u (Some (slot_of w.vms (mover mv))) s (slot_of w.vms (mover mv) + 1) offset value) (host_page w.imsic (notice_hart w.vms (mover mv)) hart whole.harts)
@@ -160,15 +160,15 @@ flight_knows w u plan reach place file saw offset value whole apart within knows
 
 -- a peer's, where its G-stage record in force leads
 pub peer_knows : (w u : World) (plan : Plan) (reach : Option Place) (file : InterruptFile) (saw : Bool) (value : ℕ) → IsWhole w → AreApart (moving_of plan).home → IsWithin w.n (width w) file → Knows w plan reach file saw
-    → Relays (stage_of w (mover (moving_of plan))).in_force w u (mover (moving_of plan)) value → Knows u plan reach (landed 0 value file) saw
+    → ReachesByRecord (stage_of w (mover (moving_of plan))).in_force w u (mover (moving_of plan)) value → Knows u plan reach (landed 0 value file) saw
 peer_knows w u plan reach file saw value whole apart within knows relays =
     let m = moving_of plan in
     let may = peers_may (width w) m.home in
     lands_knows w u plan reach file saw 0 value whole apart within knows (peers_reach m.home) may
-    (relayed (peers_reach m.home) may (subst (λ (o : Option Place). Relays o w u (mover m) value) knows.holds.routes.stage_in_force relays))
+    (relayed (peers_reach m.home) may (subst (λ (o : Option Place). ReachesByRecord o w u (mover m) value) knows.holds.routes.stage_in_force relays))
   where
-    relayed : (place : Option Place) → MayLand (width w) (moving_of plan).home place → Relays place w u (mover (moving_of plan)) value → Lands w u (mover (moving_of plan)) place 0 value
-    relayed (Some p) may relays = subst (λ (s : Spot). StoresAt w u s 0 value) (named_guest w.imsic p (held_there w (moving_of plan) knows.fits p (landing_is_held (width w) (moving_of plan).home (Some p) p may refl))) relays
+    relayed : (place : Option Place) → MayLand (width w) (moving_of plan).home place → ReachesByRecord place w u (mover (moving_of plan)) value → Lands w u (mover (moving_of plan)) place 0 value
+    relayed (Some p) may relays = subst (λ (s : Spot). StoresInGuestFile w u s 0 value) (named_guest w.imsic p (held_there w (moving_of plan) knows.fits p (landing_is_held (width w) (moving_of plan).home (Some p) p may refl))) relays
     relayed None may relays = relays
 
 -- ---- a store for another virtual hart, and one of the host

@@ -8,7 +8,7 @@ use Rattle.aia_word.specs.Sets.{has_bit}
 use Rattle.aia_regs.specs.declared.limits.TheConstants.{FILE_WORDS}
 use Rattle.aia_home.specs.Home.{Home, Progress, is_moving, one_more}
 use Rattle.aia_home.specs.Home.Home.{Leaving, Arriving, Shifting}
-use Rattle.aia_home.specs.Plans.{Access, steps_done, is_carried, leave_steps, leave_step}
+use Rattle.aia_home.specs.Plans.{Access, steps_done, is_last_made, leave_steps, leave_step}
 use Rattle.aia_home.specs.Plans.Access.{Map, TakePending, TakeEnables}
 use Rattle.aia_home.specs.Phases.{Phase, following, begins, after_enable}
 use Rattle.aia_home.specs.Phases.Phase.{FirstPhase, ClosingPhase, DrainPhase, EnablePhase, LookPhase, LastPhase}
@@ -19,7 +19,7 @@ use Rattle.aia_world.specs.World.{World}
 use Rattle.aia_moving.specs.declared.turn.Closed.{Closed}
 use Rattle.aia_moving.specs.declared.turn.Closed.TheVariants as closed
 use Rattle.aia_moving.specs.Move.{Moving, width, MoveFits}
-use Rattle.aia_moving.specs.Targets.{aims, passes_of, has_unaimed, one_aimed, aim_if}
+use Rattle.aia_moving.specs.Targets.{aims, pass_count, has_unaimed, one_aimed, aim_if}
 use Rattle.aia_moving.specs.Carrier.{CarrierState, progress_of, moving, one_aim_done}
 use Rattle.aia_moving.specs.Turns.{IsIn, IsAtAims, IsMove, GoesOn, AimsOn, MatchClosed}
 use Rattle.aia_moving.specs.Landings.{OnceLanded}
@@ -92,7 +92,7 @@ aimed_next : (there : Home) → next_file (aimed there) ≡ next_file there
 aimed_next (Leaving from at) = refl
 aimed_next there = refl
 
-aimed_carried : (words : ℕ) (there : Home) (access : Access) → is_carried words (aimed there) access ≡ is_carried words there access
+aimed_carried : (words : ℕ) (there : Home) (access : Access) → is_last_made words (aimed there) access ≡ is_last_made words there access
 aimed_carried words (Leaving from at) access = refl
 aimed_carried words there access = refl
 
@@ -185,8 +185,8 @@ ends_enables phase w u m t follows is goes last =
 
 -- ---- whether sources are left to aim, as the carrier tells it
 
-pub unaimed : (there : Progress → Home) → IsMove there → (l : CarrierState) (s t : Moving) (more : Bool) → moving there l ≡ s → t ≡ s → nat_lt l.aims (passes_of l.who) ≡ more → has_unaimed t ≡ more
-unaimed there is l s t more seen same known = ap has_unaimed (same ∙ sym seen) ∙ ap (λ n. nat_lt n (passes_of l.who)) (is.aims (progress_of l)) ∙ known
+pub unaimed : (there : Progress → Home) → IsMove there → (l : CarrierState) (s t : Moving) (more : Bool) → moving there l ≡ s → t ≡ s → nat_lt l.aims (pass_count l.who) ≡ more → has_unaimed t ≡ more
+unaimed there is l s t more seen same known = ap has_unaimed (same ∙ sym seen) ∙ ap (λ n. nat_lt n (pass_count l.who)) (is.aims (progress_of l)) ∙ known
 
 -- ---- past the first phase
 
@@ -252,13 +252,13 @@ module _ (w u : World) (plan later : Plan) (words : ℕ) (value : words ≡ widt
 
 -- ---- the sets are carried
 
-pending_zero : (words : ℕ) (there : Home) → is_moving there ≡ true → steps_done there ≡ begins words there DrainPhase + 1 → is_carried words there (TakePending 0) ≡ true
+pending_zero : (words : ℕ) (there : Home) → is_moving there ≡ true → steps_done there ≡ begins words there DrainPhase + 1 → is_last_made words there (TakePending 0) ≡ true
 pending_zero words (Leaving from at) moves e = eq-eqb _ _ e
 pending_zero words (Arriving to at) moves e = eq-eqb _ _ e
 pending_zero words (Shifting from to at) moves e = eq-eqb _ _ e
 pending_zero words there moves e = absurd (cc)
 
-enables_zero : (words : ℕ) (there : Home) → is_moving there ≡ true → steps_done there ≡ begins words there EnablePhase + 1 → is_carried words there (TakeEnables 0) ≡ true
+enables_zero : (words : ℕ) (there : Home) → is_moving there ≡ true → steps_done there ≡ begins words there EnablePhase + 1 → is_last_made words there (TakeEnables 0) ≡ true
 enables_zero words (Leaving from at) moves e = eq-eqb _ _ e
 enables_zero words (Arriving to at) moves e = eq-eqb _ _ e
 enables_zero words (Shifting from to at) moves e = eq-eqb _ _ e

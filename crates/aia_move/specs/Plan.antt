@@ -122,15 +122,15 @@ GoesInPlace phase true w m u t = GoesOn w m u t
 GoesInPlace phase false w m u t = (u ≡ w) × (t ≡ m) × IsLastOf phase (width w) m
 
 -- The same of the first phase, where stores in flight may land before the step.
-abbrev pub LandsInPlace : Bool → World → Moving → World → Moving → Type 0
-LandsInPlace true w m u t = OnceLanded w m (λ landed. GoesOn landed m u t)
-LandsInPlace false w m u t = GoesInPlace FirstPhase false w m u t
+abbrev pub FirstGoesInPlace : Bool → World → Moving → World → Moving → Type 0
+FirstGoesInPlace true w m u t = OnceLanded w m (λ landed. GoesOn landed m u t)
+FirstGoesInPlace false w m u t = GoesInPlace FirstPhase false w m u t
 
 -- Whether a step was made in place, by the phase of the next step; None: it aims, and is not made
 -- in place.
 abbrev pub InPlaceByPhase : Option Phase → Bool → World → Moving → World → Moving → Type 0
 InPlaceByPhase None made w m u t = (made ≡ false) × (u ≡ w) × (t ≡ m)
-InPlaceByPhase (Some FirstPhase) made w m u t = LandsInPlace made w m u t
+InPlaceByPhase (Some FirstPhase) made w m u t = FirstGoesInPlace made w m u t
 InPlaceByPhase (Some phase) made w m u t = GoesInPlace phase made w m u t
 
 -- The next step of a move is the last one of this phase; where there is none, it aims a passed

@@ -7,7 +7,7 @@ ghost use Rattle.aia_home.specs.Phases.Phase.{FirstPhase, ClosingPhase, LastPhas
 ghost use Rattle.aia_moving.specs.Move.{MoveFits, Ends, new_spot, width};
 ghost use Rattle.aia_moving.specs.Landings.{OnceLanded};
 ghost use Rattle.aia_moving.specs.Turns.{IsIn, GoesOn, EndsAs, GivesBack, MatchTurn};
-ghost use Rattle.aia_move.specs.Plan.{GoesInPlace, LandsInPlace};
+ghost use Rattle.aia_move.specs.Plan.{GoesInPlace, FirstGoesInPlace};
 
 use crate::carrier::Carrier;
 use crate::kind::{ToFile, spot};
@@ -69,7 +69,7 @@ impl Arrive<First> {
     pub(crate) fn step_in_place(&mut self, fabric: &mut Fabric) -> bool
         requires fits { MoveFits fabric.old self.old }
         requires phase { IsIn FirstPhase (width fabric.old) self.old }
-        ensures goes { LandsInPlace result fabric.old self.old fabric.new self.new }
+        ensures goes { FirstGoesInPlace result fabric.old self.old fabric.new self.new }
         ensures phase { IsIn FirstPhase (width fabric.new) self.new }
     {
         let stays = self.carrier.done() < 1;

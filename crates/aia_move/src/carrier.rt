@@ -10,7 +10,7 @@ ghost use Rattle.aia_home.specs.Plans.Access.{TakeDelivery, PutDelivery, WriteNo
 ghost use Rattle.aia_world.specs.Flights.{Fences};
 ghost use Rattle.aia_world.specs.Changes.{IsPlaceThere, spot_of, words_at};
 ghost use Rattle.aia_moving.specs.Move.{Moving, IsWho, Makes, PostsIf, old_at, new_at, old_spot, new_spot, width};
-ghost use Rattle.aia_moving.specs.Targets.{ArePasses, passes_of, aim_of};
+ghost use Rattle.aia_moving.specs.Targets.{ArePasses, pass_count, aim_of};
 ghost use Rattle.aia_moving.specs.Carrier.{Does, carrier_of, one_done, one_aim_done, closing_access, pending_access, enables_access};
 
 use crate::{Targets, Who, words};
@@ -224,7 +224,7 @@ impl Carrier {
 
     /// Tells whether a passed source is still to be aimed.
     pub fn has_unaimed(&self) -> bool
-        ensures { result ≡ nat_lt self.now.aims (passes_of self.now.who) }
+        ensures { result ≡ nat_lt self.now.aims (pass_count self.now.who) }
     {
         self.aims < self.who.passes.len()
     }
@@ -232,7 +232,7 @@ impl Carrier {
     /// Aims the next passed source at a guest file, `None`: at the notice hart, where its MSIs are
     /// given on to the slot.
     pub fn aim<T: Targets>(&mut self, targets: &mut T, to: Option<&FileLease>)
-        requires more { self.old.aims < passes_of self.old.who }
+        requires more { self.old.aims < pass_count self.old.who }
         requires passes { ArePasses self.old.who }
         requires notice { self.old.who.found.notice < (T.map targets.old).harts }
         requires hart { IfSome to (λ lease. lease.now.hart < (T.map targets.old).harts) }

@@ -8,7 +8,7 @@ ghost use Rattle.aia_home.specs.BySteps.{is_leaving};
 ghost use Rattle.aia_moving.specs.Move.{MoveFits, Ends, old_spot, width};
 ghost use Rattle.aia_moving.specs.Landings.{OnceLanded};
 ghost use Rattle.aia_moving.specs.Turns.{IsIn, GoesOn, EndsAs, GivesBack, MatchTurn};
-ghost use Rattle.aia_move.specs.Plan.{GoesInPlace, LandsInPlace};
+ghost use Rattle.aia_move.specs.Plan.{GoesInPlace, FirstGoesInPlace};
 
 use crate::carrier::Carrier;
 use crate::kind::{ToMemory, spot};
@@ -65,7 +65,7 @@ impl Leave<First> {
     pub(crate) fn step_in_place(&mut self, fabric: &mut Fabric) -> bool
         requires fits { MoveFits fabric.old self.old }
         requires phase { IsIn FirstPhase (width fabric.old) self.old }
-        ensures goes { LandsInPlace result fabric.old self.old fabric.new self.new }
+        ensures goes { FirstGoesInPlace result fabric.old self.old fabric.new self.new }
         ensures phase { IsIn FirstPhase (width fabric.new) self.new }
     {
         let stays = self.carrier.done() < 3;

@@ -8,7 +8,7 @@ use Rattle.aia_imsic.specs.Imsic.{IsThere, file_at}
 use Rattle.aia_home.specs.declared.place.Place.{Place}
 use Rattle.aia_home.specs.Vms.{Vcpu, vcpu, is_vcpu_in, slot_of, notice_hart}
 use Rattle.aia_home.specs.Home.{Home, one_more}
-use Rattle.aia_home.specs.Plans.{is_at_last, Access, IsNext, next_access, is_carried}
+use Rattle.aia_home.specs.Plans.{is_at_last, Access, IsNext, next_access, is_last_made}
 use Rattle.aia_home.specs.Home.Home.{Leaving, Arriving}
 use Rattle.aia_home.specs.BySteps.{own_file, next_file, old_file, new_file}
 use Rattle.aia_home.specs.Plans.Access.{TakeDelivery, PutDelivery, WriteNotice, WriteEntry, Fence, Map, GFence, TakePending, PutPending, TakeEnables, PutEnables, Look, TakeThreshold, PutThreshold, Post}
@@ -123,9 +123,9 @@ pub record MoveFits (w : World) (m : Moving) : Type 0 where
   pub notice : m.who.found.notice ≡ notice_hart w.vms (mover m)
   pub own : (p : Place) → own_file m.home ≡ Some p → IsThere w.imsic (spot_of p)
   pub next : (p : Place) → next_file m.home ≡ Some p → IsThere w.imsic (spot_of p)
-  pub no_pending_zero : is_carried (width w) m.home (TakePending 0) ≡ true
+  pub no_pending_zero : is_last_made (width w) m.home (TakePending 0) ≡ true
       → has_bit m.hand.word 0 ≡ false
-  pub no_enabled_zero : is_carried (width w) m.home (TakeEnables 0) ≡ true
+  pub no_enabled_zero : is_last_made (width w) m.home (TakeEnables 0) ≡ true
       → has_bit m.hand.word 0 ≡ false
 
 -- The next step is that of the plan's table: it makes its access, and carries what that one takes.

@@ -7,7 +7,7 @@ use Rattle.aia_home.specs.declared.place.Place.{Place}
 use Rattle.aia_home.proofs.HomeLemmas.{is_itself_place}
 use Rattle.aia_home.specs.Home.{Home, is_moving, is_place}
 use Rattle.aia_home.specs.Home.Home.{Leaving, Arriving, Shifting}
-use Rattle.aia_home.specs.Plans.{is_made, is_carried}
+use Rattle.aia_home.specs.Plans.{is_made, is_last_made}
 use Rattle.aia_home.specs.Plans.Access.{TakePending, TakeThreshold}
 use Rattle.aia_home.specs.Phases.{has_come}
 use Rattle.aia_home.specs.Phases.Phase.{ClosingPhase, DrainPhase, EnablePhase, LookPhase, LastPhase}
@@ -46,7 +46,7 @@ module _ (words q hart : ℕ) (reach : Option Place) (v : Places) (there : Home)
       let both = enable_drained words (i / 64) there moves low come in
       let empty = drained_knows i low both.0 in (
         empty,
-        sym (h.sets.union i low ∙ ap (λ b. b || ((new_place v there).pending i || (is_carried words there (TakePending (i / 64)) && has_bit hand.word (i % 64)))) empty
+        sym (h.sets.union i low ∙ ap (λ b. b || ((new_place v there).pending i || (is_last_made words there (TakePending (i / 64)) && has_bit hand.word (i % 64)))) empty
             ∙ ap (λ b. (new_place v there).pending i || (b && has_bit hand.word (i % 64))) both.1 ∙ or_false ((new_place v there).pending i)),
       )
     where

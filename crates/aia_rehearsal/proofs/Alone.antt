@@ -23,7 +23,7 @@ use Rattle.aia_world.specs.declared.stage.Stage.{Stage}
 use Rattle.aia_world.specs.World.{World, stage_of, flight_of, no_stage}
 use Rattle.aia_world.specs.Whole.{IsWhole}
 use Rattle.aia_world.specs.Making.{entry_word_place}
-use Rattle.aia_world.specs.Stores.{Reaches, ReachesBy, Relays, named_spot}
+use Rattle.aia_world.specs.Stores.{Reaches, ReachesBy, ReachesByRecord, named_spot}
 use Rattle.aia_world.specs.Flights.{Sends, Lands, LandsOldest}
 use Rattle.aia_world.specs.Changes.{places_of, pending_words, enable_words, with_pending, with_enable, with_entry_word, with_fence, with_stage}
 use Rattle.aia_world.proofs.ViewLemmas.{fence-places, slot_low}
@@ -87,7 +87,7 @@ module _ (w u : World) (p : Passage) (whole : IsWhole w) where
   reaches_kept Other offset value e g = ap (λ (x : World). routes_of x g) e
   reaches_kept (Fault entry) offset value e g = ap (λ (x : World). routes_of x g) e
 
-  relays_kept : (to : Vcpu) (named : Option Place) (value : ℕ) → is_vcpu_in w.vms to ≡ true → Relays named w u to value → (g : Vcpu) → routes_of u g ≡ routes_of w g
+  relays_kept : (to : Vcpu) (named : Option Place) (value : ℕ) → is_vcpu_in w.vms to ≡ true → ReachesByRecord named w u to value → (g : Vcpu) → routes_of u g ≡ routes_of w g
   relays_kept to (Some a) value there relays g = (at_spot w u (of_other p g) 0 value whole (named_spot w.imsic a) (named_spot_there w a) relays).routes
   relays_kept to None value there relays g =
       (at_slot w u (of_other p g) 0 value whole (Some (slot_of w.vms to)) (SupervisorFile (notice_hart w.vms to)) (notice_identity w.vms to) (λ n e. let same : slot_of w.vms to ≡ n = cc in let low = slot_low w to whole there in omega (arith, low, same)) (λ some. notice_hart_there w to whole there) relays).routes

@@ -21,7 +21,7 @@ use Rattle.aia_places.specs.Places.{leads_to}
 use Rattle.aia_world.specs.declared.flying.Flying.{Flying}
 use Rattle.aia_world.specs.World.{World, flight_of, stage_of}
 use Rattle.aia_world.specs.Whole.{IsWhole}
-use Rattle.aia_world.specs.Stores.{StoresAt, Reaches, Relays, named_spot}
+use Rattle.aia_world.specs.Stores.{StoresInGuestFile, Reaches, ReachesByRecord, named_spot}
 use Rattle.aia_world.specs.Flights.{Sends, with_flight}
 use Rattle.aia_world.specs.Changes.{spot_of, with_fence}
 use Rattle.aia_world.proofs.OwnLemmas.{guest_spot}
@@ -110,10 +110,10 @@ module _ (w : World) (r : Rehearsed) (z : Transit) (whole : IsWhole w) (s : Stan
   named_there a there = let named : (nat_lt a.hart w.imsic.harts && is_in_range 1 w.imsic.guests a.file) ≡ true = grind (arith, nat_tests) in cond-true _ _ _ named
 
   module _ (u : World) (value : ℕ) where
-    own_relay : (b : ends.Place) (side : Side) → b ≡ on side p → Relays (file_of b) w u (moved p) value → StandsFor u r (landed side (asked 0 value) z)
+    own_relay : (b : ends.Place) (side : Side) → b ≡ on side p → ReachesByRecord (file_of b) w u (moved p) value → StandsFor u r (landed side (asked 0 value) z)
     own_relay (File a) side is relays =
         let inside : IsFileThere w (File a) = subst (IsFileThere w) (sym is) (there_on side) in
-        let seen = at_spot w u p 0 value whole (spot_of a) (λ some. inside) (subst (λ x. StoresAt w u x 0 value) (named_there a inside) relays) in
+        let seen = at_spot w u p 0 value whole (spot_of a) (λ some. inside) (subst (λ x. StoresInGuestFile w u x 0 value) (named_there a inside) relays) in
         let led : file_hit (spot_of a) (on side p) ≡ true = subst (λ x. file_hit (spot_of a) x ≡ true) is (is_itself_place a) in
         let one = one_file_hit (spot_of a) p.old p.new s.two in
         subst (λ o. StandsFor u r (landed_on o (asked 0 value) z)) (side_is (file_hit (spot_of a)) p side led one) (store_lands w u r z (file_hit (spot_of a)) 0 value s seen one)
@@ -126,10 +126,10 @@ module _ (w : World) (r : Rehearsed) (z : Transit) (whole : IsWhole w) (s : Stan
         let one = one_slot_hit o q p.old p.new s.two in
         subst (λ o. StandsFor u r (landed_on o (asked 0 value) z)) (side_is (slot_hit o q) p side led one) (store_lands w u r z (slot_hit o q) 0 value s seen one)
 
-    pub own_peer : Relays (stage_of w (moved p)).in_force w u (moved p) value → StandsFor u r (happened (happenings.PeerStores (asked 0 value)) z)
-    own_peer relays = own_relay (on z.record_in_force p) z.record_in_force refl (subst (λ o. Relays o w u (moved p) value) s.routes.record_in_force relays)
+    pub own_peer : ReachesByRecord (stage_of w (moved p)).in_force w u (moved p) value → StandsFor u r (happened (happenings.PeerStores (asked 0 value)) z)
+    own_peer relays = own_relay (on z.record_in_force p) z.record_in_force refl (subst (λ o. ReachesByRecord o w u (moved p) value) s.routes.record_in_force relays)
 
-    pub other_peer : (g : Vcpu) (named : Option Place) → is_vcpu_in w.vms g ≡ true → g ≢ moved p → NamesElsewhere p named → Relays named w u g value → StandsFor u r z
+    pub other_peer : (g : Vcpu) (named : Option Place) → is_vcpu_in w.vms g ≡ true → g ≢ moved p → NamesElsewhere p named → ReachesByRecord named w u g value → StandsFor u r z
     other_peer g (Some a) there other none relays =
         let seen = at_spot w u p 0 value whole (named_spot w.imsic a) (named_spot_there w a) relays in
         let one = one_file_hit (named_spot w.imsic a) p.old p.new s.two in

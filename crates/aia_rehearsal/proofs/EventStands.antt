@@ -13,7 +13,7 @@ use Rattle.aia_home.specs.Vms.{Vcpu, vcpu, is_vcpu}
 use Rattle.aia_home.proofs.VmLemmas.{same_vcpu}
 use Rattle.aia_world.specs.World.{World, flight_of, stage_of}
 use Rattle.aia_world.specs.Whole.{IsWhole}
-use Rattle.aia_world.specs.Stores.{Relays}
+use Rattle.aia_world.specs.Stores.{ReachesByRecord}
 use Rattle.aia_world.specs.Flights.{Lands}
 use Rattle.aia_world.specs.Changes.{with_fence}
 use Rattle.aia_plan.specs.Transit.{Side, Transit, Happening, happened, all_happened}
@@ -77,7 +77,7 @@ module _ (w u : World) (r : Rehearsed) (z : Transit) (whole : IsWhole w) (s : St
       (λ not. other_store w r z whole s u (addr % PAGE) value (route_of (table_of w.tables vm) addr) (away not) reaches))
   between (PeerStores vm to value) t (there, relays, e) away = subst (λ (x : Rehearsed). StandsFor u x (all_happened (seen (PeerStores vm to value) w p) z)) (sym e)
       (one_or_none u r z (is_vcpu (vcpu vm to) (moved p)) (happenings.PeerStores (asked 0 value))
-      (λ mine. own_peer w r z whole s u value (subst (λ (g : Vcpu). Relays (stage_of w g).in_force w u g value) (same_vcpu (vcpu vm to) (moved p) mine) relays))
+      (λ mine. own_peer w r z whole s u value (subst (λ (g : Vcpu). ReachesByRecord (stage_of w g).in_force w u g value) (same_vcpu (vcpu vm to) (moved p) mine) relays))
       (λ not. other_peer w r z whole s u value (vcpu vm to) (stage_of w (vcpu vm to)).in_force there (other_vcpu (vcpu vm to) (moved p) not) (away not) relays))
   between (DeviceSends vm addr value) t (low, sends, e) away = subst (λ (x : Rehearsed). StandsFor u x (all_happened (seen (DeviceSends vm addr value) w p) z)) (sym e)
       (one_or_none u r z (is_for_moved w p vm addr) (happenings.Sends (asked (addr % PAGE) value))

@@ -7,7 +7,7 @@ use Rattle.aia_world.specs.declared.at.At.TheVariants as ats
 use Rattle.aia_world.specs.World.{World, OnlyStores, flight_of}
 use Rattle.aia_world.specs.Changes.{with_pending, with_enable}
 use Rattle.aia_world.proofs.FlightLemmas.{all_landed_rest}
-use Rattle.aia_world.proofs.FrameLemmas.{entry_rest, reaches_rest, relays_rest}
+use Rattle.aia_world.proofs.FrameLemmas.{entry_rest, reaches_rest, record_rest}
 use Rattle.std.proofs.Common.{◌%◌}
 use Rattle.aia_regs.specs.declared.address_map.TheConstants.{PAGE}
 use Rattle.aia_entry.specs.declared.table.Route.{Route}
@@ -83,7 +83,7 @@ sends_same (Fault entry) w u vm offset value e = same_by w u w e (same_machine w
 pub event_same : (event : Event) (w : World) (r : Rehearsed) (u : World) (t : Rehearsed) → Happens event w r u t → SameMachine w u
 event_same (Steps step) w r u t (inside, makes, e) = step_same step w u r makes
 event_same (DeviceStores vm addr value) w r u t (low, reaches, e) = stored_same w u (reaches_rest (route_of (table_of w.tables vm) addr) w u (addr % PAGE) value reaches)
-event_same (PeerStores vm to value) w r u t (there, relays, e) = stored_same w u (relays_rest (stage_of w (vcpu vm to)).in_force w u (vcpu vm to) value relays)
+event_same (PeerStores vm to value) w r u t (there, relays, e) = stored_same w u (record_rest (stage_of w (vcpu vm to)).in_force w u (vcpu vm to) value relays)
 event_same (DeviceSends vm addr value) w r u t (low, sends, e) = sends_same (route_of (table_of w.tables vm) addr) w u vm (addr % PAGE) value sends
 event_same (StoreLands vm k) w r u t (low, l, e) =
     let same = stored_same w l.stored (entry_rest l.store.entry w l.stored l.store.offset l.store.value l.reaches) in

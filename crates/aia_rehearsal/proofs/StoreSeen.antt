@@ -25,7 +25,7 @@ use Rattle.aia_places.specs.Places.{TwoSets, of_file, of_slot}
 use Rattle.aia_world.specs.World.{World, OnlyStores, stage_of}
 use Rattle.aia_world.specs.Whole.{IsWhole}
 use Rattle.aia_world.specs.Making.{entry_word_place}
-use Rattle.aia_world.specs.Stores.{StoresIn, StoresAt, Posts, NoticedAt, NoticedBy, StoresInSlot, with_store}
+use Rattle.aia_world.specs.Stores.{StoresIn, StoresInGuestFile, Posts, NoticedAt, NoticedBy, StoresInSlot, with_store}
 use Rattle.aia_world.specs.Changes.{spot_of, with_state}
 use Rattle.aia_world.proofs.FrameLemmas.{none_rest, stores_rest, slot_rest}
 use Rattle.aia_world.proofs.PlaceLemmas.{slot_takes_store, other_slot_stays}
@@ -146,7 +146,7 @@ module _ (w u : World) (p : Passage) (offset value : ℕ) (whole : IsWhole w) wh
   no_file spot none (File b) = none b
   no_file spot none Slot = refl
 
-  pub at_spot : (spot : Spot) → (spot ≢ Nowhere → IsThere w.imsic spot) → StoresAt w u spot offset value → Seen w u p (file_hit spot) offset value
+  pub at_spot : (spot : Spot) → (spot ≢ Nowhere → IsThere w.imsic spot) → StoresInGuestFile w u spot offset value → Seen w u p (file_hit spot) offset value
   at_spot (GuestFile hart file) there stores = in_file (record { hart = hart; file = file }) (there (λ e. absurd (cc))) stores
   at_spot (MachineFile hart) there e = seen_none (file_hit (MachineFile hart)) (no_file (MachineFile hart) (λ b. refl)) e
   at_spot (SupervisorFile hart) there e = seen_none (file_hit (SupervisorFile hart)) (no_file (SupervisorFile hart) (λ b. refl)) e

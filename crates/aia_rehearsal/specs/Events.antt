@@ -9,7 +9,7 @@ use Rattle.aia_entry.specs.Format.{decoded}
 use Rattle.aia_home.specs.Vms.{Vcpu, vcpu, is_vcpu, is_vcpu_in}
 use Rattle.aia_world.specs.declared.flying.Flying.{Flying}
 use Rattle.aia_world.specs.World.{World, flight_of, stage_of}
-use Rattle.aia_world.specs.Stores.{Reaches, Relays}
+use Rattle.aia_world.specs.Stores.{Reaches, ReachesByRecord}
 use Rattle.aia_world.specs.Flights.{Sends, Lands}
 use Rattle.aia_world.specs.Changes.{with_fence}
 use Rattle.aia_moving.specs.Move.{width}
@@ -41,7 +41,7 @@ Happens (Steps step) w r u t =
 Happens (DeviceStores vm addr value) w r u t = (vm < length w.vms)
     × Reaches (route_of (table_of w.tables vm) addr) w u (addr % PAGE) value × (t ≡ r)
 Happens (PeerStores vm to value) w r u t = (is_vcpu_in w.vms (vcpu vm to) ≡ true)
-    × Relays (stage_of w (vcpu vm to)).in_force w u (vcpu vm to) value × (t ≡ r)
+    × ReachesByRecord (stage_of w (vcpu vm to)).in_force w u (vcpu vm to) value × (t ≡ r)
 Happens (DeviceSends vm addr value) w r u t = (vm < length w.vms)
     × Sends (route_of (table_of w.tables vm) addr) w u vm (addr % PAGE) value × (t ≡ r)
 Happens (StoreLands vm k) w r u t = (vm < length w.vms) × Lands w u vm k × (t ≡ r)

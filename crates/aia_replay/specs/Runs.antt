@@ -54,8 +54,8 @@ abbrev pub NoEnd : List ℕ → Type 0
 NoEnd text = All (λ b. nat_eq b 10 ≡ false) text
 
 -- The bytes are whole lines: there is none, or the last of them is an LF.
-abbrev pub IsWhole : List ℕ → Type 0
-IsWhole bytes = (bytes ≡ []) ⊎ ((front : List ℕ) × (bytes ≡ front ++ 10 ∷ []))
+abbrev pub AreWholeLines : List ℕ → Type 0
+AreWholeLines bytes = (bytes ≡ []) ⊎ ((front : List ℕ) × (bytes ≡ front ++ 10 ∷ []))
 
 -- The bytes are all of the script, where the source tells it.
 abbrev pub IsScript : Supply → List ℕ → Type 0
@@ -67,7 +67,7 @@ pub record AnswersWhole (before now : Option (List ℕ)) (bytes : List ℕ) : Ty
   pub whole : List ℕ
   pub tail : List ℕ
   pub split : bytes ≡ whole ++ tail
-  pub lines : IsWhole whole
+  pub lines : AreWholeLines whole
   pub no_end : NoEnd tail
   pub written : Appends before now (answers whole)
 
@@ -85,7 +85,7 @@ pub record CutsLines (before now : Option (List ℕ)) (bytes : List ℕ) : Type 
   pub whole : List ℕ
   pub more : List ℕ
   pub split : bytes ≡ whole ++ more
-  pub lines : IsWhole whole
+  pub lines : AreWholeLines whole
   pub cut : CutOff before now (answers whole)
 
 -- The sink took a front of the answers of the lines that were taken: of whole lines, or of all the
@@ -108,7 +108,7 @@ pub record StopsAtMachine (left rest : Supply) (before now : Option (List ℕ)) 
   pub text : List ℕ
   pub more : List ℕ
   pub taken : Gives left rest (whole ++ (text ++ more))
-  pub lines : IsWhole whole
+  pub lines : AreWholeLines whole
   pub no_end : NoEnd text
   pub end : ((next : List ℕ) × (more ≡ 10 ∷ next)) ⊎ ((more ≡ []) × IsScript left (whole ++ text))
   pub asks : AsksMachine (history_of whole) (reading text)

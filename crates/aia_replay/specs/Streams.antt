@@ -16,7 +16,7 @@ use Rattle.aia_replay.specs.declared.program.Status.{Status}
 use Rattle.aia_replay.specs.declared.program.Status.TheVariants.{Done, ReadFault, TooLong}
 use Rattle.aia_replay.specs.Buffered.{Gathers}
 use Rattle.aia_replay.specs.Stands.{StandsFor, ReadsAsMachine}
-use Rattle.aia_replay.specs.Runs.{NoEnd, IsWhole, AnswersWhole, IsScript, CutsLines, WritesFront, AsksMachine}
+use Rattle.aia_replay.specs.Runs.{NoEnd, AreWholeLines, AnswersWhole, IsScript, CutsLines, WritesFront, AsksMachine}
 
 -- The bytes read so far are whole lines, which are answered, and the tail of a line whose LF wasn't
 -- read; what was answered is written or waits in the buffer, and whatever follows is answered as
@@ -32,7 +32,7 @@ pub record HasAnswered (r : Replayer) (before now : Option (List ℕ)) (bytes : 
   pub answered : written ≡ answers whole
   pub completes : (more : List ℕ)
       → written ++ answers_from history (texts_of (tail ++ more)) ≡ answers (bytes ++ more)
-  pub lines : IsWhole whole
+  pub lines : AreWholeLines whole
   pub told : history ≡ history_of whole
   pub tells : (more : List ℕ)
       → after_texts history (texts_of (tail ++ more)) ≡ history_of (bytes ++ more)
@@ -47,7 +47,7 @@ pub record HasStopped (r : Replayer) (before now : Option (List ℕ)) (bytes mor
   pub text : List ℕ
   pub gathered : Gathers [] r.out.bytes.items before now (answers whole)
   pub split : bytes ≡ whole ++ (text ++ more)
-  pub lines : IsWhole whole
+  pub lines : AreWholeLines whole
   pub no_end : NoEnd text
   pub asks : AsksMachine (history_of whole) (reading text)
 

@@ -11,7 +11,7 @@ ghost use Rattle.aia_model.specs.Grammar.{fields};
 ghost use Rattle.aia_model.specs.Grammar.Field.{Keyword, Of};
 ghost use Rattle.aia_model.specs.Grammar.WordKind.{Decimal};
 ghost use Rattle.aia_model.specs.Forms.{instruction, access_values, part_fields, part, part_shape, machine_csr, host, guest, begin, load_part, forms_from_machine, forms_from_majors, forms_from_virtual_harts, forms_from_stores, Spells, IsListed};
-ghost use Rattle.aia_model.specs.Printing.{line_text, FitsField, IsPrintable};
+ghost use Rattle.aia_model.specs.Printing.{line_text, FitsField, AllNumbersFit};
 ghost use Rattle.aia_model.specs.Reading.{line_by, line_among, line_after, line_at, read, reading};
 ghost use Rattle.aia_model.specs.declared.limits.TheConstants.{LINE_BYTES};
 ghost use Rattle.aia_script.specs.Cursor.{left, first_word, after_first};
@@ -286,7 +286,7 @@ fn push_access(
 fn push_guest(out: &mut ArrayVec<u8, LINE_BYTES>, vm: u64, number: u64, csr: Csr, op: Op)
     requires empty { out.old.items ≡ [] }
     ensures text { out.new.items ≡ line_text (Line.GuestCsr vm number csr op) }
-    ensures range { IsPrintable (Line.GuestCsr vm number csr op) }
+    ensures range { AllNumbersFit (Line.GuestCsr vm number csr op) }
 {
     push_text(out, b"g");
     push_decimal(out, vm);
@@ -339,7 +339,7 @@ fn push_load(out: &mut ArrayVec<u8, LINE_BYTES>, vm: u64, number: u64, part: Par
 fn push_move(out: &mut ArrayVec<u8, LINE_BYTES>, vm: u64, number: u64, want: Want)
     requires { out.old.items ≡ [] }
     ensures text { out.new.items ≡ line_text (Line.Move vm number want) }
-    ensures range { IsPrintable (Line.Move vm number want) }
+    ensures range { AllNumbersFit (Line.Move vm number want) }
 {
     moves!(print_by_row (Line::Move { vm, number, want }, out, _ => {}) Move)
 }
@@ -350,7 +350,7 @@ fn push_move(out: &mut ArrayVec<u8, LINE_BYTES>, vm: u64, number: u64, want: Wan
 fn push_beginning(out: &mut ArrayVec<u8, LINE_BYTES>, vm: u64, number: u64, want: Want)
     requires { out.old.items ≡ [] }
     ensures text { out.new.items ≡ line_text (Line.Begin vm number want) }
-    ensures range { IsPrintable (Line.Begin vm number want) }
+    ensures range { AllNumbersFit (Line.Begin vm number want) }
 {
     push_text(out, b"begin ");
     moves!(print_by_row (Line::Begin { vm, number, want }, out, _ => {}) Begin)
@@ -361,7 +361,7 @@ fn push_beginning(out: &mut ArrayVec<u8, LINE_BYTES>, vm: u64, number: u64, want
 fn push_line(line: &Line, out: &mut ArrayVec<u8, LINE_BYTES>)
     requires { out.old.items ≡ [] }
     ensures text { out.new.items ≡ line_text line.now }
-    ensures range { IsPrintable line.now }
+    ensures range { AllNumbersFit line.now }
 {
     stores!((virtual_harts (majors (machine (print_by_row (*line, out,
         Line::MachineCsr { hart, csr, op } => push_access(out, b"m", hart, Level::Machine, csr, op),

@@ -17,7 +17,7 @@ use Rattle.aia_model.specs.ReachOf.{in_force_of}
 use Rattle.aia_home.proofs.RouteLemmas.{reach_lands}
 use Rattle.aia_model.proofs.ReachLemmas.{in_force_may}
 use Rattle.aia_places.specs.Places.{leads_to}
-use Rattle.aia_world.specs.Stores.{StoresAt, StoresInSlot, Reaches, slot_at, page_spot}
+use Rattle.aia_world.specs.Stores.{StoresInGuestFile, StoresInSlot, Reaches, slot_at, page_spot}
 use Rattle.aia_world.specs.Whole.{IsWhole}
 use Rattle.aia_world.specs.Changes.{spot_of}
 use Rattle.aia_world.specs.Own.{LeadsToOwn}
@@ -145,7 +145,7 @@ leads_to_own x h v stands standing = record {
 pub reached : (x y : CoreState) (h : History) (g : Vcpu) (offset value : ℕ) (reach : Option Place) → CoreStands x h → IsWhole x.world → has_vcpu h g ≡ true → ((p : Place) → reach ≡ Some p → IsThere x.world.imsic (spot_of p))
     → Reaches (leads_by (leads_to (slot_of (vms_of h) g) (notice_hart (vms_of h) g) reach)) x.world y.world offset value → GuestStored x.world y.world g reach offset value
 reached x y h g offset value (Some p) stands whole there inside reaches =
-    subst (λ (s : Spot). StoresAt x.world y.world s offset value) (guest_spot x.world.imsic p whole.harts whole.guests (inside p refl)) reaches
+    subst (λ (s : Spot). StoresInGuestFile x.world y.world s offset value) (guest_spot x.world.imsic p whole.harts whole.guests (inside p refl)) reaches
 reached x y h g offset value None stands whole there inside reaches =
     let vms : vms_of h ≡ x.world.vms = sym stands.vms in
     let hart : notice_hart x.world.vms g < x.world.imsic.harts = notice_hart_there x.world g whole (subst (λ (vs : List Vm). is_vcpu_in vs g ≡ true) vms there) in

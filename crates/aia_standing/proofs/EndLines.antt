@@ -10,7 +10,7 @@ use Rattle.aia_imsic.specs.Imsic.{IsThere, file_at}
 use Rattle.aia_home.specs.declared.place.Place.{Place}
 use Rattle.aia_home.specs.Vms.{Vcpu, is_vcpu}
 use Rattle.aia_home.specs.Home.{Home, is_place, holds, ended}
-use Rattle.aia_home.specs.Plans.{is_at_last, steps_done, step_of, is_carried}
+use Rattle.aia_home.specs.Plans.{is_at_last, steps_done, step_of, is_last_made}
 use Rattle.aia_home.specs.declared.rest.Rest.TheVariants.{Parked}
 use Rattle.aia_home.specs.Home.Home.{InMemory, Resident, Leaving, Arriving, Shifting}
 use Rattle.aia_home.specs.BySteps.{old_file}
@@ -127,10 +127,10 @@ change_word words v there word now file first h = record {
   past = h.past;
 }
   where
-    pending_no : (w : ℕ) → is_carried words there (TakePending w) ≡ false
+    pending_no : (w : ℕ) → is_last_made words there (TakePending w) ≡ false
     pending_no w = ne_eqb (steps_done there) (step_of words there (TakePending w) + 1) (λ e. omega (arith, first, e))
 
-    enables_no : (w : ℕ) → is_carried words there (TakeEnables w) ≡ false
+    enables_no : (w : ℕ) → is_last_made words there (TakeEnables w) ≡ false
     enables_no w = ne_eqb (steps_done there) (step_of words there (TakeEnables w) + 1) (λ e. omega (arith, first, e))
 
 rested : (o : Outcome) (there : Home) (hand : Hand) (words slot hart : ℕ) (reach : Option Place) (v : Places) (file : InterruptFile) (saw : Bool) → GivesBack o there hand → Holds words slot hart reach v (ended there) hand file false → Holds words slot hart reach v (ended there) (hand_in (stay_after o)) file saw

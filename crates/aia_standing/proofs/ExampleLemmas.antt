@@ -27,8 +27,8 @@ use Rattle.aia_home.specs.Vms.{Vcpu, vcpu, is_vcpu, is_vcpu_in, vm_in}
 use Rattle.aia_home.specs.Home.{Home, is_place, holds}
 use Rattle.aia_home.specs.declared.rest.Rest.TheVariants.{Parked}
 use Rattle.aia_home.specs.Home.Home.{InMemory, Resident, Leaving}
-use Rattle.aia_home.specs.BySteps.{is_disabled, is_enabled_moved}
-use Rattle.aia_home.specs.Plans.{is_carried}
+use Rattle.aia_home.specs.BySteps.{is_enable_taken, is_enable_put}
+use Rattle.aia_home.specs.Plans.{is_last_made}
 use Rattle.aia_home.proofs.VmLemmas.{numbered, vm_past}
 use Rattle.aia_places.specs.Places.{Places, leads_to, entry_word, second_word}
 use Rattle.aia_places.specs.Holds.{Holds, HoldsSets, HoldsNumbers, HoldsRoutes}
@@ -433,20 +433,20 @@ leaver_shows : places_of example_world leaver on_the_way ≡ leaver_view
 leaver_shows = λ k. record leaver_view { own = drained_shown k; slot = slot_is 1 (omega arith) k }
 
 -- the word is carried
-word_carried : (i : ℕ) → i / 64 < 1 → nat_eq 1 i ≡ (is_carried 1 on_the_way (TakePending (i / 64)) && has_bit 2 (i % 64))
+word_carried : (i : ℕ) → i / 64 < 1 → nat_eq 1 i ≡ (is_last_made 1 on_the_way (TakePending (i / 64)) && has_bit 2 (i % 64))
 word_carried i low =
-    let here : is_carried 1 on_the_way (TakePending (i / 64)) ≡ true = grind (arith, nat_tests) in
+    let here : is_last_made 1 on_the_way (TakePending (i / 64)) ≡ true = grind (arith, nat_tests) in
     let same : nat_eq (i % 64) 1 ≡ nat_eq 1 i = grind (arith, nat_tests) in
     sym (ap (λ b. b && has_bit 2 (i % 64)) here ∙ bit_1 (i % 64) ∙ same)
 
 -- no enables were taken yet
-no_enables_step : (i : ℕ) → is_disabled 1 on_the_way (i / 64) ≡ false
+no_enables_step : (i : ℕ) → is_enable_taken 1 on_the_way (i / 64) ≡ false
 no_enables_step i = grind (arith, nat_tests)
 
-none_carried : (i : ℕ) → is_carried 1 on_the_way (TakeEnables (i / 64)) ≡ false
+none_carried : (i : ℕ) → is_last_made 1 on_the_way (TakeEnables (i / 64)) ≡ false
 none_carried i = grind (arith, nat_tests)
 
-none_put : (i : ℕ) → is_enabled_moved 1 on_the_way (i / 64) ≡ false
+none_put : (i : ℕ) → is_enable_put 1 on_the_way (i / 64) ≡ false
 none_put i = grind (arith, nat_tests)
 
 leaver_sets : HoldsSets 1 leaver_view on_the_way 2 lone_file

@@ -33,7 +33,7 @@ use Rattle.aia_model.proofs.PassLemmas.{pass_may_land}
 use Rattle.aia_model.proofs.SentLemmas.{number_found}
 use Rattle.aia_standing.specs.Core.{CoreState}
 use Rattle.aia_standing.specs.HostFiles.{host_spot, is_host_spot}
-use Rattle.aia_standing.specs.Passes.{pass_in, IsToOne}
+use Rattle.aia_standing.specs.Passes.{number_of_pass, IsToOne}
 use Rattle.aia_standing.specs.Stands.{CoreStands, StandsForSome, CoreGoes, CoreHears, MayGo}
 use Rattle.aia_model.specs.Histories.{IsHistory}
 use Rattle.aia_model.specs.Answer.{msi_taken, given_on}
@@ -93,7 +93,7 @@ pub record IsOfPass (x : CoreState) (h : History) (p : ℕ) (msi : Msi) (spot : 
   pub leads : IsForward h p msi
   pub at : spot ≡ spot_at x.world.imsic.harts x.world.imsic.guests msi.address
 
-pub of_pass : (x : CoreState) (h : History) (p : ℕ) (msi : Msi) (spot : Spot) → CoreStands x h → IsWhole x.world → spot ≡ spot_at x.world.imsic.harts x.world.imsic.guests msi.address → pass_in x.passes msi.source ≡ Some p → IsForwardIf h msi (passed_by h msi.source) → IsOfPass x h p msi spot
+pub of_pass : (x : CoreState) (h : History) (p : ℕ) (msi : Msi) (spot : Spot) → CoreStands x h → IsWhole x.world → spot ≡ spot_at x.world.imsic.harts x.world.imsic.guests msi.address → number_of_pass x.passes msi.source ≡ Some p → IsForwardIf h msi (passed_by h msi.source) → IsOfPass x h p msi spot
 of_pass x h p msi spot stands whole at pass may =
     let is : passed_by h msi.source ≡ Some p = sym (pass_is x h msi.source stands) ∙ pass in
     record { stands = stands; whole = whole; is = is; leads = subst (IsForwardIf h msi) is may; at = at }
@@ -188,13 +188,13 @@ module _ (x y : CoreState) (h : History) (p : ℕ) (msi : Msi) (spot : Spot) (c 
 pub record IsForwarding (x : CoreState) (number : ℕ) (msi : Msi) (spot : Spot) : Type 0 where
   pub whole : IsWhole x.world
   pub at : spot ≡ spot_at x.world.imsic.harts x.world.imsic.guests msi.address
-  pub pass : pass_in x.passes msi.source ≡ Some number
+  pub pass : number_of_pass x.passes msi.source ≡ Some number
 
-pub forwarding : (x z : CoreState) (number : ℕ) (msi : Msi) (spot : Spot) → x ≡ z → IsWhole x.world → spot ≡ spot_at z.world.imsic.harts z.world.imsic.guests msi.address → pass_in z.passes msi.source ≡ Some number → IsForwarding x number msi spot
+pub forwarding : (x z : CoreState) (number : ℕ) (msi : Msi) (spot : Spot) → x ≡ z → IsWhole x.world → spot ≡ spot_at z.world.imsic.harts z.world.imsic.guests msi.address → number_of_pass z.passes msi.source ≡ Some number → IsForwarding x number msi spot
 forwarding x z number msi spot same whole at pass = record {
   whole = whole;
   at = at ∙ ap (λ (z : CoreState). spot_at z.world.imsic.harts z.world.imsic.guests msi.address) (sym same);
-  pass = ap (λ (z : CoreState). pass_in z.passes msi.source) same ∙ pass;
+  pass = ap (λ (z : CoreState). number_of_pass z.passes msi.source) same ∙ pass;
 }
 
 pub goes_there : (x : CoreState) (number : ℕ) (msi : Msi) (spot : Spot) → IsForwarding x number msi spot → MayGo x (Delivered msi) → IsThere x.world.imsic spot
@@ -209,7 +209,7 @@ pub goes_on : (x y : CoreState) (event : Event) → MayGo x event → CoreGoes x
 goes_on x y event m goes = record { past = event ∷ m.past; happens = (m.may, m.happens); stands = goes m.past m.stands m.may }
 
 -- of no passed source
-pub hears_on : (x y : CoreState) (msi : Msi) → pass_in x.passes msi.source ≡ None → MayGo x (Delivered msi) → CoreHears x y msi → StandsForSome y
+pub hears_on : (x y : CoreState) (msi : Msi) → number_of_pass x.passes msi.source ≡ None → MayGo x (Delivered msi) → CoreHears x y msi → StandsForSome y
 hears_on x y msi none m hears =
     let unpassed : passed_by m.past msi.source ≡ None = sym (pass_is x m.past msi.source m.stands) ∙ none in
     record {

@@ -22,7 +22,7 @@ use Rattle.aia_home.specs.declared.vm.Vm.{Vm}
 use Rattle.aia_home.specs.Vms.{Vcpu, is_vcpu, vcpus_in, is_vcpu_in, slot_of, notice_identity, notice_hart}
 use Rattle.aia_home.specs.Home.{Home, is_place, holds}
 use Rattle.aia_home.specs.Home.Home.{Resident, Leaving, Arriving, Shifting}
-use Rattle.aia_home.specs.Routes.{peers_reach, MayLand, is_noticed}
+use Rattle.aia_home.specs.Routes.{peers_reach, MayLand, sends_notice}
 use Rattle.aia_home.proofs.RouteLemmas.{reach_lands, peers_may}
 use Rattle.aia_model.proofs.ReachLemmas.{in_force_may}
 use Rattle.aia_home.specs.BySteps.{own_file, next_file}
@@ -475,7 +475,7 @@ pub who_by_store : (x y : CoreState) (h : History) (event : Event) (g : Vcpu) (o
 who_by_store x y h event g offset value c notices s e =
     let held = (c.stands.vcpus g c.there).holds in
     let greatest : is_greatest_identity (greatest_identity_of h) ≡ true = subst (λ n. is_greatest_identity n ≡ true) c.stands.greatest c.whole.greatest in
-    let told : is_notice (stored (mrif_in x.world.memory (slot_of x.world.vms g)) (requested IDENTITIES offset value)) ≡ is_noticed (file_words h) (home h g) (guest_file h g).enabled (requested (greatest_identity_of h) offset value) =
+    let told : is_notice (stored (mrif_in x.world.memory (slot_of x.world.vms g)) (requested IDENTITIES offset value)) ≡ sends_notice (file_words h) (home h g) (guest_file h g).enabled (requested (greatest_identity_of h) offset value) =
     notices_alike (greatest_identity_of h) (file_words h) (slot_of (vms_of h) g) (notice_hart (vms_of h) g) (in_force_of h g) (places_of x.world g (home h g)) (home h g) (hand_in (record_of x g).stay) (guest_file h g) (a_look_saw h g) (guest_within h g greatest) (few_words (greatest_identity_of h) greatest) held offset value in
     notices ∙ ap (λ b. cond b (Some g) None) (sym told ∙ ap is_notice (sym e))
 

@@ -39,7 +39,7 @@ use Rattle.aia_model.proofs.MoveLemmas.{is_itself}
 use Rattle.aia_standing.specs.declared.vcpu.Stay.TheVariants as stays
 use Rattle.aia_standing.specs.declared.vcpu.VcpuRecord.{VcpuRecord}
 use Rattle.aia_standing.specs.Core.{CoreState, no_record, record_of, home_in, hand_in}
-use Rattle.aia_standing.specs.Memory.{file_in_memory, is_number, kept_value, kept_after}
+use Rattle.aia_standing.specs.Memory.{file_in_memory, is_outside_sets, kept_value, kept_after}
 use Rattle.aia_standing.specs.Passes.{HasItsPasses}
 use Rattle.aia_standing.specs.Stands.{PlanStands, CoreStands, CoreTakes}
 use Rattle.aia_standing.proofs.VcpuLemmas.{MajorsRest, quiet_line}
@@ -154,7 +154,7 @@ memory_slot_done x y g kept deed threshold slot_deed slot leases vcpus selects p
     }
 
 -- a register of the sets
-pub sets_accessed : (w u : World) (q : ℕ) (kept : KeptNumbers) (reg : FileReg) (op : Op) → is_number reg ≡ false → DoneInSlot w u q 0 (accessed reg op) → SameFile (file_in_memory u q kept) (accessed reg op (file_in_memory w q kept))
+pub sets_accessed : (w u : World) (q : ℕ) (kept : KeptNumbers) (reg : FileReg) (op : Op) → is_outside_sets reg ≡ false → DoneInSlot w u q 0 (accessed reg op) → SameFile (file_in_memory u q kept) (accessed reg op (file_in_memory w q kept))
 sets_accessed w u q kept (Pending k) op sets d = record { n = d.done.n; pending = d.done.pending; enabled = d.done.enabled; threshold = refl; delivery = refl }
 sets_accessed w u q kept (Enable k) op sets d = record { n = d.done.n; pending = d.done.pending; enabled = d.done.enabled; threshold = refl; delivery = refl }
 sets_accessed w u q kept Delivery op sets d = absurd (cc)
@@ -163,7 +163,7 @@ sets_accessed w u q kept Reserved op sets d = absurd (cc)
 sets_accessed w u q kept Odd op sets d = absurd (cc)
 sets_accessed w u q kept Outside op sets d = absurd (cc)
 
-pub sets_value : (w : World) (q : ℕ) (kept : KeptNumbers) (reg : FileReg) → is_number reg ≡ false → register_value (file_of_slot w q 0) reg ≡ register_value (file_in_memory w q kept) reg
+pub sets_value : (w : World) (q : ℕ) (kept : KeptNumbers) (reg : FileReg) → is_outside_sets reg ≡ false → register_value (file_of_slot w q 0) reg ≡ register_value (file_in_memory w q kept) reg
 sets_value w q kept (Pending k) sets = refl
 sets_value w q kept (Enable k) sets = refl
 sets_value w q kept Delivery sets = absurd (cc)
@@ -172,7 +172,7 @@ sets_value w q kept Reserved sets = absurd (cc)
 sets_value w q kept Odd sets = absurd (cc)
 sets_value w q kept Outside sets = absurd (cc)
 
-pub of_sets : (reg : FileReg) → IsUsable reg → is_number reg ≡ false → IsOfSets reg
+pub of_sets : (reg : FileReg) → IsUsable reg → is_outside_sets reg ≡ false → IsOfSets reg
 of_sets (Pending k) usable sets = usable
 of_sets (Enable k) usable sets = usable
 of_sets Delivery usable sets = absurd (cc)
@@ -182,7 +182,7 @@ of_sets Odd usable sets = absurd (cc)
 of_sets Outside usable sets = absurd (cc)
 
 -- a register of the numbers
-pub number_accessed : (w : World) (q modulus : ℕ) (kept : KeptNumbers) (reg : FileReg) (op : Op) → is_number reg ≡ true → modulus ≡ w.n + 1 → SameFile (file_in_memory w q (kept_after modulus reg op kept)) (accessed reg op (file_in_memory w q kept))
+pub number_accessed : (w : World) (q modulus : ℕ) (kept : KeptNumbers) (reg : FileReg) (op : Op) → is_outside_sets reg ≡ true → modulus ≡ w.n + 1 → SameFile (file_in_memory w q (kept_after modulus reg op kept)) (accessed reg op (file_in_memory w q kept))
 number_accessed w q modulus kept Delivery op number all = record { n = refl; pending = λ i. refl; enabled = λ i. refl; threshold = refl; delivery = refl }
 number_accessed w q modulus kept Threshold op number all = record { n = refl; pending = λ i. refl; enabled = λ i. refl; threshold = ap (λ m. number_after (λ v. v % m) op kept.threshold) all; delivery = refl }
 number_accessed w q modulus kept Reserved op number all = record { n = refl; pending = λ i. refl; enabled = λ i. refl; threshold = refl; delivery = refl }
@@ -191,7 +191,7 @@ number_accessed w q modulus kept Outside op number all = record { n = refl; pend
 number_accessed w q modulus kept (Pending k) op number all = absurd (cc)
 number_accessed w q modulus kept (Enable k) op number all = absurd (cc)
 
-pub number_value : (w : World) (q : ℕ) (kept : KeptNumbers) (reg : FileReg) → is_number reg ≡ true → kept_value kept reg ≡ register_value (file_in_memory w q kept) reg
+pub number_value : (w : World) (q : ℕ) (kept : KeptNumbers) (reg : FileReg) → is_outside_sets reg ≡ true → kept_value kept reg ≡ register_value (file_in_memory w q kept) reg
 number_value w q kept Delivery number = refl
 number_value w q kept Threshold number = refl
 number_value w q kept Reserved number = refl

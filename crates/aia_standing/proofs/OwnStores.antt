@@ -10,7 +10,7 @@ use Rattle.aia_home.specs.Home.{holds}
 use Rattle.aia_home.specs.Routes.{peers_reach}
 use Rattle.aia_world.specs.World.{World, stage_of}
 use Rattle.aia_world.specs.Whole.{IsWhole}
-use Rattle.aia_world.specs.Stores.{Reaches, ReachesBy, Relays}
+use Rattle.aia_world.specs.Stores.{Reaches, ReachesBy, ReachesByRecord}
 use Rattle.aia_world.specs.Flights.{Lands}
 use Rattle.aia_world.specs.Changes.{places_of}
 use Rattle.aia_world.specs.Own.{TouchesOwn, TouchesOneOf}
@@ -37,7 +37,7 @@ pub device_own : (x : CoreState) (h : History) (u : World) (v addr value : ℕ) 
     → (u ≡ x.world) ⊎ TouchesOneOf x.world u v (λ g. in_force_of h g)
 device_own x h u v addr value stands whole standing reaches = device_touches x.world u v addr value (λ g. in_force_of h g) whole (leads_to_own x h v stands standing) reaches
 
-pub peer_own : (x : CoreState) (h : History) (u : World) (g : Vcpu) (value : ℕ) → CoreStands x h → IsWhole x.world → has_vcpu h g ≡ true → Relays (stage_of x.world g).in_force x.world u g value → TouchesOwn x.world u g (peers_reach (home h g))
+pub peer_own : (x : CoreState) (h : History) (u : World) (g : Vcpu) (value : ℕ) → CoreStands x h → IsWhole x.world → has_vcpu h g ≡ true → ReachesByRecord (stage_of x.world g).in_force x.world u g value → TouchesOwn x.world u g (peers_reach (home h g))
 peer_own x h u g value stands whole there relays =
     subst (TouchesOwn x.world u g) (in_force x h g stands there).1 (peer_touches x.world u g (stage_of x.world g).in_force value whole (in_world x h g stands there) relays)
 

@@ -42,7 +42,7 @@ use Rattle.aia_standing.specs.declared.vcpu.Stay.{Stay}
 use Rattle.aia_standing.specs.declared.vcpu.Stay.TheVariants as stays
 use Rattle.aia_standing.specs.Core.{CoreState, no_record, record_of, home_in, resident_at, has_plan}
 use Rattle.aia_standing.specs.Moves.{UnlessRefused}
-use Rattle.aia_standing.specs.Passes.{pass_shown, pass_in, own_passes, IsToOne, TellsOf, AimsBy}
+use Rattle.aia_standing.specs.Passes.{pass_shown, number_of_pass, own_passes, IsToOne, TellsOf, AimsBy}
 use Rattle.aia_standing.specs.Stands.{PlanStands, flying_of, CoreStands, StandsForSome, CorePasses, MayPass, RefusesPass, line_served}
 use Rattle.aia_standing.proofs.VcpuLemmas.{IsQuiet, stays_line}
 use Rattle.aia_standing.proofs.StandsLemmas.{Becomes, stands_after}
@@ -102,10 +102,10 @@ all_gathered kept k g own end has = nothing_after own ∙ ap (λ (xs : List Pass
 
 -- ---- the pass of a source
 
-pub first_of_source : (passes : List Pass) (source number : ℕ) → number < length passes → (slice_index_or passes number no_pass).source ≡ source → ((j : ℕ) → j < number → nat_eq (slice_index_or passes j no_pass).source source ≡ false) → Some number ≡ pass_in passes (Some source)
+pub first_of_source : (passes : List Pass) (source number : ℕ) → number < length passes → (slice_index_or passes number no_pass).source ≡ source → ((j : ℕ) → j < number → nat_eq (slice_index_or passes j no_pass).source source ≡ false) → Some number ≡ number_of_pass passes (Some source)
 first_of_source passes source number low is none = sym (least_of-found (λ p. nat_eq (slice_index_or passes p no_pass).source source) 0 (length passes) number (omega arith) (omega arith) (eq-eqb _ source is) (λ j a b. none j b))
 
-pub none_of_source : (passes : List Pass) (source count : ℕ) → length passes ≤ count → ((j : ℕ) → j < count → nat_eq (slice_index_or passes j no_pass).source source ≡ false) → None ≡ pass_in passes (Some source)
+pub none_of_source : (passes : List Pass) (source count : ℕ) → length passes ≤ count → ((j : ℕ) → j < count → nat_eq (slice_index_or passes j no_pass).source source ≡ false) → None ≡ number_of_pass passes (Some source)
 none_of_source passes source count all none = sym (least_of-none (λ p. nat_eq (slice_index_or passes p no_pass).source source) 0 (length passes) (λ j a b. none j (omega arith)))
 
 -- ---- one more pass
@@ -161,11 +161,11 @@ module _ (x : CoreState) (targets : TargetMap) (source vm number identity : ℕ)
 
   told : (h : History) → CoreStands x h → TellsOf targets h source → refusal h (lines.Pass source vm number identity)
       ≡ cond (not (there && implemented)) (Some (Refused words.Range)) (cond (nat_le PASSES (length x.passes)) (Some (Refused words.Full)) (cond (is_moving (home h to)) (Some (Refused words.Busy))
-      (cond (is_some (pass_in x.passes (Some source))) (Some (Refused words.Passed)) (cond (not (targets.ready source)) (Some (Refused words.Unready)) None))))
+      (cond (is_some (number_of_pass x.passes (Some source))) (Some (Refused words.Passed)) (cond (not (targets.ready source)) (Some (Refused words.Unready)) None))))
   told h stands tells =
       pass_refusal h source vm number identity stands.there ∙ (λ k. cond (not (tells.there k && is_vcpu_in (sym stands.vms k) to && is_in_range 1 (sym stands.greatest k) identity)) (Some (Refused words.Range))
       (cond (nat_le PASSES (length (sym stands.passes.same k))) (Some (Refused words.Full)) (cond (is_moving (home h to)) (Some (Refused words.Busy))
-      (cond (is_some (pass_in (sym stands.passes.same k) (Some source))) (Some (Refused words.Passed)) (cond (not (sym tells.ready k)) (Some (Refused words.Unready)) None)))))
+      (cond (is_some (number_of_pass (sym stands.passes.same k) (Some source))) (Some (Refused words.Passed)) (cond (not (sym tells.ready k)) (Some (Refused words.Unready)) None)))))
 
   moves : (h : History) → CoreStands x h → there ≡ true → is_moving (home h to) ≡ has_plan (record_of x to).stay
   moves h stands is = moves_as_kept x h to stands (ap (λ vms. is_vcpu_in vms to) (sym stands.vms) ∙ is)
@@ -184,26 +184,26 @@ module _ (x : CoreState) (targets : TargetMap) (source vm number identity : ℕ)
   HasRoom = (there ≡ true) × (implemented ≡ true) × (length x.passes < PASSES)
 
   past_room : HasRoom → (h : History) → CoreStands x h → TellsOf targets h source → refusal h (lines.Pass source vm number identity)
-      ≡ cond (has_plan (record_of x to).stay) (Some (Refused words.Busy)) (cond (is_some (pass_in x.passes (Some source))) (Some (Refused words.Passed)) (cond (not (targets.ready source)) (Some (Refused words.Unready)) None))
+      ≡ cond (has_plan (record_of x to).stay) (Some (Refused words.Busy)) (cond (is_some (number_of_pass x.passes (Some source))) (Some (Refused words.Passed)) (cond (not (targets.ready source)) (Some (Refused words.Unready)) None))
   past_room r h stands tells =
       told h stands tells ∙ cond-false _ _ _ (λ k. not (r.0 k && r.1 k)) ∙ cond-false _ _ _ (lt-leb PASSES (length x.passes) r.2)
-      ∙ ap (λ b. cond b (Some (Refused words.Busy)) (cond (is_some (pass_in x.passes (Some source))) (Some (Refused words.Passed)) (cond (not (targets.ready source)) (Some (Refused words.Unready)) None))) (moves h stands r.0)
+      ∙ ap (λ b. cond b (Some (Refused words.Busy)) (cond (is_some (number_of_pass x.passes (Some source))) (Some (Refused words.Passed)) (cond (not (targets.ready source)) (Some (Refused words.Unready)) None))) (moves h stands r.0)
 
   pub is_moved : HasRoom → has_plan (record_of x to).stay ≡ true → RefusesPass x targets source vm number identity (Some (Refused words.Busy))
   is_moved r moved = λ h stands tells. past_room r h stands tells ∙ cond-true _ _ _ moved
 
-  pub is_passed : HasRoom → has_plan (record_of x to).stay ≡ false → is_some (pass_in x.passes (Some source)) ≡ true → RefusesPass x targets source vm number identity (Some (Refused words.Passed))
+  pub is_passed : HasRoom → has_plan (record_of x to).stay ≡ false → is_some (number_of_pass x.passes (Some source)) ≡ true → RefusesPass x targets source vm number identity (Some (Refused words.Passed))
   is_passed r rests passed = λ h stands tells. past_room r h stands tells ∙ cond-false _ _ _ rests ∙ cond-true _ _ _ passed
 
-  pub is_unready : HasRoom → has_plan (record_of x to).stay ≡ false → is_some (pass_in x.passes (Some source)) ≡ false → targets.ready source ≡ false → RefusesPass x targets source vm number identity (Some (Refused words.Unready))
+  pub is_unready : HasRoom → has_plan (record_of x to).stay ≡ false → is_some (number_of_pass x.passes (Some source)) ≡ false → targets.ready source ≡ false → RefusesPass x targets source vm number identity (Some (Refused words.Unready))
   is_unready r rests unpassed unready = λ h stands tells. past_room r h stands tells ∙ cond-false _ _ _ rests ∙ cond-false _ _ _ unpassed ∙ cond-true _ _ _ (ap not unready)
 
-  pub is_free : HasRoom → has_plan (record_of x to).stay ≡ false → is_some (pass_in x.passes (Some source)) ≡ false → targets.ready source ≡ true → RefusesPass x targets source vm number identity None
+  pub is_free : HasRoom → has_plan (record_of x to).stay ≡ false → is_some (number_of_pass x.passes (Some source)) ≡ false → targets.ready source ≡ true → RefusesPass x targets source vm number identity None
   is_free r rests unpassed ready = λ h stands tells. past_room r h stands tells ∙ cond-false _ _ _ rests ∙ cond-false _ _ _ unpassed ∙ cond-false _ _ _ (ap not ready)
 
   pub free_so : (h : History) → CoreStands x h → TellsOf targets h source → refusal h (lines.Pass source vm number identity) ≡ None → IsFree x vm number identity
   free_so h stands tells free =
-      let so = by_cascade (there && implemented) (nat_le PASSES (length x.passes)) (is_moving (home h to)) (is_some (pass_in x.passes (Some source))) (not (targets.ready source)) (sym (told h stands tells) ∙ free) in
+      let so = by_cascade (there && implemented) (nat_le PASSES (length x.passes)) (is_moving (home h to)) (is_some (number_of_pass x.passes (Some source))) (not (targets.ready source)) (sym (told h stands tells) ∙ free) in
       let both = both_true there implemented so.0 in record {
         there = both.0;
         implemented = both.1;

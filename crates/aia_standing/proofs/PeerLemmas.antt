@@ -11,7 +11,7 @@ use Rattle.aia_home.specs.Vms.{Vcpu, vcpu, is_vcpu_in}
 use Rattle.aia_home.specs.Home.{runs}
 use Rattle.aia_home.specs.Routes.{peers_reach, MayLand}
 use Rattle.aia_world.specs.World.{World, stage_of}
-use Rattle.aia_world.specs.Stores.{StoresAt, Relays}
+use Rattle.aia_world.specs.Stores.{StoresInGuestFile, ReachesByRecord}
 use Rattle.aia_world.specs.Whole.{IsWhole}
 use Rattle.aia_world.specs.Changes.{spot_of}
 use Rattle.aia_model.specs.declared.answer.Answer.TheVariants.{Okay, Refused}
@@ -41,8 +41,8 @@ home_away x h g stands there =
 
 -- ---- where the store goes
 
-relayed : (w u : World) (g : Vcpu) (value : ℕ) (reach : Option Place) → ((p : Place) → reach ≡ Some p → IsThere w.imsic (spot_of p)) → Relays reach w u g value → GuestStored w u g reach 0 value
-relayed w u g value (Some p) inside relays = subst (λ (s : Spot). StoresAt w u s 0 value) (named_guest w.imsic p (inside p refl)) relays
+relayed : (w u : World) (g : Vcpu) (value : ℕ) (reach : Option Place) → ((p : Place) → reach ≡ Some p → IsThere w.imsic (spot_of p)) → ReachesByRecord reach w u g value → GuestStored w u g reach 0 value
+relayed w u g value (Some p) inside relays = subst (λ (s : Spot). StoresInGuestFile w u s 0 value) (named_guest w.imsic p (inside p refl)) relays
 relayed w u g value None inside relays = relays
 
 -- ---- what is left, and the answer
@@ -74,7 +74,7 @@ no_peer x vm number to value sender resident lacks = refused x (Ipi vm number to
     by_stay x h vm number to value stands sender ∙ cond-false _ _ _ (ap not resident) ∙ cond-true _ _ _ (ap not (missing_in x h (vcpu vm to) stands lacks)))
 
 pub ipi_taken : (x y : CoreState) (vm number to value : ℕ) → IsWhole x.world → is_vcpu_in x.world.vms (vcpu vm number) ≡ true → runs_in (record_of x (vcpu vm number)).stay ≡ true → is_vcpu_in x.world.vms (vcpu vm to) ≡ true
-    → Relays (stage_of x.world (vcpu vm to)).in_force x.world y.world (vcpu vm to) value → y.leases ≡ x.leases → y.vcpus ≡ x.vcpus → y.selects ≡ x.selects → y.passes ≡ x.passes → CoreTakes x y (Ipi vm number to value) Okay
+    → ReachesByRecord (stage_of x.world (vcpu vm to)).in_force x.world y.world (vcpu vm to) value → y.leases ≡ x.leases → y.vcpus ≡ x.vcpus → y.selects ≡ x.selects → y.passes ≡ x.passes → CoreTakes x y (Ipi vm number to value) Okay
 ipi_taken x y vm number to value whole sender resident there relays leases vcpus selects passes = accepted x y (Ipi vm number to value) Okay refl refl (λ h stands.
     let g = vcpu vm to in
     let event = Accepted (Ipi vm number to value) in
@@ -98,7 +98,7 @@ ipi_taken x y vm number to value whole sender resident there relays leases vcpus
       };
       notices = refl;
       host = λ f. refl;
-      stores = relayed x.world y.world g value reach (λ p e. stands.held g p inside (peers_held h g p (by_home ∙ e))) (subst (λ (o : Option Place). Relays o x.world y.world g value) in_force relays);
+      stores = relayed x.world y.world g value reach (λ p e. stands.held g p inside (peers_held h g p (by_home ∙ e))) (subst (λ (o : Option Place). ReachesByRecord o x.world y.world g value) in_force relays);
     } in (
       by_stay x h vm number to value stands sender ∙ cond-false _ _ _ (ap not resident) ∙ ap (λ b. cond (not b) (Some (Refused GFault)) None) inside,
       refl,

@@ -124,7 +124,7 @@ pub record IsRelayed (x y : CoreState) (p : ℕ) (pass : Pass) (file : FileState
   pub few : p < PASSES
   pub kept : file_at (with_file x.world.imsic (spot_at_notice x pass) file) (spot_at_notice x pass) ≡ file
   pub takes : SameFile (shown file) (accessed (Pending 0) (taking p) (shown (file_at x.world.imsic (spot_at_notice x pass))))
-  pub stores : stores.Relays None (once_taken x pass file) y.world pass.to pass.identity
+  pub stores : stores.ReachesByRecord None (once_taken x pass file) y.world pass.to pass.identity
   pub leases : y.leases ≡ x.leases
   pub vcpus : y.vcpus ≡ x.vcpus
   pub selects : y.selects ≡ x.selects
@@ -253,7 +253,7 @@ pub record RelayCalls (x y : CoreState) (p : ℕ) (pass : Pass) (between : World
   pub there : is_vcpu_in x.world.vms pass.to ≡ true
   pub takes : SameFile (shown (file_at between.imsic (spots.SupervisorFile at))) (accessed (Pending 0) (taking p) (shown (file_at x.world.imsic (spots.SupervisorFile at))))
   pub others : between ≡ record x.world { imsic = with_file x.world.imsic (spots.SupervisorFile at) (file_at between.imsic (spots.SupervisorFile at)) }
-  pub stores : (g : Vcpu) → is_vcpu_in between.vms g ≡ true → slot_of between.vms g ≡ q → stores.Relays None between y.world g pass.identity
+  pub stores : (g : Vcpu) → is_vcpu_in between.vms g ≡ true → slot_of between.vms g ≡ q → stores.ReachesByRecord None between y.world g pass.identity
   pub leases : y.leases ≡ x.leases
   pub vcpus : y.vcpus ≡ x.vcpus
   pub selects : y.selects ≡ x.selects
@@ -270,7 +270,7 @@ relayed x y p pass between at q c =
       few = c.few;
       kept = subst (λ (s : Spot). file_at (with_file x.world.imsic s file) s ≡ file) spot (ap (λ (w : World). file_at w.imsic (spots.SupervisorFile at)) (sym c.others));
       takes = subst (λ (s : Spot). SameFile (shown file) (accessed (Pending 0) (taking p) (shown (file_at x.world.imsic s)))) spot c.takes;
-      stores = subst (λ (w : World). stores.Relays None w y.world pass.to pass.identity) same
+      stores = subst (λ (w : World). stores.ReachesByRecord None w y.world pass.to pass.identity) same
           (c.stores pass.to (ap (λ vs. is_vcpu_in vs pass.to) vms ∙ c.there) (ap (λ vs. slot_of vs pass.to) vms ∙ sym c.slot));
       leases = c.leases;
       vcpus = c.vcpus;

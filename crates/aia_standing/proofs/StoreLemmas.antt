@@ -27,7 +27,7 @@ use Rattle.aia_standing.specs.HostFiles.{HasDone, host_spot, is_host_spot}
 use Rattle.aia_standing.specs.Stands.{CoreStands, CoreTakes, CoreHears, core_refusal}
 use Rattle.aia_standing.proofs.NameLemmas.{name_at, at_name, other_spot, is_hosts}
 use Rattle.aia_model.specs.Passes.{passed_by}
-use Rattle.aia_standing.specs.Passes.{pass_in}
+use Rattle.aia_standing.specs.Passes.{number_of_pass}
 use Rattle.aia_model.specs.Answer.{msi_taken, given_on}
 use Rattle.aia_standing.proofs.EventLemmas.{hosts_line, hosts_msi, IsHosts, Changes, one_more, nothing_done, one_done, file_done, accepted, refused}
 use Rattle.aia_standing.proofs.PageLemmas.{name_at_page, elsewhere, outside_regions}
@@ -96,16 +96,16 @@ heard_by : (y : CoreState) (h : History) (msi : Msi) → passed_by h msi.source 
 heard_by y h msi unpassed stands = subst (λ (o : Option ℕ). CoreStands y (given_on o (Delivered msi ∷ h))) (sym unpassed) stands
 
 -- the core's passes tell which pass it is of
-pub pass_is : (x : CoreState) (h : History) (source : Option ℕ) → CoreStands x h → pass_in x.passes source ≡ passed_by h source
+pub pass_is : (x : CoreState) (h : History) (source : Option ℕ) → CoreStands x h → number_of_pass x.passes source ≡ passed_by h source
 pass_is x h None stands = refl
-pass_is x h (Some s) stands = ap (λ passes. pass_in passes (Some s)) stands.passes.same
+pass_is x h (Some s) stands = ap (λ passes. number_of_pass passes (Some s)) stands.passes.same
 
-pub msi_landed : (x y : CoreState) (msi : Msi) (spot : Spot) → IsStored x y msi.address msi.value spot → pass_in x.passes msi.source ≡ None → CoreHears x y msi
+pub msi_landed : (x y : CoreState) (msi : Msi) (spot : Spot) → IsStored x y msi.address msi.value spot → number_of_pass x.passes msi.source ≡ None → CoreHears x y msi
 msi_landed x y msi spot done none = λ h stands may.
     let unpassed = sym (pass_is x h msi.source stands) ∙ none in
     heard_by y h msi unpassed (one_more x y h (Delivered msi) (stored_changes x y msi.address msi.value spot h (Delivered msi) (λ f. refl) (hosts_msi h msi unpassed) stands done) (still_msi h msi) stands)
 
-pub msi_dropped : (x : CoreState) (msi : Msi) (spot : Spot) → x.world.imsic.harts ≤ HARTS → spot ≡ spot_at x.world.imsic.harts x.world.imsic.guests msi.address → is_host_spot spot ≡ false → pass_in x.passes msi.source ≡ None → CoreHears x x msi
+pub msi_dropped : (x : CoreState) (msi : Msi) (spot : Spot) → x.world.imsic.harts ≤ HARTS → spot ≡ spot_at x.world.imsic.harts x.world.imsic.guests msi.address → is_host_spot spot ≡ false → number_of_pass x.passes msi.source ≡ None → CoreHears x x msi
 msi_dropped x msi spot few at away none = λ h stands may.
     let unpassed = sym (pass_is x h msi.source stands) ∙ none in
     heard_by x h msi unpassed (one_more x x h (Delivered msi) (nothing_done x h (Delivered msi) stands (hosts_msi h msi unpassed) (λ f inside. cond-false _ _ _ (elsewhere x.world.imsic msi.address spot f few at inside (other f)))) (still_msi h msi) stands)

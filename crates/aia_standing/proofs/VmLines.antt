@@ -32,7 +32,7 @@ use Rattle.aia_home.specs.Vms.{Vcpu, vcpu, is_vcpu_in, vm_in, vcpus_in, slot_of,
 use Rattle.aia_home.specs.Home.{holds}
 use Rattle.aia_home.specs.declared.rest.Rest.TheVariants.{Parked}
 use Rattle.aia_home.specs.Home.Home.{InMemory}
-use Rattle.aia_home.specs.Plans.{is_carried}
+use Rattle.aia_home.specs.Plans.{is_last_made}
 use Rattle.aia_home.proofs.VmLemmas.{numbered, slot_below, vm_stays, slot_stays, vm_new, slot_new, vcpus_more, vm_past}
 use Rattle.aia_home.proofs.AllLemmas.{any_vcpu, some_vcpu, no_vcpu, of_none}
 use Rattle.aia_places.specs.Places.{Places, leads_to, entry_word, second_word}
@@ -202,8 +202,8 @@ fits_grown x y h vm m c low fits =
       notice = fits.notice ∙ ap (λ vs. notice_hart vs g) c.stands.vms ∙ ap (λ (v : Vm). v.notice_hart) (sym stays) ∙ ap (λ vs. notice_hart vs g) (sym vms);
       own = λ p e. subst (λ (i : ImsicState). IsThere i (spot_of p)) (sym imsic) (fits.own p e);
       next = λ p e. subst (λ (i : ImsicState). IsThere i (spot_of p)) (sym imsic) (fits.next p e);
-      no_pending_zero = λ e. fits.no_pending_zero (sym (ap (λ (w : World). is_carried ((w.n + 1) / 64) m.home (TakePending 0)) c.makes.rest) ∙ e);
-      no_enabled_zero = λ e. fits.no_enabled_zero (sym (ap (λ (w : World). is_carried ((w.n + 1) / 64) m.home (TakeEnables 0)) c.makes.rest) ∙ e);
+      no_pending_zero = λ e. fits.no_pending_zero (sym (ap (λ (w : World). is_last_made ((w.n + 1) / 64) m.home (TakePending 0)) c.makes.rest) ∙ e);
+      no_enabled_zero = λ e. fits.no_enabled_zero (sym (ap (λ (w : World). is_last_made ((w.n + 1) / 64) m.home (TakeEnables 0)) c.makes.rest) ∙ e);
     }
 
 none_by_vm : (h : History) (vm : Vm) → passes_of (made_line vm ∷ h) ≡ passes_of h

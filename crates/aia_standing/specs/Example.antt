@@ -19,7 +19,7 @@ use Rattle.aia_major.specs.Kept.{kept_at_first}
 use Rattle.aia_places.specs.Places.{leads_to, entry_word, second_word}
 use Rattle.aia_world.specs.declared.stage.Stage.{Stage}
 use Rattle.aia_world.specs.World.{World, no_stage}
-use Rattle.aia_world.specs.Making.{new_world, table_place}
+use Rattle.aia_world.specs.Making.{new_world, table_byte}
 use Rattle.aia_move.specs.declared.plan.Plan.TheVariants.{LeaveDrain}
 use Rattle.aia_moving.specs.Move.{Moving}
 use Rattle.aia_model.specs.declared.line.Line.{Line}
@@ -158,7 +158,7 @@ example_memory =
 abbrev pub example_table : TableState
 example_table = record {
   mask = 8;
-  start = table_place 0;
+  start = table_byte 0;
   in_force = leads_to 0 0 (Some stayer_file) ∷ leads_to 1 0 None
       ∷ replicate (ENTRIES - 2) NotValid;
 }

@@ -46,10 +46,10 @@ file_in_memory w q kept =
     record (file_of_slot w q kept.threshold) { delivery = kept.delivery }
 
 -- Whether a register is none of the sets'.
-abbrev pub is_number : FileReg → Bool
-is_number (Pending k) = false
-is_number (Enable k) = false
-is_number reg = true
+abbrev pub is_outside_sets : FileReg → Bool
+is_outside_sets (Pending k) = false
+is_outside_sets (Enable k) = false
+is_outside_sets reg = true
 
 -- What such a register reads, and what an access makes of the numbers, given how many numbers
 -- eithreshold may have.

@@ -31,9 +31,9 @@ pass_shown p = record { source = p.source; to = vcpu p.vm p.number; identity = p
 
 -- The number that the pass of a source has among some passes; None where it has none, or no source
 -- is given.
-abbrev pub pass_in : List Pass → Option ℕ → Option ℕ
-pass_in passes None = None
-pass_in passes (Some s) =
+abbrev pub number_of_pass : List Pass → Option ℕ → Option ℕ
+number_of_pass passes None = None
+number_of_pass passes (Some s) =
     least_of (λ p. nat_eq (slice_index_or passes p no_pass).source s) 0 (length passes)
 
 -- Those of some passes that are to a virtual hart, as its plan has them, if the first of all has

@@ -13,7 +13,7 @@ ghost use Rattle.aia_pool.specs.Leases.{is_out};
 ghost use Rattle.aia_regs.specs.declared.address_map.TheConstants.{PAGE};
 ghost use Rattle.aia_entry.specs.Tables.{table_of, entry_in_force, route_of};
 ghost use Rattle.aia_world.specs.World.{World, stage_of};
-ghost use Rattle.aia_world.specs.Stores.{Reaches, Relays};
+ghost use Rattle.aia_world.specs.Stores.{Reaches, ReachesByRecord};
 ghost use Rattle.aia_world.specs.Flights.{Lands};
 ghost use Rattle.aia_world.specs.Whole.{IsWhole};
 ghost use Rattle.aia_world.specs.Changes.{spot_of, places_of};
@@ -96,7 +96,7 @@ pub fn a_store_of_a_vm_touches_its_own_alone()
         → places_of u g (home h g) ≡ places_of x.world g (home h g)) }
     ensures peers { (x : CoreState) (h : History) (u : World) (g : Vcpu) (value : ℕ)
         → CoreStands x h → IsWhole x.world → has_vcpu h g ≡ true
-        → Relays (stage_of x.world g).in_force x.world u g value
+        → ReachesByRecord (stage_of x.world g).in_force x.world u g value
         → TouchesOwn x.world u g (peers_reach (home h g)) }
     ensures devices_others { (x : CoreState) (h : History) (u : World) (g other : Vcpu)
         → CoreStands x h → has_vcpu h g ≡ true → has_vcpu h other ≡ true → other ≢ g

@@ -16,7 +16,7 @@ use Rattle.aia_entry.specs.declared.table.Route.TheVariants.{Other, Fault, To}
 use Rattle.aia_home.specs.declared.place.Place.{Place}
 use Rattle.aia_home.specs.Vms.{Vcpu, slot_of, notice_identity, notice_hart}
 use Rattle.aia_world.specs.World.{World, OnlyStores}
-use Rattle.aia_world.specs.Stores.{StoresIn, StoresAt, Posts, NoticedAt, NoticedBy, StoresInSlot, ReachesBy, Reaches, Relays, with_store, slot_at, page_spot, named_spot}
+use Rattle.aia_world.specs.Stores.{StoresIn, StoresInGuestFile, Posts, NoticedAt, NoticedBy, StoresInSlot, ReachesBy, Reaches, ReachesByRecord, with_store, slot_at, page_spot, named_spot}
 
 -- the world with other files, another memory and another count of notices
 abbrev with_stored : World → List FileState → List ℕ → ℕ → World
@@ -40,7 +40,7 @@ pub posts_rest : (w u : World) (spot : Spot) (identity : ℕ) → Posts w u spot
 posts_rest w u spot identity p =
     by_parts w u (with_file w.imsic spot (file_at u.imsic spot)).files w.memory u.notices (p.rest ∙ ap (λ j. record w { imsic = j; notices = u.notices }) p.lands.others)
 
-at_rest : (w u : World) (spot : Spot) (offset value : ℕ) → StoresAt w u spot offset value → OnlyStores w u
+at_rest : (w u : World) (spot : Spot) (offset value : ℕ) → StoresInGuestFile w u spot offset value → OnlyStores w u
 at_rest w u (GuestFile hart file) offset value s = stores_rest w u (GuestFile hart file) offset value s
 at_rest w u (MachineFile hart) offset value s = none_rest w u s
 at_rest w u (SupervisorFile hart) offset value s = none_rest w u s
@@ -73,6 +73,6 @@ reaches_rest (To entry) w u offset value s = entry_rest entry w u offset value s
 reaches_rest Other w u offset value s = none_rest w u s
 reaches_rest (Fault entry) w u offset value s = none_rest w u s
 
-pub relays_rest : (named : Option Place) (w u : World) (g : Vcpu) (value : ℕ) → Relays named w u g value → OnlyStores w u
-relays_rest (Some p) w u g value s = at_rest w u (named_spot w.imsic p) 0 value s
-relays_rest None w u g value s = slot_rest w u (Some (slot_of w.vms g)) (SupervisorFile (notice_hart w.vms g)) (notice_identity w.vms g) 0 value s
+pub record_rest : (named : Option Place) (w u : World) (g : Vcpu) (value : ℕ) → ReachesByRecord named w u g value → OnlyStores w u
+record_rest (Some p) w u g value s = at_rest w u (named_spot w.imsic p) 0 value s
+record_rest None w u g value s = slot_rest w u (Some (slot_of w.vms g)) (SupervisorFile (notice_hart w.vms g)) (notice_identity w.vms g) 0 value s

@@ -15,7 +15,7 @@ use Rattle.aia_entry.proofs.TableLemmas.{fenced_here, fenced_elsewhere, table_el
 use Rattle.aia_home.specs.declared.vm.Vm.{Vm}
 use Rattle.aia_home.specs.Vms.{vcpus_in}
 use Rattle.aia_world.specs.World.{World}
-use Rattle.aia_world.specs.Making.{MakesVm, table_place, notice_page, entry_word_place, words_with_entry, with_entry, with_vm}
+use Rattle.aia_world.specs.Making.{MakesVm, table_byte, notice_page, entry_word_place, words_with_entry, with_entry, with_vm}
 use Rattle.aia_regs.specs.declared.limits.TheConstants.{VMS, VCPUS, SLOTS, ENTRIES, MEMORY_WORDS}
 use Rattle.aia_word.proofs.BitLemmas.{below_next}
 
@@ -30,7 +30,7 @@ pub record HasMade (w u : World) (vm : Vm) (made : ℕ) : Type 0 where
   pub count : length u.tables ≡ length w.tables + 1
   pub others : (v : ℕ) → v < length w.tables → table_of u.tables v ≡ table_of w.tables v
   pub mask : (table_of u.tables (length w.tables)).mask ≡ vm.mask
-  pub start : (table_of u.tables (length w.tables)).start ≡ table_place (length w.tables)
+  pub start : (table_of u.tables (length w.tables)).start ≡ table_byte (length w.tables)
   pub room : length (table_of u.tables (length w.tables)).in_force ≡ ENTRIES
   pub size : length u.memory ≡ MEMORY_WORDS
   pub in_force : (file : ℕ) → entry_in_force (table_of u.tables (length w.tables)) file ≡ entry_so_far vm (vcpus_in w.vms) made file
@@ -50,7 +50,7 @@ none_valid file = elim (cases_lt file ENTRIES) [
 
 pub none_made : (w : World) (vm : Vm) → length w.memory ≡ MEMORY_WORDS → HasMade w (with_vm w vm) vm 0
 none_made w vm size =
-    let t = new_table vm.mask (table_place (length w.tables)) in
+    let t = new_table vm.mask (table_byte (length w.tables)) in
     let new : table_of (w.tables ++ t ∷ []) (length w.tables) ≡ t = get_or-append_seam w.tables t [] no_table in
     record {
       vms = refl;
@@ -92,7 +92,7 @@ size_kept : (words : List ℕ) (vm file slot page : ℕ) → length (words_with_
 size_kept words vm file slot page = length-set (set words (entry_word_place vm file) (mrif_word (slot_address slot))) (entry_word_place vm file + 1) (notice_word page (slot + 1)) ∙ length-set words (entry_word_place vm file) (mrif_word (slot_address slot))
 
 -- what they say
-said : (words : List ℕ) (t : TableState) (vm file slot page : ℕ) → t.start ≡ table_place vm → entry_word_place vm file + 1 < MEMORY_WORDS → length words ≡ MEMORY_WORDS → slot < SLOTS → page < 2 ^ 44
+said : (words : List ℕ) (t : TableState) (vm file slot page : ℕ) → t.start ≡ table_byte vm → entry_word_place vm file + 1 < MEMORY_WORDS → length words ≡ MEMORY_WORDS → slot < SLOTS → page < 2 ^ 44
     → written_entry (words_with_entry words vm file slot page) t file ≡ Mrif (slot_address slot) page (slot + 1)
 said words t vm file slot page start low size few there =
     let first : (t.start + 16 * file) / 8 ≡ entry_word_place vm file = ap (λ n. (n + 16 * file) / 8) start in

@@ -31,7 +31,7 @@ use Rattle.aia_places.specs.Places.{leads_to}
 use Rattle.aia_world.specs.World.{World, stage_of}
 use Rattle.aia_world.specs.Whole.{IsWhole}
 use Rattle.aia_world.specs.Making.{entry_word_place}
-use Rattle.aia_world.specs.Stores.{StoresIn, StoresAt, Posts, NoticedBy, StoresInSlot, Reaches, ReachesBy, Relays, with_store, page_spot}
+use Rattle.aia_world.specs.Stores.{StoresIn, StoresInGuestFile, Posts, NoticedBy, StoresInSlot, Reaches, ReachesBy, ReachesByRecord, with_store, page_spot}
 use Rattle.aia_world.specs.Changes.{spot_of, file_in, places_of}
 use Rattle.aia_world.specs.Own.{TouchesOwn, LeadsToOwn, TouchesOneOf}
 use Rattle.aia_world.proofs.FrameLemmas.{by_parts, none_rest, stores_rest, posts_rest}
@@ -145,7 +145,7 @@ by_entry (Some p) q hart w u offset value reaches = reaches
 pub own_entry : (w u : World) (g : Vcpu) (reach : Option Place) (offset value : ℕ) → IsWhole w → is_vcpu_in w.vms g ≡ true → ((p : Place) → reach ≡ Some p → IsThere w.imsic (spot_of p))
     → Reaches (leads_by (leads_to (slot_of w.vms g) (notice_hart w.vms g) reach)) w u offset value → TouchesOwn w u g reach
 own_entry w u g (Some p) offset value whole there inside reaches =
-    touches_file w u g p offset value whole there (inside p refl) (subst (λ (s : Spot). StoresAt w u s offset value) (guest_spot w.imsic p whole.harts whole.guests (inside p refl)) reaches)
+    touches_file w u g p offset value whole there (inside p refl) (subst (λ (s : Spot). StoresInGuestFile w u s offset value) (guest_spot w.imsic p whole.harts whole.guests (inside p refl)) reaches)
 own_entry w u g None offset value whole there inside reaches =
     let hart = notice_hart_there w g whole there in
     touches_slot w u g offset value whole there (subst (λ (s : Spot). StoresInSlot w u (Some (slot_of w.vms g)) s (slot_of w.vms g + 1) offset value) (host_page w.imsic (notice_hart w.vms g) hart whole.harts)
@@ -170,13 +170,13 @@ device_touches w u v addr value reach whole leads reaches = elim (cases_Bool (is
 
 -- ---- a virtual hart's store
 
-pub peer_touches : (w u : World) (g : Vcpu) (named : Option Place) (value : ℕ) → IsWhole w → is_vcpu_in w.vms g ≡ true → Relays named w u g value → TouchesOwn w u g named
+pub peer_touches : (w u : World) (g : Vcpu) (named : Option Place) (value : ℕ) → IsWhole w → is_vcpu_in w.vms g ≡ true → ReachesByRecord named w u g value → TouchesOwn w u g named
 peer_touches w u g None value whole there relays = touches_slot w u g 0 value whole there relays
 peer_touches w u g (Some p) value whole there relays = elim (cases_Bool (nat_lt p.hart w.imsic.harts && is_in_range 1 w.imsic.guests p.file)) [
   | inl named ↦
       let inside : IsThere w.imsic (spot_of p) = (grind (arith, nat_tests), grind (arith, nat_tests), grind (arith, nat_tests)) in
-      touches_file w u g p 0 value whole there inside (subst (λ (s : Spot). StoresAt w u s 0 value) (cond-true _ _ _ named) relays)
-  | inr none ↦ touches_none w u g (Some p) (subst (λ (s : Spot). StoresAt w u s 0 value) (cond-false _ _ _ none) relays)
+      touches_file w u g p 0 value whole there inside (subst (λ (s : Spot). StoresInGuestFile w u s 0 value) (cond-true _ _ _ named) relays)
+  | inr none ↦ touches_none w u g (Some p) (subst (λ (s : Spot). StoresInGuestFile w u s 0 value) (cond-false _ _ _ none) relays)
 ]
 
 -- ---- the places of another virtual hart

@@ -24,7 +24,7 @@ use Rattle.aia_mrif.specs.Words.{HasSlot}
 use Rattle.aia_mrif.proofs.SlotLemmas.{written, kept, slot_joined, other_words}
 pub use Rattle.aia_mrif.proofs.SlotLemmas.{place_shows}
 use Rattle.aia_entry.specs.Format.{decoded}
-use Rattle.aia_entry.specs.Tables.{table_of, entry_place}
+use Rattle.aia_entry.specs.Tables.{table_of, entry_byte}
 use Rattle.aia_entry.proofs.TableLemmas.{fenced_here}
 use Rattle.aia_home.specs.declared.place.Place.{Place}
 use Rattle.aia_home.specs.Vms.{Vcpu, is_vcpu_in, slot_of}
@@ -198,10 +198,10 @@ module _ (w : World) (g : Vcpu) (there : Home) (whole : IsWhole w) (stands : is_
       let entry = vcpu_entry w g.vm g.number whole stands in
       let at = entry_at w g.vm g.number whole entry.0 entry.3 in
       let is = whole.vms g.vm entry.0 in
-      let first : entry_place (table_of w.tables g.vm) g.number / 8 ≡ entry_word_place g.vm g.number = omega (arith, at.1, at.2) in
-      let second : (entry_place (table_of w.tables g.vm) g.number + 8) / 8 ≡ entry_word_place g.vm g.number + 1 = omega (arith, at.1, at.2) in
+      let first : entry_byte (table_of w.tables g.vm) g.number / 8 ≡ entry_word_place g.vm g.number = omega (arith, at.1, at.2) in
+      let second : (entry_byte (table_of w.tables g.vm) g.number + 8) / 8 ≡ entry_word_place g.vm g.number + 1 = omega (arith, at.1, at.2) in
       let new = fenced_here w.tables g.vm g.number w.memory (omega (arith, entry.0, whole.tables)) (omega (arith, entry.2, is.entries))
-      ∙ ap (λ place. decoded (get_or w.memory place 0) (get_or w.memory ((entry_place (table_of w.tables g.vm) g.number + 8) / 8) 0)) first
+      ∙ ap (λ place. decoded (get_or w.memory place 0) (get_or w.memory ((entry_byte (table_of w.tables g.vm) g.number + 8) / 8) 0)) first
       ∙ ap (λ place. decoded (get_or w.memory (entry_word_place g.vm g.number) 0) (get_or w.memory place 0)) second in
       λ t. record (places_of w g there) { in_force = new t }
 

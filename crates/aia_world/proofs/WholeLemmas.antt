@@ -24,7 +24,7 @@ use Rattle.aia_mrif.specs.Words.{words_after_store}
 use Rattle.aia_mrif.proofs.SlotLemmas.{one_bit}
 use Rattle.aia_ram.specs.Words.{HasWordAt}
 use Rattle.aia_entry.specs.declared.entry.Entry.TheVariants.{NotValid}
-use Rattle.aia_entry.specs.Tables.{TableState, new_table, no_table, table_of, entry_place}
+use Rattle.aia_entry.specs.Tables.{TableState, new_table, no_table, table_of, entry_byte}
 use Rattle.aia_entry.specs.Translation.{IsMask}
 use Rattle.aia_entry.proofs.TableLemmas.{has_entry, mask_parts}
 use Rattle.aia_home.specs.declared.vm.Vm.{Vm}
@@ -32,7 +32,7 @@ use Rattle.aia_home.specs.Vms.{vcpus_in, Vcpu, vcpu, is_vcpu_in, slot_of, notice
 use Rattle.aia_home.proofs.VmLemmas.{vm_stays, vm_new, vm_past, vcpus_more, slot_taken, numbered}
 use Rattle.aia_world.specs.World.{World}
 use Rattle.aia_world.specs.Whole.{IsWhole, IsVm}
-use Rattle.aia_world.specs.Making.{with_vm, table_place, entry_word_place}
+use Rattle.aia_world.specs.Making.{with_vm, table_byte, entry_word_place}
 use Rattle.aia_world.specs.Stores.{with_store}
 use Rattle.aia_world.proofs.WrittenWhole.{pending_whole}
 
@@ -78,7 +78,7 @@ vm_whole w vm whole few mask numbers vcpus hart = record {
   no_pending_zero = whole.no_pending_zero;
   no_enabled_zero = whole.no_enabled_zero;
   few = omega (arith, length-append w.vms (vm ∷ []));
-  tables = omega (arith, length-append w.vms (vm ∷ []), length-append w.tables (new_table vm.mask (table_place (length w.tables)) ∷ []), whole.tables);
+  tables = omega (arith, length-append w.vms (vm ∷ []), length-append w.tables (new_table vm.mask (table_byte (length w.tables)) ∷ []), whole.tables);
   flights = omega (arith, length-append w.vms (vm ∷ []), length-append w.flights ([] ∷ []), whole.flights);
   vcpus = omega (arith, vcpus_more w.vms vm);
   vms = λ v low. elim (cases_lt v (length w.vms)) [
@@ -92,7 +92,7 @@ vm_whole w vm whole few mask numbers vcpus hart = record {
     stays v old =
         let is = whole.vms v old in
         let same = vm_stays w.vms vm v old in
-        let there = table_stays w.tables (new_table vm.mask (table_place (length w.tables))) v (omega (arith, old, whole.tables)) in
+        let there = table_stays w.tables (new_table vm.mask (table_byte (length w.tables))) v (omega (arith, old, whole.tables)) in
         record {
           mask = rw (same) is.mask;
           numbers = rw (same) is.numbers;
@@ -105,20 +105,20 @@ vm_whole w vm whole few mask numbers vcpus hart = record {
     made : IsVm (with_vm w vm) (length w.vms)
     made =
         let same = vm_new w.vms vm in
-        let there = ap (λ n. table_of (w.tables ++ new_table vm.mask (table_place (length w.tables)) ∷ []) n) (sym whole.tables) ∙ table_new w.tables (new_table vm.mask (table_place (length w.tables))) in
+        let there = ap (λ n. table_of (w.tables ++ new_table vm.mask (table_byte (length w.tables)) ∷ []) n) (sym whole.tables) ∙ table_new w.tables (new_table vm.mask (table_byte (length w.tables))) in
         record {
           mask = rw (same) mask;
           numbers = rw (same) numbers;
           notice_hart = rw (same) hart;
           same_mask = rw (same, there) refl;
-          start = rw (there) (ap table_place whole.tables);
+          start = rw (there) (ap table_byte whole.tables);
           entries = rw (there) (length-replicate ENTRIES NotValid);
         }
 
 -- ---- where an entry lies
 
 pub entry_at : (w : World) (vm file : ℕ) → IsWhole w → vm < length w.vms → file < 2 ^ ones 64 (table_of w.tables vm).mask
-    → (file < ENTRIES) × (entry_place (table_of w.tables vm) file ≡ table_place vm + 16 * file) × (entry_word_place vm file * 8 ≡ table_place vm + 16 * file) × (entry_word_place vm file + 1 < MEMORY_WORDS)
+    → (file < ENTRIES) × (entry_byte (table_of w.tables vm) file ≡ table_byte vm + 16 * file) × (entry_word_place vm file * 8 ≡ table_byte vm + 16 * file) × (entry_word_place vm file + 1 < MEMORY_WORDS)
 entry_at w vm file whole there low =
     let is = whole.vms vm there in
     let few = has_entry (table_of w.tables vm).mask file (mask_parts (table_of w.tables vm).mask (rw (is.same_mask) is.mask)).1 low in
@@ -139,7 +139,7 @@ vcpu_entry w vm file whole there =
 
 -- with both its words
 pub vcpu_words : (w : World) (vm file : ℕ) → IsWhole w → is_vcpu_in w.vms (vcpu vm file) ≡ true
-    → HasWordAt w.memory (entry_place (table_of w.tables vm) file) × HasWordAt w.memory (entry_place (table_of w.tables vm) file + 8)
+    → HasWordAt w.memory (entry_byte (table_of w.tables vm) file) × HasWordAt w.memory (entry_byte (table_of w.tables vm) file + 8)
 vcpu_words w vm file whole there =
     let entry = vcpu_entry w vm file whole there in
     let at = entry_at w vm file whole entry.0 entry.3 in

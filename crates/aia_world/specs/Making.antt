@@ -39,8 +39,8 @@ pub record IsNew (w : World) (harts guests n : ℕ) : Type 0 where
 -- ---- a new VM
 
 -- The byte of memory at which the table of a VM begins.
-abbrev pub table_place : ℕ → ℕ
-table_place vm = table_address vm - MEMORY
+abbrev pub table_byte : ℕ → ℕ
+table_byte vm = table_address vm - MEMORY
 
 -- The page to which notices for a VM go.
 abbrev pub notice_page : Vm → ℕ
@@ -56,7 +56,7 @@ made_entry vm first file =
 
 -- The word of memory at which the entry of a file of a VM begins.
 abbrev pub entry_word_place : ℕ → ℕ → ℕ
-entry_word_place vm file = (table_place vm + 16 * file) / 8
+entry_word_place vm file = (table_byte vm + 16 * file) / 8
 
 -- The next VM is made: it stands last, its table is the next in memory, each virtual hart's entry
 -- is written and in force, and no store of its devices is in flight; all other words of memory, all
@@ -66,7 +66,7 @@ pub record MakesVm (w u : World) (vm : Vm) : Type 0 where
   pub count : length u.tables ≡ length w.tables + 1
   pub others : (v : ℕ) → v < length w.tables → table_of u.tables v ≡ table_of w.tables v
   pub mask : (table_of u.tables (length w.tables)).mask ≡ vm.mask
-  pub start : (table_of u.tables (length w.tables)).start ≡ table_place (length w.tables)
+  pub start : (table_of u.tables (length w.tables)).start ≡ table_byte (length w.tables)
   pub in_force : (file : ℕ) → entry_in_force (table_of u.tables (length w.tables)) file
       ≡ made_entry vm (vcpus_in w.vms) file
   pub word0 : (file : ℕ) → file < vm.vcpus
@@ -108,6 +108,6 @@ with_entry w vm file slot page = record w {
 abbrev pub with_vm : World → Vm → World
 with_vm w vm = record w {
   vms = w.vms ++ vm ∷ [];
-  tables = w.tables ++ new_table vm.mask (table_place (length w.tables)) ∷ [];
+  tables = w.tables ++ new_table vm.mask (table_byte (length w.tables)) ∷ [];
   flights = w.flights ++ [] ∷ [];
 }

@@ -50,9 +50,9 @@ pub record StoresIn (w u : World) (spot : Spot) (offset value : ℕ) : Type 0 wh
 
 -- A store that is led to a guest file lands there; one that is led to any other page, or nowhere,
 -- is dropped. Profile.
-abbrev pub StoresAt : World → World → Spot → ℕ → ℕ → Type 0
-StoresAt w u (GuestFile hart file) offset value = StoresIn w u (GuestFile hart file) offset value
-StoresAt w u spot offset value = u ≡ w
+abbrev pub StoresInGuestFile : World → World → Spot → ℕ → ℕ → Type 0
+StoresInGuestFile w u (GuestFile hart file) offset value = StoresIn w u (GuestFile hart file) offset value
+StoresInGuestFile w u spot offset value = u ≡ w
 
 -- ---- notices
 
@@ -96,7 +96,7 @@ StoresInSlot w u (Some q) spot identity offset value =
 
 -- A store of a device goes where an entry leads: to a page, to a slot, or nowhere.
 abbrev pub ReachesBy : Entry → World → World → ℕ → ℕ → Type 0
-ReachesBy (Basic page) w u offset value = StoresAt w u (page_spot w.imsic page) offset value
+ReachesBy (Basic page) w u offset value = StoresInGuestFile w u (page_spot w.imsic page) offset value
 ReachesBy (Mrif addr page identity) w u offset value =
     StoresInSlot w u (slot_at addr) (page_spot w.imsic page) identity offset value
 ReachesBy entry w u offset value = u ≡ w
@@ -119,8 +119,8 @@ named_spot i p =
 -- in force names, at the register of its page that takes stores; where none is named it goes to g's
 -- slot of memory, with its notice. Profile: where no file is mapped, the hypervisor does the store.
 -- The hypervisor extension 1.0.
-abbrev pub Relays : Option Place → World → World → Vcpu → ℕ → Type 0
-Relays (Some p) w u g value = StoresAt w u (named_spot w.imsic p) 0 value
-Relays None w u g value =
+abbrev pub ReachesByRecord : Option Place → World → World → Vcpu → ℕ → Type 0
+ReachesByRecord (Some p) w u g value = StoresInGuestFile w u (named_spot w.imsic p) 0 value
+ReachesByRecord None w u g value =
     StoresInSlot w u (Some (slot_of w.vms g)) (SupervisorFile (notice_hart w.vms g))
     (notice_identity w.vms g) 0 value

@@ -10,7 +10,7 @@ use Rattle.aia_entry.specs.Tables.{table_of}
 use Rattle.aia_entry.specs.Translation.{IsMask}
 use Rattle.aia_home.specs.Vms.{vm_in, vcpus_in}
 use Rattle.aia_world.specs.World.{World}
-use Rattle.aia_world.specs.Making.{table_place}
+use Rattle.aia_world.specs.Making.{table_byte}
 
 -- A VM that stands, with its table.
 pub record IsVm (w : World) (v : ℕ) : Type 0 where
@@ -18,7 +18,7 @@ pub record IsVm (w : World) (v : ℕ) : Type 0 where
   pub numbers : (vm_in w.vms v).vcpus ≤ 2 ^ ones 64 (vm_in w.vms v).mask
   pub notice_hart : (vm_in w.vms v).notice_hart < w.imsic.harts
   pub same_mask : (table_of w.tables v).mask ≡ (vm_in w.vms v).mask
-  pub start : (table_of w.tables v).start ≡ table_place v
+  pub start : (table_of w.tables v).start ≡ table_byte v
   pub entries : length (table_of w.tables v).in_force ≡ ENTRIES
 
 -- Every file has the world's identities, memory has its slots, of which none has identity 0, and

@@ -22,7 +22,7 @@ ghost use Rattle.aia_world.specs.Whole.{IsWhole};
 ghost use Rattle.aia_world.specs.Making.{MakesVm};
 ghost use Rattle.aia_world.specs.Changes.{spot_of, places_of};
 ghost use Rattle.aia_world.specs.Own.{TouchesOwn, LeadsToOwn, TouchesOneOf};
-ghost use Rattle.aia_world.specs.Stores.{Reaches, Relays, StoresInSlot, page_spot, slot_at};
+ghost use Rattle.aia_world.specs.Stores.{Reaches, ReachesByRecord, StoresInSlot, page_spot, slot_at};
 
 use aia_imsic::Spot;
 
@@ -79,7 +79,7 @@ pub fn a_store_touches_one_virtual_hart_alone()
         → Reaches (route_of (table_of w.tables v) addr) w u (addr % PAGE) value
         → (u ≡ w) ⊎ TouchesOneOf w u v reach }
     ensures peers { (w u : World) (g : Vcpu) (value : ℕ) → IsWhole w
-        → is_vcpu_in w.vms g ≡ true → Relays (stage_of w g).in_force w u g value
+        → is_vcpu_in w.vms g ≡ true → ReachesByRecord (stage_of w g).in_force w u g value
         → TouchesOwn w u g (stage_of w g).in_force }
     ensures others { (w u : World) (g x : Vcpu) (reach : Option Place) (there : Home)
         → is_vcpu_in w.vms g ≡ true → is_vcpu_in w.vms x ≡ true → x ≢ g

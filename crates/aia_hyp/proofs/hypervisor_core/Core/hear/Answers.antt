@@ -4,7 +4,7 @@ use Rattle.aia_imsic.specs.Map.{spot_at}
 use Rattle.aia_regs.specs.declared.limits.TheConstants.{HARTS}
 use Rattle.aia_model.specs.Event.Event.{Delivered}
 use Rattle.aia_standing.specs.Core.{CoreState}
-use Rattle.aia_standing.specs.Passes.{pass_in}
+use Rattle.aia_standing.specs.Passes.{number_of_pass}
 use Rattle.aia_standing.specs.HostFiles.{is_host_spot}
 use Rattle.aia_standing.specs.Stands.{CoreHears, MayGo}
 use Rattle.aia_standing.proofs.NameLemmas.{not_nowhere}
@@ -29,10 +29,10 @@ heard c =
       vcpus = refl;
       selects = refl;
       passes = refl;
-    }) (ap (λ (z : CoreState). pass_in z.passes c.args.msi.source) same ∙ c.requires.none)
+    }) (ap (λ (z : CoreState). number_of_pass z.passes c.args.msi.source) same ∙ c.requires.none)
 
 pub invariant_of-self : goal.invariant_of-self
-invariant_of-self c = (hears_on _ _ c.args.msi (ap (λ (z : CoreState). pass_in z.passes c.args.msi.source) c.self.view_is ∙ c.requires.none) (subst (λ (z : CoreState). MayGo z (Delivered c.args.msi)) (sym c.self.view_is) c.requires.may) (heard c), c.self.invariant.1)
+invariant_of-self c = (hears_on _ _ c.args.msi (ap (λ (z : CoreState). number_of_pass z.passes c.args.msi.source) c.self.view_is ∙ c.requires.none) (subst (λ (z : CoreState). MayGo z (Delivered c.args.msi)) (sym c.self.view_is) c.requires.may) (heard c), c.self.invariant.1)
 
 pub returns-then-is_host : goal.returns-then-is_host
 returns-then-is_host c = rw (← c.self.view_is) (heard c)

@@ -1,7 +1,7 @@
 use Rattle.std.proofs.Common.{◌≡◌, true, false, refl, sym, ap, subst, ◌∙◌}
 use Rattle.aia_home.specs.Vms.{Vcpu, vcpu, is_vcpu_in}
 use Rattle.aia_world.specs.World.{stage_of}
-use Rattle.aia_world.specs.Stores.{Relays}
+use Rattle.aia_world.specs.Stores.{ReachesByRecord}
 use Rattle.aia_model.specs.declared.answer.Answer.TheVariants.{Okay}
 use Rattle.aia_model.specs.declared.line.Line.TheVariants.{Ipi}
 use Rattle.aia_standing.specs.declared.vcpu.VcpuRecord.{VcpuRecord}
@@ -43,7 +43,7 @@ taken c =
     let there = subst (λ (g : Vcpu). is_vcpu_in x.world.vms g ≡ true) peer c.in-Some-find.ensures.there.there in
     let now = sym (c.runs.ensures ∙ ap (λ (r : VcpuRecord). runs_in r.stay) c.record_of.ensures) ∙ c.if-not-runs.false in
     let kept = subst (λ (g : Vcpu). runs_in (record_of x g).stay ≡ true) same (subst (λ (z : CoreState). runs_in (record_of z (vcpu c.in-Some.from.vm c.in-Some.from.number)).stay ≡ true) (sym c.self.view_is) now) in
-    let relays = subst (λ (g : Vcpu). Relays (stage_of x.world g).in_force x.world c.guest_store.new.self g c.args.value) peer c.guest_store.ensures.relays in
+    let relays = subst (λ (g : Vcpu). ReachesByRecord (stage_of x.world g).in_force x.world c.guest_store.new.self g c.args.value) peer c.guest_store.ensures.reaches in
     ipi_taken _ _ c.args.vm c.args.number c.args.to c.args.value c.find.ensures.whole sender kept there relays refl refl refl refl
 
 pub invariant_of-self : goal.invariant_of-self

@@ -4,7 +4,7 @@ use Rattle.aia_home.specs.Vms.{vcpu, is_vcpu_in}
 use Rattle.aia_model.specs.declared.answer.Answer.TheVariants.{Refused}
 use Rattle.aia_model.specs.declared.refusal.Refusal.TheVariants.{Busy, Passed}
 use Rattle.aia_standing.specs.Core.{CoreState}
-use Rattle.aia_standing.specs.Passes.{pass_in}
+use Rattle.aia_standing.specs.Passes.{number_of_pass}
 use Rattle.aia_standing.specs.Stands.{RefusesPass}
 use Rattle.aia_standing.proofs.PassLemmas.{is_moved, is_passed, is_free}
 use Rattle.aia_hyp.proofs.hypervisor_core.Core.may_pass.Goals as goal
@@ -21,7 +21,7 @@ returns-clause-refusal g c =
       sym c.has_identity.ensures ∙ c.if-not-has_identity.false,
       omega (arith, c.if-count-ge-PASSES.false, c.count.ensures.value, size),
     ) (sym c.is_moved.ensures ∙ c.if-is_moved.false)
-    (ap (λ (z : CoreState). is_some (pass_in z.passes (Some c.args.source))) (sym same) ∙ ap (λ (o : Option ℕ). is_some o) (sym c.number_of.ensures) ∙ sym c.is_some.ensures ∙ c.if-is_some.false)
+    (ap (λ (z : CoreState). is_some (number_of_pass z.passes (Some c.args.source))) (sym same) ∙ ap (λ (o : Option ℕ). is_some o) (sym c.number_of.ensures) ∙ sym c.is_some.ensures ∙ c.if-is_some.false)
     (sym c.ready.ensures ∙ c.if-not-ready.false) in
     subst (λ vm. RefusesPass x targets c.args.source vm c.args.number c.args.identity None) c.in-Some.ensures.named.0 (subst (λ number. RefusesPass x targets c.args.source found.vm number c.args.identity None) c.in-Some.ensures.named.1 free)
 
@@ -37,7 +37,7 @@ returns-then-is_some-clause-refusal g c =
       sym c.has_identity.ensures ∙ c.if-not-has_identity.false,
       omega (arith, c.if-count-ge-PASSES.false, c.count.ensures.value, size),
     ) (sym c.is_moved.ensures ∙ c.if-is_moved.false)
-    (ap (λ (z : CoreState). is_some (pass_in z.passes (Some c.args.source))) (sym same) ∙ ap (λ (o : Option ℕ). is_some o) (sym c.number_of.ensures) ∙ sym c.is_some.ensures ∙ c.if-is_some.true) in
+    (ap (λ (z : CoreState). is_some (number_of_pass z.passes (Some c.args.source))) (sym same) ∙ ap (λ (o : Option ℕ). is_some o) (sym c.number_of.ensures) ∙ sym c.is_some.ensures ∙ c.if-is_some.true) in
     subst (λ vm. RefusesPass x targets c.args.source vm c.args.number c.args.identity (Some (Refused Passed))) c.in-Some.ensures.named.0 (subst (λ number. RefusesPass x targets c.args.source found.vm number c.args.identity (Some (Refused Passed))) c.in-Some.ensures.named.1 passed)
 
 pub returns-then-is_moved-clause-refusal : goal.returns-then-is_moved-clause-refusal
