@@ -27,7 +27,7 @@ pub record Machine : Type 0 where
   pub new : Sets
   -- what was taken and is not yet in the new place: any number of words
   pub hand : Sets
-  -- what stood in the old place at the start, and what was asked for since
+  -- what stood in the old place at the start, and what stores that have landed since asked for
   pub due : Sets
   pub old_number : Number → ℕ
   pub new_number : Number → ℕ
@@ -62,7 +62,7 @@ stands_out d sets numbers i = sets Pending i && (sets Enabled i && lets_out d nu
 abbrev pub word_stands_out : Setting → Sets → (Number → ℕ) → ℕ → Bool
 word_stands_out d sets numbers w = any_below (λ b. stands_out d sets numbers (64 * w + b)) 64
 
--- Whether any identity does.
+-- Whether any identity of the file does.
 abbrev pub any_stands_out : Setting → Sets → (Number → ℕ) → Bool
 any_stands_out d sets numbers = any_below (word_stands_out d sets numbers) d.words
 
@@ -184,9 +184,9 @@ abbrev pub route_of : By → ℕ → Machine → Place
 route_of Written p z = z.written p
 route_of InForce p z = z.in_force p
 
--- A step of the plan, or what comes between two: a store that lands at once; one that is sent, and
--- lands later; a landing of the k-th store in flight, the newest first; a route that comes in force
--- as it is written, before its fence.
+-- A step of the plan, or what may come before it or behind it: a store that lands at once; one
+-- that is sent, and is in flight from then on; a landing of the k-th store in flight, counted from
+-- 0, the newest first; a route that comes in force as it is written, before its fence.
 pub data Happening : Type 0 where
   Does : (step : Step) → Happening
   Stores : (producer : ℕ) → (by : By) → (identity : ℕ) → Happening

@@ -16,7 +16,8 @@ abbrev pub each : (ℕ → List Step) → ℕ → ℕ → List Step
 each steps w zero = []
 each steps w (suc count) = steps w ++ each steps (suc w) count
 
--- ---- the core's plans: producer 0 is the devices, producer 1 the other virtual harts
+-- ---- the core's plans, without passed sources and without the word that says where notices go:
+-- producer 0 is the devices, producer 1 the other virtual harts
 
 -- Both are routed.
 abbrev pub core_producers : List Kind
@@ -26,7 +27,8 @@ core_producers = Routed ∷ Routed ∷ []
 abbrev pub both_routed : List Step
 both_routed = Route 0 ∷ Fence 0 ∷ Route 1 ∷ Fence 1 ∷ []
 
--- A word of a set is taken, and joined to the new place at once.
+-- A word of a set is taken, and joined to the new place at once. The core writes enables over the
+-- word there, which comes to the same where it is empty.
 abbrev pub moved_at_once : Bank → ℕ → List Step
 moved_at_once s w = Take s w ∷ Join s w ∷ []
 
@@ -119,7 +121,7 @@ joined words = each (λ w. Join Pending w ∷ Join Enabled w ∷ []) 0 words
 abbrev pub put_numbers : List Step
 put_numbers = PutNumber Threshold ∷ PutNumber Delivery ∷ []
 
--- The copy in memory is read: the pending words, then the enables, then the numbers.
+-- The copy in memory is read and zeroed: the pending words, then the enables, then the numbers.
 abbrev pub copied : ℕ → List Step
 copied words =
     each (λ w. Take Pending w ∷ []) 0 words ++ each (λ w. Take Enabled w ∷ []) 0 words

@@ -16,7 +16,8 @@ use Rattle.plans_machine.specs.Rules.{accepts, broken}
 use Rattle.plans_machine.specs.Plans.{zeroed, swapped, joined, put_numbers}
 
 -- How many words of 64 identities the sets of a file may have.
--- AIA 1.0, IMSIC, "Interrupt files and interrupt identities".
+-- AIA 1.0, IMSIC, "Interrupt files and interrupt identities": one less than a multiple of 64.
+-- Profile: the powers of two.
 abbrev pub widths : List ℕ
 widths = 1 ∷ 2 ∷ 4 ∷ 8 ∷ 16 ∷ 32 ∷ []
 

@@ -1,7 +1,8 @@
 -- The rules of plans: what each says of a step that stands after the steps `done`, the newest
 -- first, and of an end after these. A word *may hold something* in the old place until it was taken
 -- while nobody stored there; in the hand from a take of such a word until it is joined or put; in
--- the new place once such a word was joined or put, or once somebody may store there. Profile.
+-- the new place once such a word was joined or put, or, of the pending set, once somebody may store
+-- there. Profile.
 use Rattle.std.specs.Prelude.{ℕ, length, Bool, true, false, not, ◌&&◌, ◌||◌, nat_eq, List, [], ◌∷◌, Option, Some, None, slice_get}
 use Rattle.std.specs.List.{list_any}
 use Rattle.plans_machine.specs.declared.step.Place.TheVariants.{Old, New}
@@ -27,12 +28,12 @@ turns p (Route q) = nat_eq q p
 turns p (Switch q) = nat_eq q p
 turns p x = false
 
--- Whether it puts the route in force.
+-- Whether it is the fence of the route.
 abbrev pub fences : ℕ → Step → Bool
 fences p (Fence q) = nat_eq q p
 fences p x = false
 
--- Whether it does both at once.
+-- Whether it writes the route and puts it in force at once, with no fence.
 abbrev pub switches : ℕ → Step → Bool
 switches p (Switch q) = nat_eq q p
 switches p x = false
@@ -84,7 +85,8 @@ Done = List Step
 abbrev pub is_turned : ℕ → Done → Bool
 is_turned p done = list_any (turns p) done
 
--- That route is in force: a fence stood behind the step that writes it.
+-- A fence stood behind a step that writes that route: so it is in force, and no store of the
+-- producer is in flight to the old place.
 abbrev pub is_fenced : ℕ → Done → Bool
 is_fenced p [] = false
 is_fenced p (x ∷ done) = elim (fences p x) [
@@ -147,7 +149,7 @@ is_filled d s w (x ∷ done) = elim (fills s w x) [
 abbrev pub new_holds : Setting → Bank → ℕ → Done → Bool
 new_holds d s w done = is_reached d s done || is_filled d s w done
 
--- Nothing of a word stands in the new place but what is due.
+-- Nothing of a word stands in the new place but what is due: it was fresh, zeroed or put over.
 abbrev pub is_blank : Setting → Bank → ℕ → Done → Bool
 is_blank d s w [] = d.is_fresh
 is_blank d s w (x ∷ done) = blanks s w x || is_blank d s w done
@@ -189,7 +191,7 @@ has_number d n spot (ZeroNumber New m ∷ done) = elim (same_number m n) [
 ]
 has_number d n spot (x ∷ done) = has_number d n spot done
 
--- A word is moved for good.
+-- A word is moved for good: neither the old place nor the hand may hold anything of it.
 abbrev pub is_moved : Setting → Bank → ℕ → Done → Bool
 is_moved d s w done = not (old_holds d s w done) && not (hand_holds d s w done)
 
@@ -234,7 +236,7 @@ lets Words d (Take s w) done = not (hand_holds d s w done)
 lets Words d (Put s w) done = not (new_holds d s w done)
 lets Words d (Zero Old s w) done = not (old_holds d s w done)
 lets Words d (Zero New s w) done = not (new_holds d s w done)
--- What may hold something is joined to a blank word.
+-- What may hold something is joined to a blank word alone.
 lets Blank d (Join s w) done = not (hand_holds d s w done) || is_blank d s w done
 -- The old place is given back once nobody stores there, and not accessed after that.
 lets Freeing d Free done = all_led d done
@@ -243,7 +245,8 @@ lets Freeing d (Zero Old s w) done = not (list_any frees done)
 lets Freeing d (TakeNumber n) done = not (list_any frees done)
 lets Freeing d (ZeroNumber Old n) done = not (list_any frees done)
 -- Where the numbers are heeded, one that stands in the new place as it was at the start is not
--- zeroed there, and only the same number, from the hand, is put over it.
+-- zeroed there, and only the same number, from the hand, is put over it. A put of another one breaks
+-- the rule on numbers too, since the number then stands nowhere.
 lets Notice d (ZeroNumber New n) done = not (d.heeds && has_number d n InNew done)
 lets Notice d (PutNumber n) done =
     not (d.heeds && has_number d n InNew done) || has_number d n InHand done

@@ -58,9 +58,10 @@ number_in spot n z = elim spot [
   | InNew ↦ z.new_number n
 ]
 
--- How a move has to end. In the new place just what is due is pending, and just what was enabled at
--- the start is enabled; nothing is left in the old place; the numbers are where they have to be, as
--- they were; all leads to the new place; and nothing reached the old one after it was given back.
+-- How a move has to end, as to the words of the file. In the new place just what is due is
+-- pending, and just what was enabled at the start is enabled; nothing is left in the sets of the
+-- old place; the numbers are where they have to be, as they were, whatever they are elsewhere; all
+-- leads to the new place; and nothing reached the old one after it was given back.
 pub record IsMoved (d : Setting) (start z : Machine) : Type 0 where
   pub pending : (i : ℕ) → i / 64 < d.words → z.new Pending i ≡ z.due Pending i
   pub enabled : (i : ℕ) → i / 64 < d.words → z.new Enabled i ≡ start.old Enabled i
@@ -89,7 +90,8 @@ IsTold d plan =
     (start : Machine) (run : List Happening) → IsStart d start → IsRun d plan run
     → HostKnows d (all_happened d run start)
 
--- Where a step names a word of a set, it is one of so many.
+-- Where a step names a word of a set, it is one of so many. A look, which changes no set, may be at
+-- any word.
 abbrev pub IsInFile : ℕ → Step → Type 0
 IsInFile words (Zero place s w) = w < words
 IsInFile words (Take s w) = w < words

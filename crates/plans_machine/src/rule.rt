@@ -5,7 +5,8 @@ pub enum Rule {
     /// after that.
     Routes,
 
-    /// What may hold something is not overwritten, and nothing is left in the hand.
+    /// What may hold something is not overwritten, the enables are taken, and nothing is left in
+    /// the hand.
     Words,
 
     /// What is taken is joined only to a word in which nothing is left over.
@@ -17,6 +18,7 @@ pub enum Rule {
     /// The old place is given back once nobody stores there, and not accessed after that.
     Freeing,
 
-    /// In memory the host is told after all has come there that it has to be told of.
+    /// In memory the host is told after all has come there that it has to be told of. Where the
+    /// numbers are heeded, one that has come to the new place is overwritten by itself alone.
     Notice,
 }

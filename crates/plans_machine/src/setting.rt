@@ -1,8 +1,8 @@
 /// How the route of a producer, which stores into the file, is changed.
 #[derive(Clone, Copy, Debug, PartialEq, Eq)]
 pub enum Kind {
-    /// It is written, and comes in force at its fence, or before; up to then stores may be in
-    /// flight.
+    /// It is written, and comes in force at its fence, or before; up to the fence stores may be in
+    /// flight to the old place.
     Routed,
 
     /// It is changed at once, under a lock that its stores take too: none is in flight.

@@ -29,14 +29,16 @@ pub enum Number {
 /// which they are declared, and words of a set from 0.
 #[derive(Clone, Copy, Debug, PartialEq, Eq)]
 pub enum Step {
-    /// Writes the route of a producer: it leads to the new place, once it is in force.
+    /// Writes the route of a producer, to the new place: stores may go there from now on, and all
+    /// do once it is in force.
     Route(u32),
 
     /// Puts a producer's route in force as it is written, and waits for the producer's stores that
     /// are in flight: they have landed.
     Fence(u32),
 
-    /// Writes a producer's route and puts it in force, both at once, as under a lock.
+    /// Writes a producer's route and puts it in force, both at once, as under a lock. It waits for
+    /// no store.
     Switch(u32),
 
     /// Overwrites a word of a place with zeros.
@@ -58,7 +60,7 @@ pub enum Step {
     /// Takes a number of the old place into the hand; the old place keeps 0.
     TakeNumber(Number),
 
-    /// Writes a number over that of the new place; the hand keeps it.
+    /// Writes what the hand has of a number over that of the new place; the hand keeps it.
     PutNumber(Number),
 
     /// Reads a word of both sets of the new place, and remembers if something stands out there.

@@ -29,15 +29,18 @@ access_of (ours.Look w) = Some (Look w)
 access_of ours.Post = Some Post
 access_of step = None
 
+-- Steps with one more before them, where there is one.
 abbrev pub onto : Option Step → List Step → List Step
 onto None steps = steps
 onto (Some step) steps = step ∷ steps
 
+-- A plan of our shape, as those accesses in their order; none gives the old place back.
 abbrev pub translated : Plan → List Step
 translated [] = []
 translated (x ∷ later) = onto (access_of x) (translated later)
 
--- Both producers have a route, the new place is known to hold nothing, and the numbers stay.
+-- Both producers have a route, the new place is known to hold nothing, and the numbers stay. It is
+-- no memory, as the rule on plans of our shape says nothing of notices.
 abbrev pub setting_of : ℕ → Setting
 setting_of words = record {
   producers = Routed ∷ Routed ∷ [];
