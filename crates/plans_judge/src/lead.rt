@@ -93,7 +93,6 @@ fn switches(step: Step, place: usize) -> bool
 }
 
 /// Makes of all routes what a step makes of them.
-
 pub(crate) fn lead_all(leads: &mut [Lead], step: Step)
     ensures { AllAfter (lead_after step) leads.old leads.new }
 {

@@ -55,7 +55,6 @@ fn first_words(alloc: Global, terms: Terms) -> Result<Vec<Word>, AllocError>
 
 impl Table {
     /// Makes the table of no step. `Err`: there is no memory for it.
-
     #[tactic(auto, using(crate::proofs::StandsLemmas::begins))]
     pub(crate) fn new(alloc: Global, producers: &[Kind], terms: Terms) -> Result<Table, AllocError>
         ensures stands { IfOk result (λ table. Stands table producers.now []) }

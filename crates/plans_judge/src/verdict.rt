@@ -3,7 +3,7 @@ use plans_machine::Rule;
 /// What is found of a plan.
 #[derive(Clone, Copy, Debug, PartialEq, Eq)]
 pub enum Verdict {
-    /// The plan keeps all rules, so it is safe, and tells its host.
+    /// The plan keeps all rules, so it is safe, and into memory it tells its host.
     Accepted,
 
     /// The plan breaks a rule: at the step with so many before it, or in its end, where all steps

@@ -32,7 +32,7 @@ pub(crate) struct Word {
     /// It was looked at after all was there that a look heeds.
     pub(crate) looked: bool,
 
-    /// The host was told after that, if there was reason to.
+    /// It was told of once all was there, or posted after such a look, if there was reason to.
     pub(crate) reported: bool,
 }
 
@@ -184,7 +184,6 @@ impl Word {
 }
 
 /// Makes of all words what a step makes of them.
-
 pub(crate) fn step_all(words: &mut [Word], step: Step, world: World)
     ensures { AllAfter (word_after world step) words.old words.new }
 {

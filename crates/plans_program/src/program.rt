@@ -32,7 +32,7 @@ pub enum Status {
 
 /// Runs the command that `words` give, the command line without the program's name: `judge` reads a
 /// file of plans from the source to its end, and writes to the sink what is answered of each plan
-/// as it ends. Every other list of words is refused, as clap refuses it.
+/// as it ends. What clap does not take as that word is refused.
 ///
 /// Memory is taken for the words, for the line and the plan that are being read, for its table, and
 /// for the answers of the plans that end in one piece of the file.

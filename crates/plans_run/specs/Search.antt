@@ -43,12 +43,13 @@ abbrev pub or_else : {A : Type 0} → Option A → Option A → Option A
 or_else None other = other
 or_else (Some x) other = Some x
 
--- The first that is found at so many numbers from one on.
+-- The first that is found at so many numbers, from a given one on.
 unfoldable pub first_of : {A : Type 0} → (ℕ → Option A) → ℕ → ℕ → Option A
 first_of found from zero = None
 first_of found from (suc count) = or_else (found from) (first_of found (suc from) count)
 
--- The pending bit of the second identity of a word, the threshold, and a producer.
+-- The pending bit of the second identity of a word, since the first one of word 0 is none; the
+-- threshold, and a producer.
 abbrev pub pending_case : ℕ → ℕ → Case
 pending_case word producer = record {
   bank = Pending;
@@ -101,8 +102,8 @@ with_flight producers terms plan case before =
 
 -- The first of the runs that follow a producer: with a store of it before a step or after the last
 -- one; with one in flight from the start that lands at its fence alone, as its number of steps,
--- 2^64 - 1, is more than any plan has; with one in flight to the end; and without a store, which
--- shows where its route leads.
+-- 2^64 - 1, is more than any plan has; with one that is sent before a step, and stays in flight;
+-- and without a store, which shows where its route leads.
 unfoldable pub by_producer : List Kind → Terms → List Step → ℕ → ℕ → Option Run
 by_producer producers terms plan word producer =
     or_else

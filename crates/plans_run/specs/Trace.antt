@@ -155,7 +155,7 @@ trace_after c step t = t
 
 -- ---- a trace follows the machine
 
--- What a number is in a spot, by whether it is followed there: 1, and else 0.
+-- What the number is in a spot, by what is followed of that spot: 1, or else 0.
 abbrev pub worth : Bool → ℕ
 worth true = 1
 worth false = 0

@@ -87,7 +87,7 @@ is_spot None spot = false
 is_spot (Some at) spot = same_spot at spot
 
 -- Delivery is 1 in one spot and 0 elsewhere; the threshold is 0 in one spot at most, and 1, which
--- lets no identity through, elsewhere.
+-- lets none through but identity 0, elsewhere.
 abbrev pub number_first : UntoldRun → Spot → Number → ℕ
 number_first u spot Threshold = worth (not (is_spot u.threshold spot))
 number_first u spot Delivery = worth (same_spot u.delivery spot)
@@ -263,7 +263,7 @@ is_untold terms u w = watch_out terms u.identity w && not w.told
 abbrev pub IsAlone : ℕ → Sets → Type 0
 IsAlone identity sets = (i : ℕ) → (identity ≡ i → ⊥) → sets Pending i ≡ false
 
--- The machine has what is followed, and nothing else is pending or in flight.
+-- The machine has what is followed; nothing else is pending, and nothing is in flight.
 pub record IsWatched (u : UntoldRun) (w : Watch) (z : Machine) : Type 0 where
   pub pending : Follows (pending_bit u.identity (producer_of u.store)) w.pending z
   pub enabled : Follows (enabled_bit u.identity (producer_of u.store)) w.enabled z

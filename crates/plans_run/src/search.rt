@@ -229,7 +229,7 @@ fn stored_words(producers: &[Kind], terms: Terms, plan: &[Step]) -> Option<Run>
 /// was given back. `None`: none was found.
 ///
 /// The runs are those with one store at most, of the second identity of a word. Nothing is
-/// allocated. It takes time of the order of three times the words, the producers and the square of
+/// allocated. It takes time of the order of four times the words, the producers and the square of
 /// the steps.
 #[tactic(auto, unfolding(crate::specs::Search::losing_run_of))]
 pub fn losing_run(producers: &[Kind], terms: Terms, plan: &[Step]) -> Option<Run>

@@ -35,7 +35,8 @@ pub enum Route {
     InForce,
 }
 
-/// What is followed, after some happenings.
+/// What is followed, after some happenings: where the bit stands, where the number is 1, and where
+/// the producer's stores go.
 #[derive(Clone, Copy)]
 pub(crate) struct Trace {
     pub(crate) old: bool,

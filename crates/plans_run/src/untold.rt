@@ -31,7 +31,8 @@ pub struct UntoldRun {
     /// Where delivery is 1 at the start; it is 0 elsewhere.
     pub delivery: Spot,
 
-    /// Where the threshold is 0 at the start; it is 1 elsewhere, which lets no identity through.
+    /// Where the threshold is 0 at the start; it is 1 elsewhere, which lets none through but
+    /// identity 0. `None`: it is 1 everywhere.
     pub threshold: Option<Spot>,
 }
 

@@ -1,4 +1,5 @@
--- The plans of a file, and what is answered: a line for each plan, in their order. Profile.
+-- The plans of a file, and what is answered: a line for each plan, in their order, and behind that
+-- of a refused one a line about a run. Profile.
 use Rattle.std.specs.Prelude.{ℕ, ◌+◌, ◌-◌, Bool, true, false, ◌&&◌, nat_eq, nat_lt, nat_le, if◌then◌else◌, List, [], ◌∷◌, ◌++◌, length, map, Option, Some, None, codes, decimal, slice_get}
 use Rattle.std.specs.List.{All, onto_first}
 use Rattle.plans_machine.specs.declared.setting.Kind.{Kind}

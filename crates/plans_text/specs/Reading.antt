@@ -160,7 +160,7 @@ join_of (things.Number number) = None
 
 -- ---- steps, by their names
 
--- A step with a number, which a text has alone.
+-- A step with a number, which is the one word of a text.
 unfoldable pub numbered_at : (ℕ → Step) → Text → Option Step
 numbered_at step text = do
   number ← number_at text

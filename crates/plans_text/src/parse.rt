@@ -164,8 +164,7 @@ fn moving_named(name: &[u8], text: &[u8]) -> Option<Step>
     }
 }
 
-/// Reads a step about the host, or the last one. `None`: the name or what stands behind it spells
-/// none.
+/// Reads a step about the host, or `free`. `None`: the name or what stands behind it spells none.
 fn telling_named(name: &[u8], text: &[u8]) -> Option<Step>
     ensures { result ≡ reading.telling_named name.now text.now }
 {

@@ -126,8 +126,8 @@ impl PlanFile {
     }
 }
 
-/// Gives what is answered of the bytes of a file: a line for each plan. `Err`: there is no memory
-/// for it.
+/// Gives what is answered of the bytes of a file: a line for each plan, and one more where it is
+/// refused. `Err`: there is no memory for it.
 ///
 /// A plan that is read takes memory for its steps, at most 4096, and their lines, at most 128 bytes
 /// each; one that has ended for its answer alone.
