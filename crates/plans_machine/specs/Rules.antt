@@ -245,8 +245,8 @@ lets Freeing d (Zero Old s w) done = not (list_any frees done)
 lets Freeing d (TakeNumber n) done = not (list_any frees done)
 lets Freeing d (ZeroNumber Old n) done = not (list_any frees done)
 -- Where the numbers are heeded, one that stands in the new place as it was at the start is not
--- zeroed there, and only the same number, from the hand, is put over it. A put of another one breaks
--- the rule on numbers too, since the number then stands nowhere.
+-- zeroed there, and only the same number, from the hand, is put over it. A put of another one
+-- breaks the rule on numbers too, since the number then stands nowhere.
 lets Notice d (ZeroNumber New n) done = not (d.heeds && has_number d n InNew done)
 lets Notice d (PutNumber n) done =
     not (d.heeds && has_number d n InNew done) || has_number d n InHand done
