@@ -28,7 +28,7 @@ pub fn a_reading_means_what_it_says()
         (plan_of words bytes) }
 {}
 
-/// A plan has 512 steps at most.
+/// A plan that is read of a text has 512 steps at most.
 pub fn limits()
     ensures { PLAN_STEPS ≡ 512 }
 {}

@@ -31,9 +31,9 @@ pub enum Step {
     /// `map`: writes the G-stage record of the page by which other virtual harts store: the new
     /// guest file. The step of an arrival.
     Map,
-    /// `unmap`: the same for the step of a leave: no guest file.
+    /// `unmap`: writes that record as a leave does: it names no guest file.
     Unmap,
-    /// `remap`: the same for the step of a shift: the new guest file in place of the old one.
+    /// `remap`: writes it as a shift does: the new guest file in place of the old one.
     Remap,
     /// `gfence`: puts the G-stage record, as it is written, in force on all harts.
     GFence,

@@ -63,7 +63,8 @@ abbrev pub NamesElsewhere : Passage → Option Place → Type 0
 NamesElsewhere p named = (side : Side) (a : Place) → names_on side p ≡ Some a → named ≢ Some a
 
 -- Both places are its own: no entry of another virtual hart, in force or as it is written, leads to
--- one of them, and no record of another names one.
+-- one of them, and no record of another that is in force names one. What such a record says as it
+-- is written is free: no event here puts it in force.
 pub record IsAlone (w : World) (p : Passage) : Type 0 where
   pub in_force : (g : Vcpu) → g ≢ moved p → side_of w.imsic p (routes_of w g).in_force ≡ None
   pub written : (g : Vcpu) → is_vcpu_in w.vms g ≡ true → g ≢ moved p
@@ -73,7 +74,8 @@ pub record IsAlone (w : World) (p : Passage) : Type 0 where
 
 -- ---- what it is on the machine of the proof
 
--- A landing of the K-th store of the VM, by where it leads: that of one of its own.
+-- The K-th store in flight of the VM lands: where it leads to one of the two places, that is the
+-- landing of a store by its number among those that do; else it is nothing.
 abbrev pub landing_by : Option Side → ℕ → List Happening
 landing_by None k = []
 landing_by (Some side) k = happenings.Lands k ∷ []

@@ -80,7 +80,7 @@ abbrev pub NotBothSlots : ends.Place → ends.Place → Type 0
 NotBothSlots Slot Slot = ⊥
 NotBothSlots old new = ⊤
 
--- They are two: no file is both.
+-- They are two: no file is both, and not both are the slot.
 abbrev pub AreTwo : ends.Place → ends.Place → Type 0
 AreTwo (File p) (File q) = is_place p q ≡ false
 AreTwo Slot Slot = ⊥

@@ -21,7 +21,7 @@ use Rattle.aia_rehearsal.specs.Events.Event.{Steps, DeviceStores, PeerStores, St
 
 -- ---- a run
 
--- Events come one after the other; each fabric between two of them is whole, as all are.
+-- Events come one after the other; before each of them the fabric is whole, as all fabrics are.
 abbrev pub Runs : List Event → World → Rehearsed → World → Rehearsed → Type 0
 Runs [] w r u t = (u ≡ w) × (t ≡ r)
 Runs (event ∷ later) w r u t = (x : World) × (y : Rehearsed) × IsWhole w
@@ -64,7 +64,8 @@ asked_in (event ∷ later) w r u t (x, y, whole, happens, rest) i =
 
 -- ---- how it begins, and how it ends
 
--- All routes, as they are written and in force, lead to a side.
+-- All routes, as they are written and in force, lead to a side, and the entry says where notices
+-- go.
 pub record LeadsTo (w : World) (p : Passage) (side : Side) : Type 0 where
   pub word0 : (routes_of w (moved p)).word0 ≡ entry_word p.who.found.slot (names_on side p)
   pub word1 : (routes_of w (moved p)).word1 ≡ second_word p.who.found.slot p.who.found.notice
@@ -112,7 +113,7 @@ pub record IsBegun (w : World) (r : Rehearsed) : Type 0 where
 
 -- It has ended well: pending in the new place is just what was pending in the old one as it began
 -- or was asked for since, enabled is just what was; the old place is empty, and nothing leads to
--- it.
+-- it; and no store in flight of another VM leads to the new one.
 pub record IsOver (w : World) (r : Rehearsed) (asked_for : ℕ → Bool) (u : World) : Type 0 where
   pub pending : (i : ℕ) → i / 64 < width w → (sets_at u (at New r.passage)).pending i
       ≡ (is_identity i && ((sets_at w (at Old r.passage)).pending i || asked_for i))

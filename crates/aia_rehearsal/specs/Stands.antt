@@ -97,7 +97,7 @@ side_of i p entry =
     else None)
 
 -- The identity for which a store at an offset of a page asks; 0, which is none, where it asks for
--- none.
+-- none. It may be above those of the files, of which nothing is said.
 abbrev pub asked : ℕ → ℕ → ℕ
 asked offset value = unwrap_or (requested IDENTITIES offset value) 0
 

@@ -1,5 +1,5 @@
 //! Plans of moves are rehearsed: the steps of a plan that was judged are made as accesses of the
-//! machine, one after another, on two places that need no home. Profile.
+//! machine, one after another, on two places of which no core keeps a record. Profile.
 #![tactic(auto)]
 
 pub mod laws;
