@@ -242,7 +242,7 @@ g 0 0 csrrw stopei 0
 ld 0x0c00b004
 ";
 
-/// What concerns VM 0 in the first of these alone, and the machine level.
+/// `PASSED` with all left out that does not concern VM 0.
 pub const UNPASSED: &str = "machine 1 1 63 8
 vm 1 0x8 0
 arrive 0 0 0
@@ -251,6 +251,7 @@ g 0 0 csrrw sireg 0x20
 g 0 0 csrrw stopei 0
 ";
 
+/// `PASSED` with all left out that does not concern the machine level.
 pub const UNAIMED: &str = "machine 1 1 63 8
 st 0x0c000004 0x400
 st 0x0c008004 4

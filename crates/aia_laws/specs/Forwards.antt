@@ -31,7 +31,8 @@ forward_deed h p g =
     if is_vcpu g (nth_pass h p).to then Stores 0 (nth_pass h p).identity else Rests
 
 -- What is said of identity i's being pending in a file of the host, by an MSI of a pass that is
--- delivered and, where the pass leads to memory, given on.
+-- delivered and, where the pass leads to memory, given on: what the MSI asked for there is taken
+-- again.
 abbrev pub forward_said : History → ℕ → Msi → FileName → ℕ → BitUpdate
 forward_said h p msi f i =
     if is_none (pass_reach h p) && is_file f (pass_file h p)

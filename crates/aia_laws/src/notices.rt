@@ -25,9 +25,8 @@ pub fn no_notice_is_lost()
 {}
 
 /// The host sees it: the notice identity is then pending in that file, unless something the host
-/// did there cleared it after the newest notice; or, where other requests for the identity count as
-/// much, no earlier than the newest request at the virtual hart and the beginning of its newest
-/// leave.
+/// did there cleared it after the newest notice for the virtual hart; so too unless that cleared it
+/// no earlier than the newest request at the virtual hart and the beginning of its newest leave.
 pub fn the_host_sees_a_notice_until_it_clears_it()
     ensures newest { (h : History) (g : Vcpu) (i : ℕ) → IsHistory h → home h g ≡ InMemory Parked
         → is_deliverable h g i ≡ true
@@ -39,10 +38,11 @@ pub fn the_host_sees_a_notice_until_it_clears_it()
         → (file_of h (notice_file h g)).pending (notice_number h g) ≡ true }
 {}
 
-/// No notice comes for nothing: the line that it comes with, or the store that lands, asks at the
-/// virtual hart for an identity that is enabled there, or its step is the last one of a leave, one
-/// of whose looks saw an identity both pending and enabled, or the line ends a run from memory
-/// while one is, or it loads a part of an image and leaves one that is.
+/// No notice comes for nothing: the line that it comes with, the store that lands, or the MSI of a
+/// pass that is given on, asks at the virtual hart for an identity that is enabled there, or its
+/// step is the last one of a leave, one of whose looks saw an identity both pending and enabled, or
+/// the line ends a run from memory while one is, or it loads a part of an image and leaves one that
+/// is.
 pub fn a_notice_has_a_cause()
     ensures { (h : History) (event : Event) (g : Vcpu) → noticed h event ≡ Some g
         → IsCause h event g }
