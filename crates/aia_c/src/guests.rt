@@ -97,7 +97,7 @@ pub extern "C" fn aia_guest_csr(
     )
 }
 
-/// Stores 32 bits at the file of a virtual hart, by another one of its VM, as `g VM C ipi C2 D`.
+/// Stores 32 bits at the file of virtual hart `to`, by one of its VM, as `g VM C ipi C2 D`.
 #[unsafe(no_mangle)]
 pub extern "C" fn aia_ipi(
     handle: &mut Handle,

@@ -66,7 +66,8 @@ pub extern "C" fn aia_store(handle: &mut Handle, addr: u64, value: u32, alloc: G
     number_of(serve(handle, &line, alloc))
 }
 
-/// Loads 32 bits from an address, by the host, as `ld A`; the value is 0 where nothing was read.
+/// Loads 32 bits from an address, by the host or a device of it, as `ld A`; the value is 0 where
+/// nothing was read.
 #[unsafe(no_mangle)]
 pub extern "C" fn aia_load(handle: &mut Handle, addr: u64, value: &mut u32, alloc: Global) -> i32
     ensures { Fetches narrow_of handle.old.engine handle.new.engine (Line.Load addr)

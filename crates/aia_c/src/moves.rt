@@ -59,7 +59,7 @@ pub extern "C" fn aia_shift(
     moves(handle, vm, number, Want::Shift(hart), alloc)
 }
 
-/// Begins such a move of a virtual hart, and does no step, as `begin arrive VM C H`.
+/// Begins what `aia_arrive` does, and does no step of it, as `begin arrive VM C H`.
 #[unsafe(no_mangle)]
 pub extern "C" fn aia_begin_arrive(
     handle: &mut Handle,
@@ -74,7 +74,7 @@ pub extern "C" fn aia_begin_arrive(
     begins(handle, vm, number, Want::Arrive(hart), alloc)
 }
 
-/// Begins such a move of a virtual hart, and does no step, as `begin leave VM C`.
+/// Begins what `aia_leave` does, and does no step of it, as `begin leave VM C`.
 #[unsafe(no_mangle)]
 pub extern "C" fn aia_begin_leave(handle: &mut Handle, vm: u64, number: u64, alloc: Global) -> i32
     ensures { Acts handle.old.engine handle.new.engine (Line.Begin vm number Want.Leave) result }
@@ -82,7 +82,7 @@ pub extern "C" fn aia_begin_leave(handle: &mut Handle, vm: u64, number: u64, all
     begins(handle, vm, number, Want::Leave, alloc)
 }
 
-/// Begins such a move of a virtual hart, and does no step, as `begin shift VM C H`.
+/// Begins what `aia_shift` does, and does no step of it, as `begin shift VM C H`.
 #[unsafe(no_mangle)]
 pub extern "C" fn aia_begin_shift(
     handle: &mut Handle,

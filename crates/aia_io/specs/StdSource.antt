@@ -34,6 +34,6 @@ EndCounts before now (Got n) = now ≡ before
 EndCounts before now End = now ≡ one_more before
 EndCounts before now Failed = now ≡ before
 
--- what it tells of its bytes, where so many are known to come
+-- what it tells of its bytes, given those that are known to come, if they are
 abbrev pub source_supply : {R : Type 0} → Option (List ℕ) → StdSource R → Supply
 source_supply to_come s = record { to_come = to_come; given = s.given; ends = s.ends }

@@ -7,7 +7,7 @@ use Rattle.aia_model.specs.Event.{History}
 use Rattle.aia_model.specs.Event.Event.{Accepted}
 use Rattle.aia_standing.specs.Example.{accepted, passable_lines}
 
--- The machine is made, and the stores are done.
+-- The machine is made, and the stores that make its first source passable are done.
 abbrev pub stored : History
 stored = accepted (lines.Machine 1 1 63 2 ∷ passable_lines) []
 
@@ -15,7 +15,7 @@ stored = accepted (lines.Machine 1 1 63 2 ∷ passable_lines) []
 abbrev pub made : History
 made = Accepted (lines.Vm 1 8 0) ∷ stored
 
--- The targets of its sources, as moves see them, by that of the first.
+-- The targets of its sources, as moves see them, given that of the first.
 abbrev pub one_ready : ℕ → TargetMap
 one_ready t = record {
   harts = 1;

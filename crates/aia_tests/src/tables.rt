@@ -33,8 +33,8 @@ fn entries_say_what_their_words_say(rt: HostRuntime) -> Result<(), Fail> {
 }
 
 /// Two VMs, whose files are numbered by the bits 3 and 5 of a page, and by bit 3; the entries of
-/// their files 2 and 1 are written, and then put in force one after the
-/// other; the last one is read again.
+/// their files 2 and 1 are written, and then put in force one after the other; the last one is read
+/// again.
 #[test]
 #[tactic(auto, using(crate::proofs::TableFacts::two_ones, crate::proofs::TableFacts::one_one))]
 fn a_store_goes_by_the_entry_in_force(rt: HostRuntime) -> Result<(), Fail> {
