@@ -62,6 +62,7 @@ begun pending enabled = record {
   due = λ i. is_identity i && pending i;
 }
 
+-- The set that has one identity.
 abbrev pub only : ℕ → ℕ → Bool
 only x i = nat_eq x i
 

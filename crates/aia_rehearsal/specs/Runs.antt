@@ -97,7 +97,7 @@ state_at side w r = record {
 }
 
 -- A move may begin: all leads to the old place, the new one is empty, nothing is carried, and both
--- places are its own.
+-- places are its own, also of what is in flight.
 pub record IsBegun (w : World) (r : Rehearsed) : Type 0 where
   pub of : IsOf w r.passage
   pub two : AreTwo r.passage.old r.passage.new
