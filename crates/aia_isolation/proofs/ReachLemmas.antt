@@ -8,7 +8,7 @@ use Rattle.aia_model.specs.declared.line.Line.TheVariants.{Send, Land, GuestCsr,
 use Rattle.aia_model.specs.declared.line.Line.TheVariants as lines
 use Rattle.aia_model.specs.declared.part.Part.{Part}
 use Rattle.aia_model.specs.declared.part.Part.TheVariants as parts
-use Rattle.aia_model.specs.Act.{Act, act_of}
+use Rattle.aia_model.specs.Sent.{acts_of, sent_by, with_all_sent}
 use Rattle.aia_model.specs.Event.{History}
 use Rattle.aia_model.specs.Event.Event.{Accepted, Stepped, Landed}
 use Rattle.aia_model.specs.Vms.{vms_of, has_vcpu}
@@ -22,6 +22,7 @@ use Rattle.aia_model.specs.Histories.{IsHistory}
 use Rattle.aia_model.proofs.HistoryLemmas.{flying_there}
 use Rattle.aia_model.specs.Refusal.{refusal}
 use Rattle.aia_model.proofs.FileLemmas.{is_file-same}
+use Rattle.aia_model.proofs.WaitingLemmas.{none_waits}
 use Rattle.aia_laws.specs.Told.{notice_file, notice_number}
 use Rattle.aia_model.proofs.RefusalLemmas.{device_allowed, peer_allowed}
 use Rattle.aia_isolation.specs.Reach.{is_doing_of, IsNoticeOf, with_deed, deeds_of, HostFile, host_of, host_by}
@@ -69,13 +70,17 @@ landings_by_notices past v k f good = by_store (flying past v k) refl
     by_store None e = rw e (inl refl)
     by_store (Some s) e = rw e (either_notice _ past v f (sent_to v s) refl (flying_there past v k s good e))
 
-pub no_act : (line : Line) (v : ℕ) → is_doing_of v line ≡ true → ◌≡◌ {A = Option Act} (act_of line) None
-no_act (lines.Msi vm addr value) v its = refl
-no_act (Ipi vm number to value) v its = refl
-no_act (Send vm addr value) v its = refl
-no_act (Land vm k) v its = refl
-no_act (GuestCsr vm number csr op) v its = refl
-no_act line v its = absurd (false≢true its)
+-- nothing waits between lines, so what does nothing to the APLIC sends nothing
+all_sent : (past : History) → with_all_sent (acts_of past) ≡ acts_of past
+all_sent past = ap (λ waiting. sent_by waiting (acts_of past)) (none_waits past)
+
+pub same_acts : (past : History) (line : Line) (v : ℕ) → is_doing_of v line ≡ true → acts_of (Accepted line ∷ past) ≡ acts_of past
+same_acts past (lines.Msi vm addr value) v its = all_sent past
+same_acts past (Ipi vm number to value) v its = all_sent past
+same_acts past (Send vm addr value) v its = all_sent past
+same_acts past (Land vm k) v its = all_sent past
+same_acts past (GuestCsr vm number csr op) v its = all_sent past
+same_acts past line v its = absurd (false≢true its)
 
 pub own_number : (h : History) (g x : Vcpu) → has_vcpu h g ≡ true → has_vcpu h x ≡ true → notice_number h g ≡ notice_number h x → g ≡ x
 own_number h g x here there e = same_slot (vms_of h) g x here there (omega (arith, e))
