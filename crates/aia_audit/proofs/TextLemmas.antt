@@ -9,7 +9,7 @@ use Rattle.aia_script.specs.StepText.{step_of}
 use Rattle.aia_audit.specs.declared.limits.TheConstants.{PLAN_STEPS}
 use Rattle.aia_audit.specs.PlanText.{with_step, with_texts, plan_of}
 use Rattle.aia_audit.specs.PlanText.PlanRead.{Steps, BadAt}
-use Rattle.aia_audit.specs.PlanTexts.{counted, Spell, IsBadAt, Means}
+use Rattle.aia_audit.specs.PlanTexts.{unskipped, Spell, IsBadAt, Means}
 
 -- once a text is bad, nothing more is read
 bad_stays : (words k : ℕ) (texts : List (List ℕ)) → with_texts words (BadAt k) texts ≡ BadAt k
@@ -48,31 +48,31 @@ spell_more words before plan text step s e room =
 
 -- What is read of the texts after some that spell a plan.
 abbrev pub ReadsOn : ℕ → List (List ℕ) → Type 0
-ReadsOn words texts = (before : List (List ℕ)) (plan : Plan) → Spell words before plan → Means words (before ++ counted texts) (with_texts words (Steps plan) texts)
+ReadsOn words texts = (before : List (List ℕ)) (plan : Plan) → Spell words before plan → Means words (before ++ unskipped texts) (with_texts words (Steps plan) texts)
 
 step_more : (words : ℕ) (before : List (List ℕ)) (plan : Plan) (text : List ℕ) (texts : List (List ℕ)) (step : Step) → Spell words before plan → ReadsOn words texts → step_of words text ≡ Some step
     → (room : Bool) → nat_lt (length plan) PLAN_STEPS ≡ room
-    → Means words (before ++ text ∷ counted texts) (with_texts words (if room then Steps (plan ++ step ∷ []) else BadAt (suc (length plan))) texts)
+    → Means words (before ++ text ∷ unskipped texts) (with_texts words (if room then Steps (plan ++ step ∷ []) else BadAt (suc (length plan))) texts)
 step_more words before plan text texts step s on e true room =
-    subst (λ ts. Means words ts (with_texts words (Steps (plan ++ step ∷ [])) texts)) (append_assoc before (text ∷ []) (counted texts))
+    subst (λ ts. Means words ts (with_texts words (Steps (plan ++ step ∷ [])) texts)) (append_assoc before (text ∷ []) (unskipped texts))
     (on (before ++ text ∷ []) (plan ++ step ∷ []) (spell_more words before plan text step s e (ltb-true (length plan) PLAN_STEPS room)))
 step_more words before plan text texts step s on e false room =
     let same = same_length words before plan s in
     let none_left = ltb-false (length plan) PLAN_STEPS room in
-    subst (Means words (before ++ text ∷ counted texts)) (sym (bad_stays words (suc (length plan)) texts))
-    (bad_here words before plan text (counted texts) s (inr (omega (arith, same, none_left, s.few))))
+    subst (Means words (before ++ text ∷ unskipped texts)) (sym (bad_stays words (suc (length plan)) texts))
+    (bad_here words before plan text (unskipped texts) s (inr (omega (arith, same, none_left, s.few))))
 
 text_more : (words : ℕ) (before : List (List ℕ)) (plan : Plan) (text : List ℕ) (texts : List (List ℕ)) → Spell words before plan → ReadsOn words texts
     → (skipped : Bool) (found : Option Step) → step_of words text ≡ found
-    → Means words (before ++ (if skipped then counted texts else text ∷ counted texts)) (with_texts words (if skipped then Steps plan else with_step plan found) texts)
+    → Means words (before ++ (if skipped then unskipped texts else text ∷ unskipped texts)) (with_texts words (if skipped then Steps plan else with_step plan found) texts)
 text_more words before plan text texts s on true found e = on before plan s
 text_more words before plan text texts s on false None e =
-    subst (Means words (before ++ text ∷ counted texts)) (sym (bad_stays words (suc (length plan)) texts)) (bad_here words before plan text (counted texts) s (inl e))
+    subst (Means words (before ++ text ∷ unskipped texts)) (sym (bad_stays words (suc (length plan)) texts)) (bad_here words before plan text (unskipped texts) s (inl e))
 text_more words before plan text texts s on false (Some step) e = step_more words before plan text texts step s on e (nat_lt (length plan) PLAN_STEPS) refl
 
 reads_on : (words : ℕ) (texts : List (List ℕ)) → ReadsOn words texts
 reads_on words [] before plan s = subst (λ ts. Spell words ts plan) (sym (append-nil before)) s
 reads_on words (text ∷ texts) before plan s = text_more words before plan text texts s (reads_on words texts) (is_skipped text) (step_of words text) refl
 
-pub plan_means : (words : ℕ) (bytes : List ℕ) → Means words (counted (texts_of bytes)) (plan_of words bytes)
+pub plan_means : (words : ℕ) (bytes : List ℕ) → Means words (unskipped (texts_of bytes)) (plan_of words bytes)
 plan_means words bytes = reads_on words (texts_of bytes) [] [] (record { steps = refl; few = omega arith })

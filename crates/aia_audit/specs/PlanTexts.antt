@@ -9,9 +9,9 @@ use Rattle.aia_audit.specs.PlanText.{PlanRead}
 use Rattle.aia_audit.specs.PlanText.PlanRead.{Steps, BadAt}
 
 -- The texts that are not skipped.
-abbrev pub counted : List (List ℕ) → List (List ℕ)
-counted [] = []
-counted (text ∷ texts) = if is_skipped text then counted texts else text ∷ counted texts
+abbrev pub unskipped : List (List ℕ) → List (List ℕ)
+unskipped [] = []
+unskipped (text ∷ texts) = if is_skipped text then unskipped texts else text ∷ unskipped texts
 
 -- Texts spell the steps of a plan, one each, and they are not too many.
 pub record Spell (words : ℕ) (texts : List (List ℕ)) (plan : Plan) : Type 0 where

@@ -6,7 +6,7 @@ ghost use Rattle.aia_model.specs.Text.{texts_of};
 ghost use Rattle.aia_plan.specs.Plan.{core_plan};
 ghost use Rattle.aia_audit.specs.CoreAccesses.{access_of, core_accesses};
 ghost use Rattle.aia_audit.specs.PlanText.{plan_of};
-ghost use Rattle.aia_audit.specs.PlanTexts.{counted, Means};
+ghost use Rattle.aia_audit.specs.PlanTexts.{unskipped, Means};
 
 use crate::limits::PLAN_STEPS;
 use aia_plan::Kind;
@@ -24,7 +24,7 @@ pub fn the_plans_of_the_core_are_its_accesses()
 /// among them, counted from 1, is the first that spells no step, or is the 513th.
 #[tactic(auto, using(crate::proofs::TextLemmas::plan_means))]
 pub fn a_reading_means_what_it_says()
-    ensures { (words : ℕ) (bytes : List ℕ) → Means words (counted (texts_of bytes))
+    ensures { (words : ℕ) (bytes : List ℕ) → Means words (unskipped (texts_of bytes))
         (plan_of words bytes) }
 {}
 

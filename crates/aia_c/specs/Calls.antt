@@ -104,7 +104,7 @@ Scripts (Some old) (Some new) taken rest bytes room code = Takes old new taken r
 -- ---- calls without text
 
 -- There is no memory for a machine, and nothing changed.
-pub record WantsRoom (old new : EngineState) (line : Line) : Type 0 where
+pub record WantsMachineMemory (old new : EngineState) (line : Line) : Type 0 where
   pub same : new ≡ old
   pub none : StandsFor old []
   pub asks : makes_machine [] line ≡ true
@@ -115,7 +115,7 @@ Serving None new line (Ok answer) = ⊥
 Serving None new line (Err code) = (code ≡ Closed) × (new ≡ None)
 Serving (Some old) None line given = ⊥
 Serving (Some old) (Some new) line (Ok answer) = Serves old new line answer
-Serving (Some old) (Some new) line (Err code) = (code ≡ NoMemory) × WantsRoom old new line
+Serving (Some old) (Some new) line (Err code) = (code ≡ NoMemory) × WantsMachineMemory old new line
 
 -- Whatever history the engine stood for, the code is that of the line's answer after it, and the
 -- engine then stands for the history after the line.
@@ -134,7 +134,7 @@ abbrev pub Makes : Option EngineState → Option EngineState → Line → ℤ �
 Makes None new line code = IsClosed new code
 Makes (Some old) None line code = ⊥
 Makes (Some old) (Some new) line code =
-    Does old new line code ⊎ ((code ≡ number NoMemory) × WantsRoom old new line)
+    Does old new line code ⊎ ((code ≡ number NoMemory) × WantsMachineMemory old new line)
 
 -- A call of any other line.
 abbrev pub Acts : Option EngineState → Option EngineState → Line → ℤ → Type 0

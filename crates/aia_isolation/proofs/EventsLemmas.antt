@@ -13,7 +13,7 @@ use Rattle.aia_model.specs.declared.msi.Msi.{Msi}
 use Rattle.aia_model.specs.Passes.{passes_of, nth_pass, passed_by}
 use Rattle.aia_model.specs.GuestFile.{goes_to_guest}
 use Rattle.aia_model.specs.Script.{history_of}
-use Rattle.aia_isolation.specs.Said.{Said, said_by, passed_said, with_one, said}
+use Rattle.aia_isolation.specs.Said.{Said, said_by, passed_said, with_any, said}
 use Rattle.aia_isolation.specs.Guest.{guest_by}
 use Rattle.aia_model.specs.StateOf.{state_of}
 use Rattle.aia_isolation.specs.Replies.{replies, sets_up, is_of_flight, script_replies}
@@ -29,7 +29,7 @@ use Rattle.aia_isolation.proofs.ScriptLemmas.{same_scripts}
 abbrev IsByEvents : (v : ℕ) (g : Vcpu) → History → Type 0
 IsByEvents v g h = SameFor v (events_for v h) h × (said (events_for v h) g ≡ said h g)
 
-events_step : (v : ℕ) (event : Event) (past : History) → events_for v (event ∷ past) ≡ with_one (event_for v past event) (events_for v past)
+events_step : (v : ℕ) (event : Event) (past : History) → events_for v (event ∷ past) ≡ with_any (event_for v past event) (events_for v past)
 unfolding events_for
 events_step v event past = refl
 
@@ -38,19 +38,19 @@ events_step v event past = refl
 -- what an event says is what another says
 own_event : (v : ℕ) (g : Vcpu) (event its : Event) (past : History) → g.vm ≡ v → event_for v past event ≡ Some its → SameFor v (its ∷ past) (event ∷ past) → said_by g past its ≡ said_by g past event → IsByEvents v g past → IsByEvents v g (event ∷ past)
 own_event v g event its past own is same says by =
-    subst (λ x. SameFor v x (event ∷ past) × (said x g ≡ said (event ∷ past) g)) (sym (events_step v event past ∙ ap (λ o. with_one o (events_for v past)) is)) (
+    subst (λ x. SameFor v x (event ∷ past) × (said x g ≡ said (event ∷ past) g)) (sym (events_step v event past ∙ ap (λ o. with_any o (events_for v past)) is)) (
       for_then v (its ∷ events_for v past) (its ∷ past) (event ∷ past) (both_for v its (events_for v past) past by.0) same,
-      said_step its (events_for v past) g ∙ ap (λ o. with_one o (said (events_for v past) g)) (same_said its (events_for v past) past g (subst (λ w. SameFor w (events_for v past) past) (sym own) by.0))
-          ∙ ap (with_one (said_by g past its)) by.1 ∙ ap (λ o. with_one o (said past g)) says ∙ sym (said_step event past g),
+      said_step its (events_for v past) g ∙ ap (λ o. with_any o (said (events_for v past) g)) (same_said its (events_for v past) past g (subst (λ w. SameFor w (events_for v past) past) (sym own) by.0))
+          ∙ ap (with_any (said_by g past its)) by.1 ∙ ap (λ o. with_any o (said past g)) says ∙ sym (said_step event past g),
     )
 
 -- ---- one that does not
 
 other_event : (v : ℕ) (g : Vcpu) (event : Event) (past : History) → event_for v past event ≡ None → sets_up event ≡ false → is_of_flight v event ≡ false → said_by g past event ≡ None → IsByEvents v g past → IsByEvents v g (event ∷ past)
 other_event v g event past none quiet still silent by =
-    subst (λ x. SameFor v x (event ∷ past) × (said x g ≡ said (event ∷ past) g)) (sym (events_step v event past ∙ ap (λ o. with_one o (events_for v past)) none)) (
+    subst (λ x. SameFor v x (event ∷ past) × (said x g ≡ said (event ∷ past) g)) (sym (events_step v event past ∙ ap (λ o. with_any o (events_for v past)) none)) (
       for_then v (events_for v past) past (event ∷ past) by.0 (left_for v event past quiet still),
-      by.1 ∙ sym (said_step event past g ∙ ap (λ o. with_one o (said past g)) silent),
+      by.1 ∙ sym (said_step event past g ∙ ap (λ o. with_any o (said past g)) silent),
     )
 
 -- ---- a line, a landing

@@ -25,7 +25,7 @@ use Rattle.aia_laws.specs.Images.{IsState, fresh_state, loaded_all}
 use Rattle.aia_laws.proofs.ImageLemmas.{parts_give}
 use Rattle.aia_laws.proofs.PartLemmas.{saved_answer}
 use Rattle.aia_laws.proofs.ReachedLemmas.{is_state}
-use Rattle.aia_isolation.specs.Said.{Said, said_by, with_one, said}
+use Rattle.aia_isolation.specs.Said.{Said, said_by, with_any, said}
 use Rattle.aia_isolation.specs.Said.Said.{Made}
 use Rattle.aia_isolation.specs.Guest.{hears, guest_by}
 use Rattle.aia_isolation.specs.Replies.{replies, reply, replies_by, script_replies}
@@ -36,7 +36,7 @@ use Rattle.aia_isolation.proofs.ScriptLemmas.{script_answered}
 
 -- ---- what is said later
 
-with_one-append : {A : Type 0} (o : Option A) (later earlier : List A) → with_one o later ++ earlier ≡ with_one o (later ++ earlier)
+with_one-append : {A : Type 0} (o : Option A) (later earlier : List A) → with_any o later ++ earlier ≡ with_any o (later ++ earlier)
 with_one-append None later earlier = refl
 with_one-append (Some x) later earlier = refl
 
@@ -44,7 +44,7 @@ pub said_later : (h : History) (later : List Event) (g : Vcpu) → said (later +
 unfolding said_after
 said_later h [] g = refl
 said_later h (event ∷ earlier) g =
-    said_step event (earlier ++ h) g ∙ ap (with_one (said_by g (earlier ++ h) event)) (said_later h earlier g)
+    said_step event (earlier ++ h) g ∙ ap (with_any (said_by g (earlier ++ h) event)) (said_later h earlier g)
     ∙ sym (with_one-append (said_by g (earlier ++ h) event) (said_after h earlier g) (said h g))
 
 -- ---- what was loaded
@@ -57,7 +57,7 @@ fresh n h g e = is_by_said h g ∙ ap guest_by e
 unheard : (event : Event) (past : History) (g : Vcpu) → is_none (said_by g past event) ≡ true → said (event ∷ past) g ≡ said past g
 unheard event past g e = said_step event past g ∙ by_word (said_by g past event) e
   where
-    by_word : (word : Option Said) → is_none word ≡ true → with_one word (said past g) ≡ said past g
+    by_word : (word : Option Said) → is_none word ≡ true → with_any word (said past g) ≡ said past g
     by_word None e = refl
     by_word (Some word) e = absurd (false≢true e)
 
@@ -101,8 +101,8 @@ unfolding replies_by
 replies_later [] words others e none = ap (λ xs. xs ++ replies_by others) none
 replies_later (word ∷ earlier) words others e none =
     with_one-append (reply (guest_by (earlier ++ words)) word) (replies_by (earlier ++ words)) (replies_by others)
-    ∙ ap (λ s. with_one (reply s word) (replies_by (earlier ++ words) ++ replies_by others)) (by_later earlier words others e)
-    ∙ ap (with_one (reply (guest_by (earlier ++ others)) word)) (replies_later earlier words others e none)
+    ∙ ap (λ s. with_any (reply s word) (replies_by (earlier ++ words) ++ replies_by others)) (by_later earlier words others e)
+    ∙ ap (with_any (reply (guest_by (earlier ++ others)) word)) (replies_later earlier words others e none)
 
 -- the saved one's words, and those by which its image was loaded
 same_by : (first : History) (g : Vcpu) (loaded : List Said) → IsHistory first → has_machine first ≡ true → IsWholeImage (state_of first g) loaded → guest_by loaded ≡ guest_by (said first g)

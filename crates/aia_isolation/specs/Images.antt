@@ -6,14 +6,14 @@ use Rattle.aia_model.specs.Event.{Event, History}
 use Rattle.aia_model.specs.Event.Event.{Accepted}
 use Rattle.aia_model.specs.Image.{GuestState, part_of}
 use Rattle.aia_laws.specs.Images.{HasAllParts}
-use Rattle.aia_isolation.specs.Said.{Said, said_by, with_one}
+use Rattle.aia_isolation.specs.Said.{Said, said_by, with_any}
 use Rattle.aia_isolation.specs.Said.Said.{Made, Loaded}
 
 -- All that events say to a virtual hart which happen after a history, the newest first.
 unfoldable pub said_after : History → List Event → Vcpu → List Said
 said_after h [] g = []
 said_after h (event ∷ earlier) g =
-    with_one (said_by g (earlier ++ h) event) (said_after h earlier g)
+    with_any (said_by g (earlier ++ h) event) (said_after h earlier g)
 
 -- Whether an event says nothing to a virtual hart, or makes the machine, which is said to all.
 abbrev pub is_unheard : History → Event → Vcpu → Bool

@@ -21,13 +21,13 @@ ghost use Rattle.aia_model.specs.FileAfter.FileDeed.{Makes, Accesses, Stores, Re
 ghost use Rattle.aia_model.specs.FileOf.{SupervisorFile, file_of};
 ghost use Rattle.aia_model.specs.Text.{texts_of};
 ghost use Rattle.aia_model.specs.Script.{history_of, answers};
-ghost use Rattle.aia_laws.specs.Told.{guest_said, host_said, is_deliverable, notice_file, notice_number, told_since};
+ghost use Rattle.aia_laws.specs.Told.{guest_pending_said, host_pending_said, is_deliverable, notice_file, notice_number, told_since};
 ghost use Rattle.aia_laws.specs.Newest.{newest};
 ghost use Rattle.aia_isolation.specs.Said.{said, without_reads};
 ghost use Rattle.aia_isolation.specs.Said.Said.{Made, Asked, Did, Injected, Controlled};
 ghost use Rattle.aia_isolation.specs.Replies.{replies_by, script_replies, purged};
 ghost use Rattle.aia_isolation.specs.Concerns.{concerns, is_of_machine_level, events_for};
-ghost use Rattle.aia_isolation.specs.Parts.{part_of, answers_to};
+ghost use Rattle.aia_isolation.specs.Parts.{texts_that_pass, answers_to};
 ghost use Rattle.aia_isolation.specs.Reach.{deeds_of};
 
 /// Virtual hart 0 of VM 0 enables 5 and 6, gets 5, is moved, claims 5, is parked, and gets 6, of
@@ -388,7 +388,7 @@ pub fn two_scripts_say_the_same()
 /// The lines that concern a VM are answered as in the script that has no others, and so are those
 /// of the machine level.
 pub fn a_vm_and_the_machine_level_are_answered_alone()
-    ensures part { texts_of ALONE.now ≡ part_of (concerns 0) BUSY.now }
+    ensures part { texts_of ALONE.now ≡ texts_that_pass (concerns 0) BUSY.now }
     ensures alone { answers ALONE.now ≡ ALONE_ANSWERS.now }
     ensures busy { answers_to (concerns 0) BUSY.now ≡ ALONE_ANSWERS.now }
     ensures machine_level { answers_to is_of_machine_level BUSY.now ≡ MACHINE_LEVEL_ANSWERS.now }
@@ -400,9 +400,9 @@ pub fn a_vm_and_the_machine_level_are_answered_alone()
 /// pending then. All that was done at the host's file are the host's own instructions, and that
 /// notice.
 pub fn the_host_is_told_of_what_is_pending()
-    ensures asked { newest (λ past event. guest_said past event (vcpu 0 0) 6)
+    ensures asked { newest (λ past event. guest_pending_said past event (vcpu 0 0) 6)
         (history_of BUSY.now) ≡ Ask }
-    ensures cleared { newest (λ past event. guest_said past event (vcpu 0 0) 5)
+    ensures cleared { newest (λ past event. guest_pending_said past event (vcpu 0 0) 5)
         (history_of BUSY.now) ≡ Clear }
     ensures pending { (guest_file (history_of BUSY.now) (vcpu 0 0)).pending 6 ≡ true }
     ensures parked { home (history_of BUSY.now) (vcpu 0 0) ≡ InMemory Parked }
@@ -412,7 +412,7 @@ pub fn the_host_is_told_of_what_is_pending()
     ensures seen { (file_of (history_of BUSY.now) (SupervisorFile 0)).pending 1 ≡ true }
     ensures deeds { deeds_of (history_of BUSY.now) (SupervisorFile 0)
         ≡ Accesses Reg Read ∷ Stores 0 1 ∷ Accesses Select (Write 0x80) ∷ Makes 63 ∷ [] }
-    ensures host { newest (λ past event. host_said past event (SupervisorFile 0) 1)
+    ensures host { newest (λ past event. host_pending_said past event (SupervisorFile 0) 1)
         (history_of BUSY.now) ≡ Ask }
 {}
 
@@ -455,10 +455,10 @@ pub fn a_passed_source_is_heard_the_same_wherever_its_guest_is()
 /// Where a source is passed, neither its VM nor the machine level is answered as if it were alone:
 /// without the wire the virtual hart claims nothing, and without the pass the source has no target.
 pub fn with_a_source_passed_no_part_is_answered_alone()
-    ensures vm_part { texts_of UNPASSED.now ≡ part_of (concerns 0) PASSED.now }
+    ensures vm_part { texts_of UNPASSED.now ≡ texts_that_pass (concerns 0) PASSED.now }
     ensures vm_alone { answers UNPASSED.now ≡ UNPASSED_ANSWERS.now }
     ensures vm_beside { answers_to (concerns 0) PASSED.now ≡ PASSED_ANSWERS.now }
-    ensures machine_part { texts_of UNAIMED.now ≡ part_of is_of_machine_level PASSED.now }
+    ensures machine_part { texts_of UNAIMED.now ≡ texts_that_pass is_of_machine_level PASSED.now }
     ensures machine_alone { answers UNAIMED.now ≡ UNAIMED_ANSWERS.now }
     ensures machine_beside { answers_to is_of_machine_level PASSED.now ≡ AIMED_ANSWERS.now }
 {}

@@ -36,7 +36,7 @@ use Rattle.aia_model.specs.Answer.{after, line_taken, deed_taken, steps_of, step
 use Rattle.aia_model.proofs.AnswerLemmas.{after_by}
 use Rattle.aia_model.proofs.FileLemmas.{file_by_step, newest_word}
 use Rattle.aia_laws.specs.Requests.{speaks_to, names_other_vm, flies_to, event_of, does_steps, is_passed_to, forwards_to}
-use Rattle.aia_laws.specs.Told.{guest_said}
+use Rattle.aia_laws.specs.Told.{guest_pending_said}
 use Rattle.aia_model.proofs.GreatestLemmas.{machine_with, guest_made, not_making}
 use Rattle.aia_model.proofs.RefusalLemmas.{machine_allowed}
 use Rattle.aia_model.proofs.SentLemmas.{may_send, none_sent_by}
@@ -382,11 +382,11 @@ none_made h (Machine harts guests n sources) stands e = absurd (false≢true (sy
 none_made h line stands e = refl
 
 pub pending_taken : (h : History) (line : Line) (g : Vcpu) (i : ℕ) → has_machine h ≡ true → does_steps (line_deed line) ≡ false → refusal h line ≡ None
-    → (guest_file (line_taken h line) g).pending i ≡ settle (guest_said h (event_of line) g i) ((guest_file h g).pending i)
+    → (guest_file (line_taken h line) g).pending i ≡ settle (guest_pending_said h (event_of line) g i) ((guest_file h g).pending i)
 pending_taken h line g i stands one e =
     ap (λ (file : InterruptFile). file.pending i) (file_taken h line g one)
     ∙ (newest_word (guest_select h g) (guest_deed g h (event_of line)) (guest_file h g) i (not_making (guest_deed g h (event_of line)) (guest_made g h (event_of line) ∙ none_made h line stands e))).0
 
 pub pending_after_line : (h : History) (line : Line) (g : Vcpu) (i : ℕ) → forwards_to h line g ≡ false → has_machine h ≡ true → does_steps (line_deed line) ≡ false → refusal h line ≡ None
-    → (guest_file (after h line) g).pending i ≡ settle (guest_said h (event_of line) g i) ((guest_file h g).pending i)
+    → (guest_file (after h line) g).pending i ≡ settle (guest_pending_said h (event_of line) g i) ((guest_file h g).pending i)
 pending_after_line h line g i still stands one e = ap (λ (file : InterruptFile). file.pending i) (taken_same h line g still e).0 ∙ pending_taken h line g i stands one e

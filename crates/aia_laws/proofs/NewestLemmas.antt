@@ -13,7 +13,7 @@ use Rattle.aia_model.specs.FileOf.{FileName, deed_at, file_of}
 use Rattle.aia_model.specs.GuestFile.{guest_deed, guest_file}
 use Rattle.aia_model.proofs.FileLemmas.{file_by_step, newest_word}
 use Rattle.aia_model.specs.Histories.{IsHistory}
-use Rattle.aia_laws.specs.Told.{is_ask, guest_said, host_said}
+use Rattle.aia_laws.specs.Told.{is_ask, guest_pending_said, host_pending_said}
 use Rattle.aia_laws.specs.Newest.{or_before, newest, guest_enable_said, host_enable_said}
 use Rattle.aia_model.proofs.GreatestLemmas.{made_with, machine_with, not_making, guest_made, host_made}
 use Rattle.aia_model.proofs.RefusalLemmas.{machine_allowed}
@@ -82,9 +82,9 @@ is_by_newest deed made makes (Landed vm k ∷ past) i good = by_word deed (Lande
 is_by_newest deed made makes (Delivered msi ∷ past) i good = by_word deed (Delivered msi) past i (made past (Delivered msi)) (is_by_newest deed made makes past i good.1)
 
 pub guest_newest : (h : History) (g : Vcpu) (i : ℕ) → IsHistory h
-    → ((guest_file h g).pending i ≡ is_ask (newest (λ past event. guest_said past event g i) h)) × ((guest_file h g).enabled i ≡ is_ask (newest (λ past event. guest_enable_said past event g i) h))
+    → ((guest_file h g).pending i ≡ is_ask (newest (λ past event. guest_pending_said past event g i) h)) × ((guest_file h g).enabled i ≡ is_ask (newest (λ past event. guest_enable_said past event g i) h))
 guest_newest h g i good = is_by_newest (guest_deed g) (guest_made g) (λ past harts guests n sources. refl) h i good
 
 pub host_newest : (h : History) (f : FileName) (i : ℕ) → IsHistory h
-    → ((file_of h f).pending i ≡ is_ask (newest (λ past event. host_said past event f i) h)) × ((file_of h f).enabled i ≡ is_ask (newest (λ past event. host_enable_said past event f i) h))
+    → ((file_of h f).pending i ≡ is_ask (newest (λ past event. host_pending_said past event f i) h)) × ((file_of h f).enabled i ≡ is_ask (newest (λ past event. host_enable_said past event f i) h))
 host_newest h f i good = is_by_newest (deed_at f) (host_made f) (λ past harts guests n sources. refl) h i good

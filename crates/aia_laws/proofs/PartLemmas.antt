@@ -33,7 +33,7 @@ use Rattle.aia_model.specs.Answer.{answer}
 use Rattle.aia_model.proofs.AnswerLemmas.{answered}
 use Rattle.aia_model.proofs.Printed.{printed_read}
 use Rattle.aia_model.proofs.RefusalLemmas.{save_allowed}
-use Rattle.aia_laws.specs.Images.{IsState, parts_of, load_text}
+use Rattle.aia_laws.specs.Images.{IsState, part_count, load_text}
 use Rattle.aia_model.proofs.GreatestLemmas.{guest_greatest}
 use Rattle.aia_laws.proofs.MachineLemmas.{machine_of_vcpu}
 use Rattle.aia_laws.proofs.ReachedLemmas.{is_state}
@@ -60,7 +60,7 @@ no_identity_zero : (x : GuestState) (w : ℕ) → IsState x
 no_identity_zero x zero is = and_from _ _ (first_bit x.file.pending x.file.n is.pending) (first_bit x.file.enabled x.file.n is.enabled)
 no_identity_zero x (suc w) is = ap (λ b. b || (not (has_bit (word_of x.file.pending (64 * suc w) 64) 0) && not (has_bit (word_of x.file.enabled (64 * suc w) 64) 0))) (lt-ltb 0 (suc w) (omega arith))
 
-pub part_loadable : (x : GuestState) (k : ℕ) → IsState x → k < parts_of x → is_loadable x.file.n (part_of x k) ≡ true
+pub part_loadable : (x : GuestState) (k : ℕ) → IsState x → k < part_count x → is_loadable x.file.n (part_of x k) ≡ true
 part_loadable x zero is low =
     and_from _ _ (and_from _ _ (eq-eqb x.file.n x.file.n refl) (le-leb x.file.threshold x.file.n is.threshold)) (lt-ltb x.select 0x1000 is.select)
 part_loadable x (suc zero) is low = and_from _ _ (word_held x.majors.injected) (word_held x.majors.enabled)
@@ -85,7 +85,7 @@ small_hviprio1 v e = grind (arith, nat_tests)
 small_hvictl : (v : ℕ) → fits_hvictl v ≡ true → v < 2 ^ 64
 small_hvictl v e = grind (arith, nat_tests)
 
-pub part_fits : (x : GuestState) (k : ℕ) → IsState x → k < parts_of x → AllByRecursion FitsField (part_fields (part_of x k))
+pub part_fits : (x : GuestState) (k : ℕ) → IsState x → k < part_count x → AllByRecursion FitsField (part_fields (part_of x k))
 part_fits x zero is low =
     let n : x.file.n < 2 ^ 32 = small_identity x.file.n is.greatest in
     (tt, (omega arith, (n, (tt, (omega (arith, is.threshold, n), (omega (arith, is.select), tt))))))
@@ -118,7 +118,7 @@ load_read x part vm number fits = ap reading (load_printed x part) ∙ printed_r
 load_accepted : (h : History) (vm number : ℕ) (part : Part) → has_machine h ≡ true → has_vcpu h (vcpu vm number) ≡ true → home h (vcpu vm number) ≡ InMemory Parked → is_loadable (greatest_identity_of h) part ≡ true → refusal h (LoadPart vm number part) ≡ None
 load_accepted h vm number part stands there parked may = rw (stands, there, may, parked) refl
 
-saved_low : (h : History) (vm number k : ℕ) → refusal h (Save vm number k) ≡ None → k < parts_of (state_of h (vcpu vm number))
+saved_low : (h : History) (vm number k : ℕ) → refusal h (Save vm number k) ≡ None → k < part_count (state_of h (vcpu vm number))
 saved_low h vm number k e =
     subst (λ n. k < parts_in ((n + 1) / 64)) (sym (guest_greatest h (vcpu vm number))) (ltb-true k (parts_in (file_words h)) (save_allowed h vm number k e).fits)
 

@@ -27,7 +27,7 @@ use Rattle.aia_model.proofs.HistoryLemmas.{flying_there}
 use Rattle.aia_model.specs.HomeOf.{home}
 use Rattle.aia_model.specs.Notice.{noticed, noticed_by_landing}
 use Rattle.aia_model.proofs.FileLemmas.{file_step, newest_word, is_file-itself}
-use Rattle.aia_laws.specs.Told.{is_deliverable, notice_file, notice_number, is_ask, is_clear, guest_said, host_said, begins_leave, names_vcpu, noticed_since, told_since, cleared_since, cleared_since_notice}
+use Rattle.aia_laws.specs.Told.{is_deliverable, notice_file, notice_number, is_ask, is_clear, guest_pending_said, host_pending_said, begins_leave, names_vcpu, noticed_since, told_since, cleared_since, cleared_since_notice}
 use Rattle.aia_model.proofs.GreatestLemmas.{made_with, not_making, host_made, host_greatest}
 use Rattle.aia_model.proofs.RefusalLemmas.{machine_allowed, device_allowed, peer_allowed, exit_allowed, load_allowed}
 use Rattle.aia_model.specs.Histories.{MayHappen, IsHistory}
@@ -104,7 +104,7 @@ number_fits h g good there =
     rw (host_greatest h (notice_file h g)) (omega (arith, slot, enough))
 
 abbrev NoticeAsks : Event → Type 0
-NoticeAsks event = (past : History) (g : Vcpu) → MayHappen past event → IsHistory past → names_vcpu (noticed past event) g ≡ true → host_said past event (notice_file past g) (notice_number past g) ≡ Ask
+NoticeAsks event = (past : History) (g : Vcpu) → MayHappen past event → IsHistory past → names_vcpu (noticed past event) g ≡ true → host_pending_said past event (notice_file past g) (notice_number past g) ≡ Ask
 
 relay_told : (n x i : ℕ) → 1 ≤ i → i ≤ n → relay_said n x (Some i) i ≡ Ask
 relay_told n x i low high = let r : is_in_range 1 n i ≡ true = grind (arith, nat_tests) in rw (r, eq-eqb i i refl) refl
@@ -140,12 +140,12 @@ notice_asks (Delivered msi) = store_asks_too (Delivered msi) (λ past f g e. not
 asked_since : (h : History) (f : FileName) (n : ℕ) (g : Vcpu) (i : ℕ) → IsHistory h → (has_vcpu h g ≡ true → (f ≡ notice_file h g) × (n ≡ notice_number h g)) → noticed_since h g i ≡ true → told_since h f n g i ≡ true
 unfolding noticed_since told_since
 asked_since [] f n g i good its e = absurd (false≢true e)
-asked_since (event ∷ past) f n g i good its e = elim (or_cases (names_vcpu (noticed past event) g) (not (begins_leave past event g || is_ask (guest_said past event g i)) && noticed_since past g i) e) [
+asked_since (event ∷ past) f n g i good its e = elim (or_cases (names_vcpu (noticed past event) g) (not (begins_leave past event g || is_ask (guest_pending_said past event g i)) && noticed_since past g i) e) [
   | inl now ↦
       let same = stays (noticed_is_there event past g good.0 good.1 now) in
-      or_left _ _ (ap is_ask (ap (λ x. host_said past event x n) same.0 ∙ ap (host_said past event (notice_file past g)) same.1 ∙ notice_asks event past g good.0 good.1 now))
+      or_left _ _ (ap is_ask (ap (λ x. host_pending_said past event x n) same.0 ∙ ap (host_pending_said past event (notice_file past g)) same.1 ∙ notice_asks event past g good.0 good.1 now))
   | inr before ↦
-      let parts = and_parts (not (begins_leave past event g || is_ask (guest_said past event g i))) (noticed_since past g i) before in
+      let parts = and_parts (not (begins_leave past event g || is_ask (guest_pending_said past event g i))) (noticed_since past g i) before in
       or_right _ _ (and_from _ _ parts.0 (asked_since past f n g i good.1 stays parts.1))
 ]
   where
@@ -170,7 +170,7 @@ settled Clear again told cleared was asked kept before = absurd (cc)
 settled Nothing false told cleared was asked kept before = before asked kept
 settled Nothing true told cleared was asked kept before = absurd (cc)
 
-pending_after : (event : Event) (past : History) (f : FileName) (n : ℕ) → (¬ IsMaking (deed_at f past event)) → (file_of (event ∷ past) f).pending n ≡ settle (host_said past event f n) ((file_of past f).pending n)
+pending_after : (event : Event) (past : History) (f : FileName) (n : ℕ) → (¬ IsMaking (deed_at f past event)) → (file_of (event ∷ past) f).pending n ≡ settle (host_pending_said past event f n) ((file_of past f).pending n)
 pending_after event past f n other = ap (λ (file : InterruptFile). file.pending n) (file_step event past f) ∙ (newest_word (select_of past f) (deed_at f past event) (file_of past f) n other).0
 
 abbrev KeepsTold : History → FileName → ℕ → Vcpu → ℕ → Type 0
@@ -180,7 +180,7 @@ kept_by : (event : Event) (past : History) (f : FileName) (n : ℕ) (g : Vcpu) (
 unfolding told_since cleared_since
 kept_by event past f n g i made before told cleared =
     pending_after event past f n (not_making (deed_at f past event) made)
-    ∙ settled (host_said past event f n) (begins_leave past event g || is_ask (guest_said past event g i)) (told_since past f n g i) (cleared_since past f n g i) ((file_of past f).pending n) told cleared before
+    ∙ settled (host_pending_said past event f n) (begins_leave past event g || is_ask (guest_pending_said past event g i)) (told_since past f n g i) (cleared_since past f n g i) ((file_of past f).pending n) told cleared before
 
 none_told : (f : FileName) (n : ℕ) (g : Vcpu) (i : ℕ) → told_since [] f n g i ≡ false
 unfolding told_since
@@ -224,11 +224,11 @@ kept_settled Nothing cleared was kept before = before kept
 sent_before : (event : Event) (past : History) (f : FileName) (n : ℕ) (g : Vcpu) (i : ℕ) → made_with (deed_at f past event) ≡ None → names_vcpu (noticed past event) g ≡ false → KeepsSent past f n g i → KeepsSent (event ∷ past) f n g i
 unfolding noticed_since cleared_since_notice
 sent_before event past f n g i made none before sent kept =
-    let again = begins_leave past event g || is_ask (guest_said past event g i) in
+    let again = begins_leave past event g || is_ask (guest_pending_said past event g i) in
     let earlier : (not again && noticed_since past g i) ≡ true = ap (λ (b : Bool). b || (not again && noticed_since past g i)) (sym none) ∙ sent in
-    let uncleared : (is_clear (host_said past event f n) || cleared_since_notice past f n g) ≡ false = ap (λ (b : Bool). not b && (is_clear (host_said past event f n) || cleared_since_notice past f n g)) (sym none) ∙ kept in
+    let uncleared : (is_clear (host_pending_said past event f n) || cleared_since_notice past f n g) ≡ false = ap (λ (b : Bool). not b && (is_clear (host_pending_said past event f n) || cleared_since_notice past f n g)) (sym none) ∙ kept in
     pending_after event past f n (not_making (deed_at f past event) made)
-    ∙ kept_settled (host_said past event f n) (cleared_since_notice past f n g) ((file_of past f).pending n) uncleared (λ e. before (and_parts (not again) (noticed_since past g i) earlier).1 e)
+    ∙ kept_settled (host_pending_said past event f n) (cleared_since_notice past f n g) ((file_of past f).pending n) uncleared (λ e. before (and_parts (not again) (noticed_since past g i) earlier).1 e)
 
 -- an event, whether it sends one or not
 sent_by : (event : Event) (past : History) (g : Vcpu) (i : ℕ) (f : FileName) (n : ℕ) → MayHappen past event → IsHistory past → (has_vcpu past g ≡ true → (f ≡ notice_file past g) × (n ≡ notice_number past g)) → made_with (deed_at f past event) ≡ None
@@ -236,7 +236,7 @@ sent_by : (event : Event) (past : History) (g : Vcpu) (i : ℕ) (f : FileName) (
 sent_by event past g i f n may good its made before = elim (cases_Bool (names_vcpu (noticed past event) g)) [
   | inl now ↦
       let same = its (noticed_is_there event past g may good now) in
-      let asks : host_said past event f n ≡ Ask = ap (λ x. host_said past event x n) same.0 ∙ ap (host_said past event (notice_file past g)) same.1 ∙ notice_asks event past g may good now in
+      let asks : host_pending_said past event f n ≡ Ask = ap (λ x. host_pending_said past event x n) same.0 ∙ ap (host_pending_said past event (notice_file past g)) same.1 ∙ notice_asks event past g may good now in
       λ sent kept. pending_after event past f n (not_making (deed_at f past event) made) ∙ ap (λ word. settle word ((file_of past f).pending n)) asks
   | inr none ↦ sent_before event past f n g i made none before
 ]

@@ -32,16 +32,16 @@ fresh_state n = record { select = 0; file = empty_file n; majors = new_majors }
 -- ---- all parts of an image
 
 -- How many parts the image of a state has.
-abbrev pub parts_of : GuestState → ℕ
-parts_of x = parts_in ((x.file.n + 1) / 64)
+abbrev pub part_count : GuestState → ℕ
+part_count x = parts_in ((x.file.n + 1) / 64)
 
 -- Two states have equal images.
 abbrev pub SameImage : GuestState → GuestState → Type 0
-SameImage x y = (k : ℕ) → k < parts_of x → part_of x k ≡ part_of y k
+SameImage x y = (k : ℕ) → k < part_count x → part_of x k ≡ part_of y k
 
 -- A list has the number of each part of the image of a state, in whatever order, and however often.
 abbrev pub HasAllParts : GuestState → List ℕ → Type 0
-HasAllParts x order = (k : ℕ) → k < parts_of x → Contains order k
+HasAllParts x order = (k : ℕ) → k < part_count x → Contains order k
 
 -- What a state becomes where those parts of the image of x are loaded, the last of the list first.
 abbrev pub loaded_all : GuestState → List ℕ → GuestState → GuestState

@@ -48,12 +48,12 @@ is_clear word = false
 
 -- What an event says, after what was before, of identity i's being pending at a virtual hart; of
 -- identity n's in a file of the host.
-abbrev pub guest_said : History → Event → Vcpu → ℕ → BitUpdate
-guest_said past event g i =
+abbrev pub guest_pending_said : History → Event → Vcpu → ℕ → BitUpdate
+guest_pending_said past event g i =
     pending_said (guest_select past g) (guest_file past g) (guest_deed g past event) i
 
-abbrev pub host_said : History → Event → FileName → ℕ → BitUpdate
-host_said past event f n = pending_said (select_of past f) (file_of past f) (deed_at f past event) n
+abbrev pub host_pending_said : History → Event → FileName → ℕ → BitUpdate
+host_pending_said past event f n = pending_said (select_of past f) (file_of past f) (deed_at f past event) n
 
 -- ---- since the newest request, and since the newest leave
 
@@ -65,7 +65,7 @@ begins_leave past event g = false
 -- Whether the host is to be told anew, after an event, of identity i at a virtual hart: the event
 -- asks for it there, or begins a leave of the virtual hart.
 abbrev pub is_to_be_told : History → Event → Vcpu → ℕ → Bool
-is_to_be_told past event g i = begins_leave past event g || is_ask (guest_said past event g i)
+is_to_be_told past event g i = begins_leave past event g || is_ask (guest_pending_said past event g i)
 
 -- Whether a virtual hart, where there is one, is g.
 abbrev pub names_vcpu : Option Vcpu → Vcpu → Bool
@@ -83,20 +83,20 @@ noticed_since (event ∷ past) g i = names_vcpu (noticed past event) g
 -- one.
 unfoldable pub told_since : History → FileName → ℕ → Vcpu → ℕ → Bool
 told_since [] f n g i = false
-told_since (event ∷ past) f n g i = is_ask (host_said past event f n)
+told_since (event ∷ past) f n g i = is_ask (host_pending_said past event f n)
     || (not (is_to_be_told past event g i) && told_since past f n g i)
 
 -- Whether identity n was cleared in a file of the host since then.
 unfoldable pub cleared_since : History → FileName → ℕ → Vcpu → ℕ → Bool
 cleared_since [] f n g i = false
-cleared_since (event ∷ past) f n g i = is_clear (host_said past event f n)
+cleared_since (event ∷ past) f n g i = is_clear (host_pending_said past event f n)
     || (not (is_to_be_told past event g i) && cleared_since past f n g i)
 
 -- Whether identity n was cleared in a file of the host after the newest notice for a virtual hart.
 unfoldable pub cleared_since_notice : History → FileName → ℕ → Vcpu → Bool
 cleared_since_notice [] f n g = false
 cleared_since_notice (event ∷ past) f n g = not (names_vcpu (noticed past event) g)
-    && (is_clear (host_said past event f n) || cleared_since_notice past f n g)
+    && (is_clear (host_pending_said past event f n) || cleared_since_notice past f n g)
 
 -- ---- the cause of a notice
 

@@ -22,7 +22,7 @@ ghost use Rattle.aia_home.specs.Home.Home.{InMemory};
 ghost use Rattle.aia_model.specs.HomeOf.{home};
 ghost use Rattle.aia_model.specs.Refusal.{refusal};
 ghost use Rattle.aia_model.specs.Answer.{answer, after, guest_csr_value};
-ghost use Rattle.aia_laws.specs.Images.{IsState, SameImage, HasAllParts, parts_of, fresh_state, loaded_all, load_text};
+ghost use Rattle.aia_laws.specs.Images.{IsState, SameImage, HasAllParts, part_count, fresh_state, loaded_all, load_text};
 
 /// After every history whose events may happen, once a machine stands, the interrupts of a virtual
 /// hart are such as they always are: its identities and majors are there, and its registers hold
@@ -63,7 +63,7 @@ pub fn a_line_loads_its_part()
 /// part that a line saves, which answers it where it is not refused: a line that loads it is not
 /// refused on any machine whose files have as many identities, for a virtual hart that is parked.
 pub fn what_is_saved_may_be_loaded()
-    ensures parts { (x : GuestState) (k : ℕ) → IsState x → k < parts_of x
+    ensures parts { (x : GuestState) (k : ℕ) → IsState x → k < part_count x
         → is_loadable x.file.n (part_of x k) ≡ true }
     ensures answered { (h : History) (vm number k : ℕ) → refusal h (Save vm number k) ≡ None
         → answer h (Save vm number k) ≡ answers.Part (part_of (state_of h (vcpu vm number)) k) }

@@ -34,7 +34,7 @@ use Rattle.aia_plan.specs.declared.step.Step.{Step}
 use Rattle.aia_plan.specs.declared.step.Step.TheVariants as steps
 use Rattle.aia_rehearsal.specs.declared.place.Place as ends
 use Rattle.aia_rehearsal.specs.declared.place.Place.TheVariants.{File, Slot}
-use Rattle.aia_rehearsal.specs.Rehearsed.{Passage, Rehearsed, moved, at_of, IsOf}
+use Rattle.aia_rehearsal.specs.Rehearsed.{Passage, Rehearsed, mover_of, at_of, IsOf}
 use Rattle.aia_rehearsal.specs.Steps.{Puts, Makes}
 use Rattle.aia_rehearsal.specs.Stands.{Routes, routes_of, side_of}
 use Rattle.aia_rehearsal.specs.Events.{Event, Happens, IsAlone, NamesElsewhere}
@@ -50,8 +50,8 @@ use Rattle.aia_rehearsal.proofs.SameMachine.{step_same, event_same}
 -- ---- what stays of the routes of others
 
 pub record OthersKept (w u : World) (p : Passage) : Type 0 where
-  in_force : (g : Vcpu) → g ≢ moved p → (routes_of u g).in_force ≡ (routes_of w g).in_force
-  routes : (g : Vcpu) → is_vcpu_in w.vms g ≡ true → g ≢ moved p → routes_of u g ≡ routes_of w g
+  in_force : (g : Vcpu) → g ≢ mover_of p → (routes_of u g).in_force ≡ (routes_of w g).in_force
+  routes : (g : Vcpu) → is_vcpu_in w.vms g ≡ true → g ≢ mover_of p → routes_of u g ≡ routes_of w g
 
 all_kept : (w u : World) (p : Passage) → ((g : Vcpu) → routes_of u g ≡ routes_of w g) → OthersKept w u p
 all_kept w u p same = record { in_force = λ g other. ap (λ (x : Routes). x.in_force) (same g); routes = λ g there other. same g }
@@ -108,7 +108,7 @@ elsewhere g h other = elim (cases_eq g.vm h.vm) [
 ]
 
 module _ (w : World) (p : Passage) (whole : IsWhole w) (of : IsOf w p) where
-  words_apart : (g : Vcpu) (which : ℕ) → which ≤ 1 → is_vcpu_in w.vms g ≡ true → g ≢ moved p → (x : ℕ) → x ≤ 1 → entry_word_place g.vm g.number + x ≢ entry_word_place p.who.found.vm p.who.found.number + which
+  words_apart : (g : Vcpu) (which : ℕ) → which ≤ 1 → is_vcpu_in w.vms g ≡ true → g ≢ mover_of p → (x : ℕ) → x ≤ 1 → entry_word_place g.vm g.number + x ≢ entry_word_place p.who.found.vm p.who.found.number + which
   words_apart g which one there other x two same =
       let mine = vcpu_entry w p.who.found.vm p.who.found.number whole of.who.there in
       let its = vcpu_entry w g.vm g.number whole there in
@@ -127,18 +127,18 @@ module _ (w : World) (p : Passage) (whole : IsWhole w) (of : IsOf w p) where
       zero_more : (n : ℕ) → n + 0 ≡ n
       zero_more n = omega arith
 
-  stage_kept : (s : Stage) → OthersKept w (with_stage w (moved p) s) p
+  stage_kept : (s : Stage) → OthersKept w (with_stage w (mover_of p) s) p
   stage_kept s = record {
     in_force = λ g other. refl;
     routes = λ g there other.
-        let stage = get_or-set_other w.stages (slot_of w.vms (moved p)) (slot_of w.vms g) s no_stage (λ e. other (same_slot w.vms g (moved p) there of.who.there e)) in
+        let stage = get_or-set_other w.stages (slot_of w.vms (mover_of p)) (slot_of w.vms g) s no_stage (λ e. other (same_slot w.vms g (mover_of p) there of.who.there e)) in
         λ k. record (routes_of w g) { stage = stage k };
   }
 
   fence_kept : OthersKept w (with_fence w p.who.found.vm p.who.found.number) p
   fence_kept = record {
-    in_force = λ g other. fenced_elsewhere w.tables p.who.found.vm p.who.found.number w.memory g.vm g.number (elsewhere g (moved p) other);
-    routes = λ g there other. let e = fenced_elsewhere w.tables p.who.found.vm p.who.found.number w.memory g.vm g.number (elsewhere g (moved p) other) in λ k. record (routes_of w g) { in_force = e k };
+    in_force = λ g other. fenced_elsewhere w.tables p.who.found.vm p.who.found.number w.memory g.vm g.number (elsewhere g (mover_of p) other);
+    routes = λ g there other. let e = fenced_elsewhere w.tables p.who.found.vm p.who.found.number w.memory g.vm g.number (elsewhere g (mover_of p) other) in λ k. record (routes_of w g) { in_force = e k };
   }
 
   low : p.who.found.slot < VCPUS
@@ -168,8 +168,8 @@ step_kept steps.Word0 w u r whole of e = kept_by w u _ r.passage e (word_kept w 
 step_kept steps.Fence w u r whole of f =
     let landed = all_landed_kept (length (flight_of w r.passage.who.found.vm)) w f.landed r.passage r.passage.who.found.vm f.lands in
     kept_by w u _ r.passage f.fenced (record {
-      in_force = λ g other. fenced_elsewhere f.landed.tables r.passage.who.found.vm r.passage.who.found.number f.landed.memory g.vm g.number (elsewhere g (moved r.passage) other) ∙ ap (λ (x : Routes). x.in_force) (landed g);
-      routes = λ g there other. let e = fenced_elsewhere f.landed.tables r.passage.who.found.vm r.passage.who.found.number f.landed.memory g.vm g.number (elsewhere g (moved r.passage) other) in
+      in_force = λ g other. fenced_elsewhere f.landed.tables r.passage.who.found.vm r.passage.who.found.number f.landed.memory g.vm g.number (elsewhere g (mover_of r.passage) other) ∙ ap (λ (x : Routes). x.in_force) (landed g);
+      routes = λ g there other. let e = fenced_elsewhere f.landed.tables r.passage.who.found.vm r.passage.who.found.number f.landed.memory g.vm g.number (elsewhere g (mover_of r.passage) other) in
           let fenced : routes_of (with_fence f.landed r.passage.who.found.vm r.passage.who.found.number) g ≡ routes_of f.landed g = λ k. record (routes_of f.landed g) { in_force = e k } in fenced ∙ landed g;
     })
 step_kept steps.Map w u r whole of e = kept_by w u _ r.passage e (stage_kept w r.passage whole of _)
@@ -204,7 +204,7 @@ read_alone w p vm file whole there alone = record {
     seen : places_of (with_fence w vm file) (vcpu vm file) (InMemory Parked) ≡ record (places_of w (vcpu vm file) (InMemory Parked)) { in_force = decoded (places_of w (vcpu vm file) (InMemory Parked)).word0 (places_of w (vcpu vm file) (InMemory Parked)).word1 }
     seen = fence-places w (vcpu vm file) (InMemory Parked) whole there
 
-    in_force : (g : Vcpu) → g ≢ moved p → side_of (with_fence w vm file).imsic p (routes_of (with_fence w vm file) g).in_force ≡ None
+    in_force : (g : Vcpu) → g ≢ mover_of p → side_of (with_fence w vm file).imsic p (routes_of (with_fence w vm file) g).in_force ≡ None
     in_force g other = elim (cases_eq g.vm vm) [
       | inl same ↦ elim (cases_eq g.number file) [
         | inl too ↦ let is : g ≡ vcpu vm file = λ k. vcpu (same k) (too k) in

@@ -17,7 +17,7 @@ use Rattle.aia_plan.specs.Transit.{Transit}
 use Rattle.aia_plan.specs.Transit.Side.{Old, New}
 use Rattle.aia_rehearsal.specs.declared.place.Place as ends
 use Rattle.aia_rehearsal.specs.declared.place.Place.TheVariants.{File, Slot}
-use Rattle.aia_rehearsal.specs.Rehearsed.{Passage, Carried, Rehearsed, moved, at, IsFileThere, IsOf}
+use Rattle.aia_rehearsal.specs.Rehearsed.{Passage, Carried, Rehearsed, mover_of, at, IsFileThere, IsOf}
 use Rattle.aia_rehearsal.specs.Stands.{sets_at, routes_of, leads, is_file_at, side_of, flights_in, SetsStand, RoutesStand, StandsFor}
 
 -- ---- the machine stays
@@ -78,7 +78,7 @@ module _ (i j : ImsicState) (harts : i.harts ≡ j.harts) (guests : i.guests ≡
 
 -- the machine and the stores in flight stay
 pub stand_on : (w u : World) (r : Rehearsed) (hand : Carried) (z y : Transit) → SameMachine w u → u.flights ≡ w.flights → y.flights ≡ z.flights
-    → SetsStand (width w) (sets_at u (at Old r.passage)) (sets_at u (at New r.passage)) hand y → RoutesStand r.passage (routes_of u (moved r.passage)) y → StandsFor w r z → StandsFor u (record r { hand = hand }) y
+    → SetsStand (width w) (sets_at u (at Old r.passage)) (sets_at u (at New r.passage)) hand y → RoutesStand r.passage (routes_of u (mover_of r.passage)) y → StandsFor w r z → StandsFor u (record r { hand = hand }) y
 stand_on w u r hand z y same flights fly sets routes s = record {
   of = of_same w u r.passage same s.of;
   two = s.two;

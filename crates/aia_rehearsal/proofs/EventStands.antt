@@ -18,8 +18,8 @@ use Rattle.aia_world.specs.Flights.{Lands}
 use Rattle.aia_world.specs.Changes.{with_fence}
 use Rattle.aia_plan.specs.Transit.{Side, Transit, Happening, happened, all_happened}
 use Rattle.aia_plan.specs.Transit.{Happening as happenings}
-use Rattle.aia_rehearsal.specs.Rehearsed.{Passage, Rehearsed, moved}
-use Rattle.aia_rehearsal.specs.Stands.{asked, side_of, StandsFor}
+use Rattle.aia_rehearsal.specs.Rehearsed.{Passage, Rehearsed, mover_of}
+use Rattle.aia_rehearsal.specs.Stands.{identity_asked, side_of, StandsFor}
 use Rattle.aia_rehearsal.specs.Events.{Event, Happens, IsAlone, NamesElsewhere, is_for_moved, landing_by, landing_seen, seen}
 use Rattle.aia_rehearsal.specs.Events.Event.{Steps, DeviceStores, PeerStores, DeviceSends, StoreLands, EntryRead}
 use Rattle.aia_rehearsal.proofs.StepStands.{rehearsed}
@@ -30,7 +30,7 @@ use Rattle.aia_rehearsal.proofs.Between.{LeadsElsewhere, own_route, own_store, o
 -- what is for another virtual hart does not come to the places
 abbrev KeepsAway : Event → World → Passage → Type 0
 KeepsAway (DeviceStores vm addr value) w p = is_for_moved w p vm addr ≡ false → LeadsElsewhere w p (route_of (table_of w.tables vm) addr)
-KeepsAway (PeerStores vm to value) w p = is_vcpu (vcpu vm to) (moved p) ≡ false → NamesElsewhere p (stage_of w (vcpu vm to)).in_force
+KeepsAway (PeerStores vm to value) w p = is_vcpu (vcpu vm to) (mover_of p) ≡ false → NamesElsewhere p (stage_of w (vcpu vm to)).in_force
 KeepsAway (DeviceSends vm addr value) w p = is_for_moved w p vm addr ≡ false → LeadsElsewhere w p (route_of (table_of w.tables vm) addr)
 KeepsAway event w p = Unit {0}
 
@@ -57,30 +57,30 @@ module _ (w u : World) (r : Rehearsed) (z : Transit) (whole : IsWhole w) (s : St
       by_side None t = t
       by_side (Some side) t = t
 
-  entry_read : (vm file : ℕ) → u ≡ with_fence w vm file → StandsFor u r (all_happened (cond (is_vcpu (vcpu vm file) (moved p)) (happenings.Refetches ∷ []) []) z)
-  entry_read vm file e = one_or_none u r z (is_vcpu (vcpu vm file) (moved p)) happenings.Refetches
-      (λ mine. let same = same_vcpu (vcpu vm file) (moved p) mine in
+  entry_read : (vm file : ℕ) → u ≡ with_fence w vm file → StandsFor u r (all_happened (cond (is_vcpu (vcpu vm file) (mover_of p)) (happenings.Refetches ∷ []) []) z)
+  entry_read vm file e = one_or_none u r z (is_vcpu (vcpu vm file) (mover_of p)) happenings.Refetches
+      (λ mine. let same = same_vcpu (vcpu vm file) (mover_of p) mine in
       subst (λ (x : World). StandsFor x r (happened happenings.Refetches z)) (sym (e ∙ ap (λ (g : Vcpu). with_fence w g.vm g.number) same)) (refetched w r z whole s))
       (λ not. subst (λ (x : World). StandsFor x r z) (sym e) (other_refetched w r z whole s vm file (apart vm file not)))
     where
-      apart : (vm file : ℕ) → is_vcpu (vcpu vm file) (moved p) ≡ false → (vm ≢ p.who.found.vm) ⊎ (file ≢ p.who.found.number)
+      apart : (vm file : ℕ) → is_vcpu (vcpu vm file) (mover_of p) ≡ false → (vm ≢ p.who.found.vm) ⊎ (file ≢ p.who.found.number)
       apart vm file none = elim (cases_eq vm p.who.found.vm) [
-        | inl e ↦ inr (λ f. let no : is_vcpu (vcpu vm file) (moved p) ≡ true = grind (arith, nat_tests) in absurd (cc))
+        | inl e ↦ inr (λ f. let no : is_vcpu (vcpu vm file) (mover_of p) ≡ true = grind (arith, nat_tests) in absurd (cc))
         | inr ne ↦ inl ne
       ]
 
   between : (event : Event) (t : Rehearsed) → Happens event w r u t → KeepsAway event w p → StandsFor u t (all_happened (seen event w p) z)
   between (Steps step) t (inside, makes, e) away = rehearsed w u r t step whole inside makes e z s
   between (DeviceStores vm addr value) t (low, reaches, e) away = subst (λ (x : Rehearsed). StandsFor u x (all_happened (seen (DeviceStores vm addr value) w p) z)) (sym e)
-      (one_or_none u r z (is_for_moved w p vm addr) (happenings.Stores (asked (addr % PAGE) value))
+      (one_or_none u r z (is_for_moved w p vm addr) (happenings.Stores (identity_asked (addr % PAGE) value))
       (λ mine. own_store w r z whole s u (addr % PAGE) value (route_of (table_of w.tables vm) addr) (own_route w r z whole s vm addr mine) reaches)
       (λ not. other_store w r z whole s u (addr % PAGE) value (route_of (table_of w.tables vm) addr) (away not) reaches))
   between (PeerStores vm to value) t (there, relays, e) away = subst (λ (x : Rehearsed). StandsFor u x (all_happened (seen (PeerStores vm to value) w p) z)) (sym e)
-      (one_or_none u r z (is_vcpu (vcpu vm to) (moved p)) (happenings.PeerStores (asked 0 value))
-      (λ mine. own_peer w r z whole s u value (subst (λ (g : Vcpu). ReachesByRecord (stage_of w g).in_force w u g value) (same_vcpu (vcpu vm to) (moved p) mine) relays))
-      (λ not. other_peer w r z whole s u value (vcpu vm to) (stage_of w (vcpu vm to)).in_force there (other_vcpu (vcpu vm to) (moved p) not) (away not) relays))
+      (one_or_none u r z (is_vcpu (vcpu vm to) (mover_of p)) (happenings.PeerStores (identity_asked 0 value))
+      (λ mine. own_peer w r z whole s u value (subst (λ (g : Vcpu). ReachesByRecord (stage_of w g).in_force w u g value) (same_vcpu (vcpu vm to) (mover_of p) mine) relays))
+      (λ not. other_peer w r z whole s u value (vcpu vm to) (stage_of w (vcpu vm to)).in_force there (other_vcpu (vcpu vm to) (mover_of p) not) (away not) relays))
   between (DeviceSends vm addr value) t (low, sends, e) away = subst (λ (x : Rehearsed). StandsFor u x (all_happened (seen (DeviceSends vm addr value) w p) z)) (sym e)
-      (one_or_none u r z (is_for_moved w p vm addr) (happenings.Sends (asked (addr % PAGE) value))
+      (one_or_none u r z (is_for_moved w p vm addr) (happenings.Sends (identity_asked (addr % PAGE) value))
       (λ mine. own_send w r z whole s u vm (addr % PAGE) value (route_of (table_of w.tables vm) addr) low (let same : vm ≡ p.who.found.vm = grind (arith, nat_tests) in same) (own_route w r z whole s vm addr mine) sends)
       (λ not. other_send w r z whole s u vm (addr % PAGE) value (route_of (table_of w.tables vm) addr) low (away not) sends))
   between (StoreLands vm k) t (low, l, e) away = subst (λ (x : Rehearsed). StandsFor u x (all_happened (seen (StoreLands vm k) w p) z)) (sym e) (land_seen vm k l)
@@ -98,7 +98,7 @@ route_elsewhere : (w : World) (p : Passage) (vm addr : ℕ) → IsAlone w p → 
 route_elsewhere w p vm addr alone not = elim (cases_Bool (is_msi_address (table_of w.tables vm).mask addr)) [
   | inl msi ↦
       let g = vcpu vm (file_number (table_of w.tables vm).mask addr) in
-      let other : g ≢ moved p = λ e. let here : vm ≡ p.who.found.vm = ap (λ (x : Vcpu). x.vm) e in let file : file_number (table_of w.tables vm).mask addr ≡ p.who.found.number = ap (λ (x : Vcpu). x.number) e in let no : is_for_moved w p vm addr ≡ true = grind (arith, nat_tests) in absurd (cc) in
+      let other : g ≢ mover_of p = λ e. let here : vm ≡ p.who.found.vm = ap (λ (x : Vcpu). x.vm) e in let file : file_number (table_of w.tables vm).mask addr ≡ p.who.found.number = ap (λ (x : Vcpu). x.number) e in let no : is_for_moved w p vm addr ≡ true = grind (arith, nat_tests) in absurd (cc) in
       subst (LeadsElsewhere w p) (sym (cond-true _ _ _ msi)) (led_elsewhere w p (entry_in_force (table_of w.tables vm) (file_number (table_of w.tables vm).mask addr)) (alone.in_force g other))
   | inr none ↦ subst (LeadsElsewhere w p) (sym (cond-false _ _ _ none)) tt
 ]
@@ -106,7 +106,7 @@ route_elsewhere w p vm addr alone not = elim (cases_Bool (is_msi_address (table_
 keeps_away : (event : Event) (w u : World) (r t : Rehearsed) → IsAlone w r.passage → Happens event w r u t → KeepsAway event w r.passage
 keeps_away (Steps step) w u r t alone happens = tt
 keeps_away (DeviceStores vm addr value) w u r t alone happens = route_elsewhere w r.passage vm addr alone
-keeps_away (PeerStores vm to value) w u r t alone happens = λ not. alone.records (vcpu vm to) happens.0 (other_vcpu (vcpu vm to) (moved r.passage) not)
+keeps_away (PeerStores vm to value) w u r t alone happens = λ not. alone.records (vcpu vm to) happens.0 (other_vcpu (vcpu vm to) (mover_of r.passage) not)
 keeps_away (DeviceSends vm addr value) w u r t alone happens = route_elsewhere w r.passage vm addr alone
 keeps_away (StoreLands vm k) w u r t alone happens = tt
 keeps_away (EntryRead vm file) w u r t alone happens = tt

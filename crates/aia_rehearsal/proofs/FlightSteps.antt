@@ -20,7 +20,7 @@ use Rattle.aia_plan.specs.Transit.Happening.{Lands as lands}
 use Rattle.aia_rehearsal.specs.declared.place.Place as ends
 use Rattle.aia_rehearsal.specs.declared.place.Place.TheVariants.{File, Slot}
 use Rattle.aia_rehearsal.specs.Rehearsed.{Passage, Rehearsed, IsFileThere}
-use Rattle.aia_rehearsal.specs.Stands.{side_of, asked, onto_flights, flights_in, FlightsStand, StandsFor}
+use Rattle.aia_rehearsal.specs.Stands.{side_of, identity_asked, onto_flights, flights_in, FlightsStand, StandsFor}
 use Rattle.aia_rehearsal.proofs.Carried.{flights_same}
 use Rattle.aia_rehearsal.proofs.Landings.{landed_on, entry_lands}
 
@@ -29,7 +29,7 @@ use Rattle.aia_rehearsal.proofs.Landings.{landed_on, entry_lands}
 -- the store that a side and a flying store make, if it leads to a place
 abbrev flight_by : Option Side → Flying → Option Flight
 flight_by None store = None
-flight_by (Some side) store = Some (record { side = side; identity = asked store.offset store.value })
+flight_by (Some side) store = Some (record { side = side; identity = identity_asked store.offset store.value })
 
 module _ (i : ImsicState) (p : Passage) where
   -- where the k-th store stands among those that lead to a place
@@ -41,19 +41,19 @@ module _ (i : ImsicState) (p : Passage) where
   removed_none (y ∷ later) zero store is none = let same : y ≡ store = cc in sym (ap (λ (f : Flying). onto_flights (side_of i p f.entry) y (flights_in i p later)) same ∙ ap (λ o. onto_flights o y (flights_in i p later)) none)
   removed_none (y ∷ later) (suc k) store is none = ap (onto_flights (side_of i p y.entry) y) (removed_none later k store is none)
 
-  pub removed_one : (stores : List Flying) (k : ℕ) (store : Flying) (side : Side) → slice_get stores k ≡ Some store → side_of i p store.entry ≡ Some side → (flights_in i p (remove stores k) ≡ all_but (place_among stores k) (flights_in i p stores)) × (slice_get (flights_in i p stores) (place_among stores k) ≡ Some (record { side = side; identity = asked store.offset store.value }))
+  pub removed_one : (stores : List Flying) (k : ℕ) (store : Flying) (side : Side) → slice_get stores k ≡ Some store → side_of i p store.entry ≡ Some side → (flights_in i p (remove stores k) ≡ all_but (place_among stores k) (flights_in i p stores)) × (slice_get (flights_in i p stores) (place_among stores k) ≡ Some (record { side = side; identity = identity_asked store.offset store.value }))
   removed_one [] k store side is led = absurd (cc)
   removed_one (y ∷ later) zero store side is led =
       let same : y ≡ store = cc in
-      let first : flights_in i p (y ∷ later) ≡ record { side = side; identity = asked store.offset store.value } ∷ flights_in i p later =
+      let first : flights_in i p (y ∷ later) ≡ record { side = side; identity = identity_asked store.offset store.value } ∷ flights_in i p later =
       ap (λ (f : Flying). onto_flights (side_of i p f.entry) f (flights_in i p later)) same ∙ ap (λ o. onto_flights o store (flights_in i p later)) led in
       (sym (ap (all_but 0) first), ap (λ l. slice_get l 0) first)
   removed_one (y ∷ later) (suc k) store side is led = further (side_of i p y.entry) (removed_one later k store side is led)
     where
-      further : (o : Option Side) → (flights_in i p (remove later k) ≡ all_but (place_among later k) (flights_in i p later)) × (slice_get (flights_in i p later) (place_among later k) ≡ Some (record { side = side; identity = asked store.offset store.value }))
-          → (onto_flights o y (flights_in i p (remove later k)) ≡ all_but (length (onto_flights o y (flights_in i p (take k later)))) (onto_flights o y (flights_in i p later))) × (slice_get (onto_flights o y (flights_in i p later)) (length (onto_flights o y (flights_in i p (take k later)))) ≡ Some (record { side = side; identity = asked store.offset store.value }))
+      further : (o : Option Side) → (flights_in i p (remove later k) ≡ all_but (place_among later k) (flights_in i p later)) × (slice_get (flights_in i p later) (place_among later k) ≡ Some (record { side = side; identity = identity_asked store.offset store.value }))
+          → (onto_flights o y (flights_in i p (remove later k)) ≡ all_but (length (onto_flights o y (flights_in i p (take k later)))) (onto_flights o y (flights_in i p later))) × (slice_get (onto_flights o y (flights_in i p later)) (length (onto_flights o y (flights_in i p (take k later)))) ≡ Some (record { side = side; identity = identity_asked store.offset store.value }))
       further None so = so
-      further (Some other) so = (ap (λ l. record { side = other; identity = asked y.offset y.value } ∷ l) so.0, so.1)
+      further (Some other) so = (ap (λ l. record { side = other; identity = identity_asked y.offset y.value } ∷ l) so.0, so.1)
 
   pub none_leads : (stores : List Flying) (k : ℕ) (store : Flying) → slice_get stores k ≡ Some store → flights_in i p stores ≡ [] → side_of i p store.entry ≡ None
   none_leads [] k store is none = absurd (cc)
@@ -119,7 +119,7 @@ module _ (w u : World) (r : Rehearsed) (z : Transit) (vm k : ℕ) (whole : IsWho
   }) stand
 
   -- it is one of its VM: it leads to a place or not
-  own_landed : vm ≡ p.who.found.vm → (o : Option Side) → side_of w.imsic p l.store.entry ≡ o → StandsFor l.stored r (landed_on o (asked l.store.offset l.store.value) z) → StandsFor u r (landed_state o (place_among w.imsic p (flight_of w p.who.found.vm) k) z)
+  own_landed : vm ≡ p.who.found.vm → (o : Option Side) → side_of w.imsic p l.store.entry ≡ o → StandsFor l.stored r (landed_on o (identity_asked l.store.offset l.store.value) z) → StandsFor u r (landed_state o (place_among w.imsic p (flight_of w p.who.found.vm) k) z)
   own_landed is None none t = with_others z z.flights t (record {
     own = s.flights.own ∙ sym (same_leads (flight_of u p.who.found.vm) ∙ ap (λ v. flights_in w.imsic p (flight_of u v)) (sym is) ∙ ap (flights_in w.imsic p) left_here ∙ removed_none w.imsic p (flight_of w vm) k l.store l.is none ∙ ap (λ v. flights_in w.imsic p (flight_of w v)) is);
     others = λ v other. same_leads (flight_of u v) ∙ ap (flights_in w.imsic p) (left_there v (λ e. other (e ∙ is))) ∙ s.flights.others v other;
@@ -127,14 +127,14 @@ module _ (w u : World) (r : Rehearsed) (z : Transit) (vm k : ℕ) (whole : IsWho
   own_landed is (Some side) led t =
       let at : ℕ = place_among w.imsic p (flight_of w p.who.found.vm) k in
       let one = removed_one w.imsic p (flight_of w p.who.found.vm) k l.store side (subst (λ v. slice_get (flight_of w v) k ≡ Some l.store) is l.is) led in
-      let found : slice_get z.flights at ≡ Some (record { side = side; identity = asked l.store.offset l.store.value }) = ap (λ f. slice_get f at) s.flights.own ∙ one.1 in
-      let lands_there : happened (lands at) z ≡ record (landed side (asked l.store.offset l.store.value) z) { flights = all_but at z.flights } = ap (λ o. record (one_landed o z) { flights = all_but at z.flights }) found in
-      subst (λ y. StandsFor u r y) (sym lands_there) (with_others (landed side (asked l.store.offset l.store.value) z) (all_but at z.flights) t (record {
+      let found : slice_get z.flights at ≡ Some (record { side = side; identity = identity_asked l.store.offset l.store.value }) = ap (λ f. slice_get f at) s.flights.own ∙ one.1 in
+      let lands_there : happened (lands at) z ≡ record (landed side (identity_asked l.store.offset l.store.value) z) { flights = all_but at z.flights } = ap (λ o. record (one_landed o z) { flights = all_but at z.flights }) found in
+      subst (λ y. StandsFor u r y) (sym lands_there) (with_others (landed side (identity_asked l.store.offset l.store.value) z) (all_but at z.flights) t (record {
         own = ap (all_but at) s.flights.own ∙ sym (same_leads (flight_of u p.who.found.vm) ∙ ap (λ v. flights_in w.imsic p (flight_of u v)) (sym is) ∙ ap (flights_in w.imsic p) left_here ∙ ap (λ v. flights_in w.imsic p (remove (flight_of w v) k)) is ∙ one.0);
         others = λ v other. same_leads (flight_of u v) ∙ ap (flights_in w.imsic p) (left_there v (λ e. other (e ∙ is))) ∙ s.flights.others v other;
       }))
 
-  stored_stands : StandsFor l.stored r (landed_on (side_of w.imsic p l.store.entry) (asked l.store.offset l.store.value) z)
+  stored_stands : StandsFor l.stored r (landed_on (side_of w.imsic p l.store.entry) (identity_asked l.store.offset l.store.value) z)
   stored_stands = entry_lands w l.stored r z l.store.offset l.store.value whole s l.store.entry l.reaches
 
   pub own_store_landed : vm ≡ p.who.found.vm → StandsFor u r (landed_state (side_of w.imsic p l.store.entry) (place_among w.imsic p (flight_of w p.who.found.vm) k) z)
@@ -144,7 +144,7 @@ module _ (w u : World) (r : Rehearsed) (z : Transit) (vm k : ℕ) (whole : IsWho
   pub other_store_landed : vm ≢ p.who.found.vm → StandsFor u r z
   other_store_landed other =
       let none = none_leads w.imsic p (flight_of w vm) k l.store l.is (s.flights.others vm other) in
-      with_others z z.flights (subst (λ o. StandsFor l.stored r (landed_on o (asked l.store.offset l.store.value) z)) none stored_stands) (record {
+      with_others z z.flights (subst (λ o. StandsFor l.stored r (landed_on o (identity_asked l.store.offset l.store.value) z)) none stored_stands) (record {
         own = s.flights.own ∙ sym (same_leads (flight_of u p.who.found.vm) ∙ ap (flights_in w.imsic p) (left_there p.who.found.vm (λ e. other (sym e))));
         others = λ v ne. same_leads (flight_of u v) ∙ elim (cases_eq v vm) [
           | inl e ↦ ap (λ x. flights_in w.imsic p (flight_of u x)) e ∙ ap (flights_in w.imsic p) left_here ∙ removed_none w.imsic p (flight_of w vm) k l.store l.is none ∙ s.flights.others vm other

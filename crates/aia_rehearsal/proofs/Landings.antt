@@ -22,8 +22,8 @@ use Rattle.aia_plan.specs.Transit.{Side, Transit, landed}
 use Rattle.aia_plan.specs.Transit.Side.{Old, New}
 use Rattle.aia_rehearsal.specs.declared.place.Place as ends
 use Rattle.aia_rehearsal.specs.declared.place.Place.TheVariants.{File, Slot}
-use Rattle.aia_rehearsal.specs.Rehearsed.{Passage, Rehearsed, moved, AreTwo}
-use Rattle.aia_rehearsal.specs.Stands.{routes_of, is_file_at, leads, side_of, asked, RoutesStand, StandsFor}
+use Rattle.aia_rehearsal.specs.Rehearsed.{Passage, Rehearsed, mover_of, AreTwo}
+use Rattle.aia_rehearsal.specs.Stands.{routes_of, is_file_at, leads, side_of, identity_asked, RoutesStand, StandsFor}
 use Rattle.aia_rehearsal.proofs.Carried.{stand_on}
 use Rattle.aia_rehearsal.proofs.StoreSeen.{Seen, file_hit, slot_hit, seen_none, at_spot, at_slot}
 use Rattle.aia_rehearsal.proofs.SameMachine.{stored_same}
@@ -43,7 +43,7 @@ only_stores_same w u rest = (stored_same w u rest, ap (λ (x : World). x.flights
 
 module _ (w u : World) (r : Rehearsed) (z : Transit) (hits : ends.Place → Bool) (offset value : ℕ) (s : StandsFor w r z) (seen : Seen w u r.passage hits offset value) where
   abbrev x : ℕ
-  x = asked offset value
+  x = identity_asked offset value
 
   abbrev StandsAfter : Transit → Type 0
   StandsAfter y = StandsFor u r y
@@ -51,7 +51,7 @@ module _ (w u : World) (r : Rehearsed) (z : Transit) (hits : ends.Place → Bool
   same : SameMachine w u × (u.flights ≡ w.flights)
   same = only_stores_same w u seen.rest
 
-  routes_kept : RoutesStand r.passage (routes_of w (moved r.passage)) z → RoutesStand r.passage (routes_of u (moved r.passage)) z
+  routes_kept : RoutesStand r.passage (routes_of w (mover_of r.passage)) z → RoutesStand r.passage (routes_of u (mover_of r.passage)) z
   routes_kept routes = subst (λ y. RoutesStand r.passage y z) (sym seen.routes) routes
 
   nowhere : hits r.passage.old ≡ false → hits r.passage.new ≡ false → StandsFor u r z
@@ -183,5 +183,5 @@ module _ (w u : World) (r : Rehearsed) (z : Transit) (offset value : ℕ) (whole
       by_places Misconfigured Slot b two led = absurd (cc)
 
   -- a store goes along an entry
-  pub entry_lands : (entry : Entry) → ReachesBy entry w u offset value → StandsFor u r (landed_on (side_of w.imsic r.passage entry) (asked offset value) z)
+  pub entry_lands : (entry : Entry) → ReachesBy entry w u offset value → StandsFor u r (landed_on (side_of w.imsic r.passage entry) (identity_asked offset value) z)
   entry_lands entry reaches = store_lands w u r z (λ b. leads w.imsic r.passage.who.found.slot b entry) offset value s (entry_seen w u r.passage offset value whole entry reaches) (one_led entry)

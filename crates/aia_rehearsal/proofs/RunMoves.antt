@@ -15,8 +15,8 @@ use Rattle.aia_plan.specs.Transit.{Side, Flight, Transit, Happening, is_identity
 use Rattle.aia_plan.specs.Transit as transit
 use Rattle.aia_plan.specs.Transit.Side.{Old, New}
 use Rattle.aia_plan.specs.Transit.{Happening as happenings}
-use Rattle.aia_rehearsal.specs.Rehearsed.{Passage, Rehearsed, moved, IsOf}
-use Rattle.aia_rehearsal.specs.Stands.{side_of, asked, flights_in, StandsFor}
+use Rattle.aia_rehearsal.specs.Rehearsed.{Passage, Rehearsed, mover_of, IsOf}
+use Rattle.aia_rehearsal.specs.Stands.{side_of, identity_asked, flights_in, StandsFor}
 use Rattle.aia_rehearsal.specs.Events.{Event, Happens, IsAlone, is_for_moved, landing_by, landing_seen, seen}
 use Rattle.aia_rehearsal.specs.Events.Event.{Steps, DeviceStores, PeerStores, DeviceSends, StoreLands, EntryRead}
 use Rattle.aia_rehearsal.specs.Runs.{Runs, steps_in, lands_for, asks, asked_in}
@@ -71,11 +71,11 @@ no_landing_step true w p k (Some store) l = by_side (side_of w.imsic p store.ent
 pub run_steps : (events : List Event) (w : World) (r : Rehearsed) (u : World) (t : Rehearsed) (run : Runs events w r u t) → transit.steps_in (all_seen events w r u t run) ≡ steps_in events
 run_steps [] w r u t run = refl
 run_steps (Steps step ∷ later) w r u t (x, y, whole, happens, rest) = ap (λ l. step ∷ l) (run_steps later x y u t rest)
-run_steps (DeviceStores vm addr value ∷ later) w r u t (x, y, whole, happens, rest) = no_steps (is_for_moved w r.passage vm addr) (happenings.Stores (asked (addr % PAGE) value)) (all_seen later x y u t rest) refl refl ∙ run_steps later x y u t rest
-run_steps (PeerStores vm to value ∷ later) w r u t (x, y, whole, happens, rest) = no_steps (is_vcpu (vcpu vm to) (moved r.passage)) (happenings.PeerStores (asked 0 value)) (all_seen later x y u t rest) refl refl ∙ run_steps later x y u t rest
-run_steps (DeviceSends vm addr value ∷ later) w r u t (x, y, whole, happens, rest) = no_steps (is_for_moved w r.passage vm addr) (happenings.Sends (asked (addr % PAGE) value)) (all_seen later x y u t rest) refl refl ∙ run_steps later x y u t rest
+run_steps (DeviceStores vm addr value ∷ later) w r u t (x, y, whole, happens, rest) = no_steps (is_for_moved w r.passage vm addr) (happenings.Stores (identity_asked (addr % PAGE) value)) (all_seen later x y u t rest) refl refl ∙ run_steps later x y u t rest
+run_steps (PeerStores vm to value ∷ later) w r u t (x, y, whole, happens, rest) = no_steps (is_vcpu (vcpu vm to) (mover_of r.passage)) (happenings.PeerStores (identity_asked 0 value)) (all_seen later x y u t rest) refl refl ∙ run_steps later x y u t rest
+run_steps (DeviceSends vm addr value ∷ later) w r u t (x, y, whole, happens, rest) = no_steps (is_for_moved w r.passage vm addr) (happenings.Sends (identity_asked (addr % PAGE) value)) (all_seen later x y u t rest) refl refl ∙ run_steps later x y u t rest
 run_steps (StoreLands vm k ∷ later) w r u t (x, y, whole, happens, rest) = no_landing_step (nat_eq vm r.passage.who.found.vm) w r.passage k (slice_get (flight_of w vm) k) (all_seen later x y u t rest) ∙ run_steps later x y u t rest
-run_steps (EntryRead vm file ∷ later) w r u t (x, y, whole, happens, rest) = no_steps (is_vcpu (vcpu vm file) (moved r.passage)) happenings.Refetches (all_seen later x y u t rest) refl refl ∙ run_steps later x y u t rest
+run_steps (EntryRead vm file ∷ later) w r u t (x, y, whole, happens, rest) = no_steps (is_vcpu (vcpu vm file) (mover_of r.passage)) happenings.Refetches (all_seen later x y u t rest) refl refl ∙ run_steps later x y u t rest
 
 -- ---- the passage stays
 
@@ -141,23 +141,23 @@ land_due false w p k i o z is own = or_false (z.due i) (is_identity i)
 land_due true w p k i None z is own = or_false (z.due i) (is_identity i)
 land_due true w p k i (Some store) z is own = by_side (side_of w.imsic p store.entry) refl
   where
-    by_side : (o : Option Side) → side_of w.imsic p store.entry ≡ o → (all_happened (landing_by o (place_among w.imsic p (flight_of w p.who.found.vm) k)) z).due i ≡ (z.due i || (is_identity i && (is_some o && nat_eq (asked store.offset store.value) i)))
+    by_side : (o : Option Side) → side_of w.imsic p store.entry ≡ o → (all_happened (landing_by o (place_among w.imsic p (flight_of w p.who.found.vm) k)) z).due i ≡ (z.due i || (is_identity i && (is_some o && nat_eq (identity_asked store.offset store.value) i)))
     by_side None led = or_false (z.due i) (is_identity i)
     by_side (Some side) led =
         let found = ap (λ l. slice_get l (place_among w.imsic p (flight_of w p.who.found.vm) k)) own ∙ (removed_one w.imsic p (flight_of w p.who.found.vm) k store side is led).1 in
-        ap (λ o. (one_landed o z).due i) found ∙ asked_more side (asked store.offset store.value) i z
+        ap (λ o. (one_landed o z).due i) found ∙ asked_more side (identity_asked store.offset store.value) i z
 
 event_due : (event : Event) (w : World) (r : Rehearsed) (z : Transit) (i : ℕ) → StandsFor w r z → (all_happened (seen event w r.passage) z).due i ≡ (z.due i || (is_identity i && asks event w r.passage i))
 event_due (Steps step) w r z i s = step_due step w r.passage z i s.flights.own
-event_due (DeviceStores vm addr value) w r z i s = store_due (is_for_moved w r.passage vm addr) z.entry_in_force (asked (addr % PAGE) value) i (happenings.Stores (asked (addr % PAGE) value)) z refl
-event_due (PeerStores vm to value) w r z i s = store_due (is_vcpu (vcpu vm to) (moved r.passage)) z.record_in_force (asked 0 value) i (happenings.PeerStores (asked 0 value)) z refl
-event_due (DeviceSends vm addr value) w r z i s = none_due (is_for_moved w r.passage vm addr) i (happenings.Sends (asked (addr % PAGE) value)) z refl
+event_due (DeviceStores vm addr value) w r z i s = store_due (is_for_moved w r.passage vm addr) z.entry_in_force (identity_asked (addr % PAGE) value) i (happenings.Stores (identity_asked (addr % PAGE) value)) z refl
+event_due (PeerStores vm to value) w r z i s = store_due (is_vcpu (vcpu vm to) (mover_of r.passage)) z.record_in_force (identity_asked 0 value) i (happenings.PeerStores (identity_asked 0 value)) z refl
+event_due (DeviceSends vm addr value) w r z i s = none_due (is_for_moved w r.passage vm addr) i (happenings.Sends (identity_asked (addr % PAGE) value)) z refl
 event_due (StoreLands vm k) w r z i s = elim (cases_eq vm r.passage.who.found.vm) [
   | inl e ↦ subst (λ v. (all_happened (cond (nat_eq v r.passage.who.found.vm) (landing_seen w r.passage k (slice_get (flight_of w v) k)) []) z).due i ≡ (z.due i || (is_identity i && (nat_eq v r.passage.who.found.vm && lands_for w r.passage i (slice_get (flight_of w v) k))))) (sym e)
       (land_due (nat_eq r.passage.who.found.vm r.passage.who.found.vm) w r.passage k i (slice_get (flight_of w r.passage.who.found.vm) k) z refl s.flights.own)
   | inr ne ↦ rw (ne_eqb vm r.passage.who.found.vm ne) (or_false (z.due i) (is_identity i))
 ]
-event_due (EntryRead vm file) w r z i s = none_due (is_vcpu (vcpu vm file) (moved r.passage)) i happenings.Refetches z refl
+event_due (EntryRead vm file) w r z i s = none_due (is_vcpu (vcpu vm file) (mover_of r.passage)) i happenings.Refetches z refl
 
 pub run_due : (events : List Event) (w : World) (r : Rehearsed) (u : World) (t : Rehearsed) (run : Runs events w r u t) (z : Transit) (i : ℕ) → IsAlone w r.passage → StandsFor w r z
     → (all_happened (all_seen events w r u t run) z).due i ≡ (z.due i || (is_identity i && asked_in events w r u t run i))

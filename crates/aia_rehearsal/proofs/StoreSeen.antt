@@ -36,8 +36,8 @@ use Rattle.aia_moving.specs.Move.{width}
 use Rattle.aia_plan.specs.Transit.{is_identity, with_one}
 use Rattle.aia_rehearsal.specs.declared.place.Place as ends
 use Rattle.aia_rehearsal.specs.declared.place.Place.TheVariants.{File, Slot}
-use Rattle.aia_rehearsal.specs.Rehearsed.{Passage, moved, at_of, IsFileThere}
-use Rattle.aia_rehearsal.specs.Stands.{sets_at, routes_of, is_file_at, asked}
+use Rattle.aia_rehearsal.specs.Rehearsed.{Passage, mover_of, at_of, IsFileThere}
+use Rattle.aia_rehearsal.specs.Stands.{sets_at, routes_of, is_file_at, identity_asked}
 use Rattle.aia_file.proofs.SizeLemmas.{few_identities}
 
 -- ---- the identity for which a store asks
@@ -61,7 +61,7 @@ settled true false = refl
 settled false true = refl
 settled false false = refl
 
-added : (n offset value i : ℕ) (was : ℕ → Bool) → i ≤ n → n ≤ IDENTITIES → settle (request_said n offset value i) (was i) ≡ with_one (asked offset value) was i
+added : (n offset value i : ℕ) (was : ℕ → Bool) → i ≤ n → n ≤ IDENTITIES → settle (request_said n offset value i) (was i) ≡ with_one (identity_asked offset value) was i
 added n offset value i was low few = settled (names (requested n offset value) i) (was i) ∙ ap (λ b. was i || b) (asks_for (number_written offset value) n i low few)
 
 all_words : (n : ℕ) → is_greatest_identity n ≡ true → (n + 1) / 64 * 64 ≡ n + 1
@@ -77,8 +77,8 @@ pub record Adds (words : ℕ) (was now : TwoSets) (x : ℕ) : Type 0 where
 -- it leads to the places that pass a test
 pub record Seen (w u : World) (p : Passage) (hits : ends.Place → Bool) (offset value : ℕ) : Type 0 where
   pub rest : OnlyStores w u
-  pub routes : routes_of u (moved p) ≡ routes_of w (moved p)
-  pub hit : (b : ends.Place) → IsFileThere w b → hits b ≡ true → Adds (width w) (sets_at w (at_of p.who.found.slot b)) (sets_at u (at_of p.who.found.slot b)) (asked offset value)
+  pub routes : routes_of u (mover_of p) ≡ routes_of w (mover_of p)
+  pub hit : (b : ends.Place) → IsFileThere w b → hits b ≡ true → Adds (width w) (sets_at w (at_of p.who.found.slot b)) (sets_at u (at_of p.who.found.slot b)) (identity_asked offset value)
   pub missed : (b : ends.Place) → IsFileThere w b → hits b ≡ false → sets_at u (at_of p.who.found.slot b) ≡ sets_at w (at_of p.who.found.slot b)
 
 abbrev pub file_hit : Spot → ends.Place → Bool
@@ -96,7 +96,7 @@ module _ (w u : World) (p : Passage) (offset value : ℕ) (whole : IsWhole w) wh
   pub seen_none : (hits : ends.Place → Bool) → ((b : ends.Place) → hits b ≡ false) → u ≡ w → Seen w u p hits offset value
   seen_none hits none e = record {
     rest = none_rest w u e;
-    routes = ap (λ (x : World). routes_of x (moved p)) e;
+    routes = ap (λ (x : World). routes_of x (mover_of p)) e;
     hit = λ b there led. let both = none b in absurd (cc);
     missed = λ b there none. ap (λ (x : World). sets_at x (at_of p.who.found.slot b)) e;
   }
@@ -107,11 +107,11 @@ module _ (w u : World) (p : Passage) (offset value : ℕ) (whole : IsWhole w) wh
   inside : (i : ℕ) → i / 64 < width w → i ≤ w.n
   inside i low = let all = all_words w.n whole.greatest in omega (arith, low, all)
 
-  routes_by : OnlyStores w u → get_or u.memory (entry_word_place (moved p).vm (moved p).number) 0 ≡ get_or w.memory (entry_word_place (moved p).vm (moved p).number) 0
-      → get_or u.memory (entry_word_place (moved p).vm (moved p).number + 1) 0 ≡ get_or w.memory (entry_word_place (moved p).vm (moved p).number + 1) 0 → routes_of u (moved p) ≡ routes_of w (moved p)
+  routes_by : OnlyStores w u → get_or u.memory (entry_word_place (mover_of p).vm (mover_of p).number) 0 ≡ get_or w.memory (entry_word_place (mover_of p).vm (mover_of p).number) 0
+      → get_or u.memory (entry_word_place (mover_of p).vm (mover_of p).number + 1) 0 ≡ get_or w.memory (entry_word_place (mover_of p).vm (mover_of p).number + 1) 0 → routes_of u (mover_of p) ≡ routes_of w (mover_of p)
   routes_by rest first second =
-      let tables = ap (λ (x : World). entry_in_force (table_of x.tables (moved p).vm) (moved p).number) rest in
-      let stages : stage_of u (moved p) ≡ stage_of w (moved p) = ap (λ (x : World). stage_of x (moved p)) rest in
+      let tables = ap (λ (x : World). entry_in_force (table_of x.tables (mover_of p).vm) (mover_of p).number) rest in
+      let stages : stage_of u (mover_of p) ≡ stage_of w (mover_of p) = ap (λ (x : World). stage_of x (mover_of p)) rest in
       λ k. record { word0 = first k; word1 = second k; in_force = tables k; stage = stages k }
 
   -- ---- in a guest file
@@ -119,7 +119,7 @@ module _ (w u : World) (p : Passage) (offset value : ℕ) (whole : IsWhole w) wh
   in_file : (a : Place) → IsThere w.imsic (spot_of a) → StoresIn w u (spot_of a) offset value → Seen w u p (file_hit (spot_of a)) offset value
   in_file a there stores = record {
     rest = stores_rest w u (spot_of a) offset value stores;
-    routes = ap (λ (x : World). routes_of x (moved p)) one_state;
+    routes = ap (λ (x : World). routes_of x (mover_of p)) one_state;
     hit = hit;
     missed = missed;
   }
@@ -127,16 +127,16 @@ module _ (w u : World) (p : Passage) (offset value : ℕ) (whole : IsWhole w) wh
       one_state : u ≡ with_state w (spot_of a) (file_at u.imsic (spot_of a))
       one_state = stores.rest ∙ ap (λ (j : ImsicState). record w { imsic = j }) stores.lands.others
 
-      here : Adds (width w) (of_file (shown (file_at w.imsic (spot_of a)))) (of_file (shown (file_at u.imsic (spot_of a)))) (asked offset value)
+      here : Adds (width w) (of_file (shown (file_at w.imsic (spot_of a)))) (of_file (shown (file_at u.imsic (spot_of a)))) (identity_asked offset value)
       here = record {
         pending = λ i low. stores.lands.lands.pending i ∙ ap (λ n. settle (request_said n offset value i) ((shown (file_at w.imsic (spot_of a))).pending i)) (width_at w (spot_of a) whole there)
             ∙ added w.n offset value i (shown (file_at w.imsic (spot_of a))).pending (inside i low) few;
         enabled = stores.lands.lands.enabled;
       }
 
-      hit : (b : ends.Place) → IsFileThere w b → file_hit (spot_of a) b ≡ true → Adds (width w) (sets_at w (at_of p.who.found.slot b)) (sets_at u (at_of p.who.found.slot b)) (asked offset value)
+      hit : (b : ends.Place) → IsFileThere w b → file_hit (spot_of a) b ≡ true → Adds (width w) (sets_at w (at_of p.who.found.slot b)) (sets_at u (at_of p.who.found.slot b)) (identity_asked offset value)
       hit Slot standing led = absurd (cc)
-      hit (File b) standing led = subst (λ (x : Place). Adds (width w) (of_file (shown (file_at w.imsic (spot_of x)))) (of_file (shown (file_at u.imsic (spot_of x)))) (asked offset value)) (sym (same_place b a led)) here
+      hit (File b) standing led = subst (λ (x : Place). Adds (width w) (of_file (shown (file_at w.imsic (spot_of x)))) (of_file (shown (file_at u.imsic (spot_of x)))) (identity_asked offset value)) (sym (same_place b a led)) here
 
       missed : (b : ends.Place) → IsFileThere w b → file_hit (spot_of a) b ≡ false → sets_at u (at_of p.who.found.slot b) ≡ sets_at w (at_of p.who.found.slot b)
       missed Slot standing none = ap (λ (x : World). of_slot (mrif_in x.memory p.who.found.slot)) one_state
@@ -186,7 +186,7 @@ module _ (w u : World) (p : Passage) (offset value : ℕ) (whole : IsWhole w) wh
     in_slot : s < VCPUS → StoresInSlot w u (Some s) spot identity offset value → Seen w u p (slot_hit (Some s) q) offset value
     in_slot low stores = record {
       rest = rest;
-      routes = routes_by rest (ap (λ words. get_or words (entry_word_place (moved p).vm (moved p).number) 0) noticed.memory ∙ kept.0) (ap (λ words. get_or words (entry_word_place (moved p).vm (moved p).number + 1) 0) noticed.memory ∙ kept.1);
+      routes = routes_by rest (ap (λ words. get_or words (entry_word_place (mover_of p).vm (mover_of p).number) 0) noticed.memory ∙ kept.0) (ap (λ words. get_or words (entry_word_place (mover_of p).vm (mover_of p).number + 1) 0) noticed.memory ∙ kept.1);
       hit = hit;
       missed = missed;
     }
@@ -197,11 +197,11 @@ module _ (w u : World) (p : Passage) (offset value : ℕ) (whole : IsWhole w) wh
         noticed : Noticed s
         noticed = noticed_by (stored (mrif_in w.memory s) (requested IDENTITIES offset value)) stores
 
-        kept : (get_or (with_store w s offset value).memory (entry_word_place (moved p).vm (moved p).number) 0 ≡ get_or w.memory (entry_word_place (moved p).vm (moved p).number) 0)
-            × (get_or (with_store w s offset value).memory (entry_word_place (moved p).vm (moved p).number + 1) 0 ≡ get_or w.memory (entry_word_place (moved p).vm (moved p).number + 1) 0)
-        kept = entry_words_kept w (moved p) s offset value whole low
+        kept : (get_or (with_store w s offset value).memory (entry_word_place (mover_of p).vm (mover_of p).number) 0 ≡ get_or w.memory (entry_word_place (mover_of p).vm (mover_of p).number) 0)
+            × (get_or (with_store w s offset value).memory (entry_word_place (mover_of p).vm (mover_of p).number + 1) 0 ≡ get_or w.memory (entry_word_place (mover_of p).vm (mover_of p).number + 1) 0)
+        kept = entry_words_kept w (mover_of p) s offset value whole low
 
-        here : Adds (width w) (of_slot (mrif_in w.memory s)) (of_slot (mrif_in u.memory s)) (asked offset value)
+        here : Adds (width w) (of_slot (mrif_in w.memory s)) (of_slot (mrif_in u.memory s)) (identity_asked offset value)
         here =
             let takes = slot_takes_store w.memory s offset value (has_slot w s whole low) in
             record {
@@ -210,9 +210,9 @@ module _ (w u : World) (p : Passage) (offset value : ℕ) (whole : IsWhole w) wh
               enabled = λ i. ap (λ words. (mrif_in words s).enabled i) noticed.memory ∙ takes.enabled i;
             }
 
-        hit : (b : ends.Place) → IsFileThere w b → slot_hit (Some s) q b ≡ true → Adds (width w) (sets_at w (at_of p.who.found.slot b)) (sets_at u (at_of p.who.found.slot b)) (asked offset value)
+        hit : (b : ends.Place) → IsFileThere w b → slot_hit (Some s) q b ≡ true → Adds (width w) (sets_at w (at_of p.who.found.slot b)) (sets_at u (at_of p.who.found.slot b)) (identity_asked offset value)
         hit (File b) standing led = absurd (cc)
-        hit Slot standing led = subst (λ n. Adds (width w) (of_slot (mrif_in w.memory n)) (of_slot (mrif_in u.memory n)) (asked offset value)) (eqb-true s q led) here
+        hit Slot standing led = subst (λ n. Adds (width w) (of_slot (mrif_in w.memory n)) (of_slot (mrif_in u.memory n)) (identity_asked offset value)) (eqb-true s q led) here
 
         missed : (b : ends.Place) → IsFileThere w b → slot_hit (Some s) q b ≡ false → sets_at u (at_of p.who.found.slot b) ≡ sets_at w (at_of p.who.found.slot b)
         missed (File b) standing none = ap (λ f. of_file (shown f)) (noticed.files b standing)

@@ -20,7 +20,7 @@ use Rattle.aia_plan.specs.Transit.{Side, Flight, Transit, is_identity, all_happe
 use Rattle.aia_plan.specs.Transit.Side.{Old, New}
 use Rattle.aia_plan.proofs.RuleIsSafe.{rule_is_safe}
 use Rattle.aia_rehearsal.specs.Rehearsed.{Passage, Carried, Rehearsed, at, names_on, empty_hand, AreTwo, IsOf}
-use Rattle.aia_rehearsal.specs.Stands.{sets_at, leads, side_of, asked, onto_flights, flights_in, StandsFor}
+use Rattle.aia_rehearsal.specs.Stands.{sets_at, leads, side_of, identity_asked, onto_flights, flights_in, StandsFor}
 use Rattle.aia_rehearsal.specs.Events.{Event, IsAlone}
 use Rattle.aia_rehearsal.specs.Runs.{Runs, steps_in, asked_in, LeadsTo, NoneLeads, state_at, IsBegun, IsOver}
 use Rattle.aia_rehearsal.proofs.RunMoves.{all_seen, run_stands, run_steps, run_passage, run_due, run_width}
@@ -49,7 +49,7 @@ all_old i p (store ∷ later) none = elim (cases_Bool (leads i p.who.found.slot 
 none_old : (i : ImsicState) (p : Passage) (stores : List Flying) → AllOn New (flights_in i p stores) → NoneTo i p.who.found.slot p.old stores
 none_old i p [] all = tt
 none_old i p (store ∷ later) all = elim (cases_Bool (leads i p.who.found.slot p.old store.entry)) [
-  | inl led ↦ let first : AllOn New (record { side = Old; identity = asked store.offset store.value } ∷ flights_in i p later) = subst (λ o. AllOn New (onto_flights o store (flights_in i p later))) (cond-true _ _ _ led) all in let no = first.0 in absurd (cc)
+  | inl led ↦ let first : AllOn New (record { side = Old; identity = identity_asked store.offset store.value } ∷ flights_in i p later) = subst (λ o. AllOn New (onto_flights o store (flights_in i p later))) (cond-true _ _ _ led) all in let no = first.0 in absurd (cc)
   | inr not ↦ (not, none_old i p later (rest (side_of i p store.entry) all))
 ]
   where
@@ -64,9 +64,9 @@ neither_old i p stores none = none_old i p stores (subst (AllOn New) (sym none) 
 neither_new : (i : ImsicState) (p : Passage) (stores : List Flying) → flights_in i p stores ≡ [] → NoneTo i p.who.found.slot p.new stores
 neither_new i p [] none = tt
 neither_new i p (store ∷ later) none = elim (cases_Bool (leads i p.who.found.slot p.old store.entry)) [
-  | inl led ↦ let no : record { side = Old; identity = asked store.offset store.value } ∷ flights_in i p later ≡ [] = subst (λ o. onto_flights o store (flights_in i p later) ≡ []) (cond-true _ _ _ led) none in absurd (cc)
+  | inl led ↦ let no : record { side = Old; identity = identity_asked store.offset store.value } ∷ flights_in i p later ≡ [] = subst (λ o. onto_flights o store (flights_in i p later) ≡ []) (cond-true _ _ _ led) none in absurd (cc)
   | inr not ↦ elim (cases_Bool (leads i p.who.found.slot p.new store.entry)) [
-    | inl led ↦ let no : record { side = New; identity = asked store.offset store.value } ∷ flights_in i p later ≡ [] = subst (λ o. onto_flights o store (flights_in i p later) ≡ []) (cond-false _ _ _ not ∙ cond-true _ _ _ led) none in absurd (cc)
+    | inl led ↦ let no : record { side = New; identity = identity_asked store.offset store.value } ∷ flights_in i p later ≡ [] = subst (λ o. onto_flights o store (flights_in i p later) ≡ []) (cond-false _ _ _ not ∙ cond-true _ _ _ led) none in absurd (cc)
     | inr neither ↦ (neither, neither_new i p later (subst (λ o. onto_flights o store (flights_in i p later) ≡ []) (cond-false _ _ _ not ∙ cond-false _ _ _ neither) none))
   ]
 ]

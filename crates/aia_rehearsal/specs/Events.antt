@@ -17,9 +17,9 @@ use Rattle.aia_plan.specs.Plan.{IsInside}
 use Rattle.aia_plan.specs.declared.step.Step.{Step}
 use Rattle.aia_plan.specs.Transit.{Side, Happening}
 use Rattle.aia_plan.specs.Transit.{Happening as happenings}
-use Rattle.aia_rehearsal.specs.Rehearsed.{Passage, Rehearsed, moved, names_on}
+use Rattle.aia_rehearsal.specs.Rehearsed.{Passage, Rehearsed, mover_of, names_on}
 use Rattle.aia_rehearsal.specs.Steps.{Makes, after}
-use Rattle.aia_rehearsal.specs.Stands.{routes_of, asked, side_of, flights_in}
+use Rattle.aia_rehearsal.specs.Stands.{routes_of, identity_asked, side_of, flights_in}
 
 -- The rehearsal makes a step; a device of a VM stores a value at an address; a virtual hart of a VM
 -- stores one for another; a device of a VM sends a store; the K-th store in flight of a VM lands,
@@ -66,10 +66,10 @@ NamesElsewhere p named = (side : Side) (a : Place) → names_on side p ≡ Some 
 -- one of them, and no record of another that is in force names one. What such a record says as it
 -- is written is free: no event here puts it in force.
 pub record IsAlone (w : World) (p : Passage) : Type 0 where
-  pub in_force : (g : Vcpu) → g ≢ moved p → side_of w.imsic p (routes_of w g).in_force ≡ None
-  pub written : (g : Vcpu) → is_vcpu_in w.vms g ≡ true → g ≢ moved p
+  pub in_force : (g : Vcpu) → g ≢ mover_of p → side_of w.imsic p (routes_of w g).in_force ≡ None
+  pub written : (g : Vcpu) → is_vcpu_in w.vms g ≡ true → g ≢ mover_of p
       → side_of w.imsic p (decoded (routes_of w g).word0 (routes_of w g).word1) ≡ None
-  pub records : (g : Vcpu) → is_vcpu_in w.vms g ≡ true → g ≢ moved p
+  pub records : (g : Vcpu) → is_vcpu_in w.vms g ≡ true → g ≢ mover_of p
       → NamesElsewhere p (routes_of w g).stage.in_force
 
 -- ---- what it is on the machine of the proof
@@ -89,12 +89,12 @@ landing_seen w p k (Some store) = landing_by (side_of w.imsic p store.entry)
 abbrev pub seen : Event → World → Passage → List Happening
 seen (Steps step) w p = happenings.Does step ∷ []
 seen (DeviceStores vm addr value) w p =
-    if is_for_moved w p vm addr then happenings.Stores (asked (addr % PAGE) value) ∷ [] else []
+    if is_for_moved w p vm addr then happenings.Stores (identity_asked (addr % PAGE) value) ∷ [] else []
 seen (PeerStores vm to value) w p =
-    if is_vcpu (vcpu vm to) (moved p) then happenings.PeerStores (asked 0 value) ∷ [] else []
+    if is_vcpu (vcpu vm to) (mover_of p) then happenings.PeerStores (identity_asked 0 value) ∷ [] else []
 seen (DeviceSends vm addr value) w p =
-    if is_for_moved w p vm addr then happenings.Sends (asked (addr % PAGE) value) ∷ [] else []
+    if is_for_moved w p vm addr then happenings.Sends (identity_asked (addr % PAGE) value) ∷ [] else []
 seen (StoreLands vm k) w p =
     if nat_eq vm p.who.found.vm then landing_seen w p k (slice_get (flight_of w vm) k) else []
 seen (EntryRead vm file) w p =
-    if is_vcpu (vcpu vm file) (moved p) then happenings.Refetches ∷ [] else []
+    if is_vcpu (vcpu vm file) (mover_of p) then happenings.Refetches ∷ [] else []

@@ -51,8 +51,8 @@ from_to who old new = record {
 -- ---- its places
 
 -- The virtual hart that is moved.
-abbrev pub moved : Passage → Vcpu
-moved p = vcpu p.who.found.vm p.who.found.number
+abbrev pub mover_of : Passage → Vcpu
+mover_of p = vcpu p.who.found.vm p.who.found.number
 
 -- The place on one of its sides.
 abbrev pub on : Side → Passage → ends.Place

@@ -14,8 +14,8 @@ use Rattle.aia_plan.specs.Plan.{Plan}
 use Rattle.aia_plan.specs.declared.step.Step.TheVariants as steps
 use Rattle.aia_plan.specs.Transit.{Side, Flight, Transit, is_identity}
 use Rattle.aia_plan.specs.Transit.Side.{Old, New}
-use Rattle.aia_rehearsal.specs.Rehearsed.{Passage, Rehearsed, moved, on, at, names_on, AreTwo, IsOf, empty_hand}
-use Rattle.aia_rehearsal.specs.Stands.{sets_at, routes_of, leads, side_of, asked, flights_in}
+use Rattle.aia_rehearsal.specs.Rehearsed.{Passage, Rehearsed, mover_of, on, at, names_on, AreTwo, IsOf, empty_hand}
+use Rattle.aia_rehearsal.specs.Stands.{sets_at, routes_of, leads, side_of, identity_asked, flights_in}
 use Rattle.aia_rehearsal.specs.Events.{Event, Happens, IsAlone, is_for_moved}
 use Rattle.aia_rehearsal.specs.Events.Event.{Steps, DeviceStores, PeerStores, StoreLands}
 
@@ -39,7 +39,7 @@ steps_in (event ∷ later) = steps_in later
 abbrev pub lands_for : World → Passage → ℕ → Option Flying → Bool
 lands_for w p i None = false
 lands_for w p i (Some store) =
-    is_some (side_of w.imsic p store.entry) && nat_eq (asked store.offset store.value) i
+    is_some (side_of w.imsic p store.entry) && nat_eq (identity_asked store.offset store.value) i
 
 -- Whether an event asks for identity i at the virtual hart that is moved, so that it is to be
 -- pending: a store of a device or of a peer, or one that lands, by itself or in a fence.
@@ -48,9 +48,9 @@ asks (Steps steps.Fence) w p i =
     list_any (λ (f : Flight). nat_eq f.identity i)
     (flights_in w.imsic p (flight_of w p.who.found.vm))
 asks (DeviceStores vm addr value) w p i =
-    is_for_moved w p vm addr && nat_eq (asked (addr % PAGE) value) i
+    is_for_moved w p vm addr && nat_eq (identity_asked (addr % PAGE) value) i
 asks (PeerStores vm to value) w p i =
-    is_vcpu (vcpu vm to) (moved p) && nat_eq (asked 0 value) i
+    is_vcpu (vcpu vm to) (mover_of p) && nat_eq (identity_asked 0 value) i
 asks (StoreLands vm k) w p i =
     nat_eq vm p.who.found.vm && lands_for w p i (slice_get (flight_of w vm) k)
 asks event w p i = false
@@ -67,12 +67,12 @@ asked_in (event ∷ later) w r u t (x, y, whole, happens, rest) i =
 -- All routes, as they are written and in force, lead to a side, and the entry says where notices
 -- go.
 pub record LeadsTo (w : World) (p : Passage) (side : Side) : Type 0 where
-  pub word0 : (routes_of w (moved p)).word0 ≡ entry_word p.who.found.slot (names_on side p)
-  pub word1 : (routes_of w (moved p)).word1 ≡ second_word p.who.found.slot p.who.found.notice
-  pub in_force : (routes_of w (moved p)).in_force
+  pub word0 : (routes_of w (mover_of p)).word0 ≡ entry_word p.who.found.slot (names_on side p)
+  pub word1 : (routes_of w (mover_of p)).word1 ≡ second_word p.who.found.slot p.who.found.notice
+  pub in_force : (routes_of w (mover_of p)).in_force
       ≡ leads_to p.who.found.slot p.who.found.notice (names_on side p)
-  pub record_written : (routes_of w (moved p)).stage.written ≡ names_on side p
-  pub record_in_force : (routes_of w (moved p)).stage.in_force ≡ names_on side p
+  pub record_written : (routes_of w (mover_of p)).stage.written ≡ names_on side p
+  pub record_in_force : (routes_of w (mover_of p)).stage.in_force ≡ names_on side p
 
 -- No store in flight of a VM leads to a side.
 abbrev pub NoneLeads : World → Passage → Side → ℕ → Type 0

@@ -30,7 +30,7 @@ use Rattle.aia_plan.specs.Transit.{Side, Flight, Transit}
 use Rattle.aia_plan.specs.Transit.Side.{Old, New}
 use Rattle.aia_rehearsal.specs.declared.place.Place as ends
 use Rattle.aia_rehearsal.specs.declared.place.Place.TheVariants.{File, Slot}
-use Rattle.aia_rehearsal.specs.Rehearsed.{Passage, Carried, Rehearsed, moved, at, names_on, AreTwo, IsOf}
+use Rattle.aia_rehearsal.specs.Rehearsed.{Passage, Carried, Rehearsed, mover_of, at, names_on, AreTwo, IsOf}
 
 -- ---- the sets
 
@@ -98,14 +98,14 @@ side_of i p entry =
 
 -- The identity for which a store at an offset of a page asks; 0, which is none, where it asks for
 -- none. It may be above those of the files, of which nothing is said.
-abbrev pub asked : ℕ → ℕ → ℕ
-asked offset value = unwrap_or (requested IDENTITIES offset value) 0
+abbrev pub identity_asked : ℕ → ℕ → ℕ
+identity_asked offset value = unwrap_or (requested IDENTITIES offset value) 0
 
 -- The stores in flight that lead to one of its places, in their order.
 abbrev pub onto_flights : Option Side → Flying → List Flight → List Flight
 onto_flights None store later = later
 onto_flights (Some side) store later =
-    record { side = side; identity = asked store.offset store.value } ∷ later
+    record { side = side; identity = identity_asked store.offset store.value } ∷ later
 
 abbrev pub flights_in : ImsicState → Passage → List Flying → List Flight
 flights_in i p [] = []
@@ -125,5 +125,5 @@ pub record StandsFor (w : World) (r : Rehearsed) (z : Transit) : Type 0 where
   pub two : AreTwo r.passage.old r.passage.new
   pub sets : SetsStand (width w) (sets_at w (at Old r.passage)) (sets_at w (at New r.passage))
       r.hand z
-  pub routes : RoutesStand r.passage (routes_of w (moved r.passage)) z
+  pub routes : RoutesStand r.passage (routes_of w (mover_of r.passage)) z
   pub flights : FlightsStand w r.passage z

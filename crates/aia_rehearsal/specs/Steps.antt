@@ -17,7 +17,7 @@ use Rattle.aia_world.specs.Changes.{PutsRegister, spot_of, pending_words, enable
 use Rattle.aia_moving.specs.Move.{PostsIf}
 use Rattle.aia_rehearsal.specs.declared.place.Place as ends
 use Rattle.aia_rehearsal.specs.declared.place.Place.TheVariants.{File, Slot}
-use Rattle.aia_rehearsal.specs.Rehearsed.{Carried, Rehearsed, moved, at, names_on}
+use Rattle.aia_rehearsal.specs.Rehearsed.{Carried, Rehearsed, mover_of, at, names_on}
 
 -- The bits of a word that are of identities: bit 0 of the first word is of none.
 abbrev pub identities_in : ℕ → ℕ → ℕ
@@ -37,10 +37,10 @@ Makes Word1 r w u = u ≡ with_entry_word w r.passage.who.found.vm r.passage.who
 Makes Word0 r w u = u ≡ with_entry_word w r.passage.who.found.vm r.passage.who.found.number 0
     (entry_word r.passage.who.found.slot (names_on New r.passage))
 Makes Fence r w u = Fences w u r.passage.who.found.vm r.passage.who.found.number
-Makes Map r w u = u ≡ with_map w (moved r.passage) (names_on New r.passage)
-Makes Unmap r w u = u ≡ with_map w (moved r.passage) (names_on New r.passage)
-Makes Remap r w u = u ≡ with_map w (moved r.passage) (names_on New r.passage)
-Makes GFence r w u = u ≡ with_gfence w (moved r.passage)
+Makes Map r w u = u ≡ with_map w (mover_of r.passage) (names_on New r.passage)
+Makes Unmap r w u = u ≡ with_map w (mover_of r.passage) (names_on New r.passage)
+Makes Remap r w u = u ≡ with_map w (mover_of r.passage) (names_on New r.passage)
+Makes GFence r w u = u ≡ with_gfence w (mover_of r.passage)
 Makes (TakeP k) r w u =
     (k < pending_words w (at Old r.passage)) × (u ≡ with_pending w (at Old r.passage) k 0)
 Makes (PutP k) r w u = (k < pending_words w (at New r.passage))

@@ -8,7 +8,7 @@ ghost use Rattle.aia_regs.specs.FileRegisters.{IsUsable};
 ghost use Rattle.aia_world.specs.Changes.{IsPlaceThere};
 ghost use Rattle.aia_moving.specs.Move.{width};
 ghost use Rattle.aia_moving.specs.Touches.{SameMachine};
-ghost use Rattle.aia_rehearsal.specs.Rehearsed.{Rehearsed, NotBothSlots, IsOf, IsFileThere, at_of, from_to, moved, names_on};
+ghost use Rattle.aia_rehearsal.specs.Rehearsed.{Rehearsed, NotBothSlots, IsOf, IsFileThere, at_of, from_to, mover_of, names_on};
 ghost use Rattle.aia_rehearsal.specs.Steps.{Makes, after, hand_after, identities_in, Puts};
 ghost use Rattle.aia_rehearsal.specs.Stands.{StandsFor};
 

@@ -24,9 +24,9 @@ use Rattle.plans_run.specs.declared.watch.Watch.{Watch}
 use Rattle.plans_run.specs.declared.untold.Store.{Store}
 use Rattle.plans_run.specs.declared.untold.UntoldRun.{UntoldRun}
 use Rattle.plans_run.specs.Search.{or_else}
-use Rattle.plans_run.specs.UntoldSearch.{stored_before, stored_by, tried_untold, untold_of, untold_run_of, untold_word, with_delivery, with_numbers}
+use Rattle.plans_run.specs.UntoldSearch.{stored_before, stored_by, tried_untold, untold_of, untold_run_of, untold_word, with_delivery, untold_with_numbers}
 use Rattle.plans_run.specs.Run.{by_of, extra_at, run_upto, step_at}
-use Rattle.plans_run.specs.Untold.{IsAlone, IsWatched, LeavesUntold, can_come, can_store, enabled_bit, extra_of, is_unstored, is_untold, pending_bit, producer_of, run_in, sees, tells, untold_end, untold_start, watch_after, watch_begun, watch_end, watch_extra, watch_landed, watch_out, watch_route, watch_stepped, watch_upto}
+use Rattle.plans_run.specs.Untold.{IsAlone, IsWatched, LeavesUntold, can_come, can_store, enabled_bit, extra_of, is_unstored, is_untold, pending_bit, producer_of, run_in, watch_sees, watch_tells, untold_end, untold_start, watch_after, watch_begun, watch_end, watch_extra, watch_landed, watch_out, watch_route, watch_stepped, watch_upto}
 use Rattle.plans_run.proofs.FollowLemmas.{follows_landed, follows_step}
 use Rattle.plans_run.proofs.RunLemmas.{MayStore, all_happened-append, below_is, happens_well, true_false}
 use Rattle.plans_run.proofs.FoundLemmas.{IfFound, either, first}
@@ -58,7 +58,7 @@ watched_landed producers terms u place w z v = record {
 fenced : (d : Setting) (p : ℕ) (z : Machine) → z.flights ≡ [] → all_landed d (flights_of p z.flights) z ≡ z
 fenced d p z none = ap (λ fs. all_landed d (flights_of p fs) z) none
 
-seen_after : (producers : List Kind) (terms : Terms) (u : UntoldRun) (x : Step) (w : Watch) (z : Machine) → IsWatched u w z → (stepped (setting_of producers terms) x z).seen ≡ (w.seen || sees terms u.identity x w)
+seen_after : (producers : List Kind) (terms : Terms) (u : UntoldRun) (x : Step) (w : Watch) (z : Machine) → IsWatched u w z → (stepped (setting_of producers terms) x z).seen ≡ (w.seen || watch_sees terms u.identity x w)
 seen_after producers terms u (steps.Look word) w z v = ap₂ (λ a b. a || b) v.seen (word_same producers terms u w z word v)
 seen_after producers terms u (steps.Fence p) w z v = ap (λ (y : Machine). y.seen) (fenced (setting_of producers terms) p z v.flights) ∙ v.seen ∙ or_nothing w.seen
 seen_after producers terms u (steps.Zero Old s k) w z v = v.seen ∙ or_nothing w.seen
@@ -67,7 +67,7 @@ seen_after producers terms u (steps.ZeroNumber Old n) w z v = v.seen ∙ or_noth
 seen_after producers terms u (steps.ZeroNumber New n) w z v = v.seen ∙ or_nothing w.seen
 seen_after producers terms u x w z v = v.seen ∙ or_nothing w.seen
 
-told_after : (producers : List Kind) (terms : Terms) (u : UntoldRun) (x : Step) (w : Watch) (z : Machine) → u.identity / 64 < terms.words → IsWatched u w z → (stepped (setting_of producers terms) x z).told ≡ (w.told || tells terms u.identity x w)
+told_after : (producers : List Kind) (terms : Terms) (u : UntoldRun) (x : Step) (w : Watch) (z : Machine) → u.identity / 64 < terms.words → IsWatched u w z → (stepped (setting_of producers terms) x z).told ≡ (w.told || watch_tells terms u.identity x w)
 told_after producers terms u steps.Post w z inside v = ap₂ (λ a b. a || b) v.told v.seen
 told_after producers terms u steps.Tell w z inside v = ap₂ (λ a b. a || b) v.told (any_same producers terms u w z inside v)
 told_after producers terms u (steps.Fence p) w z inside v = ap (λ (y : Machine). y.told) (fenced (setting_of producers terms) p z v.flights) ∙ v.told ∙ or_nothing w.told
@@ -243,8 +243,8 @@ unfolding with_delivery
 delivery_leaves producers terms plan word store delivery =
     either _ _ _ (tried_leaves producers terms plan _) (either _ _ _ (tried_leaves producers terms plan _) (either _ _ _ (tried_leaves producers terms plan _) (tried_leaves producers terms plan _)))
 
-numbers_leave : (producers : List Kind) (terms : Terms) (plan : List Step) (word : ℕ) (store : Option Store) → IfFound (LeavesUntold (setting_of producers terms) plan) (with_numbers producers terms plan word store)
-unfolding with_numbers
+numbers_leave : (producers : List Kind) (terms : Terms) (plan : List Step) (word : ℕ) (store : Option Store) → IfFound (LeavesUntold (setting_of producers terms) plan) (untold_with_numbers producers terms plan word store)
+unfolding untold_with_numbers
 numbers_leave producers terms plan word store = by_test terms.heeds
   where
     by_test : (b : Bool) → IfFound (LeavesUntold (setting_of producers terms) plan) (if b then or_else (with_delivery producers terms plan word store InOld) (or_else (with_delivery producers terms plan word store InHand) (with_delivery producers terms plan word store InNew)) else tried_untold producers terms plan (untold_of word store InOld (Some InOld)))

@@ -204,24 +204,24 @@ watch_extra terms u k w = elim u.store [
 ]
 
 -- Whether a step looks at the word, and sees the identity stand out.
-abbrev pub sees : Terms → ℕ → Step → Watch → Bool
-sees terms identity (steps.Look word) w =
+abbrev pub watch_sees : Terms → ℕ → Step → Watch → Bool
+watch_sees terms identity (steps.Look word) w =
     nat_eq word (identity / 64) && watch_out terms identity w
-sees terms identity step w = false
+watch_sees terms identity step w = false
 
 -- Whether a step tells the host of the identity.
-abbrev pub tells : Terms → ℕ → Step → Watch → Bool
-tells terms identity steps.Post w = w.seen
-tells terms identity steps.Tell w = watch_out terms identity w
-tells terms identity step w = false
+abbrev pub watch_tells : Terms → ℕ → Step → Watch → Bool
+watch_tells terms identity steps.Post w = w.seen
+watch_tells terms identity steps.Tell w = watch_out terms identity w
+watch_tells terms identity step w = false
 
 -- What a step makes of all that is followed.
 abbrev pub watch_after : Terms → ℕ → ℕ → Step → Watch → Watch
 watch_after terms identity producer step w = record {
   pending = trace_after (pending_bit identity producer) step w.pending;
   enabled = trace_after (enabled_bit identity producer) step w.enabled;
-  seen = w.seen || sees terms identity step w;
-  told = w.told || tells terms identity step w;
+  seen = w.seen || watch_sees terms identity step w;
+  told = w.told || watch_tells terms identity step w;
 }
 
 -- What is followed with one step more, where there is one.

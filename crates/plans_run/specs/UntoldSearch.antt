@@ -40,9 +40,9 @@ with_delivery producers terms plan word store delivery =
 
 -- The first such run with delivery in any spot; one start is enough where the numbers are not
 -- heeded.
-unfoldable pub with_numbers : List Kind → Terms → List Step → ℕ → Option Store
+unfoldable pub untold_with_numbers : List Kind → Terms → List Step → ℕ → Option Store
     → Option UntoldRun
-with_numbers producers terms plan word store =
+untold_with_numbers producers terms plan word store =
     if terms.heeds then or_else (with_delivery producers terms plan word store InOld)
     (or_else (with_delivery producers terms plan word store InHand)
     (with_delivery producers terms plan word store InNew))
@@ -52,11 +52,11 @@ with_numbers producers terms plan word store =
 -- by the written one.
 unfoldable pub stored_before : List Kind → Terms → List Step → ℕ → ℕ → ℕ → Option UntoldRun
 stored_before producers terms plan word producer before =
-    or_else (with_numbers producers terms plan word (Some (record {
+    or_else (untold_with_numbers producers terms plan word (Some (record {
       producer = producer;
       before = before;
       route = InForce;
-    }))) (with_numbers producers terms plan word (Some (record {
+    }))) (untold_with_numbers producers terms plan word (Some (record {
       producer = producer;
       before = before;
       route = Written;
@@ -70,7 +70,7 @@ stored_by producers terms plan word producer =
 -- The first such run of a word, without a store or with one.
 unfoldable pub untold_word : List Kind → Terms → List Step → ℕ → Option UntoldRun
 untold_word producers terms plan word =
-    or_else (with_numbers producers terms plan word None)
+    or_else (untold_with_numbers producers terms plan word None)
     (first_of (stored_by producers terms plan word) 0 (length producers))
 
 -- The first run of any word after which the host was not told.

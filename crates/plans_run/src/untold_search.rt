@@ -4,7 +4,7 @@ ghost use Rattle.std.specs.Prelude.{◌≡◌, IfSome, length};
 ghost use Rattle.plans_machine.specs.Setting.{setting_of};
 ghost use Rattle.plans_run.specs.Search.{first_of};
 ghost use Rattle.plans_run.specs.Untold.{LeavesUntold};
-ghost use Rattle.plans_run.specs.UntoldSearch.{stored_before, stored_by, untold_of, untold_run_of, untold_word, with_delivery, with_numbers};
+ghost use Rattle.plans_run.specs.UntoldSearch.{stored_before, stored_by, untold_of, untold_run_of, untold_word, with_delivery, untold_with_numbers};
 
 use crate::trace::Route;
 use crate::untold::{Store, UntoldRun};
@@ -54,15 +54,15 @@ fn with_delivery(
 
 /// Looks for an untold run with each start of the numbers, where they are heeded, and else with
 /// one. `None`: there is none.
-#[tactic(auto, unfolding(crate::specs::UntoldSearch::with_numbers))]
-fn with_numbers(
+#[tactic(auto, unfolding(crate::specs::UntoldSearch::untold_with_numbers))]
+fn untold_with_numbers(
     producers: &[Kind],
     terms: Terms,
     plan: &[Step],
     word: u32,
     store: Option<Store>,
 ) -> Option<UntoldRun>
-    ensures exact { result ≡ with_numbers producers.now terms plan.now word store }
+    ensures exact { result ≡ untold_with_numbers producers.now terms plan.now word store }
     ensures untold { IfSome result
         (λ run. LeavesUntold (setting_of producers.now terms) plan.now run) }
 {
@@ -99,7 +99,7 @@ fn stored_before(
         before,
         route: Route::InForce,
     };
-    if let Some(run) = with_numbers(producers, terms, plan, word, Some(by_force)) {
+    if let Some(run) = untold_with_numbers(producers, terms, plan, word, Some(by_force)) {
         return Some(run);
     }
     let by_written = Store {
@@ -107,7 +107,7 @@ fn stored_before(
         before,
         route: Route::Written,
     };
-    with_numbers(producers, terms, plan, word, Some(by_written))
+    untold_with_numbers(producers, terms, plan, word, Some(by_written))
 }
 
 /// Looks for an untold run with a store of a producer between any two steps. `None`: there is none.
@@ -155,7 +155,7 @@ fn untold_word(producers: &[Kind], terms: Terms, plan: &[Step], word: u32) -> Op
     ensures untold { IfSome result
         (λ run. LeavesUntold (setting_of producers.now terms) plan.now run) }
 {
-    if let Some(run) = with_numbers(producers, terms, plan, word, None) {
+    if let Some(run) = untold_with_numbers(producers, terms, plan, word, None) {
         return Some(run);
     }
     stored_any(producers, terms, plan, word)

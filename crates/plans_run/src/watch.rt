@@ -1,7 +1,7 @@
 //! What a run does to one identity, and what the host is told of it.
 
 ghost use Rattle.std.specs.Prelude.{◌≡◌};
-ghost use Rattle.plans_run.specs.Untold.{enabled_bit, pending_bit, sees, tells, watch_after, watch_landed, watch_lets, watch_out, watch_route};
+ghost use Rattle.plans_run.specs.Untold.{enabled_bit, pending_bit, watch_sees, watch_tells, watch_after, watch_landed, watch_lets, watch_out, watch_route};
 ghost use Rattle.plans_run.specs.Trace.{trace_after};
 
 use crate::trace::{Case, Route, Trace};
@@ -81,7 +81,7 @@ impl Watch {
 
     /// Tells whether a step looks at an identity, and it stands out.
     fn sees(self, terms: Terms, identity: u64, step: Step) -> bool
-        ensures { result ≡ sees terms identity step self }
+        ensures { result ≡ watch_sees terms identity step self }
     {
         match step {
             Step::Look(word) => word as u64 == identity / 64 && self.is_out(terms, identity),
@@ -91,7 +91,7 @@ impl Watch {
 
     /// Tells whether a step tells the host.
     fn tells(self, terms: Terms, identity: u64, step: Step) -> bool
-        ensures { result ≡ tells terms identity step self }
+        ensures { result ≡ watch_tells terms identity step self }
     {
         match step {
             Step::Post => self.seen,

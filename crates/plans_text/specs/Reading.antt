@@ -71,17 +71,17 @@ abbrev pub is_digit : ℕ → Bool
 is_digit byte = is_in_range 48 57 byte
 
 -- The number that a word of one or two decimal digits spells.
-abbrev pub number_of : Text → Option ℕ
-number_of (d ∷ []) = if is_digit d then Some (d - 48) else None
-number_of (d ∷ e ∷ []) =
+abbrev pub numeral_of : Text → Option ℕ
+numeral_of (d ∷ []) = if is_digit d then Some (d - 48) else None
+numeral_of (d ∷ e ∷ []) =
     if is_digit d then (if is_digit e then Some (10 * (d - 48) + (e - 48)) else None) else None
-number_of word = None
+numeral_of word = None
 
 -- The number that the next word spells, and the text behind it.
-unfoldable pub number_at : Text → Option (ℕ × Text)
-number_at text = do
+unfoldable pub numeral_at : Text → Option (ℕ × Text)
+numeral_at text = do
   word ← next_word text
-  n ← number_of word.0
+  n ← numeral_of word.0
   Some (n, word.1)
 
 -- ---- names
@@ -124,7 +124,7 @@ unfoldable pub word_at : Text → Option (Thing × Text)
 word_at text = do
   word ← next_word text
   bank ← bank_named word.0
-  number ← number_at word.1
+  number ← numeral_at word.1
   Some (things.Word bank number.0, number.1)
 
 -- The number, threshold or delivery, that the next word names, and the text behind it.
@@ -163,7 +163,7 @@ join_of (things.Number number) = None
 -- A step with a number, which is the one word of a text.
 unfoldable pub numbered_at : (ℕ → Step) → Text → Option Step
 numbered_at step text = do
-  number ← number_at text
+  number ← numeral_at text
   at_end number.1 (step number.0)
 
 -- What follows `zero`: a place, and what is zeroed there.
@@ -227,7 +227,7 @@ step_named name text =
 -- What follows `words`: how many words each set has.
 unfoldable pub words_at : Text → Option Line
 words_at text = do
-  number ← number_at text
+  number ← numeral_at text
   at_end number.1 (lines.Words number.0)
 
 -- What follows `producer`: its kind.

@@ -7,7 +7,7 @@ ghost use Rattle.plans_text.specs.Reading as reading;
 use crate::limits::LINE_BYTES;
 use crate::line::{Line, Reading, Thing};
 use crate::words::{
-    at_end, bank_named, before_comment, kind_named, next_word, number_at, number_named,
+    at_end, bank_named, before_comment, kind_named, next_word, number_named, numeral_at,
     place_named, spot_named,
 };
 use plans_machine::{Place, Step};
@@ -19,7 +19,7 @@ fn word_at(text: &[u8]) -> Option<(Thing, &[u8])>
 {
     let (word, rest) = next_word(text)?;
     let bank = bank_named(word)?;
-    let (number, rest) = number_at(rest)?;
+    let (number, rest) = numeral_at(rest)?;
     Some((Thing::Word(bank, number), rest))
 }
 
@@ -128,7 +128,7 @@ fn join_at(text: &[u8]) -> Option<Step>
 fn last_number(text: &[u8]) -> Option<u32>
     ensures { (step : ℕ → Step) → option_map step result ≡ reading.numbered_at step text.now }
 {
-    let (number, rest) = number_at(text)?;
+    let (number, rest) = numeral_at(text)?;
     at_end(rest, number)
 }
 
@@ -200,7 +200,7 @@ fn step_named(name: &[u8], text: &[u8]) -> Option<Step>
 fn words_at(text: &[u8]) -> Option<Line>
     ensures { result ≡ reading.words_at text.now }
 {
-    let (number, rest) = number_at(text)?;
+    let (number, rest) = numeral_at(text)?;
     at_end(rest, Line::Words(number))
 }
 

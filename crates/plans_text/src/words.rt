@@ -10,7 +10,7 @@ use plans_machine::{Bank, Kind, Number, Place, Spot};
 pub(crate) type Cut<'a> = (&'a [u8], &'a [u8]);
 
 /// Finds the first place of a byte in a text. `None`: it has none.
-pub(crate) fn place_of(text: &[u8], byte: u8) -> Option<usize>
+pub(crate) fn find_byte(text: &[u8], byte: u8) -> Option<usize>
     ensures { result ≡ position (λ b. nat_eq b byte) text.now }
 {
     text.iter().position(|b| *b == byte)
@@ -27,7 +27,7 @@ fn place_of_word(text: &[u8]) -> Option<usize>
 pub(crate) fn before_comment(text: &[u8]) -> &[u8]
     ensures { result.now ≡ reading.before_comment text.now }
 {
-    match place_of(text, b'#') {
+    match find_byte(text, b'#') {
         Some(at) => &text[..at],
         None => text,
     }
@@ -38,7 +38,7 @@ fn word_end(text: &[u8]) -> usize
     ensures value { result ≡ reading.word_end text.now }
     ensures within { result ≤ length text.now }
 {
-    match place_of(text, b' ') {
+    match find_byte(text, b' ') {
         Some(at) => at,
         None => text.len(),
     }
@@ -66,8 +66,8 @@ pub(crate) fn at_end<T: Copy>(text: &[u8], read: T) -> Option<T>
 }
 
 /// Gives the number that a word spells, by one or two decimal digits. `None`: it spells none.
-fn number_of(word: &[u8]) -> Option<u32>
-    ensures { result ≡ reading.number_of word.now }
+fn numeral_of(word: &[u8]) -> Option<u32>
+    ensures { result ≡ reading.numeral_of word.now }
 {
     match word {
         [d] => {
@@ -91,12 +91,12 @@ fn number_of(word: &[u8]) -> Option<u32>
 }
 
 /// Reads a number. `None`: the next word is none, or there is no word.
-#[tactic(auto, unfolding(crate::specs::Reading::number_at))]
-pub(crate) fn number_at(text: &[u8]) -> Option<(u32, &[u8])>
-    ensures { option_map (λ read. (read.0, read.1.now)) result ≡ reading.number_at text.now }
+#[tactic(auto, unfolding(crate::specs::Reading::numeral_at))]
+pub(crate) fn numeral_at(text: &[u8]) -> Option<(u32, &[u8])>
+    ensures { option_map (λ read. (read.0, read.1.now)) result ≡ reading.numeral_at text.now }
 {
     let (word, rest) = next_word(text)?;
-    let number = number_of(word)?;
+    let number = numeral_of(word)?;
     Some((number, rest))
 }
 

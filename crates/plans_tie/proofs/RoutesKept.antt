@@ -12,12 +12,12 @@ use Rattle.plans_machine.specs.declared.rule.Rule.TheVariants.{Routes}
 use Rattle.plans_machine.specs.declared.step.Step.TheVariants as steps
 use Rattle.plans_machine.specs.Rules.{Done, is_turned, is_fenced, all_led, old_holds, lets_rest}
 use Rattle.plans_machine.proofs.BoolLaws.{by_case, all_of, and_left, and_right, and_of, or_left, or_false, not_true}
-use Rattle.plans_tie.specs.Translated.{access_of, onto, translated, setting_of}
+use Rattle.plans_tie.specs.Translated.{access_of, onto, translated, shape_setting}
 use Rattle.plans_tie.proofs.Onward.{turned_on, fenced_on, emptied_on, emptied_now}
 
 -- What is known of a word: it is taken still, or is empty; and both fences come before its take.
 pub record Late (words w : ℕ) (rest : Plan) (done : Done) : Type 0 where
-  pub emptied : stands (TakeP w) rest ≡ false → old_holds (setting_of words) Pending w done ≡ false
+  pub emptied : stands (TakeP w) rest ≡ false → old_holds (shape_setting words) Pending w done ≡ false
   pub fence : comes_before Fence (TakeP w) rest ≡ true
   pub gfence : comes_before GFence (TakeP w) rest ≡ true
 
@@ -54,7 +54,7 @@ later_order first second x later e = and_right _ (comes_before first second late
 -- of a word, after a step that is not its take
 late_on : (words w : ℕ) (x : OurStep) (later : Plan) (done : Done) → is_step (TakeP w) x ≡ false → Late words w (x ∷ later) done → Late words w later (onto (access_of x) done)
 late_on words w x later done other late = record {
-  emptied = λ none. emptied_on (setting_of words) Pending w (access_of x) done (late.emptied (or_false (is_step (TakeP w) x) (stands (TakeP w) later) other none));
+  emptied = λ none. emptied_on (shape_setting words) Pending w (access_of x) done (late.emptied (or_false (is_step (TakeP w) x) (stands (TakeP w) later) other none));
   fence = later_order Fence (TakeP w) x later late.fence;
   gfence = later_order GFence (TakeP w) x later late.gfence;
 }
@@ -89,7 +89,7 @@ map_led kind words x later done no_entry no_fence no_gfence turned other led = r
 }
 
 -- both producers are led once both fences are behind
-both_led : (words : ℕ) (done : Done) → is_fenced 0 done ≡ true → is_fenced 1 done ≡ true → all_led (setting_of words) done ≡ true
+both_led : (words : ℕ) (done : Done) → is_fenced 0 done ≡ true → is_fenced 1 done ≡ true → all_led (shape_setting words) done ≡ true
 both_led words done e f = rw (e, f) refl
 
 -- a pending word is taken
@@ -101,16 +101,16 @@ take_led kind words v later done led w low =
     let none0 = none_later Fence (TakeP w) (TakeP v) later late.fence same in
     let none1 = none_later GFence (TakeP w) (TakeP v) later late.gfence same in
     record {
-      emptied = λ none. emptied_now (setting_of words) Pending v w done same (both_led words done (led.fence none0) (led.gfence none1));
+      emptied = λ none. emptied_now (shape_setting words) Pending v w done same (both_led words done (led.fence none0) (led.gfence none1));
       fence = later_order Fence (TakeP w) (TakeP v) later late.fence;
       gfence = later_order GFence (TakeP w) (TakeP v) later late.gfence;
     })
     (λ other. late_on words w (TakeP v) later done other late)
 
-pub routes_kept : (kind : Kind) (words : ℕ) (rest : Plan) (done : Done) → Led kind words rest done → lets_rest Routes (setting_of words) done (translated rest) ≡ true
+pub routes_kept : (kind : Kind) (words : ℕ) (rest : Plan) (done : Done) → Led kind words rest done → lets_rest Routes (shape_setting words) done (translated rest) ≡ true
 routes_kept kind words [] done led =
-    and_of (all_led (setting_of words) done) _ (both_led words done (led.fence refl) (led.gfence refl))
-    (all_of (λ w. not (old_holds (setting_of words) Pending w done)) words (λ w low. ap not ((led.late w low).emptied refl)))
+    and_of (all_led (shape_setting words) done) _ (both_led words done (led.fence refl) (led.gfence refl))
+    (all_of (λ w. not (old_holds (shape_setting words) Pending w done)) words (λ w low. ap not ((led.late w low).emptied refl)))
 routes_kept kind words (Word0 ∷ later) done led = routes_kept kind words later (steps.Route 0 ∷ done) (record {
   entry = λ none. refl;
   fence = λ none. fenced_on 0 (access_of Word0) done (led.fence none);

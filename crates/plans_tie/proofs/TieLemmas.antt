@@ -18,7 +18,7 @@ use Rattle.plans_machine.specs.Rules.{Done, hand_holds, is_blank, has_number, fr
 use Rattle.plans_machine.specs.Safe.{IsSafe}
 use Rattle.plans_machine.proofs.BoolLaws.{and_of, or_right, clash}
 use Rattle.plans_machine.proofs.RulesAreSafe.{rules_are_safe}
-use Rattle.plans_tie.specs.Translated.{access_of, onto, translated, setting_of}
+use Rattle.plans_tie.specs.Translated.{access_of, onto, translated, shape_setting}
 use Rattle.plans_tie.proofs.Onward.{no_number, fresh_is_blank}
 use Rattle.plans_tie.proofs.RoutesKept.{Led, routes_kept}
 use Rattle.plans_tie.proofs.WordsKept.{Held, words_kept}
@@ -27,24 +27,24 @@ use Rattle.plans_tie.proofs.WordsKept.{Held, words_kept}
 stood : {A : Type 0} (step : OurStep) (plan : Plan) → is_once step plan ≡ true → stands step plan ≡ false → A
 stood step plan once none = clash (stands step plan) (once_stands step plan once) none
 
-blank_kept : (words : ℕ) (rest : Plan) (done : Done) → lets_rest Blank (setting_of words) done (translated rest) ≡ true
+blank_kept : (words : ℕ) (rest : Plan) (done : Done) → lets_rest Blank (shape_setting words) done (translated rest) ≡ true
 blank_kept words [] done = refl
 blank_kept words (PutP v ∷ later) done =
-    and_of (not (hand_holds (setting_of words) Pending v done) || is_blank (setting_of words) Pending v done) _
-    (or_right _ (is_blank (setting_of words) Pending v done) (fresh_is_blank (setting_of words) Pending v done refl))
+    and_of (not (hand_holds (shape_setting words) Pending v done) || is_blank (shape_setting words) Pending v done) _
+    (or_right _ (is_blank (shape_setting words) Pending v done) (fresh_is_blank (shape_setting words) Pending v done refl))
     (blank_kept words later (steps.Join Pending v ∷ done))
 blank_kept words (x ∷ later) done = blank_kept words later (onto (access_of x) done)
 
 -- nothing is given back
-freeing_kept : (words : ℕ) (rest : Plan) (done : Done) → list_any frees done ≡ false → lets_rest Freeing (setting_of words) done (translated rest) ≡ true
+freeing_kept : (words : ℕ) (rest : Plan) (done : Done) → list_any frees done ≡ false → lets_rest Freeing (shape_setting words) done (translated rest) ≡ true
 freeing_kept words [] done kept = refl
 freeing_kept words (TakeP v ∷ later) done kept = and_of (not (list_any frees done)) _ (ap not kept) (freeing_kept words later (steps.Take Pending v ∷ done) kept)
 freeing_kept words (TakeE v ∷ later) done kept = and_of (not (list_any frees done)) _ (ap not kept) (freeing_kept words later (steps.Take Enabled v ∷ done) kept)
 freeing_kept words (x ∷ later) done kept = freeing_kept words later (onto (access_of x) done) kept
 
 -- no number is touched
-numbers_kept : (words : ℕ) (rest : Plan) (done : Done) → has_number (setting_of words) Threshold InOld done ≡ true → has_number (setting_of words) Delivery InOld done ≡ true → lets_rest Numbers (setting_of words) done (translated rest) ≡ true
-numbers_kept words [] done threshold delivery = and_of (has_number (setting_of words) Threshold InOld done) _ threshold delivery
+numbers_kept : (words : ℕ) (rest : Plan) (done : Done) → has_number (shape_setting words) Threshold InOld done ≡ true → has_number (shape_setting words) Delivery InOld done ≡ true → lets_rest Numbers (shape_setting words) done (translated rest) ≡ true
+numbers_kept words [] done threshold delivery = and_of (has_number (shape_setting words) Threshold InOld done) _ threshold delivery
 numbers_kept words (Post ∷ later) done threshold delivery = numbers_kept words later (steps.Post ∷ done) threshold delivery
 numbers_kept words (x ∷ later) done threshold delivery = numbers_kept words later (onto (access_of x) done) threshold delivery
 
@@ -75,16 +75,16 @@ held_at_start kind words plan e =
       once = λ w low. inl (below_passes (λ w. is_once (TakeE w) plan) words w enables.0 low);
     }
 
-pub kept_there : (kind : Kind) (words : ℕ) (plan : Plan) → All (IsInside words) plan → failing kind words plan ≡ None → moves (setting_of words) (translated plan) ≡ true
+pub kept_there : (kind : Kind) (words : ℕ) (plan : Plan) → All (IsInside words) plan → failing kind words plan ≡ None → moves (shape_setting words) (translated plan) ≡ true
 kept_there kind words plan inside e =
     let keeps = keeps_all kind words plan e in
     let enables = and_parts (all_below (λ w. is_once (TakeE w) plan) words) (are_paired takes_enables puts_enables None plan) keeps.enables in
-    let d = setting_of words in
+    let d = shape_setting words in
     let named = by_recursion (IsInside words) plan inside in
     and_of (lets_rest Routes d [] (translated plan)) _ (routes_kept kind words plan [] (led_at_start kind words plan e))
     (and_of (lets_rest Words d [] (translated plan)) _ (words_kept words plan None None [] named keeps.pending enables.1 (held_at_start kind words plan e))
     (and_of (lets_rest Blank d [] (translated plan)) _ (blank_kept words plan [])
     (and_of (lets_rest Numbers d [] (translated plan)) (lets_rest Freeing d [] (translated plan)) (numbers_kept words plan [] refl refl) (freeing_kept words plan [] refl))))
 
-pub safe_there : (kind : Kind) (words : ℕ) (plan : Plan) → All (IsInside words) plan → failing kind words plan ≡ None → IsSafe (setting_of words) (translated plan)
-safe_there kind words plan inside e = rules_are_safe (setting_of words) (translated plan) (kept_there kind words plan inside e)
+pub safe_there : (kind : Kind) (words : ℕ) (plan : Plan) → All (IsInside words) plan → failing kind words plan ≡ None → IsSafe (shape_setting words) (translated plan)
+safe_there kind words plan inside e = rules_are_safe (shape_setting words) (translated plan) (kept_there kind words plan inside e)

@@ -12,17 +12,17 @@ use Rattle.plans_machine.specs.declared.rule.Rule.TheVariants.{Words}
 use Rattle.plans_machine.specs.declared.step.Step.TheVariants as steps
 use Rattle.plans_machine.specs.Rules.{Done, old_holds, hand_holds, is_filled, is_moved, lets_rest}
 use Rattle.plans_machine.proofs.BoolLaws.{by_case, all_of, false_of, and_left, and_right, and_of, not_true, or_false_left, or_false_right, clash}
-use Rattle.plans_tie.specs.Translated.{access_of, onto, translated, setting_of}
+use Rattle.plans_tie.specs.Translated.{access_of, onto, translated, shape_setting}
 use Rattle.plans_tie.proofs.Onward.{same_number, numbers_are_one, no_number, emptied_on, emptied_now, hand_beside, hand_joined, hand_put, filled_beside}
 
 -- What is in the hand is the word that was taken just now. A word of the enables that has come to the
 -- new place is taken no more; each is taken once, or was taken and is empty.
 pub record Held (words : ℕ) (pending enables : Option ℕ) (rest : Plan) (done : Done) : Type 0 where
-  pub pending_held : (w : ℕ) → hand_holds (setting_of words) Pending w done ≡ true → pending ≡ Some w
-  pub enables_held : (w : ℕ) → hand_holds (setting_of words) Enabled w done ≡ true → enables ≡ Some w
-  pub filled : (w : ℕ) → is_filled (setting_of words) Enabled w done ≡ true → (is_never (TakeE w) rest ≡ true) × (enables ≡ Some w → ⊥)
+  pub pending_held : (w : ℕ) → hand_holds (shape_setting words) Pending w done ≡ true → pending ≡ Some w
+  pub enables_held : (w : ℕ) → hand_holds (shape_setting words) Enabled w done ≡ true → enables ≡ Some w
+  pub filled : (w : ℕ) → is_filled (shape_setting words) Enabled w done ≡ true → (is_never (TakeE w) rest ≡ true) × (enables ≡ Some w → ⊥)
   pub taken : (w : ℕ) → enables ≡ Some w → is_never (TakeE w) rest ≡ true
-  pub once : (w : ℕ) → w < words → (is_once (TakeE w) rest ≡ true) ⊎ ((is_never (TakeE w) rest ≡ true) × (old_holds (setting_of words) Enabled w done ≡ false))
+  pub once : (w : ℕ) → w < words → (is_once (TakeE w) rest ≡ true) ⊎ ((is_never (TakeE w) rest ≡ true) × (old_holds (shape_setting words) Enabled w done ≡ false))
 
 none_same : (t : Option ℕ) → is_same t None ≡ true → t ≡ None
 none_same None e = refl
@@ -58,9 +58,9 @@ not_here : (v w : ℕ) (later : Plan) → is_never (TakeE w) (TakeE v ∷ later)
 not_here v w later e = or_false_left (nat_eq v w) (stands (TakeE w) later) (not_true _ e)
 
 -- the end
-words_end : (words : ℕ) (pending enables : Option ℕ) (done : Done) → pending ≡ None → enables ≡ None → Held words pending enables [] done → lets_rest Words (setting_of words) done [] ≡ true
+words_end : (words : ℕ) (pending enables : Option ℕ) (done : Done) → pending ≡ None → enables ≡ None → Held words pending enables [] done → lets_rest Words (shape_setting words) done [] ≡ true
 words_end words pending enables done p e held =
-    let d = setting_of words in
+    let d = shape_setting words in
     all_of (λ w. not (hand_holds d Pending w done) && is_moved d Enabled w done) words (λ w low.
     let no_pending = false_of (hand_holds d Pending w done) (λ h. empty_hand pending w p (held.pending_held w h)) in
     let no_enables = false_of (hand_holds d Enabled w done) (λ h. empty_hand enables w e (held.enables_held w h)) in
@@ -72,7 +72,7 @@ words_end words pending enables done p e held =
 pending_taken : (words v : ℕ) (pending enables : Option ℕ) (later : Plan) (done : Done) → pending ≡ None → enables ≡ None → Held words pending enables (TakeP v ∷ later) done → Held words (Some v) None later (steps.Take Pending v ∷ done)
 pending_taken words v pending enables later done p e held = record {
   pending_held = λ w h. by_case (nat_eq v w) (λ same. ap Some (numbers_are_one v w same))
-      (λ other. empty_hand pending w p (held.pending_held w (sym (hand_beside (setting_of words) Pending v w done other) ∙ h)));
+      (λ other. empty_hand pending w p (held.pending_held w (sym (hand_beside (shape_setting words) Pending v w done other) ∙ h)));
   enables_held = λ w h. empty_hand enables w e (held.enables_held w h);
   filled = λ w h. ((held.filled w h).0, λ f. no_number f);
   taken = λ w f. no_number f;
@@ -82,7 +82,7 @@ pending_taken words v pending enables later done p e held = record {
 pending_joined : (words v : ℕ) (pending enables : Option ℕ) (later : Plan) (done : Done) → pending ≡ Some v → enables ≡ None → Held words pending enables (PutP v ∷ later) done → Held words None None later (steps.Join Pending v ∷ done)
 pending_joined words v pending enables later done p e held = record {
   pending_held = λ w h.
-      let was = hand_joined (setting_of words) Pending v w done h in
+      let was = hand_joined (shape_setting words) Pending v w done h in
       other_word pending v w p (held.pending_held w was.1) was.0;
   enables_held = λ w h. empty_hand enables w e (held.enables_held w h);
   filled = λ w h. ((held.filled w h).0, λ f. no_number f);
@@ -93,7 +93,7 @@ pending_joined words v pending enables later done p e held = record {
 enables_taken : (words v : ℕ) (pending enables : Option ℕ) (later : Plan) (done : Done) → v < words → pending ≡ None → enables ≡ None → Held words pending enables (TakeE v ∷ later) done
     → Held words None (Some v) later (steps.Take Enabled v ∷ done)
 enables_taken words v pending enables later done inside p e held =
-    let d = setting_of words in
+    let d = shape_setting words in
     let here = same_number v in
     let never : is_never (TakeE v) later ≡ true = elim (held.once v inside) [
       | inl once ↦ once_here (nat_eq v v) (is_never (TakeE v) later) (is_once (TakeE v) later) here once
@@ -117,7 +117,7 @@ enables_taken words v pending enables later done inside p e held =
 
 enables_put : (words v : ℕ) (pending enables : Option ℕ) (later : Plan) (done : Done) → pending ≡ None → enables ≡ Some v → Held words pending enables (PutE v ∷ later) done → Held words None None later (steps.Put Enabled v ∷ done)
 enables_put words v pending enables later done p e held =
-    let d = setting_of words in
+    let d = shape_setting words in
     record {
       pending_held = λ w h. empty_hand pending w p (held.pending_held w h);
       enables_held = λ w h.
@@ -133,17 +133,17 @@ enables_put words v pending enables later done p e held =
       once = held.once;
     }
 
-not_filled : (words v : ℕ) (pending enables : Option ℕ) (rest : Plan) (done : Done) → enables ≡ Some v → Held words pending enables rest done → is_filled (setting_of words) Enabled v done ≡ false
-not_filled words v pending enables rest done e held = false_of (is_filled (setting_of words) Enabled v done) (λ h. (held.filled v h).1 e)
+not_filled : (words v : ℕ) (pending enables : Option ℕ) (rest : Plan) (done : Done) → enables ≡ Some v → Held words pending enables rest done → is_filled (shape_setting words) Enabled v done ≡ false
+not_filled words v pending enables rest done e held = false_of (is_filled (shape_setting words) Enabled v done) (λ h. (held.filled v h).1 e)
 
 pub words_kept : (words : ℕ) (rest : Plan) (pending enables : Option ℕ) (done : Done) → AllByRecursion (IsInside words) rest → are_paired takes_pending puts_pending pending rest ≡ true
-    → are_paired takes_enables puts_enables enables rest ≡ true → Held words pending enables rest done → lets_rest Words (setting_of words) done (translated rest) ≡ true
+    → are_paired takes_enables puts_enables enables rest ≡ true → Held words pending enables rest done → lets_rest Words (shape_setting words) done (translated rest) ≡ true
 words_kept words [] pending enables done inside p e held = words_end words pending enables done (none_same pending p) (none_same enables e) held
 words_kept words (TakeP v ∷ later) pending enables done inside p e held =
     let no_pending = none_same pending (and_left _ _ p) in
     let no_enables = none_same enables (and_left _ _ e) in
-    let free = false_of (hand_holds (setting_of words) Pending v done) (λ h. empty_hand pending v no_pending (held.pending_held v h)) in
-    and_of (not (hand_holds (setting_of words) Pending v done)) _ (ap not free)
+    let free = false_of (hand_holds (shape_setting words) Pending v done) (λ h. empty_hand pending v no_pending (held.pending_held v h)) in
+    and_of (not (hand_holds (shape_setting words) Pending v done)) _ (ap not free)
     (words_kept words later (Some v) None (steps.Take Pending v ∷ done) inside.1 (and_right _ _ p) (and_right _ _ e) (pending_taken words v pending enables later done no_pending no_enables held))
 words_kept words (PutP v ∷ later) pending enables done inside p e held =
     words_kept words later None None (steps.Join Pending v ∷ done) inside.1 (and_right _ _ p) (and_right _ _ e)
@@ -151,13 +151,13 @@ words_kept words (PutP v ∷ later) pending enables done inside p e held =
 words_kept words (TakeE v ∷ later) pending enables done inside p e held =
     let no_pending = none_same pending (and_left _ _ p) in
     let no_enables = none_same enables (and_left _ _ e) in
-    let free = false_of (hand_holds (setting_of words) Enabled v done) (λ h. empty_hand enables v no_enables (held.enables_held v h)) in
-    and_of (not (hand_holds (setting_of words) Enabled v done)) _ (ap not free)
+    let free = false_of (hand_holds (shape_setting words) Enabled v done) (λ h. empty_hand enables v no_enables (held.enables_held v h)) in
+    and_of (not (hand_holds (shape_setting words) Enabled v done)) _ (ap not free)
     (words_kept words later None (Some v) (steps.Take Enabled v ∷ done) inside.1 (and_right _ _ p) (and_right _ _ e) (enables_taken words v pending enables later done inside.0 no_pending no_enables held))
 words_kept words (PutE v ∷ later) pending enables done inside p e held =
     let in_hand = some_same enables v (and_left _ _ e) in
     let no_pending = none_same pending (and_left _ _ p) in
-    and_of (not (is_filled (setting_of words) Enabled v done)) _ (ap not (not_filled words v pending enables (PutE v ∷ later) done in_hand held))
+    and_of (not (is_filled (shape_setting words) Enabled v done)) _ (ap not (not_filled words v pending enables (PutE v ∷ later) done in_hand held))
     (words_kept words later None None (steps.Put Enabled v ∷ done) inside.1 (and_right _ _ p) (and_right _ _ e) (enables_put words v pending enables later done no_pending in_hand held))
 words_kept words (x ∷ later) pending enables done inside p e held =
     let no_pending = none_same pending (and_left _ _ p) in

@@ -41,8 +41,8 @@ translated (x ∷ later) = onto (access_of x) (translated later)
 
 -- Both producers have a route, the new place is known to hold nothing, and the numbers stay. It is
 -- no memory, as the rule on plans of our shape says nothing of notices.
-abbrev pub setting_of : ℕ → Setting
-setting_of words = record {
+abbrev pub shape_setting : ℕ → Setting
+shape_setting words = record {
   producers = Routed ∷ Routed ∷ [];
   words = words;
   is_fresh = true;

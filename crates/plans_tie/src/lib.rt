@@ -8,7 +8,7 @@ ghost use Rattle.aia_plan.specs.Plan.{Plan, IsInside};
 ghost use Rattle.aia_plan.specs.Rule.{failing};
 ghost use Rattle.plans_machine.specs.Rules.{moves};
 ghost use Rattle.plans_machine.specs.Safe.{IsSafe};
-ghost use Rattle.plans_tie.specs.Translated.{setting_of, translated};
+ghost use Rattle.plans_tie.specs.Translated.{shape_setting, translated};
 
 use aia_plan::Kind;
 
@@ -17,7 +17,7 @@ use aia_plan::Kind;
 #[tactic(auto, using(crate::proofs::TieLemmas::kept_there, crate::proofs::TieLemmas::safe_there))]
 pub fn accepted_plans_of_ours_are_accepted_there()
     ensures moves { (kind : Kind) (words : ℕ) (plan : Plan) → All (IsInside words) plan
-        → failing kind words plan ≡ None → moves (setting_of words) (translated plan) ≡ true }
+        → failing kind words plan ≡ None → moves (shape_setting words) (translated plan) ≡ true }
     ensures safe { (kind : Kind) (words : ℕ) (plan : Plan) → All (IsInside words) plan
-        → failing kind words plan ≡ None → IsSafe (setting_of words) (translated plan) }
+        → failing kind words plan ≡ None → IsSafe (shape_setting words) (translated plan) }
 {}
