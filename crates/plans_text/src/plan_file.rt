@@ -8,7 +8,7 @@ ghost use Rattle.plans_text.specs.Streaming.{NoEnd};
 use crate::draft::Draft;
 use crate::line::{Line, Reading};
 use crate::parse::parse_line;
-use crate::words::place_of;
+use crate::words::find_byte;
 use std::alloc::{AllocError, Global};
 use std::mem::swap;
 
@@ -136,7 +136,7 @@ pub fn answers(alloc: Global, bytes: &[u8]) -> Result<Vec<u8>, AllocError>
 {
     let mut file = PlanFile::new(alloc);
     let mut rest = bytes;
-    while let Some(end) = place_of(rest, b'\n') {
+    while let Some(end) = find_byte(rest, b'\n') {
         file.add_text(alloc, &rest[..end])?;
         rest = &rest[end + 1..];
     }

@@ -6,7 +6,7 @@ ghost use Rattle.plans_text.specs.PlanFile.{AreInFile};
 ghost use Rattle.plans_text.specs.Streaming.{HasRead, IsReady, NoEnd, NoneWaits, WhateverWasRead, lines_read};
 
 use crate::plan_file::PlanFile;
-use crate::words::place_of;
+use crate::words::find_byte;
 use std::alloc::{AllocError, Global};
 
 /// Reads a file of plans that comes in pieces, and keeps one plan of it.
@@ -53,7 +53,7 @@ impl PlanReader {
             (λ given bytes. HasRead self.new given (bytes ++ piece.now))) }
     {
         let mut left = piece;
-        while let Some(end) = place_of(left, b'\n') {
+        while let Some(end) = find_byte(left, b'\n') {
             self.read_line(alloc, &left[..end])?;
             left = &left[end + 1..];
         }

@@ -66,7 +66,7 @@ number_taken c =
     let slot = slot_is x c.args.self.now c.args.found c.self.view_is c.requires.found in
     let low = slot_low x c.args.self.now c.args.found c.self.view_is c.self.invariant.0 c.requires.found in
     let all : modulus ≡ x.world.n + 1 = ap (λ m. 64 * m) c.from-modulus.ensures ∙ c.words.ensures.all in
-    let number = sym c.is_outside_sets.ensures ∙ c.if-is_number.true in
+    let number = sym c.is_outside_sets.ensures ∙ c.if-is_outside_sets.true in
     let after = record (record_of x g) { stay = stays.InMemory Entered now } in
     memory_accessed x y c.args.found.vm c.args.found.number c.args.csr csrs.Reg op kept now (reaches.File reg) c.access_kept_in.result a.whole a.there a.at table refl refl named.0
     (c.access_kept_in.ensures.value ∙ number_value x.world (slot_of x.world.vms g) kept reg number ∙ ap (register_value (file_in_memory x.world (slot_of x.world.vms g) kept)) (sym named.1))
@@ -86,7 +86,7 @@ sets_taken c =
     let a = asked x c.args.self.now g kept c.self.view_is (record { there = c.requires.found.there; whole = c.requires.whole; at = c.requires.entered }) in
     let table = reached x c.args.self.now g (reaches.File reg) c.guest_reached.result c.args.csr op c.self.view_is c.in-File.is c.guest_reached.ensures.table in
     let named = names x g (reaches.File reg) c.args.csr op table in
-    let sets = sym c.is_outside_sets.ensures ∙ c.if-is_number.false in
+    let sets = sym c.is_outside_sets.ensures ∙ c.if-is_outside_sets.false in
     let done : DoneInSlot x.world y.world q 0 (accessed reg op) = subst (λ q. DoneInSlot x.world y.world q 0 (accessed reg op)) (slot_is x c.args.self.now c.args.found c.self.view_is c.requires.found) c.slot_reg.ensures.done in
     memory_accessed x y c.args.found.vm c.args.found.number c.args.csr csrs.Reg op kept kept (reaches.File reg) c.slot_reg.result a.whole a.there a.at table refl refl named.0
     (c.slot_reg.ensures.value ∙ ap (λ q. register_value (file_of_slot x.world q 0) reg) (slot_is x c.args.self.now c.args.found c.self.view_is c.requires.found) ∙ sets_value x.world q kept reg sets ∙ ap (register_value (file_in_memory x.world q kept)) (sym named.1))
@@ -116,8 +116,8 @@ invariant_of-self c = (still _ _ _ _ (select_taken c) c.self.invariant.0, (let r
 pub returns-in-Select : goal.returns-in-Select
 returns-in-Select c = rw (← c.self.view_is) (select_taken c)
 
-pub invariant_of-self-then-is_number : goal.invariant_of-self-then-is_number
-invariant_of-self-then-is_number c = (still _ _ _ _ (number_taken c) c.self.invariant.0, (let room = c.access_kept_in.ensures.room in let before = c.self.invariant.1 in omega (arith, room, before)))
+pub invariant_of-self-then-is_outside_sets : goal.invariant_of-self-then-is_outside_sets
+invariant_of-self-then-is_outside_sets c = (still _ _ _ _ (number_taken c) c.self.invariant.0, (let room = c.access_kept_in.ensures.room in let before = c.self.invariant.1 in omega (arith, room, before)))
 
 pub returns-in-File : goal.returns-in-File
 returns-in-File c = rw (← c.self.view_is) (number_taken c)
