@@ -71,16 +71,16 @@ landings_by_notices past v k f good = by_store (flying past v k) refl
     by_store (Some s) e = rw e (either_notice _ past v f (sent_to v s) refl (flying_there past v k s good e))
 
 -- nothing waits between lines, so what does nothing to the APLIC sends nothing
-all_sent : (past : History) → with_all_sent (acts_of past) ≡ acts_of past
+pub all_sent : (past : History) → with_all_sent (acts_of past) ≡ acts_of past
 all_sent past = ap (λ waiting. sent_by waiting (acts_of past)) (none_waits past)
 
-pub same_acts : (past : History) (line : Line) (v : ℕ) → is_doing_of v line ≡ true → acts_of (Accepted line ∷ past) ≡ acts_of past
-same_acts past (lines.Msi vm addr value) v its = all_sent past
-same_acts past (Ipi vm number to value) v its = all_sent past
-same_acts past (Send vm addr value) v its = all_sent past
-same_acts past (Land vm k) v its = all_sent past
-same_acts past (GuestCsr vm number csr op) v its = all_sent past
-same_acts past line v its = absurd (false≢true its)
+pub doing_keeps_acts : (past : History) (line : Line) (v : ℕ) → is_doing_of v line ≡ true → acts_of (Accepted line ∷ past) ≡ acts_of past
+doing_keeps_acts past (lines.Msi vm addr value) v its = all_sent past
+doing_keeps_acts past (Ipi vm number to value) v its = all_sent past
+doing_keeps_acts past (Send vm addr value) v its = all_sent past
+doing_keeps_acts past (Land vm k) v its = all_sent past
+doing_keeps_acts past (GuestCsr vm number csr op) v its = all_sent past
+doing_keeps_acts past line v its = absurd (false≢true its)
 
 pub own_number : (h : History) (g x : Vcpu) → has_vcpu h g ≡ true → has_vcpu h x ≡ true → notice_number h g ≡ notice_number h x → g ≡ x
 own_number h g x here there e = same_slot (vms_of h) g x here there (omega (arith, e))
