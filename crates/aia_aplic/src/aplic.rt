@@ -50,8 +50,7 @@ impl Model for Aplic {
 
 impl Aplic {
     /// Makes the APLIC of `harts` harts, up to `HARTS`, and `sources` wired sources, 1 to
-    /// `SOURCES`: every
-    /// source is inactive, and every register 0 but `domaincfg`.
+    /// `SOURCES`: every source is inactive, and every register 0 but `domaincfg`.
     pub fn new(alloc: Global, harts: u32, sources: u32) -> Result<Aplic, AllocError>
         requires some { 1 ≤ sources }
         requires few { sources ≤ SOURCES }

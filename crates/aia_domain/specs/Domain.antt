@@ -41,7 +41,7 @@ with_sources d sources = record d { sources = sources }
 
 -- ---- a store
 
--- A domaincfg is written: where the delivery mode changes, all sources begin with it.
+-- A domaincfg is written: where the delivery mode changes, each source hears of it.
 abbrev pub configured_by : ℕ → Bool → ℕ → InterruptSourceState → InterruptSourceState
 configured_by cfg msi s x = if same_bool msi (is_by_msi cfg) then x else switched (is_by_msi cfg) x
 
@@ -78,8 +78,8 @@ domain_after reg v d = d
 
 -- ---- a load
 
--- What a load of a register reads: 0 where none is there. The registers of the harts' delivery are
--- not kept here.
+-- What a load of a register reads: 0 where none is there. The registers of the harts' delivery and
+-- of MSI addresses are not kept here.
 -- "Memory-mapped control region for an interrupt domain".
 abbrev pub domain_read : DomainState → DomainReg → ℕ
 domain_read d DomainCfg = domaincfg_read d.on d.msi

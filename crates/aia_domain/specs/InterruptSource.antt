@@ -107,7 +107,7 @@ changed_by changes.Forward leaf harts msi x = with_deed true Forwarded x
 
 -- ---- what registers show of it
 
--- Its sourcecfg: in the root domain one that delegates it, and else the mode's number.
+-- Its sourcecfg: in the root domain, where that delegates it, DELEGATED; else the mode's number.
 abbrev pub sourcecfg_shown : Bool → InterruptSourceState → ℕ
 sourcecfg_shown leaf x = if not leaf && x.delegated then DELEGATED else mode_number x.source.mode
 
@@ -176,6 +176,8 @@ abbrev pub candidates_of : ℕ → Bool → List InterruptSourceState → ℕ �
 candidates_of harts msi sources hart =
     if nat_le harts hart then [] else pairs_for msi sources hart
 
+-- The sourcecfg of a source by its number, whether it is active, and its target: 0, or false, of
+-- one that isn't there.
 abbrev pub sourcecfg_at : List InterruptSourceState → Bool → ℕ → ℕ
 sourcecfg_at sources leaf s = option_map_or (sourcecfg_shown leaf) (slice_get sources s) 0
 

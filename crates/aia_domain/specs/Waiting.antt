@@ -39,7 +39,7 @@ abbrev pub pair_of_aim : ℕ → ℕ → Option Aim → Option Pair
 pair_of_aim hart s None = None
 pair_of_aim hart s (Some aim) = if nat_eq aim.hart hart then Some (aim.priority, s) else None
 
--- The pairs of a list with one more at its place, without one.
+-- A list with a pair put in at its place, or taken out, where there is a pair.
 abbrev pub with_pair : Option Pair → CandidatesState → CandidatesState
 with_pair o x = record x { pairs = put_if o x.pairs }
 

@@ -17,7 +17,7 @@ use std::alloc::{AllocError, Global};
 use std::marker::Model;
 
 /// One interrupt domain of an APLIC, as wired sources and registers see it. The registers of the
-/// harts' delivery are not kept here: they read 0 and ignore writes.
+/// harts' delivery and of MSI addresses are not kept here: they read 0 and ignore writes.
 ///
 /// AIA 1.0, APLIC, "Interrupt domains".
 #[derive(Drop)]

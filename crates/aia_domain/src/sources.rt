@@ -52,7 +52,7 @@ impl Model for Sources {
 }
 
 impl Sources {
-    /// Makes so many wired sources of a domain, which are all inactive, and that delivers directly.
+    /// Makes so many wired sources, all inactive, of a domain that delivers directly.
     pub(crate) fn new(
         alloc: Global,
         sources: u32,

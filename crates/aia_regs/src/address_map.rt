@@ -1,5 +1,6 @@
-//! Where the interrupt files of harts, the domains of the APLIC and the memory lie. Profile: each
-//! begins right after what comes before it, and the sizes follow from the limits.
+//! Where the interrupt files of harts, the domains of the APLIC and the memory lie. Profile: all
+//! addresses. A hart's stride and the size of memory follow from the limits; a law says that
+//! nothing overlaps.
 
 ghost use Rattle.std.specs.Prelude.{◌≡◌, ◌<◌, ◌≤◌};
 ghost use Rattle.aia_regs.specs.declared.limits.TheConstants.{HARTS};

@@ -53,7 +53,7 @@ pub enum DomainReg {
     /// `iforce` of the hart with this index, 0 to 511: forces an interrupt.
     IForce(u32),
     /// `ithreshold` of the hart with this index, 0 to 511: the priority from which interrupts are
-    /// held back.
+    /// held back; 0 holds none back.
     IThreshold(u32),
     /// `topi` of the hart with this index, 0 to 511: the interrupt on top.
     TopI(u32),

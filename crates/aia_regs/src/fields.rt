@@ -30,7 +30,7 @@ pub fn bits(x: u64, hi: u32, lo: u32) -> u64
 }
 
 /// Gives the number `x` with `v`, which fits, in its field `hi:lo`, of the bits 0 to 63; all other
-/// bits stay, so that a number of 32 bits is one after it too.
+/// bits stay, so that a number of 32 bits is one after it too where `hi` is below 32.
 pub fn put_bits(x: u64, hi: u32, lo: u32, v: u64) -> u64
     requires order { lo ≤ hi }
     requires within { hi < 64 }

@@ -86,7 +86,8 @@ pub fn map_of_addresses()
     ensures pattern { PATTERN * PAGE ≡ supervisor_page 0 }
 {}
 
-/// What bounds each limit of the machine: it may be raised as far as these hold.
+/// What bounds the limits of the machine, beside the map of addresses: none may be raised beyond
+/// it. Nothing is said here of passes and of stores in flight.
 ///
 /// A domain's region has 32 bytes of controls for each hart. A CSR names a guest file by 6 bits, of
 /// which 0 is none. A slot has two words for each 64 identities, and a table one entry of 16 bytes

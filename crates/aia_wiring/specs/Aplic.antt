@@ -7,7 +7,7 @@ use Rattle.aia_msiaddr.specs.Registers.{AddressRegisters, new_addresses}
 use Rattle.aia_model.specs.AddressOf.{addresses_of}
 use Rattle.aia_wiring.specs.Side.{SideState, SideStands, IsNewSide}
 
--- Both, and the registers of MSI addresses.
+-- Both domains, and the registers of MSI addresses.
 pub record AplicState : Type 0 where
   pub root : SideState
   pub child : SideState

@@ -11,7 +11,7 @@ use Rattle.aia_direct.specs.Idc.{IdcState, new_idc, control_written, control_cla
 abbrev pub EachControl : List IdcState → List IdcState → (ℕ → IdcState → IdcState) → Type 0
 EachControl old new change = EachAt old new change
 
--- Whether a register is one of a hart's control, and whether of this hart's.
+-- Whether a register is one of a hart's control.
 abbrev pub is_control : DomainReg → Bool
 is_control (IDelivery hart) = true
 is_control (IForce hart) = true
@@ -20,6 +20,7 @@ is_control (TopI hart) = true
 is_control (ClaimI hart) = true
 is_control reg = false
 
+-- Whether it is this hart's idelivery, iforce or ithreshold: a write changes no other.
 abbrev pub is_of_hart : DomainReg → ℕ → Bool
 is_of_hart (IDelivery x) hart = nat_eq x hart
 is_of_hart (IForce x) hart = nat_eq x hart
