@@ -25,7 +25,7 @@ register_access level reg = reaches.File reg
 
 -- The table, by level, CSR and instruction, the select number, and hvictl's VTI.
 -- AIA 1.0, IMSIC, and Interrupts for Virtual Machines (VS Level). A host's access to stopi, sip or
--- sie is not modelled.
+-- sie is not modelled: no text spells one, and the last row is of these alone.
 abbrev pub csr_access : Level → Csr → Op → ℕ → Bool → CsrAccess
 csr_access level csrs.Select op select vti = reaches.Select
 csr_access level csrs.Topei op select vti = reaches.Top

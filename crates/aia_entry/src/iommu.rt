@@ -64,7 +64,7 @@ impl Iommu {
         self.tables[vm as usize].route(addr)
     }
 
-    /// Puts the entry of a file of a VM that stands in force, as its two words in memory say it.
+    /// Puts in force the entry of a file of a VM that stands, as its two words in memory say it.
     /// The file is one that addresses name, and memory has both words. All other entries in force
     /// stay.
     pub fn fence(&mut self, vm: u32, file: u32, ram: &Ram)
@@ -77,7 +77,7 @@ impl Iommu {
         fetch_at(&mut self.tables, vm as usize, file, ram);
     }
 
-    /// Reads the entry of a file of a VM that stands again, as an IOMMU may at any time: what its
+    /// Reads again the entry of a file of a VM that stands, as an IOMMU may at any time: what its
     /// two words in memory say is in force then. The file and memory are as of [`Iommu::fence`].
     /// All other entries in force stay.
     ///

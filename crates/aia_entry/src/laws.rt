@@ -39,7 +39,7 @@ pub fn order_of_looks()
 {}
 
 /// An address is an MSI address of a VM exactly where its page has the pattern's bit at each place
-/// where the mask has a 0, and the file that it names is one of the table's.
+/// where the mask has a 0. The file that an address names is one of the table's.
 #[tactic(auto, using(crate::proofs::TableLemmas::agrees, crate::proofs::TableLemmas::named_has_entry))]
 pub fn addresses_name_files()
     ensures pattern { (mask addr : ℕ) → (is_msi_address mask addr ≡ true)

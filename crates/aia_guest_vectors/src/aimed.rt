@@ -17,7 +17,7 @@ ghost use Rattle.aia_model.specs.SourceOf.{target};
 ghost use Rattle.aia_vectors.specs.Rows.{script_of, answers_of};
 
 /// Two sources are passed to a virtual hart, which begins to leave its guest file: the G-stage
-/// record is fenced, and the first source is aimed at memory, but not the second one.
+/// record is fenced, and the first source is aimed at the notice hart, but not the second one.
 pub const STOPPED_BETWEEN_AIMS: [(&str, &str); 21] = [
     ("machine 1 1 63 2", "ok"),
     ("st 0x0c000004 0x400", "ok"),
@@ -42,9 +42,9 @@ pub const STOPPED_BETWEEN_AIMS: [(&str, &str); 21] = [
     ("step 0 0", "moving"),
 ];
 
-/// What holds of the passes after every history holds of one that a script reaches, with passes, in
-/// the middle of a move: [`STOPPED_BETWEEN_AIMS`] is answered as it says, and the first source
-/// is aimed at the file of its notice hart by then, the second one still at guest file 1.
+/// What holds of the passes after every history is said also of one with passes, in the middle of a
+/// move: [`STOPPED_BETWEEN_AIMS`] reaches it, and is answered as it says. By then the first source
+/// is aimed at the file of its notice hart, the second one still at guest file 1.
 pub fn a_script_stops_between_two_aims()
     ensures answers { answers (script_of STOPPED_BETWEEN_AIMS)
         ≡ answers_of STOPPED_BETWEEN_AIMS }

@@ -1,5 +1,5 @@
 -- A memory-resident interrupt file (MRIF) as an interrupt file, which the accesses of a guest reach
--- while no file of a hart holds its interrupts, and what such an access keeps.
+-- by its hypervisor while no file of a hart holds its interrupts, and what such an access keeps.
 -- AIA 1.0, IOMMU Support for MSIs to Virtual Machines, "Memory-resident interrupt files".
 use Rattle.std.specs.Prelude.{◌≡◌, ◌⊎◌, ℕ, ◌+◌, ◌*◌, ◌%◌, ◌<◌, ◌≤◌, false, ◌&&◌, List, length, slice_index}
 use Rattle.std.specs.Int.{is_in_range}
@@ -9,7 +9,7 @@ use Rattle.aia_file.specs.InterruptFile.{InterruptFile}
 use Rattle.aia_mrif.specs.Mrif.{Mrif, mrif_in}
 
 -- The MRIF as an interrupt file of the identities 1 to n with a threshold; it shows no other
--- identity.
+-- identity. Its eidelivery says nothing: a slot has none.
 abbrev pub slot_file : ℕ → ℕ → Mrif → InterruptFile
 slot_file n threshold slot = record {
   n = n;

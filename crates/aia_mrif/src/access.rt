@@ -17,8 +17,8 @@ use aia_steps::Steps;
 use std::marker::Brand;
 use std::sync::ledger::{Blank, Ledger};
 
-/// What the accesses of a guest do whose interrupts are in memory: the slot is reached as an
-/// interrupt file of the identities 1 to `n`, which is 63, 127, 255, 511, 1023 or 2047.
+/// What the accesses of a guest do whose interrupts are in memory: its hypervisor reaches the slot
+/// as an interrupt file of the identities 1 to `n`, which is 63, 127, 255, 511, 1023 or 2047.
 impl SlotMut<'_> {
     /// Gives what a register of the sets reads, `eip` or `eie` with an even index below 64:
     /// identities above `n` read 0.
@@ -34,8 +34,8 @@ impl SlotMut<'_> {
     }
 
     /// Writes a register of the sets, as of [`SlotMut::read_reg`], as csrrw does, and answers what
-    /// it read before. Identity 0 and those above `n`, which it does not show, stay in both sets,
-    /// and so does all memory elsewhere.
+    /// it read before. Identity 0 and those above `n`, which it does not show, stay as they are in
+    /// both sets, and so does all memory elsewhere.
     ///
     /// AIA 1.0, IMSIC, "Indirectly accessed interrupt-file registers".
     pub fn write_reg(&mut self, reg: FileReg, n: u32, v: u64) -> u64
