@@ -8,10 +8,13 @@ ghost use Rattle.aia_regs.specs.DomainRegisters.{domain_register_of, domain_offs
 ghost use Rattle.aia_regs.specs.Fields.{field, with_field, IsOutside};
 ghost use Rattle.aia_regs.specs.AddressMap.{machine_page, supervisor_page, guest_page, slot_address, table_address};
 
-use crate::address_map::{MEMORY, MEMORY_END, PAGE, PATTERN, REGION, ROOT_DOMAIN, SLOT, TABLE};
+use crate::address_map::{
+    HART_BITS, HART_SHIFT, HART_STRIDE, MEMORY, MEMORY_END, PAGE, PATTERN, REGION, ROOT_DOMAIN,
+    SLOT, TABLE,
+};
 use crate::limits::{
-    ENTRIES, FILE_WORDS, GUEST_FILES, HARTS, MASK_BITS, MASK_ONES, MEMORY_WORDS, SLOTS, SOURCES,
-    VCPUS, VM_VCPUS, VMS,
+    ENTRIES, FILE_WORDS, FIRST_PASS_IDENTITY, GUEST_FILES, HARTS, MASK_BITS, MASK_ONES,
+    MEMORY_WORDS, PASSES, SLOTS, SOURCES, VCPUS, VM_VCPUS, VMS,
 };
 use crate::{DomainReg, FileReg};
 
@@ -87,13 +90,16 @@ pub fn map_of_addresses()
 {}
 
 /// What bounds the limits of the machine, beside the map of addresses: none may be raised beyond
-/// it. Nothing is said here of passes and of stores in flight.
+/// it. Nothing is said here of stores in flight.
 ///
 /// A domain's region has 32 bytes of controls for each hart. A CSR names a guest file by 6 bits, of
 /// which 0 is none. A slot has two words for each 64 identities, and a table one entry of 16 bytes
 /// for each number that the ones of a mask spell; a virtual hart of a VM has an entry of its own.
 /// The notices of virtual harts are identities that each hart's supervisor file has, which are 63
-/// at least, 1 for the first slot. A domain's region has registers of 1,023 sources.
+/// at least, 1 for the first slot; those of passes come after them, and are identities of such a
+/// file too. A domain's region has registers of 1,023 sources. The fields of MSI addresses by which
+/// guest files are reached shift a hart's number by as many pages as a hart has, and have room for
+/// the number of each hart.
 pub fn bounds_of_the_limits()
     ensures harts { 0x4000 + 32 * HARTS ≤ REGION }
     ensures guest_files { GUEST_FILES < 2 ^ 6 }
@@ -105,4 +111,8 @@ pub fn bounds_of_the_limits()
     ensures vcpus_of_a_vm { VM_VCPUS ≤ ENTRIES }
     ensures slots { SLOTS ≡ VCPUS }
     ensures notices { VCPUS ≤ 63 }
+    ensures first_pass { VCPUS < FIRST_PASS_IDENTITY }
+    ensures passes { FIRST_PASS_IDENTITY + PASSES ≤ 64 }
+    ensures hart_bits { HARTS ≤ 2 ^ HART_BITS }
+    ensures hart_shift { PAGE * 2 ^ HART_SHIFT ≡ HART_STRIDE }
 {}
