@@ -60,8 +60,8 @@ pub fn the_identity_on_top_is_the_external_priority()
 
 /// `stopi` shows the first candidate: its major in bits 27:16 and its priority in bits 7:0, which
 /// is at most 255, and 0 for a priority number of 0 where IPRIOM of `hvictl` is 1. Where `hvictl`
-/// has a value that may be written to it, as it always has, the major is 1 to 63, and `stopi` reads
-/// 0 exactly where there is no candidate.
+/// has a value that may be written to it, the major is 1 to 63, and `stopi` reads 0 exactly where
+/// there is no candidate.
 ///
 /// AIA 1.0, Interrupts for Virtual Machines (VS Level).
 pub fn stopi_shows_the_first_candidate()

@@ -20,16 +20,16 @@ is_control (TopI hart) = true
 is_control (ClaimI hart) = true
 is_control reg = false
 
--- Whether it is this hart's idelivery, iforce or ithreshold: a write changes no other.
-abbrev pub is_of_hart : DomainReg → ℕ → Bool
-is_of_hart (IDelivery x) hart = nat_eq x hart
-is_of_hart (IForce x) hart = nat_eq x hart
-is_of_hart (IThreshold x) hart = nat_eq x hart
-is_of_hart reg hart = false
+-- Whether a write of it changes what this hart has: of its idelivery, iforce or ithreshold alone.
+abbrev pub changes_control_of : DomainReg → ℕ → Bool
+changes_control_of (IDelivery x) hart = nat_eq x hart
+changes_control_of (IForce x) hart = nat_eq x hart
+changes_control_of (IThreshold x) hart = nat_eq x hart
+changes_control_of reg hart = false
 
 -- A register is written.
 abbrev pub control_after : DomainReg → ℕ → ℕ → IdcState → IdcState
-control_after reg v hart c = if is_of_hart reg hart then control_written reg v c else c
+control_after reg v hart c = if changes_control_of reg hart then control_written reg v c else c
 
 -- The control of a hart that is there.
 abbrev pub control_at : List IdcState → ℕ → IdcState
