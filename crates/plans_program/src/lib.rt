@@ -3,6 +3,7 @@
 
 mod give;
 mod judging;
+pub mod laws;
 mod limits;
 mod pieces;
 mod program;
