@@ -6,8 +6,9 @@ plan is one of a hypervisor's with some edits. It is tried with one store, or on
 place, from several starts; and where the program shows a run, that run is made: one that loses
 something, or, of a plan that the rule on notices alone refuses, one that leaves the host untold.
 Prints how many accepted plans had a bad run, how many refused ones had none, and how many runs that
-were shown were good or missing, and ends with 1 if any was. A plan that heeds its numbers may be
-refused by the rule on notices though no run of it leaves the host untold: none is shown then.
+were shown were good or missing, and ends with 1 if any was. A plan into memory that heeds its
+numbers may be refused by the rule on notices though no run of it leaves the host untold: none is
+shown then.
 """
 import random
 import re
@@ -388,7 +389,7 @@ def main():
         for (setting, plan), (verdict, shown) in zip(plans, verdicts(program, plans), strict=True):
             bad = has_bad_run(setting, plan)
             key = (verdict, 'a bad run' if bad else 'no bad run', shown)
-            if setting.heeds and key == ('refused notice', 'no bad run', 'none found'):
+            if setting.memory and setting.heeds and key == ('refused notice', 'no bad run', 'none found'):
                 key = ('refused notice', 'no bad run, with numbers that are heeded', 'none found')
             tally[key] = tally.get(key, 0) + 1
             if not is_right(key):

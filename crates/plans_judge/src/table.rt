@@ -1,6 +1,6 @@
 //! What is known of a plan after some of its steps, so that each step is judged in one look.
 
-ghost use Rattle.std.specs.Prelude.{◌≡◌, ◌<◌, ℕ, length, List, [], ◌∷◌, map, replicate, IfOk};
+ghost use Rattle.std.specs.Prelude.{◌≡◌, ◌<◌, ◌&&◌, ℕ, length, List, [], ◌∷◌, map, replicate, IfOk};
 ghost use Rattle.plans_machine.specs.Rules as rules;
 ghost use Rattle.plans_machine.specs.Rules.{Done};
 ghost use Rattle.plans_machine.specs.Safe.{IsInFile};
@@ -8,6 +8,7 @@ ghost use Rattle.plans_machine.specs.Setting.{setting_of};
 ghost use Rattle.plans_judge.specs.Table.{Stands, flags_at, lead_first, word_first, world_at};
 ghost use Rattle.plans_judge.specs.Verdicts.{refusing, refusing_end, rules_of};
 ghost use Rattle.plans_machine.specs.declared.rule.Rule.TheVariants as rule_;
+ghost use Rattle.plans_machine.specs.declared.setting.Spot.TheVariants as spot;
 
 use crate::judging::Part;
 use crate::lead::{Lead, all_led, any_turned, lead_all};
@@ -186,19 +187,23 @@ impl Table {
         }
     }
 
+    /// Tells whether a number has come to the new place, and a notice heeds it there.
+    fn heeds_there(&self, number: Number) -> bool
+        ensures { (producers : List Kind) (done : Done) → Stands self.now producers done
+            → result ≡ (rules.heeds_there (setting_of producers self.now.terms)
+            && rules.has_number (setting_of producers self.now.terms) number spot.InNew done) }
+    {
+        self.terms.in_memory && self.terms.heeds && self.has_number(number, Spot::InNew)
+    }
+
     /// Tells whether the rule on notices does.
     fn lets_notice(&self, step: Step) -> bool
         ensures { (producers : List Kind) (done : Done) → Stands self.now producers done
             → result ≡ rules.lets rule_.Notice (setting_of producers self.now.terms) step done }
     {
         match step {
-            Step::ZeroNumber(Place::New, n) => {
-                !(self.terms.heeds && self.has_number(n, Spot::InNew))
-            }
-            Step::PutNumber(n) => {
-                !(self.terms.heeds && self.has_number(n, Spot::InNew))
-                    || self.has_number(n, Spot::InHand)
-            }
+            Step::ZeroNumber(Place::New, n) => !self.heeds_there(n),
+            Step::PutNumber(n) => !self.heeds_there(n) || self.has_number(n, Spot::InHand),
             _ => true,
         }
     }

@@ -18,7 +18,7 @@ use Rattle.plans_machine.specs.Setting.{Setting, is_old, names}
 use Rattle.plans_machine.specs.Machine.{lets_out, stands_out, word_stands_out, Flight, Machine, landed, flight_landed, all_landed, flights_of, stepped, route_of, Happening, one_landed, happened, all_happened, steps_in}
 use Rattle.plans_machine.specs.Machine.Happening.{Does, Stores, Sends, Lands, Refetches}
 use Rattle.plans_machine.specs.Safe.{CanHappen, IsTold}
-use Rattle.plans_machine.specs.Rules.{takes, fills, looks, posts, tells, Done, old_holds, hand_holds, is_filled, is_blank, is_moved, is_reached, has_number, is_settled, is_looked, is_reported, lets, lets_end, lets_rest}
+use Rattle.plans_machine.specs.Rules.{takes, fills, looks, posts, tells, Done, old_holds, hand_holds, is_filled, is_blank, is_moved, is_reached, has_number, heeds_there, is_settled, is_looked, is_reported, lets, lets_end, lets_rest}
 use Rattle.plans_machine.proofs.BoolLaws.{or_false_right, clash, not_true, and_left, and_right, and_of, or_left, or_right, or_false, or_cases, added_cases, added_stays, all_at, any_at}
 use Rattle.plans_machine.proofs.Safety.{Kept, IsBetween, Invariant, does, between, begins, named}
 
@@ -182,7 +182,7 @@ not_zeroed true true e f let_ = absurd (false≢true let_)
 not_zeroed true false e f let_ = absurd (false≢true f)
 not_zeroed false a e f let_ = absurd (false≢true e)
 
-number_there : (d : Setting) (done : Done) (x : Step) (n : Number) → d.heeds ≡ true → Guard d x done → has_number d n InNew done ≡ true → has_number d n InNew (x ∷ done) ≡ true
+number_there : (d : Setting) (done : Done) (x : Step) (n : Number) → heeds_there d ≡ true → Guard d x done → has_number d n InNew done ≡ true → has_number d n InNew (x ∷ done) ≡ true
 number_there d done (TakeNumber Threshold) Threshold heeds guard e = e
 number_there d done (TakeNumber Delivery) Delivery heeds guard e = e
 number_there d done (TakeNumber Threshold) Delivery heeds guard e = e
@@ -203,7 +203,7 @@ number_there d done (Zero Old s w) n heeds guard e = e
 number_there d done (Zero New s w) n heeds guard e = e
 number_there d done x n heeds guard e = e
 
-number_stays : (d : Setting) (start : Machine) (done : Done) (x : Step) (z : Machine) (n : Number) → d.heeds ≡ true → IsNoFence x → Guard d x done → Invariant d start done z → has_number d n InNew done ≡ true → (stepped d x z).new_number n ≡ z.new_number n
+number_stays : (d : Setting) (start : Machine) (done : Done) (x : Step) (z : Machine) (n : Number) → heeds_there d ≡ true → IsNoFence x → Guard d x done → Invariant d start done z → has_number d n InNew done ≡ true → (stepped d x z).new_number n ≡ z.new_number n
 number_stays d start done (Fence p) z n heeds is guard v e = absurd is
 number_stays d start done (PutNumber Threshold) z Threshold heeds is guard v e = v.numbers Threshold InHand (put_itself _ _ _ heeds e (guard Notice)) ∙ sym (v.numbers Threshold InNew e)
 number_stays d start done (PutNumber Delivery) z Delivery heeds is guard v e = v.numbers Delivery InHand (put_itself _ _ _ heeds e (guard Notice)) ∙ sym (v.numbers Delivery InNew e)
@@ -223,11 +223,11 @@ heeded_stays : (h a b c e : Bool) → (h ≡ true → a ≡ true → c ≡ true)
 heeded_stays true a b c e f g both = and_of c e (f refl (and_left a b both)) (g refl (and_right a b both))
 heeded_stays false a b c e f g both = refl
 
-settled_stays : (d : Setting) (w : ℕ) (done : Done) (x : Step) → Guard d x done → Settled d w done → Settled d w (x ∷ done)
-settled_stays d w done x guard v = record {
+settled_stays : (d : Setting) (w : ℕ) (done : Done) (x : Step) → d.in_memory ≡ true → Guard d x done → Settled d w done → Settled d w (x ∷ done)
+settled_stays d w done x memory guard v = record {
   pending = or_right (is_moved d Pending w (x ∷ done)) _ v.pending;
   enabled = or_right (is_moved d Enabled w (x ∷ done)) _ v.enabled;
-  numbers = heeded_stays d.heeds _ _ _ _ (λ h. number_there d done x Threshold h guard) (λ h. number_there d done x Delivery h guard) v.numbers;
+  numbers = heeded_stays d.heeds _ _ _ _ (λ h. number_there d done x Threshold (and_of _ _ memory h) guard) (λ h. number_there d done x Delivery (and_of _ _ memory h) guard) v.numbers;
 }
 
 lets_same : (h : Bool) (a b : Bool) → (h ≡ true → a ≡ b) → ◌≡◌ {A = Bool} (elim h [ true ↦ a | false ↦ true ]) (elim h [ true ↦ b | false ↦ true ])
@@ -242,16 +242,16 @@ heeded : (h a b : Bool) → h ≡ true → (elim h [ true ↦ a && b | false ↦
 heeded true a b e both = (and_left a b both, and_right a b both)
 heeded false a b e both = absurd (false≢true e)
 
-same_lets : (d : Setting) (start : Machine) (done : Done) (x : Step) (z : Machine) (i : ℕ) → IsNoFence x → Guard d x done → Invariant d start done z → numbers_settled d done ≡ true → lets_out d (stepped d x z).new_number i ≡ lets_out d z.new_number i
-same_lets d start done x z i is guard v e =
-    lets_same d.heeds _ _ (λ h. let both = heeded d.heeds _ _ h e in lets_by (stepped d x z).new_number z.new_number i (number_stays d start done x z Threshold h is guard v both.0) (number_stays d start done x z Delivery h is guard v both.1))
+same_lets : (d : Setting) (start : Machine) (done : Done) (x : Step) (z : Machine) (i : ℕ) → d.in_memory ≡ true → IsNoFence x → Guard d x done → Invariant d start done z → numbers_settled d done ≡ true → lets_out d (stepped d x z).new_number i ≡ lets_out d z.new_number i
+same_lets d start done x z i memory is guard v e =
+    lets_same d.heeds _ _ (λ h. let both = heeded d.heeds _ _ h e in lets_by (stepped d x z).new_number z.new_number i (number_stays d start done x z Threshold (and_of _ _ memory h) is guard v both.0) (number_stays d start done x z Delivery (and_of _ _ memory h) is guard v both.1))
 
-same_out : (d : Setting) (start : Machine) (done : Done) (x : Step) (z : Machine) (i : ℕ) → IsNoFence x → Guard d x done → Invariant d start done z → Noted d done z → Settled d (i / 64) done
+same_out : (d : Setting) (start : Machine) (done : Done) (x : Step) (z : Machine) (i : ℕ) → d.in_memory ≡ true → IsNoFence x → Guard d x done → Invariant d start done z → Noted d done z → Settled d (i / 64) done
     → stands_out d (stepped d x z).new (stepped d x z).new_number i ≡ stands_out d z.new z.new_number i
-same_out d start done x z i is guard w v settled =
+same_out d start done x z i memory is guard w v settled =
     ap (λ p. p && ((stepped d x z).new Enabled i && lets_out d (stepped d x z).new_number i)) (steady d done x z Pending i is guard (v.emptied Pending i settled.pending).1 (v.emptied Pending i settled.pending).0)
     ∙ ap (λ e. z.new Pending i && (e && lets_out d (stepped d x z).new_number i)) (steady d done x z Enabled i is guard (v.emptied Enabled i settled.enabled).1 (v.emptied Enabled i settled.enabled).0)
-    ∙ ap (λ n. z.new Pending i && (z.new Enabled i && n)) (same_lets d start done x z i is guard w settled.numbers)
+    ∙ ap (λ n. z.new Pending i && (z.new Enabled i && n)) (same_lets d start done x z i memory is guard w settled.numbers)
 
 -- what was told, or seen, stays so
 told_stays : (d : Setting) (x : Step) (z : Machine) → IsNoFence x → z.told ≡ true → (stepped d x z).told ≡ true
@@ -313,20 +313,20 @@ emptied_now d s w done q a b k is v =
     (v.unheld free, v.moved (not_true _ (and_left (not (old_holds d s w done)) _ is)) free)
 
 -- **A step that the rules let stand keeps what was noted.**
-pub notes : (d : Setting) (start : Machine) (done : Done) (x : Step) (z : Machine) → IsNoFence x → Guard d x done → Invariant d start done z → Noted d done z → Noted d (x ∷ done) (stepped d x z)
-notes d start done x z is guard w v = record {
+pub notes : (d : Setting) (start : Machine) (done : Done) (x : Step) (z : Machine) → d.in_memory ≡ true → IsNoFence x → Guard d x done → Invariant d start done z → Noted d done z → Noted d (x ∷ done) (stepped d x z)
+notes d start done x z memory is guard w v = record {
   emptied = λ s i e. elim (or_cases (is_moved d s (i / 64) (x ∷ done)) _ e) [
     | inl now ↦ emptied_now d s (i / 64) (x ∷ done) _ _ _ _ now ((does d start done x z (λ rule of. guard rule) w).kept s i)
     | inr before ↦ (still_empty d x z s i is ((w.kept s i).drained (was_drained d s (i / 64) done before)) (v.emptied s i before).0, added_stays (fills s (i / 64) x) _ _ (v.emptied s i before).1)
   ];
   looked = λ i e. elim (added_cases (looks (i / 64) x) _ _ e) [
-    | inl now ↦ (let settled = settled_now d (i / 64) done now.1 in (settled_stays d (i / 64) done x guard settled, λ out. looked_now d x z i now.0 (sym (same_out d start done x z i is guard w v settled) ∙ out)))
-    | inr before ↦ (let was = v.looked i before in (settled_stays d (i / 64) done x guard was.0, λ out. seen_stays d x z is (was.1 (sym (same_out d start done x z i is guard w v was.0) ∙ out))))
+    | inl now ↦ (let settled = settled_now d (i / 64) done now.1 in (settled_stays d (i / 64) done x memory guard settled, λ out. looked_now d x z i now.0 (sym (same_out d start done x z i memory is guard w v settled) ∙ out)))
+    | inr before ↦ (let was = v.looked i before in (settled_stays d (i / 64) done x memory guard was.0, λ out. seen_stays d x z is (was.1 (sym (same_out d start done x z i memory is guard w v was.0) ∙ out))))
   ];
   reported = λ i inside e. elim (report_cases (posts x) (tells x) _ _ _ e) [
-    | inl now ↦ (let was = v.looked i now.1 in (settled_stays d (i / 64) done x guard was.0, λ out. posted_now d x z now.0 (was.1 (sym (same_out d start done x z i is guard w v was.0) ∙ out))))
-    | inr (inl now) ↦ (let settled = settled_now d (i / 64) done now.1 in (settled_stays d (i / 64) done x guard settled, λ out. told_now d x z i inside now.0 (sym (same_out d start done x z i is guard w v settled) ∙ out)))
-    | inr (inr before) ↦ (let was = v.reported i inside before in (settled_stays d (i / 64) done x guard was.0, λ out. told_stays d x z is (was.1 (sym (same_out d start done x z i is guard w v was.0) ∙ out))))
+    | inl now ↦ (let was = v.looked i now.1 in (settled_stays d (i / 64) done x memory guard was.0, λ out. posted_now d x z now.0 (was.1 (sym (same_out d start done x z i memory is guard w v was.0) ∙ out))))
+    | inr (inl now) ↦ (let settled = settled_now d (i / 64) done now.1 in (settled_stays d (i / 64) done x memory guard settled, λ out. told_now d x z i inside now.0 (sym (same_out d start done x z i memory is guard w v settled) ∙ out)))
+    | inr (inr before) ↦ (let was = v.reported i inside before in (settled_stays d (i / 64) done x memory guard was.0, λ out. told_stays d x z is (was.1 (sym (same_out d start done x z i memory is guard w v was.0) ∙ out))))
   ];
 }
 
@@ -335,30 +335,30 @@ fence_moved : (a b : Bool) → (a ≡ true → b ≡ true) → (a || b) ≡ true
 fence_moved true b h e = h refl
 fence_moved false b h e = e
 
-notes_fence : (d : Setting) (done : Done) (p : ℕ) (z : Machine) → Guard d (Fence p) done → Noted d done z → Noted d (Fence p ∷ done) (stepped d (Fence p) z)
-notes_fence d done p z guard v =
+notes_fence : (d : Setting) (done : Done) (p : ℕ) (z : Machine) → d.in_memory ≡ true → Guard d (Fence p) done → Noted d done z → Noted d (Fence p ∷ done) (stepped d (Fence p) z)
+notes_fence d done p z memory guard v =
     let u = noted_all d done (flights_of p z.flights) z v in
     record {
       emptied = λ s i e. u.emptied s i (fence_moved (is_moved d s (i / 64) done) _ (moved_once d s (i / 64) done) e);
-      looked = λ i e. (settled_stays d (i / 64) done (Fence p) guard (u.looked i e).0, (u.looked i e).1);
-      reported = λ i inside e. (settled_stays d (i / 64) done (Fence p) guard (u.reported i inside e).0, (u.reported i inside e).1);
+      looked = λ i e. (settled_stays d (i / 64) done (Fence p) memory guard (u.looked i e).0, (u.looked i e).1);
+      reported = λ i inside e. (settled_stays d (i / 64) done (Fence p) memory guard (u.reported i inside e).0, (u.reported i inside e).1);
     }
 
-notes_any : (d : Setting) (start : Machine) (done : Done) (x : Step) (z : Machine) → Guard d x done → Invariant d start done z → Noted d done z → Noted d (x ∷ done) (stepped d x z)
-notes_any d start done (Fence p) z guard w v = notes_fence d done p z guard v
-notes_any d start done (Route p) z guard w v = notes d start done (Route p) z tt guard w v
-notes_any d start done (Switch p) z guard w v = notes d start done (Switch p) z tt guard w v
-notes_any d start done (Zero place s u) z guard w v = notes d start done (Zero place s u) z tt guard w v
-notes_any d start done (Take s u) z guard w v = notes d start done (Take s u) z tt guard w v
-notes_any d start done (Join s u) z guard w v = notes d start done (Join s u) z tt guard w v
-notes_any d start done (Put s u) z guard w v = notes d start done (Put s u) z tt guard w v
-notes_any d start done (ZeroNumber place n) z guard w v = notes d start done (ZeroNumber place n) z tt guard w v
-notes_any d start done (TakeNumber n) z guard w v = notes d start done (TakeNumber n) z tt guard w v
-notes_any d start done (PutNumber n) z guard w v = notes d start done (PutNumber n) z tt guard w v
-notes_any d start done (Look u) z guard w v = notes d start done (Look u) z tt guard w v
-notes_any d start done Post z guard w v = notes d start done Post z tt guard w v
-notes_any d start done Tell z guard w v = notes d start done Tell z tt guard w v
-notes_any d start done Free z guard w v = notes d start done Free z tt guard w v
+notes_any : (d : Setting) (start : Machine) (done : Done) (x : Step) (z : Machine) → d.in_memory ≡ true → Guard d x done → Invariant d start done z → Noted d done z → Noted d (x ∷ done) (stepped d x z)
+notes_any d start done (Fence p) z memory guard w v = notes_fence d done p z memory guard v
+notes_any d start done (Route p) z memory guard w v = notes d start done (Route p) z memory tt guard w v
+notes_any d start done (Switch p) z memory guard w v = notes d start done (Switch p) z memory tt guard w v
+notes_any d start done (Zero place s u) z memory guard w v = notes d start done (Zero place s u) z memory tt guard w v
+notes_any d start done (Take s u) z memory guard w v = notes d start done (Take s u) z memory tt guard w v
+notes_any d start done (Join s u) z memory guard w v = notes d start done (Join s u) z memory tt guard w v
+notes_any d start done (Put s u) z memory guard w v = notes d start done (Put s u) z memory tt guard w v
+notes_any d start done (ZeroNumber place n) z memory guard w v = notes d start done (ZeroNumber place n) z memory tt guard w v
+notes_any d start done (TakeNumber n) z memory guard w v = notes d start done (TakeNumber n) z memory tt guard w v
+notes_any d start done (PutNumber n) z memory guard w v = notes d start done (PutNumber n) z memory tt guard w v
+notes_any d start done (Look u) z memory guard w v = notes d start done (Look u) z memory tt guard w v
+notes_any d start done Post z memory guard w v = notes d start done Post z memory tt guard w v
+notes_any d start done Tell z memory guard w v = notes d start done Tell z memory tt guard w v
+notes_any d start done Free z memory guard w v = notes d start done Free z memory tt guard w v
 
 -- ---- a whole run
 
@@ -367,15 +367,15 @@ pub record Heard (d : Setting) (z : Machine) : Type 0 where
   pub guard : GuardEnd d done
   pub noted : Noted d done z
 
-hears : (d : Setting) (start : Machine) (done : Done) (run : List Happening) (z : Machine) → AllByRecursion (CanHappen d) run → GuardRest d done (steps_in run) → Invariant d start done z → Noted d done z → Heard d (all_happened d run z)
-hears d start done [] z can guards w v = record { done = done; guard = guards; noted = v }
-hears d start done (Does x ∷ later) z can guards w v =
-    hears d start (x ∷ done) later (stepped d x z) can.1 (λ rule. and_right (lets rule d x done) _ (guards rule))
-    (does d start done x z (λ rule of. and_left (lets rule d x done) _ (guards rule)) w) (notes_any d start done x z (λ rule. and_left (lets rule d x done) _ (guards rule)) w v)
-hears d start done (Stores p by x ∷ later) z can guards w v = hears d start done later _ can.1 guards (between d start done (Stores p by x) z tt can.0 w) (noted_between d done (Stores p by x) z tt v)
-hears d start done (Sends p by x ∷ later) z can guards w v = hears d start done later _ can.1 guards (between d start done (Sends p by x) z tt can.0 w) (noted_between d done (Sends p by x) z tt v)
-hears d start done (Lands k ∷ later) z can guards w v = hears d start done later _ can.1 guards (between d start done (Lands k) z tt can.0 w) (noted_between d done (Lands k) z tt v)
-hears d start done (Refetches p ∷ later) z can guards w v = hears d start done later _ can.1 guards (between d start done (Refetches p) z tt can.0 w) (noted_between d done (Refetches p) z tt v)
+hears : (d : Setting) (start : Machine) (done : Done) (run : List Happening) (z : Machine) → d.in_memory ≡ true → AllByRecursion (CanHappen d) run → GuardRest d done (steps_in run) → Invariant d start done z → Noted d done z → Heard d (all_happened d run z)
+hears d start done [] z memory can guards w v = record { done = done; guard = guards; noted = v }
+hears d start done (Does x ∷ later) z memory can guards w v =
+    hears d start (x ∷ done) later (stepped d x z) memory can.1 (λ rule. and_right (lets rule d x done) _ (guards rule))
+    (does d start done x z (λ rule of. and_left (lets rule d x done) _ (guards rule)) w) (notes_any d start done x z memory (λ rule. and_left (lets rule d x done) _ (guards rule)) w v)
+hears d start done (Stores p by x ∷ later) z memory can guards w v = hears d start done later _ memory can.1 guards (between d start done (Stores p by x) z tt can.0 w) (noted_between d done (Stores p by x) z tt v)
+hears d start done (Sends p by x ∷ later) z memory can guards w v = hears d start done later _ memory can.1 guards (between d start done (Sends p by x) z tt can.0 w) (noted_between d done (Sends p by x) z tt v)
+hears d start done (Lands k ∷ later) z memory can guards w v = hears d start done later _ memory can.1 guards (between d start done (Lands k) z tt can.0 w) (noted_between d done (Lands k) z tt v)
+hears d start done (Refetches p ∷ later) z memory can guards w v = hears d start done later _ memory can.1 guards (between d start done (Refetches p) z tt can.0 w) (noted_between d done (Refetches p) z tt v)
 
 noted_start : (d : Setting) (z : Machine) → Noted d [] z
 noted_start d z = record { emptied = λ s i e. absurd (false≢true e); looked = λ i e. absurd (false≢true e); reported = λ i inside e. absurd (false≢true e) }
@@ -387,5 +387,5 @@ in_memory_law false all e f = absurd (false≢true e)
 -- **A plan into memory that keeps all rules tells the host.**
 pub guarded_is_told : (d : Setting) (plan : List Step) → d.in_memory ≡ true → GuardRest d [] plan → IsTold d plan
 guarded_is_told d plan memory guards start run at_start is i inside out =
-    let heard = hears d start [] run start is.others (subst (GuardRest d []) (sym is.steps) guards) (begins d start at_start) (noted_start d start) in
+    let heard = hears d start [] run start memory is.others (subst (GuardRest d []) (sym is.steps) guards) (begins d start at_start) (noted_start d start) in
     (heard.noted.reported i inside (all_at (λ w. is_reported d w heard.done) d.words (i / 64) (in_memory_law d.in_memory _ memory (heard.guard Notice)) inside)).1 out

@@ -228,6 +228,10 @@ is_reported d w (x ∷ done) = elim (posts x) [
 
 -- ---- the rules
 
+-- A notice heeds the numbers. Where the new place is no memory, nobody is told of anything.
+abbrev pub heeds_there : Setting → Bool
+heeds_there d = d.in_memory && d.heeds
+
 -- Whether a rule lets a step stand.
 abbrev pub lets : Rule → Setting → Step → Done → Bool
 -- What may hold something is not overwritten: a word in the hand by a take, one of the new place by
@@ -244,12 +248,12 @@ lets Freeing d (Take s w) done = not (list_any frees done)
 lets Freeing d (Zero Old s w) done = not (list_any frees done)
 lets Freeing d (TakeNumber n) done = not (list_any frees done)
 lets Freeing d (ZeroNumber Old n) done = not (list_any frees done)
--- Where the numbers are heeded, one that stands in the new place as it was at the start is not
+-- Where a notice heeds the numbers, one that stands in the new place as it was at the start is not
 -- zeroed there, and only the same number, from the hand, is put over it. A put of another one
 -- breaks the rule on numbers too, since the number then stands nowhere.
-lets Notice d (ZeroNumber New n) done = not (d.heeds && has_number d n InNew done)
+lets Notice d (ZeroNumber New n) done = not (heeds_there d && has_number d n InNew done)
 lets Notice d (PutNumber n) done =
-    not (d.heeds && has_number d n InNew done) || has_number d n InHand done
+    not (heeds_there d && has_number d n InNew done) || has_number d n InHand done
 lets rule d x done = true
 
 -- Whether a rule lets a plan end.

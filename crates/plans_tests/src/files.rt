@@ -102,6 +102,29 @@ rule asks for more than that the host is told\n"
     Ok(())
 }
 
+/// One that zeroes delivery once it has come, and puts it again.
+const SHUT_AGAIN: &[u8] = b"producer routed\nfresh\nheeds\nroute 0\nfence 0\ntake pending 0\n\
+join pending 0\ntake enabled 0\njoin enabled 0\ntake delivery\ntake threshold\nput threshold\n\
+put delivery\nzero new delivery\nput delivery\n";
+
+#[test]
+fn what_has_come_is_heeded_in_memory_alone(rt: HostRuntime) -> Result<(), Fail> {
+    let mut file = Vec::new(rt.alloc());
+    file.extend_from_slice(SHUT_AGAIN)?;
+    file.extend_from_slice(b"plan\nmemory\n")?;
+    file.extend_from_slice(SHUT_AGAIN)?;
+    let text = answers(rt.alloc(), &file)?;
+    assert!(rt;
+        text.as_slice()
+            == b"accepted\nrefused notice at line 31: zero new delivery\n  run: identity 1 is \
+enabled in the old place at the start, and pending there; at the start delivery is 1 in the old \
+place and 0 elsewhere, and the threshold is 0 in the old place and 1 elsewhere; in the end it is \
+pending, enabled and let through in the new place, and the host was not told\n"
+                .as_slice()
+    );
+    Ok(())
+}
+
 #[test]
 fn bad_lines_are_named_by_their_numbers(rt: HostRuntime) -> Result<(), Fail> {
     let text = answers(
