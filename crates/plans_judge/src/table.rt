@@ -188,7 +188,7 @@ impl Table {
     }
 
     /// Tells whether a number has come to the new place, and a notice heeds it there.
-    fn heeds_there(&self, number: Number) -> bool
+    fn has_heeded_number(&self, number: Number) -> bool
         ensures { (producers : List Kind) (done : Done) → Stands self.now producers done
             → result ≡ (rules.heeds_there (setting_of producers self.now.terms)
             && rules.has_number (setting_of producers self.now.terms) number spot.InNew done) }
@@ -202,8 +202,8 @@ impl Table {
             → result ≡ rules.lets rule_.Notice (setting_of producers self.now.terms) step done }
     {
         match step {
-            Step::ZeroNumber(Place::New, n) => !self.heeds_there(n),
-            Step::PutNumber(n) => !self.heeds_there(n) || self.has_number(n, Spot::InHand),
+            Step::ZeroNumber(Place::New, n) => !self.has_heeded_number(n),
+            Step::PutNumber(n) => !self.has_heeded_number(n) || self.has_number(n, Spot::InHand),
             _ => true,
         }
     }
