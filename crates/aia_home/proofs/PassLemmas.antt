@@ -6,25 +6,24 @@ use Rattle.aia_home.specs.declared.place.Place.{Place}
 use Rattle.aia_home.specs.Home.{Home, is_moving, ended, one_more, leaving, arriving, shifting}
 use Rattle.aia_home.specs.declared.rest.Rest.TheVariants.{Parked}
 use Rattle.aia_home.specs.Home.Home.{InMemory, Resident, Leaving, Arriving, Shifting}
-use Rattle.aia_home.specs.Plans.{is_at_last, stepped, leave_step, arrive_step, shift_step}
-use Rattle.aia_home.specs.Plans.Access.{TakePending}
+use Rattle.aia_home.specs.Plans.{is_at_last, stepped, first_take}
 use Rattle.aia_home.specs.BySteps.{new_file, is_drained}
 use Rattle.aia_home.specs.Routes.{is_at_fence, is_closed, is_at_gfence, reach_stepped, stage_stepped, peers_reach, devices_by, MayReach, MayLand}
-use Rattle.aia_home.specs.Aims.{is_aiming, aimed, further, pass_reaches, AreAimed}
+use Rattle.aia_home.specs.Aims.{aims_step, is_aiming, aimed, further, pass_reaches, AreAimed}
 use Rattle.aia_home.proofs.RouteLemmas.{reach_kept, stepped_by, stage_by_stepped}
 
 -- ---- a step that aims is no fence, and leaves all routes as they were
 
 pub aim_is_no_fence : (passes : ℕ) (there : Home) → is_aiming passes there ≡ true → is_at_fence there ≡ false
-aim_is_no_fence passes (Leaving from at) e = let here : nat_eq at.steps (leave_step 0 (TakePending 0)) ≡ true = (and_parts _ _ e).0 in grind (arith, nat_tests)
-aim_is_no_fence passes (Arriving to at) e = let here : nat_eq at.steps (arrive_step 0 (TakePending 0)) ≡ true = (and_parts _ _ e).0 in grind (arith, nat_tests)
-aim_is_no_fence passes (Shifting from to at) e = let here : nat_eq at.steps (shift_step 0 (TakePending 0)) ≡ true = (and_parts _ _ e).0 in grind (arith, nat_tests)
+aim_is_no_fence passes (Leaving from at) e = let here : nat_eq at.steps (aims_step (Leaving from at)) ≡ true = (and_parts _ _ e).0 in grind (arith, nat_tests)
+aim_is_no_fence passes (Arriving to at) e = let here : nat_eq at.steps (aims_step (Arriving to at)) ≡ true = (and_parts _ _ e).0 in grind (arith, nat_tests)
+aim_is_no_fence passes (Shifting from to at) e = let here : nat_eq at.steps (aims_step (Shifting from to at)) ≡ true = (and_parts _ _ e).0 in grind (arith, nat_tests)
 aim_is_no_fence passes there e = refl
 
 aim_is_closed : (passes : ℕ) (there : Home) → is_aiming passes there ≡ true → is_closed there ≡ true
-aim_is_closed passes (Leaving from at) e = let here : nat_eq at.steps (leave_step 0 (TakePending 0)) ≡ true = (and_parts _ _ e).0 in grind (arith, nat_tests)
-aim_is_closed passes (Arriving to at) e = let here : nat_eq at.steps (arrive_step 0 (TakePending 0)) ≡ true = (and_parts _ _ e).0 in grind (arith, nat_tests)
-aim_is_closed passes (Shifting from to at) e = let here : nat_eq at.steps (shift_step 0 (TakePending 0)) ≡ true = (and_parts _ _ e).0 in grind (arith, nat_tests)
+aim_is_closed passes (Leaving from at) e = let here : nat_eq at.steps (aims_step (Leaving from at)) ≡ true = (and_parts _ _ e).0 in grind (arith, nat_tests)
+aim_is_closed passes (Arriving to at) e = let here : nat_eq at.steps (aims_step (Arriving to at)) ≡ true = (and_parts _ _ e).0 in grind (arith, nat_tests)
+aim_is_closed passes (Shifting from to at) e = let here : nat_eq at.steps (aims_step (Shifting from to at)) ≡ true = (and_parts _ _ e).0 in grind (arith, nat_tests)
 aim_is_closed passes there e = absurd (cc)
 
 pub aimed_reach : (there : Home) (place : Option Place) → MayReach there place → MayReach (aimed there) place
@@ -54,9 +53,9 @@ further_by passes words there r reach e = by_aim (is_aiming passes there) refl
 
 -- nor is it the fence of the G-stage record, which is made
 aim_is_no_gfence : (passes : ℕ) (there : Home) → is_aiming passes there ≡ true → is_at_gfence there ≡ false
-aim_is_no_gfence passes (Leaving from at) e = let here : nat_eq at.steps (leave_step 0 (TakePending 0)) ≡ true = (and_parts _ _ e).0 in grind (arith, nat_tests)
-aim_is_no_gfence passes (Arriving to at) e = let here : nat_eq at.steps (arrive_step 0 (TakePending 0)) ≡ true = (and_parts _ _ e).0 in grind (arith, nat_tests)
-aim_is_no_gfence passes (Shifting from to at) e = let here : nat_eq at.steps (shift_step 0 (TakePending 0)) ≡ true = (and_parts _ _ e).0 in grind (arith, nat_tests)
+aim_is_no_gfence passes (Leaving from at) e = let here : nat_eq at.steps (aims_step (Leaving from at)) ≡ true = (and_parts _ _ e).0 in grind (arith, nat_tests)
+aim_is_no_gfence passes (Arriving to at) e = let here : nat_eq at.steps (aims_step (Arriving to at)) ≡ true = (and_parts _ _ e).0 in grind (arith, nat_tests)
+aim_is_no_gfence passes (Shifting from to at) e = let here : nat_eq at.steps (aims_step (Shifting from to at)) ≡ true = (and_parts _ _ e).0 in grind (arith, nat_tests)
 aim_is_no_gfence passes there e = refl
 
 aimed_stage : (there : Home) → peers_reach (aimed there) ≡ peers_reach there
@@ -93,7 +92,7 @@ pub shifting_aimed : (passes : ℕ) (q : Place) (there : Home) → AreAimed pass
 shifting_aimed passes q (Resident p) a = record { late = λ e. absurd (cc); all = λ e. absurd (cc) }
 shifting_aimed passes q there a = a
 
--- over plain numbers: t is the first take, k the steps done, a the aims, of `passes`
+-- over plain numbers: t is where it aims, k the steps done, a the aims, of `passes`
 record Counts (passes t k a : ℕ) : Type 0 where
   late : nat_lt 0 a ≡ true → nat_le t k ≡ true
   all : nat_lt t k ≡ true → nat_lt a passes ≡ false
@@ -124,15 +123,15 @@ ended_aimed passes (Shifting from to at) a = rest_aimed passes (Resident to) ref
 ended_aimed passes there a = a
 
 one_more_aimed : (passes : ℕ) (there : Home) → is_aiming passes there ≡ false → AreAimed passes there → AreAimed passes (one_more there)
-one_more_aimed passes (Leaving from at) e a = let c = count_on passes (leave_step 0 (TakePending 0)) at.steps at.aims e (record { late = a.late; all = a.all }) in record { late = c.late; all = c.all }
-one_more_aimed passes (Arriving to at) e a = let c = count_on passes (arrive_step 0 (TakePending 0)) at.steps at.aims e (record { late = a.late; all = a.all }) in record { late = c.late; all = c.all }
-one_more_aimed passes (Shifting from to at) e a = let c = count_on passes (shift_step 0 (TakePending 0)) at.steps at.aims e (record { late = a.late; all = a.all }) in record { late = c.late; all = c.all }
+one_more_aimed passes (Leaving from at) e a = let c = count_on passes (aims_step (Leaving from at)) at.steps at.aims e (record { late = a.late; all = a.all }) in record { late = c.late; all = c.all }
+one_more_aimed passes (Arriving to at) e a = let c = count_on passes (aims_step (Arriving to at)) at.steps at.aims e (record { late = a.late; all = a.all }) in record { late = c.late; all = c.all }
+one_more_aimed passes (Shifting from to at) e a = let c = count_on passes (aims_step (Shifting from to at)) at.steps at.aims e (record { late = a.late; all = a.all }) in record { late = c.late; all = c.all }
 one_more_aimed passes there e a = a
 
 aimed_aimed : (passes : ℕ) (there : Home) → is_aiming passes there ≡ true → AreAimed passes (aimed there)
-aimed_aimed passes (Leaving from at) e = let c = count_aim passes (leave_step 0 (TakePending 0)) at.steps at.aims e in record { late = c.late; all = c.all }
-aimed_aimed passes (Arriving to at) e = let c = count_aim passes (arrive_step 0 (TakePending 0)) at.steps at.aims e in record { late = c.late; all = c.all }
-aimed_aimed passes (Shifting from to at) e = let c = count_aim passes (shift_step 0 (TakePending 0)) at.steps at.aims e in record { late = c.late; all = c.all }
+aimed_aimed passes (Leaving from at) e = let c = count_aim passes (aims_step (Leaving from at)) at.steps at.aims e in record { late = c.late; all = c.all }
+aimed_aimed passes (Arriving to at) e = let c = count_aim passes (aims_step (Arriving to at)) at.steps at.aims e in record { late = c.late; all = c.all }
+aimed_aimed passes (Shifting from to at) e = let c = count_aim passes (aims_step (Shifting from to at)) at.steps at.aims e in record { late = c.late; all = c.all }
 aimed_aimed passes there e = absurd (cc)
 
 pub further_aimed : (passes words : ℕ) (there : Home) → AreAimed passes there → AreAimed passes (further passes words there)
@@ -148,21 +147,22 @@ further_aimed passes words there a = by_aim (is_aiming passes there) refl
 
 -- ---- where a pass leads, a store may land
 
-over : (passes r t k a : ℕ) (old new : Option Place) → nat_lt r passes ≡ true → nat_lt 0 t ≡ true → Counts passes t k a
-    → (((if nat_lt r a then new else old) ≡ old) × (nat_lt t k ≡ false)) ⊎ (((if nat_lt r a then new else old) ≡ new) × (nat_lt 0 k ≡ true))
-over passes r t k a old new below first c = elim (cases_Bool (nat_lt r a)) [
+-- d is the first take
+over : (passes r t d k a : ℕ) (old new : Option Place) → nat_lt r passes ≡ true → nat_lt 0 t ≡ true → nat_le t d ≡ true → Counts passes t k a
+    → (((if nat_lt r a then new else old) ≡ old) × (nat_lt d k ≡ false)) ⊎ (((if nat_lt r a then new else old) ≡ new) × (nat_lt 0 k ≡ true))
+over passes r t d k a old new below first low c = elim (cases_Bool (nat_lt r a)) [
   | inl e ↦ let one : nat_lt 0 a ≡ true = grind (arith, nat_tests) in let begun = c.late one in inr (ap (λ b. if b then new else old) e, grind (arith, nat_tests))
   | inr e ↦ elim (cases_Bool (nat_lt t k)) [
     | inl past ↦ let all = c.all past in let no : true ≡ false = grind (arith, nat_tests) in absurd (cc)
-    | inr early ↦ inl (ap (λ b. if b then new else old) e, early)
+    | inr early ↦ inl (ap (λ b. if b then new else old) e, grind (arith, nat_tests))
   ]
 ]
 
 pub pass_lands : (passes words r : ℕ) (there : Home) → nat_lt r passes ≡ true → AreAimed passes there → MayLand words there (pass_reaches r there)
 pass_lands passes words r (Resident p) below a = let e : nat_lt r 0 ≡ false = grind (arith, nat_tests) in inl (ap (λ b. if b then None else Some p) e, refl)
-pass_lands passes words r (Leaving from at) below a = over passes r (leave_step 0 (TakePending 0)) at.steps at.aims (Some from) None below refl (record { late = a.late; all = a.all })
-pass_lands passes words r (Arriving to at) below a = over passes r (arrive_step 0 (TakePending 0)) at.steps at.aims None (Some to) below refl (record { late = a.late; all = a.all })
-pass_lands passes words r (Shifting from to at) below a = over passes r (shift_step 0 (TakePending 0)) at.steps at.aims (Some from) (Some to) below refl (record { late = a.late; all = a.all })
+pass_lands passes words r (Leaving from at) below a = over passes r (aims_step (Leaving from at)) (first_take (Leaving from at)) at.steps at.aims (Some from) None below refl refl (record { late = a.late; all = a.all })
+pass_lands passes words r (Arriving to at) below a = over passes r (aims_step (Arriving to at)) (first_take (Arriving to at)) at.steps at.aims None (Some to) below refl refl (record { late = a.late; all = a.all })
+pass_lands passes words r (Shifting from to at) below a = over passes r (aims_step (Shifting from to at)) (first_take (Shifting from to at)) at.steps at.aims (Some from) (Some to) below refl refl (record { late = a.late; all = a.all })
 pass_lands passes words r there below a = let e : nat_lt r 0 ≡ false = grind (arith, nat_tests) in inl (ap (λ b. if b then None else None) e, refl)
 
 -- once a word is taken, each pass leads to the new place

@@ -1,12 +1,12 @@
 -- The wired sources that are passed to a virtual hart: where each leads, and the steps of its moves
 -- that aim them anew, each in its turn, directly after the fence of the G-stage record.
 -- Profile: passes.
-use Rattle.std.specs.Prelude.{◌≡◌, ℕ, ◌+◌, ◌*◌, ◌^◌, Bool, true, false, ◌&&◌, nat_lt, nat_le, if◌then◌else◌, Option, Some, None}
+use Rattle.std.specs.Prelude.{◌≡◌, ℕ, ◌+◌, ◌*◌, ◌^◌, Bool, true, false, ◌&&◌, nat_eq, nat_lt, nat_le, if◌then◌else◌, Option, Some, None}
 use Rattle.aia_regs.specs.declared.limits.TheConstants.{FIRST_PASS_IDENTITY}
 use Rattle.aia_home.specs.declared.place.Place.{Place}
-use Rattle.aia_home.specs.Home.{Home, Progress}
+use Rattle.aia_home.specs.Home.{Home, Progress, is_moving}
 use Rattle.aia_home.specs.Home.Home.{Leaving, Arriving, Shifting}
-use Rattle.aia_home.specs.Plans.{has_access, is_last_made, steps_done, stepped, first_take}
+use Rattle.aia_home.specs.Plans.{step_of, steps_done, stepped}
 use Rattle.aia_home.specs.Plans.Access.{GFence}
 use Rattle.aia_home.specs.BySteps.{new_file}
 use Rattle.aia_home.specs.Routes.{origin}
@@ -20,11 +20,16 @@ aims_done (Arriving to at) = at.aims
 aims_done (Shifting from to at) = at.aims
 aims_done there = 0
 
--- Whether its next step aims a passed source, where so many are passed to it: the fence of the
--- G-stage record is the last access made, and one is still to be aimed.
+-- How many of its steps are done where it aims: the fence of the G-stage record is the last one
+-- made.
+abbrev pub aims_step : Home → ℕ
+aims_step there = step_of 0 there GFence + 1
+
+-- Whether its next step aims a passed source, where so many are passed to it: its move has come
+-- there, and one is still to be aimed.
 abbrev pub is_aiming : ℕ → Home → Bool
 is_aiming passes there =
-    has_access 0 there GFence && is_last_made 0 there GFence
+    is_moving there && nat_eq (steps_done there) (aims_step there)
     && nat_lt (aims_done there) passes
 
 -- One more is aimed.
@@ -49,11 +54,11 @@ abbrev pub pass_reaches : ℕ → Home → Option Place
 pass_reaches r there = if nat_lt r (aims_done there) then new_file there else origin there
 
 -- What the two counts keep to, where so many sources are passed to it: one is aimed only once the
--- G-stage record is fenced, and all are before a word is taken.
+-- G-stage record is fenced, and all are before the next access is made.
 pub record AreAimed (passes : ℕ) (there : Home) : Type 0 where
   pub late : nat_lt 0 (aims_done there) ≡ true
-      → nat_le (first_take there) (steps_done there) ≡ true
-  pub all : nat_lt (first_take there) (steps_done there) ≡ true
+      → nat_le (aims_step there) (steps_done there) ≡ true
+  pub all : nat_lt (aims_step there) (steps_done there) ≡ true
       → nat_lt (aims_done there) passes ≡ false
 
 -- ---- targets

@@ -66,10 +66,10 @@ begins words (Arriving to at) phase = arrive_begins words phase
 begins words (Shifting from to at) phase = shift_begins words phase
 begins words there phase = 0
 
--- The phase after the enabled set is carried: a leave alone has looks.
-abbrev pub after_enable : Home → Phase
-after_enable (Leaving from at) = LookPhase
-after_enable there = LastPhase
+-- Which phase comes after those that all plans share: a leave alone has looks.
+abbrev pub after_shared : Home → Phase
+after_shared (Leaving from at) = LookPhase
+after_shared there = LastPhase
 
 -- Whether a move has come to a phase: it is in it, or past it. Of a home at rest it says nothing.
 abbrev pub has_come : ℕ → Home → Phase → Bool

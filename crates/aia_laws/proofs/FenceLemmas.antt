@@ -6,8 +6,8 @@ use Rattle.aia_home.specs.Home.{Home, is_moving, rests_in_memory, leaving, arriv
 use Rattle.aia_home.specs.declared.rest.Rest.TheVariants.{Parked}
 use Rattle.aia_home.specs.Home.Home.{InMemory, Resident, Leaving, Arriving, Shifting}
 use Rattle.aia_home.specs.Plans.{leave_step, arrive_step, shift_step, leave_steps, arrive_steps, shift_steps}
-use Rattle.aia_home.specs.Plans.Access.{Fence, GFence}
-use Rattle.aia_home.specs.Aims.{is_aiming, further}
+use Rattle.aia_home.specs.Plans.Access.{Fence}
+use Rattle.aia_home.specs.Aims.{aims_step, is_aiming, further}
 use Rattle.aia_home.specs.Routes.{is_at_fence}
 use Rattle.aia_model.specs.HomeOf.{guest_place}
 
@@ -32,9 +32,9 @@ fence_later count there e = absurd e
 
 -- no step before it aims a passed source
 aims_later : (passes count : ℕ) (there : Home) → FenceIn (suc count) there → is_aiming passes there ≡ false
-aims_later passes count (Leaving from at) e = and_left _ (nat_lt at.aims passes) (ne_eqb at.steps (leave_step 0 GFence + 1) (λ same. absurd (omega (arith, e, same))))
-aims_later passes count (Arriving to at) e = and_left _ (nat_lt at.aims passes) (ne_eqb at.steps (arrive_step 0 GFence + 1) (λ same. absurd (omega (arith, e, same))))
-aims_later passes count (Shifting from to at) e = and_left _ (nat_lt at.aims passes) (ne_eqb at.steps (shift_step 0 GFence + 1) (λ same. absurd (omega (arith, e, same))))
+aims_later passes count (Leaving from at) e = and_left _ (nat_lt at.aims passes) (ne_eqb at.steps (aims_step (Leaving from at)) (λ same. absurd (omega (arith, e, same))))
+aims_later passes count (Arriving to at) e = and_left _ (nat_lt at.aims passes) (ne_eqb at.steps (aims_step (Arriving to at)) (λ same. absurd (omega (arith, e, same))))
+aims_later passes count (Shifting from to at) e = and_left _ (nat_lt at.aims passes) (ne_eqb at.steps (aims_step (Shifting from to at)) (λ same. absurd (omega (arith, e, same))))
 aims_later passes count there e = absurd e
 
 pub fence_nearer : (passes words count : ℕ) (there : Home) → FenceIn (suc count) there → FenceIn count (further passes words there)

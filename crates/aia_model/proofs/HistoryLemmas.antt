@@ -4,9 +4,8 @@ use Rattle.std.specs.Option.{option_map_or}
 use Rattle.std.proofs.lemmas.Bool.{cases_Bool, cases_eq, cases_lt, not-false, eqb-true, eq-eqb, ltb-true, ltb-false, lt-ltb, and_parts, and_from, cond-true, false≢true}
 use Rattle.aia_home.specs.Vms.{Vcpu, vcpu}
 use Rattle.aia_home.specs.Home.{Home, is_moving, rests_in_memory, leaving, arriving, shifting}
-use Rattle.aia_home.specs.Plans.{leave_steps, arrive_steps, shift_steps, leave_step, arrive_step, shift_step}
-use Rattle.aia_home.specs.Plans.Access.{TakePending}
-use Rattle.aia_home.specs.Aims.{AreAimed, further}
+use Rattle.aia_home.specs.Plans.{leave_steps, arrive_steps, shift_steps}
+use Rattle.aia_home.specs.Aims.{aims_step, AreAimed, further}
 use Rattle.aia_home.specs.declared.rest.Rest.TheVariants.{Parked}
 use Rattle.aia_home.specs.Home.Home.{InMemory, Resident, Leaving, Arriving, Shifting}
 use Rattle.aia_model.specs.declared.line.Line.{Line}
@@ -82,25 +81,25 @@ step_less t all passes k a count low aimed on e = elim (cases_lt k all) [
 ]
 
 one_less : (passes words count : ℕ) (there : Home) → AreAimed passes there → steps_left passes words there ≡ suc count → (is_moving there ≡ true) × (steps_left passes words (further passes words there) ≡ count)
-one_less passes words count (Leaving from at) aimed e = elim (cases_Bool (nat_eq at.steps (leave_step 0 (TakePending 0)) && nat_lt at.aims passes)) [
-  | inl aims ↦ (refl, rw aims (aim_less (leave_step 0 (TakePending 0)) (leave_steps words) passes at.steps at.aims count (omega arith) aims e))
+one_less passes words count (Leaving from at) aimed e = elim (cases_Bool (nat_eq at.steps (aims_step (Leaving from at)) && nat_lt at.aims passes)) [
+  | inl aims ↦ (refl, rw aims (aim_less (aims_step (Leaving from at)) (leave_steps words) passes at.steps at.aims count (omega arith) aims e))
   | inr on ↦ elim (cases_Bool (nat_eq (at.steps + 1) (leave_steps words))) [
-    | inl last ↦ (refl, rw (on, last) (last_less (leave_step 0 (TakePending 0)) (leave_steps words) passes at.steps at.aims count (omega arith) (eqb-true _ _ last) aimed.all on e))
-    | inr more ↦ (refl, rw (on, more) (step_less (leave_step 0 (TakePending 0)) (leave_steps words) passes at.steps at.aims count (omega arith) aimed.all on e))
+    | inl last ↦ (refl, rw (on, last) (last_less (aims_step (Leaving from at)) (leave_steps words) passes at.steps at.aims count (omega arith) (eqb-true _ _ last) aimed.all on e))
+    | inr more ↦ (refl, rw (on, more) (step_less (aims_step (Leaving from at)) (leave_steps words) passes at.steps at.aims count (omega arith) aimed.all on e))
   ]
 ]
-one_less passes words count (Arriving to at) aimed e = elim (cases_Bool (nat_eq at.steps (arrive_step 0 (TakePending 0)) && nat_lt at.aims passes)) [
-  | inl aims ↦ (refl, rw aims (aim_less (arrive_step 0 (TakePending 0)) (arrive_steps words) passes at.steps at.aims count (omega arith) aims e))
+one_less passes words count (Arriving to at) aimed e = elim (cases_Bool (nat_eq at.steps (aims_step (Arriving to at)) && nat_lt at.aims passes)) [
+  | inl aims ↦ (refl, rw aims (aim_less (aims_step (Arriving to at)) (arrive_steps words) passes at.steps at.aims count (omega arith) aims e))
   | inr on ↦ elim (cases_Bool (nat_eq (at.steps + 1) (arrive_steps words))) [
-    | inl last ↦ (refl, rw (on, last) (last_less (arrive_step 0 (TakePending 0)) (arrive_steps words) passes at.steps at.aims count (omega arith) (eqb-true _ _ last) aimed.all on e))
-    | inr more ↦ (refl, rw (on, more) (step_less (arrive_step 0 (TakePending 0)) (arrive_steps words) passes at.steps at.aims count (omega arith) aimed.all on e))
+    | inl last ↦ (refl, rw (on, last) (last_less (aims_step (Arriving to at)) (arrive_steps words) passes at.steps at.aims count (omega arith) (eqb-true _ _ last) aimed.all on e))
+    | inr more ↦ (refl, rw (on, more) (step_less (aims_step (Arriving to at)) (arrive_steps words) passes at.steps at.aims count (omega arith) aimed.all on e))
   ]
 ]
-one_less passes words count (Shifting from to at) aimed e = elim (cases_Bool (nat_eq at.steps (shift_step 0 (TakePending 0)) && nat_lt at.aims passes)) [
-  | inl aims ↦ (refl, rw aims (aim_less (shift_step 0 (TakePending 0)) (shift_steps words) passes at.steps at.aims count (omega arith) aims e))
+one_less passes words count (Shifting from to at) aimed e = elim (cases_Bool (nat_eq at.steps (aims_step (Shifting from to at)) && nat_lt at.aims passes)) [
+  | inl aims ↦ (refl, rw aims (aim_less (aims_step (Shifting from to at)) (shift_steps words) passes at.steps at.aims count (omega arith) aims e))
   | inr on ↦ elim (cases_Bool (nat_eq (at.steps + 1) (shift_steps words))) [
-    | inl last ↦ (refl, rw (on, last) (last_less (shift_step 0 (TakePending 0)) (shift_steps words) passes at.steps at.aims count (omega arith) (eqb-true _ _ last) aimed.all on e))
-    | inr more ↦ (refl, rw (on, more) (step_less (shift_step 0 (TakePending 0)) (shift_steps words) passes at.steps at.aims count (omega arith) aimed.all on e))
+    | inl last ↦ (refl, rw (on, last) (last_less (aims_step (Shifting from to at)) (shift_steps words) passes at.steps at.aims count (omega arith) (eqb-true _ _ last) aimed.all on e))
+    | inr more ↦ (refl, rw (on, more) (step_less (aims_step (Shifting from to at)) (shift_steps words) passes at.steps at.aims count (omega arith) aimed.all on e))
   ]
 ]
 one_less passes words count (InMemory rest) aimed e = absurd (omega (arith, e))

@@ -8,10 +8,9 @@ use Rattle.aia_home.specs.declared.place.Place.{Place}
 use Rattle.aia_home.specs.Vms.{Vcpu, vcpu, is_vcpu, slot_of, notice_hart}
 use Rattle.aia_home.specs.Home.{Home, holds, is_moving}
 use Rattle.aia_home.specs.Home.Home.{Leaving, Arriving, Shifting}
-use Rattle.aia_home.specs.Plans.{is_at_last, stepped, leave_step, arrive_step, shift_step}
-use Rattle.aia_home.specs.Plans.Access.{TakePending}
+use Rattle.aia_home.specs.Plans.{is_at_last, stepped}
 use Rattle.aia_home.specs.BySteps.{new_file, look_sees, look_step, look_word}
-use Rattle.aia_home.specs.Aims.{aims_done, is_aiming, aimed, pass_reaches}
+use Rattle.aia_home.specs.Aims.{aims_done, aims_step, is_aiming, aimed, pass_reaches}
 use Rattle.aia_home.proofs.PassLemmas.{aim_is_no_fence}
 use Rattle.aia_places.specs.Stores.{AreApart}
 use Rattle.aia_model.specs.Event.{History, file_words}
@@ -73,9 +72,9 @@ aimed_moves there = refl
 
 -- its next step is not the last one
 pub aim_is_not_last : (passes words : ℕ) (there : Home) → is_aiming passes there ≡ true → is_at_last words there ≡ false
-aim_is_not_last passes words (Leaving from at) e = let here : nat_eq at.steps (leave_step 0 (TakePending 0)) ≡ true = (and_parts _ _ e).0 in grind (arith, nat_tests)
-aim_is_not_last passes words (Arriving to at) e = let here : nat_eq at.steps (arrive_step 0 (TakePending 0)) ≡ true = (and_parts _ _ e).0 in grind (arith, nat_tests)
-aim_is_not_last passes words (Shifting from to at) e = let here : nat_eq at.steps (shift_step 0 (TakePending 0)) ≡ true = (and_parts _ _ e).0 in grind (arith, nat_tests)
+aim_is_not_last passes words (Leaving from at) e = let here : nat_eq at.steps (aims_step (Leaving from at)) ≡ true = (and_parts _ _ e).0 in grind (arith, nat_tests)
+aim_is_not_last passes words (Arriving to at) e = let here : nat_eq at.steps (aims_step (Arriving to at)) ≡ true = (and_parts _ _ e).0 in grind (arith, nat_tests)
+aim_is_not_last passes words (Shifting from to at) e = let here : nat_eq at.steps (aims_step (Shifting from to at)) ≡ true = (and_parts _ _ e).0 in grind (arith, nat_tests)
 aim_is_not_last passes words there e = absurd (cc)
 
 aim_ends_none : (passes words : ℕ) (there : Home) → is_aiming passes there ≡ true → ends_leave words there ≡ false
@@ -88,10 +87,10 @@ aim_sees_none passes words (Arriving to at) live some e = refl
 aim_sees_none passes words (Shifting from to at) live some e = refl
 aim_sees_none passes words (Leaving from at) live some e =
     let w = look_word words (Leaving from at) in
-    let here = eqb-true at.steps (leave_step 0 (TakePending 0)) (and_parts _ _ e).0 in
+    let here = eqb-true at.steps (aims_step (Leaving from at)) (and_parts _ _ e).0 in
     sees (nat_lt w words) (nat_eq at.steps (look_step words w)) (live w) (later words w here some)
   where
-    later : (words w : ℕ) → at.steps ≡ leave_step 0 (TakePending 0) → 1 ≤ words → nat_eq at.steps (look_step words w) ≡ false
+    later : (words w : ℕ) → at.steps ≡ aims_step (Leaving from at) → 1 ≤ words → nat_eq at.steps (look_step words w) ≡ false
     later words w here some = ne_eqb _ _ (λ same. omega (arith, same, here, some))
 
     sees : (a c b : Bool) → c ≡ false → ((a && c) && b) ≡ false

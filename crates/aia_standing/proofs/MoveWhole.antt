@@ -25,9 +25,8 @@ use Rattle.aia_model.specs.Vms.{has_vcpu}
 use Rattle.aia_model.specs.Passes.{passes_of, passes_for}
 use Rattle.aia_model.specs.Event.Event.{Stepped}
 use Rattle.aia_model.specs.Aim.{aimed_by}
-use Rattle.aia_home.specs.Aims.{aims_done, is_aiming, aimed, further, AreAimed}
-use Rattle.aia_home.specs.Plans.{steps_done, leave_step, arrive_step, shift_step, leave_steps, arrive_steps, shift_steps}
-use Rattle.aia_home.specs.Plans.Access.{TakePending}
+use Rattle.aia_home.specs.Aims.{aims_done, aims_step, is_aiming, aimed, further, AreAimed}
+use Rattle.aia_home.specs.Plans.{steps_done, leave_steps, arrive_steps, shift_steps}
 use Rattle.aia_standing.specs.Passes.{AimsBy, StepsAim}
 use Rattle.aia_model.specs.HomeOf.{home, guest_place, free_file}
 use Rattle.aia_model.specs.Refusal.{refusal}
@@ -77,17 +76,17 @@ pub record IsAt (move : Move) (passes i : ℕ) (there : Home) : Type 0 where
 last_at : (move : Move) (passes i : ℕ) (there : Home) (words : ℕ) → AreAimed passes there → IsAt move passes i there → is_at_last words there ≡ true → i + 1 ≡ steps_of words move + passes
 last_at (Leaves g) passes i (Leaving from at) words aimed is last =
     let end : at.steps + 1 ≡ leave_steps words = eqb-true _ _ last in
-    let all = aimed.all (lt-ltb (leave_step 0 (TakePending 0)) at.steps (omega (arith, end))) in
+    let all = aimed.all (lt-ltb (aims_step (Leaving from at)) at.steps (omega (arith, end))) in
     let most : passes ≤ at.aims = grind (arith, nat_tests) in
     let few = is.few in let count = is.count in omega (arith, end, most, few, count)
 last_at (Arrives g hart) passes i (Arriving to at) words aimed is last =
     let end : at.steps + 1 ≡ arrive_steps words = eqb-true _ _ last in
-    let all = aimed.all (lt-ltb (arrive_step 0 (TakePending 0)) at.steps (omega (arith, end))) in
+    let all = aimed.all (lt-ltb (aims_step (Arriving to at)) at.steps (omega (arith, end))) in
     let most : passes ≤ at.aims = grind (arith, nat_tests) in
     let few = is.few in let count = is.count in omega (arith, end, most, few, count)
 last_at (Shifts g hart) passes i (Shifting from to at) words aimed is last =
     let end : at.steps + 1 ≡ shift_steps words = eqb-true _ _ last in
-    let all = aimed.all (lt-ltb (shift_step 0 (TakePending 0)) at.steps (omega (arith, end))) in
+    let all = aimed.all (lt-ltb (aims_step (Shifting from to at)) at.steps (omega (arith, end))) in
     let most : passes ≤ at.aims = grind (arith, nat_tests) in
     let few = is.few in let count = is.count in omega (arith, end, most, few, count)
 last_at move passes i there words aimed is last = absurd is.on
