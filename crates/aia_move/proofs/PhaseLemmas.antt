@@ -156,7 +156,7 @@ closed_phase w u m t next some is goes last r = by_next next r
 
     by_next : (next : Closed Moving Moving) → MatchClosed next (λ x. (x ≡ t) × (has_unaimed x ≡ true)) (λ x. (x ≡ t) × (has_unaimed x ≡ false)) → MatchClosed next IsAtAims (IsInDrain (width u))
     by_next (closed.Aim x) r = subst IsAtAims (sym r.0) (at_aims (width u) t here at (subst (λ y. has_unaimed y ≡ true) r.0 r.1))
-    by_next (closed.Drain x) r = subst (λ y. IsInDrain (width u) y) (sym r.0) (drain_begins (width u) t here (omega (arith, goes.width, some)) at (subst (λ y. has_unaimed y ≡ false) r.0 r.1))
+    by_next (closed.Aimed x) r = subst (λ y. IsInDrain (width u) y) (sym r.0) (drain_begins (width u) t here (omega (arith, goes.width, some)) at (subst (λ y. has_unaimed y ≡ false) r.0 r.1))
 
 -- once a word is taken, none is aimed
 pub still_drains : (w u : World) (m t : Moving) → IsIn DrainPhase (width w) m → GoesOn w m u t → steps_done m.home + 1 < begins (width w) m.home EnablePhase → IsInDrain (width u) t

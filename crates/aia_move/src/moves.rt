@@ -41,7 +41,7 @@ impl<K: Kind> Move<K, Closing> {
     /// Makes the G-stage record name the new file, or nothing where the move leads to memory, and
     /// puts it in force. Why here: both routes are closed before the first word is taken from the
     /// old place, which is the slot in an arrival and else a guest file, so that no store comes
-    /// after its word. `Drain` exactly where no passed source is to be aimed.
+    /// after its word. `Aimed` exactly where no passed source is to be aimed.
     pub fn step(mut self, fabric: &mut Fabric) -> Turn<Self, Closed<Move<K, Aim>, Move<K, Drain>>>
         requires fits { MoveFits fabric.old self }
         requires phase { IsIn ClosingPhase (width fabric.old) self }
@@ -99,7 +99,7 @@ impl<K: Kind> Move<K, Aim> {
         self.aim(fabric, targets);
         match self.closed() {
             Closed::Aim(state) => Turn::Stay(state),
-            Closed::Drain(state) => Turn::On(state),
+            Closed::Aimed(state) => Turn::On(state),
         }
     }
 }
@@ -274,7 +274,7 @@ impl<K: Kind, P> Move<K, P> {
         }
     }
 
-    /// Goes on to the aims while a passed source is to be aimed, and else to the pending set.
+    /// Goes on to the aims while a passed source is to be aimed, and else past them.
     fn closed(self) -> Closed<Move<K, Aim>, Move<K, Drain>>
         ensures { MatchClosed result (λ t. (t ≡ self) × (has_unaimed t ≡ true))
             (λ t. (t ≡ self) × (has_unaimed t ≡ false)) }
@@ -282,7 +282,7 @@ impl<K: Kind, P> Move<K, P> {
         if self.carrier.has_unaimed() {
             Closed::Aim(self.into_phase())
         } else {
-            Closed::Drain(self.into_phase())
+            Closed::Aimed(self.into_phase())
         }
     }
 }

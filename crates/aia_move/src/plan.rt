@@ -59,13 +59,13 @@ macro_rules! again {
 }
 
 /// The plan after a step of the phase of the G-stage record: the plan stays there, goes on to the
-/// aims, or to the pending set.
+/// aims, or past them.
 macro_rules! close {
-    ($turn:expr, $stay:ident, $aim:ident, $drain:ident) => {
+    ($turn:expr, $stay:ident, $aim:ident, $past:ident) => {
         match $turn {
             Turn::Stay(state) => Next::Again(Plan::$stay(state)),
             Turn::On(Closed::Aim(state)) => Next::Again(Plan::$aim(state)),
-            Turn::On(Closed::Drain(state)) => Next::Again(Plan::$drain(state)),
+            Turn::On(Closed::Aimed(state)) => Next::Again(Plan::$past(state)),
         }
     };
 }

@@ -12,11 +12,11 @@ pub enum Turn<S, T> {
 
 /// The phase of a move once its G-stage record is in force.
 #[derive(Drop)]
-pub enum Closed<A, D> {
+pub enum Closed<A, N> {
     /// Its next step aims a passed source.
     Aim(A),
-    /// All are aimed: its next step takes a word of the pending set.
-    Drain(D),
+    /// All are aimed: it is past the phase of aims.
+    Aimed(N),
 }
 
 /// What a move gives back at its end.
