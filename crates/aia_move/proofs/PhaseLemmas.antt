@@ -23,8 +23,8 @@ use Rattle.aia_moving.specs.Targets.{aims, pass_count, has_unaimed, one_aimed, a
 use Rattle.aia_moving.specs.Carrier.{CarrierState, progress_of, moving, one_aim_done}
 use Rattle.aia_moving.specs.Turns.{IsIn, IsAtAims, IsMove, GoesOn, AimsOn, MatchClosed}
 use Rattle.aia_moving.specs.Landings.{OnceLanded}
-use Rattle.aia_moving.proofs.PhaseSteps.{middle, begins_on}
-use Rattle.aia_moving.proofs.LandingLemmas.{past_fence, none_lands}
+use Rattle.aia_moving.proofs.PhaseSteps.{middle, begins_on, past_fence}
+use Rattle.aia_moving.proofs.LandingLemmas.{none_lands}
 use Rattle.aia_moving.proofs.StepLemmas.{steps_are}
 use Rattle.aia_move.specs.declared.plan.Plan.{Plan}
 use Rattle.aia_move.specs.declared.plan.Next.{Next}
@@ -55,10 +55,10 @@ no_aim_in_closing : (words : ℕ) (m : Moving) → IsIn ClosingPhase words m →
 no_aim_in_closing words m is = none_aims words _ m.home (λ moves e. omega (arith, e, is))
 
 no_aim_in_enable : (words : ℕ) (m : Moving) → 1 ≤ words → IsIn EnablePhase words m → aims m ≡ false
-no_aim_in_enable words m some is = none_aims words _ m.home (λ moves e. let mid = middle words m.home moves in omega (arith, e, is, some, mid.drain, mid.enable))
+no_aim_in_enable words m some is = none_aims words _ m.home (λ moves e. let mid = middle words m.home moves in omega (arith, e, is, some, mid.enable))
 
 no_aim_in_look : (words : ℕ) (m : Moving) → 1 ≤ words → IsIn LookPhase words m → aims m ≡ false
-no_aim_in_look words m some is = none_aims words _ m.home (λ moves e. let mid = middle words m.home moves in omega (arith, e, is, some, mid.drain, mid.looks))
+no_aim_in_look words m some is = none_aims words _ m.home (λ moves e. let mid = middle words m.home moves in omega (arith, e, is, some, mid.enable, mid.ends))
 
 -- what is last comes after the looks, which a leave alone has
 looks_before_last : (words : ℕ) (there : Home) → begins words there LookPhase ≤ begins words there LastPhase
@@ -66,7 +66,7 @@ looks_before_last words (Leaving from at) = omega arith
 looks_before_last words there = omega arith
 
 no_aim_in_last : (words : ℕ) (m : Moving) → 1 ≤ words → IsIn LastPhase words m → aims m ≡ false
-no_aim_in_last words m some is = none_aims words _ m.home (λ moves e. let mid = middle words m.home moves in omega (arith, e, is, some, mid.drain, mid.looks, looks_before_last words m.home))
+no_aim_in_last words m some is = none_aims words _ m.home (λ moves e. let mid = middle words m.home moves in omega (arith, e, is, some, mid.enable, mid.ends, looks_before_last words m.home))
 
 -- so a step aims where it is a step of no phase (of AllDone none is)
 step_aims : (phase : Option Phase) (words : ℕ) (m : Moving) → 1 ≤ words → NextStepIsOf phase words m → aims m ≡ is_none phase
@@ -127,7 +127,7 @@ at_aims words x moves at left = aims_at words _ x.home moves at ∙ left
 drain_begins : (words : ℕ) (x : Moving) → is_moving x.home ≡ true → 1 ≤ words → steps_done x.home ≡ begins words x.home DrainPhase → has_unaimed x ≡ false → IsInDrain words x
 drain_begins words x moves some at none =
     let mid = middle words x.home moves in
-    record { phase = (omega (arith, at), omega (arith, at, some, mid.drain, mid.enable)); aimed = aims_at words _ x.home moves at ∙ none }
+    record { phase = (omega (arith, at), omega (arith, at, some, mid.enable)); aimed = aims_at words _ x.home moves at ∙ none }
 
 still_moves : (there : Home) → is_moving there ≡ true → is_moving (one_more there) ≡ true
 still_moves (Leaving from at) moves = refl
@@ -159,7 +159,7 @@ closed_phase w u m t next some is goes last r = by_next next r
     by_next (closed.Aimed x) r = subst (λ y. IsInDrain (width u) y) (sym r.0) (drain_begins (width u) t here (omega (arith, goes.width, some)) at (subst (λ y. has_unaimed y ≡ false) r.0 r.1))
 
 -- once a word is taken, none is aimed
-pub still_drains : (w u : World) (m t : Moving) → IsIn DrainPhase (width w) m → GoesOn w m u t → steps_done m.home + 1 < begins (width w) m.home EnablePhase → IsInDrain (width u) t
+pub still_drains : (w u : World) (m t : Moving) → IsIn DrainPhase (width w) m → GoesOn w m u t → steps_done m.home + 1 < begins (width w) m.home (following DrainPhase) → IsInDrain (width u) t
 still_drains w u m t is goes more = record {
   phase = still_in DrainPhase w u m t is goes more;
   aimed = none_aims (width u) _ t.home (λ moves e. omega (arith, e, begins_still w u m t DrainPhase goes, goes.steps, is));
@@ -167,10 +167,10 @@ still_drains w u m t is goes more = record {
 
 -- ---- after the enabled set
 
--- the phase that follows in a plan begins where that of the looks does, which has no steps in an
--- arrival and in a shift
-after_begins : (words : ℕ) (there : Home) → (begins words there EnablePhase ≤ steps_done there) × (steps_done there < begins words there LookPhase)
-    → (begins words there (after_enable there) ≡ begins words there LookPhase) × (begins words there LookPhase < begins words there (following (after_enable there)))
+-- the phase that follows in a plan begins where this one ends: a phase between, which the plan does
+-- not have, has no steps
+after_begins : (words : ℕ) (there : Home) → (begins words there EnablePhase ≤ steps_done there) × (steps_done there < begins words there (following EnablePhase))
+    → (begins words there (after_enable there) ≡ begins words there (following EnablePhase)) × (begins words there (following EnablePhase) < begins words there (following (after_enable there)))
 after_begins words (Leaving from at) is = (refl, omega (arith, is.0, is.1))
 after_begins words (Arriving to at) is = (refl, omega arith)
 after_begins words (Shifting from to at) is = (refl, omega arith)
@@ -195,9 +195,9 @@ no_fence : (phase : Phase) (words : ℕ) (m : Moving) → phase ≢ FirstPhase �
 no_fence FirstPhase words m other is = absurd (other refl)
 no_fence ClosingPhase words m other is = past_fence words m.home is.0
 no_fence DrainPhase words m other is = let mid = middle words m.home (moves_in DrainPhase words m.home is.phase) in past_fence words m.home (omega (arith, is.phase.0, mid.drain))
-no_fence EnablePhase words m other is = let mid = middle words m.home (moves_in EnablePhase words m.home is) in past_fence words m.home (omega (arith, is.0, mid.enable))
-no_fence LookPhase words m other is = let mid = middle words m.home (moves_in LookPhase words m.home is) in past_fence words m.home (omega (arith, is.0, mid.looks))
-no_fence LastPhase words m other is = let mid = middle words m.home (moves_in LastPhase words m.home is) in past_fence words m.home (omega (arith, is.0, mid.looks, looks_before_last words m.home))
+no_fence EnablePhase words m other is = let mid = middle words m.home (moves_in EnablePhase words m.home is) in past_fence words m.home (omega (arith, is.0, mid.drain, mid.enable))
+no_fence LookPhase words m other is = let mid = middle words m.home (moves_in LookPhase words m.home is) in past_fence words m.home (omega (arith, is.0, mid.drain, mid.enable, mid.ends))
+no_fence LastPhase words m other is = let mid = middle words m.home (moves_in LastPhase words m.home is) in past_fence words m.home (omega (arith, is.0, mid.drain, mid.enable, mid.ends, looks_before_last words m.home))
 no_fence phase words m other is = absurd (omega (arith, is.0, is.1))
 
 -- ---- what a step makes
@@ -281,7 +281,7 @@ module _ (there : Progress → Home) (is : IsMove there) (w : World) (l : Carrie
         first = omega (arith, steps, begun, phase.0, mid.drain);
         word = omega (arith, steps, begun, phase.0, phase.1, mid.drain, mid.enable);
         no_zero = λ e. subst (λ (x : Moving). has_bit x.hand.word 0 ≡ false) (sym seen) (fits.no_pending_zero (pending_zero (width w) s.home moves (omega (arith, e, steps, begun, mid.drain))));
-        more = omega (arith, steps, few, begun, narrow, phase.1, mid.enable);
+        more = omega (arith, steps, few, begun, narrow, phase.1, mid.drain, mid.enable);
       }
 
   pub carries_enables : (words : ℕ) → words ≡ width w → IsIn EnablePhase (width w) s → Carries (width w) (closing + 2 + 2 * words) l
@@ -289,8 +289,8 @@ module _ (there : Progress → Home) (is : IsMove there) (w : World) (l : Carrie
       let mid = middle (width w) s.home moves in
       let steps = steps_are there is l s seen in
       record {
-        first = omega (arith, steps, begun, wide, phase.0, mid.enable);
-        word = omega (arith, steps, begun, wide, phase.0, phase.1, mid.enable, mid.looks);
-        no_zero = λ e. subst (λ (x : Moving). has_bit x.hand.word 0 ≡ false) (sym seen) (fits.no_enabled_zero (enables_zero (width w) s.home moves (omega (arith, e, steps, begun, wide, mid.enable))));
-        more = omega (arith, steps, few, begun, narrow, phase.1, mid.looks);
+        first = omega (arith, steps, begun, wide, phase.0, mid.drain, mid.enable);
+        word = omega (arith, steps, begun, wide, phase.0, phase.1, mid.drain, mid.enable, mid.ends);
+        no_zero = λ e. subst (λ (x : Moving). has_bit x.hand.word 0 ≡ false) (sym seen) (fits.no_enabled_zero (enables_zero (width w) s.home moves (omega (arith, e, steps, begun, wide, mid.drain, mid.enable))));
+        more = omega (arith, steps, few, begun, narrow, phase.1, mid.drain, mid.enable, mid.ends);
       }

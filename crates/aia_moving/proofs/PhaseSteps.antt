@@ -1,25 +1,160 @@
--- Where the phases that all plans have begin.
-use Rattle.std.proofs.Common.{◌≡◌, ℕ, ◌+◌, ◌*◌, true, refl, arith}
-use Rattle.aia_home.specs.Home.{Home, is_moving, one_more}
-use Rattle.aia_home.specs.Home.Home.{Leaving, Arriving, Shifting}
-use Rattle.aia_home.specs.Plans.{first_take}
-use Rattle.aia_home.specs.Phases.{Phase, begins}
-use Rattle.aia_home.specs.Phases.Phase.{ClosingPhase, DrainPhase, EnablePhase, LookPhase}
+-- The phases that all plans have: where they begin and end, and which accesses their steps make.
+use Rattle.std.proofs.Common.{◌≡◌, ℕ, ◌+◌, ◌-◌, ◌*◌, ◌/◌, ◌%◌, ◌<◌, ◌≤◌, true, false, inl, inr, refl, sym, ap, ◌∙◌, subst, arith}
+use Rattle.std.proofs.lemmas.Bool.{cases_eq, lt-ltb, eq-eqb, ne_eqb}
+use Rattle.aia_word.specs.Sets.{has_bit}
+use Rattle.aia_home.specs.Home.{Home, Progress, is_moving, one_more}
+use Rattle.aia_home.specs.Home.Home.{InMemory, Resident, Leaving, Arriving, Shifting}
+use Rattle.aia_home.specs.Plans.{IsNext, steps_done, first_take, pending_step, enables_step}
+use Rattle.aia_home.specs.Plans.Access.{TakePending, PutPending, TakeEnables, PutEnables}
+use Rattle.aia_home.specs.Phases.{Phase, following, begins}
+use Rattle.aia_home.specs.Phases.Phase.{FirstPhase, ClosingPhase, DrainPhase, EnablePhase}
+use Rattle.aia_home.specs.Routes.{is_at_fence}
+use Rattle.aia_world.specs.World.{World}
+use Rattle.aia_moving.specs.Move.{Moving, width, MoveFits}
+use Rattle.aia_moving.specs.Carrier.{CarrierState, progress_of, moving, Does, closing_access, pending_access, enables_access}
+use Rattle.aia_moving.specs.Turns.{IsIn, IsMove, GoesOn}
+use Rattle.aia_moving.proofs.StepLemmas.{seen_so, not_last, loaded, step_before, goes_on}
 
--- where they begin, counted from the beginning of the first of them
+-- ---- where they begin and end
+
+-- each from the beginning of the one before it, and where the last of them ends
 pub record Middle (words : ℕ) (there : Home) : Type 0 where
   pub drain : begins words there DrainPhase ≡ begins words there ClosingPhase + 2
-  pub enable : begins words there EnablePhase ≡ begins words there ClosingPhase + 2 + 2 * words
-  pub looks : begins words there LookPhase ≡ begins words there ClosingPhase + 2 + 4 * words
-  pub take : first_take there ≡ begins words there ClosingPhase + 2
+  pub enable : begins words there EnablePhase ≡ begins words there DrainPhase + 2 * words
+  pub ends : begins words there (following EnablePhase) ≡ begins words there EnablePhase + 2 * words
+  pub take : first_take there ≡ begins words there DrainPhase
 
 pub middle : (words : ℕ) (there : Home) → is_moving there ≡ true → Middle words there
-middle words (Leaving from at) moves = record { drain = refl; enable = omega arith; looks = omega arith; take = refl }
-middle words (Arriving to at) moves = record { drain = refl; enable = omega arith; looks = omega arith; take = refl }
-middle words (Shifting from to at) moves = record { drain = refl; enable = omega arith; looks = omega arith; take = refl }
+middle words (Leaving from at) moves = record { drain = refl; enable = omega arith; ends = omega arith; take = refl }
+middle words (Arriving to at) moves = record { drain = refl; enable = omega arith; ends = omega arith; take = refl }
+middle words (Shifting from to at) moves = record { drain = refl; enable = omega arith; ends = omega arith; take = refl }
 middle words there moves = absurd (cc)
 
 -- a step changes no beginning
 pub begins_on : (words : ℕ) (there : Home) (phase : Phase) → begins words (one_more there) phase ≡ begins words there phase
 begins_on words (Leaving from at) phase = refl
 begins_on words there phase = refl
+
+-- past the first phase a move is past its fence
+pub past_fence : (words : ℕ) (there : Home) → begins words there (following FirstPhase) ≤ steps_done there → is_at_fence there ≡ false
+past_fence words (Leaving from at) past = ne_eqb _ _ (λ e. omega (arith, e, past))
+past_fence words (Arriving to at) past = ne_eqb _ _ (λ e. omega (arith, e, past))
+past_fence words (Shifting from to at) past = ne_eqb _ _ (λ e. omega (arith, e, past))
+past_fence words there past = refl
+
+-- ---- the next access in each of them
+
+closing_next : (words first n : ℕ) (there : Home) → is_moving there ≡ true → n ≡ steps_done there → first ≡ begins words there ClosingPhase → first ≤ n → n < begins words there (following ClosingPhase)
+    → IsNext words there (closing_access first n)
+closing_next words first n (InMemory rest) moves at is from below = absurd (cc)
+closing_next words first n (Resident p) moves at is from below = absurd (cc)
+closing_next words first n (Leaving p progress) moves at is from below = elim (cases_eq n first) [
+  | inl e ↦ rw (eq-eqb n first e) (record { has = refl; step = omega (arith, at, is, e) })
+  | inr ne ↦ rw (ne_eqb n first ne) (record { has = refl; step = omega (arith, at, is, ne, from, below) })
+]
+closing_next words first n (Arriving p progress) moves at is from below = elim (cases_eq n first) [
+  | inl e ↦ rw (eq-eqb n first e) (record { has = refl; step = omega (arith, at, is, e) })
+  | inr ne ↦ rw (ne_eqb n first ne) (record { has = refl; step = omega (arith, at, is, ne, from, below) })
+]
+closing_next words first n (Shifting p q progress) moves at is from below = elim (cases_eq n first) [
+  | inl e ↦ rw (eq-eqb n first e) (record { has = refl; step = omega (arith, at, is, e) })
+  | inr ne ↦ rw (ne_eqb n first ne) (record { has = refl; step = omega (arith, at, is, ne, from, below) })
+]
+
+-- the accesses that carry the sets, by their steps
+record CarriesSets (words : ℕ) (there : Home) : Type 0 where
+  pub take_pending : (w : ℕ) → w < words → steps_done there ≡ pending_step there w → IsNext words there (TakePending w)
+  pub put_pending : (w : ℕ) → w < words → steps_done there ≡ pending_step there w + 1 → IsNext words there (PutPending w)
+  pub take_enables : (w : ℕ) → w < words → steps_done there ≡ enables_step words there w → IsNext words there (TakeEnables w)
+  pub put_enables : (w : ℕ) → w < words → steps_done there ≡ enables_step words there w + 1 → IsNext words there (PutEnables w)
+
+carries_sets : (words : ℕ) (there : Home) → is_moving there ≡ true → CarriesSets words there
+carries_sets words (InMemory rest) moves = absurd (cc)
+carries_sets words (Resident p) moves = absurd (cc)
+carries_sets words (Leaving from at) moves = record {
+  take_pending = λ w low e. record { has = lt-ltb w words low; step = e };
+  put_pending = λ w low e. record { has = lt-ltb w words low; step = omega (arith, e) };
+  take_enables = λ w low e. record { has = lt-ltb w words low; step = e };
+  put_enables = λ w low e. record { has = lt-ltb w words low; step = omega (arith, e) };
+}
+carries_sets words (Arriving to at) moves = record {
+  take_pending = λ w low e. record { has = lt-ltb w words low; step = e };
+  put_pending = λ w low e. record { has = lt-ltb w words low; step = omega (arith, e) };
+  take_enables = λ w low e. record { has = lt-ltb w words low; step = e };
+  put_enables = λ w low e. record { has = lt-ltb w words low; step = omega (arith, e) };
+}
+carries_sets words (Shifting from to at) moves = record {
+  take_pending = λ w low e. record { has = lt-ltb w words low; step = e };
+  put_pending = λ w low e. record { has = lt-ltb w words low; step = omega (arith, e) };
+  take_enables = λ w low e. record { has = lt-ltb w words low; step = e };
+  put_enables = λ w low e. record { has = lt-ltb w words low; step = omega (arith, e) };
+}
+
+pending_next : (words first : ℕ) (there : Home) → is_moving there ≡ true → first ≡ begins words there DrainPhase → first ≤ steps_done there → steps_done there < begins words there (following DrainPhase)
+    → IsNext words there (pending_access first (steps_done there))
+pending_next words first there moves is from below =
+    let all = carries_sets words there moves in
+    let mid = middle words there moves in
+    let w = (steps_done there - first) / 2 in
+    let low : w < words = omega (arith, mid.enable) in
+    elim (cases_eq ((steps_done there - first) % 2) 0) [
+      | inl even ↦ rw (eq-eqb ((steps_done there - first) % 2) 0 even) (all.take_pending w low (omega (arith, even, mid.take)))
+      | inr odd ↦ rw (ne_eqb ((steps_done there - first) % 2) 0 odd) (all.put_pending w low (omega (arith, odd, mid.take)))
+    ]
+
+enables_next : (words first : ℕ) (there : Home) → is_moving there ≡ true → first ≡ begins words there EnablePhase → first ≤ steps_done there → steps_done there < begins words there (following EnablePhase)
+    → IsNext words there (enables_access first (steps_done there))
+enables_next words first there moves is from below =
+    let all = carries_sets words there moves in
+    let mid = middle words there moves in
+    let w = (steps_done there - first) / 2 in
+    let low : w < words = omega (arith, mid.ends) in
+    elim (cases_eq ((steps_done there - first) % 2) 0) [
+      | inl even ↦ rw (eq-eqb ((steps_done there - first) % 2) 0 even) (all.take_enables w low (omega (arith, even, mid.take, mid.enable)))
+      | inr odd ↦ rw (ne_eqb ((steps_done there - first) % 2) 0 odd) (all.put_enables w low (omega (arith, odd, mid.take, mid.enable)))
+    ]
+
+-- ---- a step of each, of a move by its home at each progress
+
+module _ (there : Progress → Home) (is : IsMove there) where
+  pub move_closes : (w u : World) (l now : CarrierState) (s : Moving) (first : ℕ) → moving there l ≡ s → MoveFits w s → IsIn ClosingPhase (width w) s → first ≡ begins (width w) s.home ClosingPhase
+      → Does (closing_access first l.steps) (moving there l) w u now → GoesOn w s u (moving there now)
+  move_closes w u l now s first seen fits phase begin does =
+      let moves = is.moves (progress_of l) in
+      let steps = is.steps (progress_of l) in
+      let here : IsIn ClosingPhase (width w) (moving there l) = subst (λ x. IsIn ClosingPhase (width w) x) (sym seen) phase in
+      let from : first ≡ begins (width w) (moving there l).home ClosingPhase = begin ∙ ap (λ (x : Moving). begins (width w) x.home ClosingPhase) (sym seen) in
+      let mid = middle (width w) (moving there l).home moves in
+      step_before w u (moving there l) s there now (closing_access first l.steps) seen fits (goes_on there is l)
+      (closing_next (width w) first l.steps (moving there l).home moves (sym steps) from (omega (arith, steps, from, here)) (omega (arith, steps, here))) does
+      (omega (arith, here, mid.take))
+
+  pub move_carries_pending : (w u : World) (l now : CarrierState) (s : Moving) (first : ℕ) → moving there l ≡ s → MoveFits w s → IsIn DrainPhase (width w) s → first ≡ begins (width w) s.home DrainPhase
+      → Does (pending_access first l.steps) (moving there l) w u now → (l.steps ≡ first → has_bit now.hand.word 0 ≡ false) → GoesOn w s u (moving there now)
+  move_carries_pending w u l now s first seen fits phase begin does zero =
+      let m = moving there l in
+      let moves = is.moves (progress_of l) in
+      let steps = is.steps (progress_of l) in
+      let here : IsIn DrainPhase (width w) m = subst (λ x. IsIn DrainPhase (width w) x) (sym seen) phase in
+      let from : first ≡ begins (width w) m.home DrainPhase = begin ∙ ap (λ (x : Moving). begins (width w) x.home DrainPhase) (sym seen) in
+      let mid = middle (width w) m.home moves in
+      seen_so w u m s (moving there now) (pending_access first (steps_done m.home)) seen fits
+      (pending_next (width w) first m.home moves from (omega (arith, from, here)) here.1) (subst (λ n. Does (pending_access first n) m w u now) (sym steps) does).makes
+      (loaded m there now _ (goes_on there is l) (subst (λ n. Does (pending_access first n) m w u now) (sym steps) does).carrier)
+      (not_last (width w) m.home (omega (arith, here, mid.take, mid.enable)))
+      (record { pending = λ e. zero (omega (arith, e, steps, from, mid.take)); enabled = λ e. absurd (omega (arith, e, here, mid.take, mid.enable)) })
+
+  pub move_carries_enables : (w u : World) (l now : CarrierState) (s : Moving) (first : ℕ) → moving there l ≡ s → MoveFits w s → IsIn EnablePhase (width w) s → 1 ≤ width w → first ≡ begins (width w) s.home EnablePhase
+      → Does (enables_access first l.steps) (moving there l) w u now → (l.steps ≡ first → has_bit now.hand.word 0 ≡ false) → GoesOn w s u (moving there now)
+  move_carries_enables w u l now s first seen fits phase some begin does zero =
+      let m = moving there l in
+      let moves = is.moves (progress_of l) in
+      let steps = is.steps (progress_of l) in
+      let here : IsIn EnablePhase (width w) m = subst (λ x. IsIn EnablePhase (width w) x) (sym seen) phase in
+      let from : first ≡ begins (width w) m.home EnablePhase = begin ∙ ap (λ (x : Moving). begins (width w) x.home EnablePhase) (sym seen) in
+      let mid = middle (width w) m.home moves in
+      seen_so w u m s (moving there now) (enables_access first (steps_done m.home)) seen fits
+      (enables_next (width w) first m.home moves from (omega (arith, from, here)) here.1) (subst (λ n. Does (enables_access first n) m w u now) (sym steps) does).makes
+      (loaded m there now _ (goes_on there is l) (subst (λ n. Does (enables_access first n) m w u now) (sym steps) does).carrier)
+      (not_last (width w) m.home (omega (arith, here, mid.take, mid.enable, mid.ends)))
+      (record { pending = λ e. absurd (omega (arith, e, here, mid.take, mid.enable, some)); enabled = λ e. zero (omega (arith, e, steps, from, mid.take, mid.enable)) })

@@ -1,20 +1,17 @@
--- A step of a move: what its access leaves, that the next step can be made, and which access the
--- phases of all moves make.
-use Rattle.std.proofs.Common.{◌≡◌, ℕ, ◌+◌, ◌-◌, ◌/◌, ◌%◌, ◌<◌, ◌≤◌, Bool, true, false, inl, inr, refl, sym, ap, ◌∙◌, subst, arith}
-use Rattle.std.proofs.lemmas.Bool.{cases_eq, lt-ltb, eq-eqb, ne_eqb}
+-- A step of a move: what its access leaves, and that the next step can be made.
+use Rattle.std.proofs.Common.{◌≡◌, ℕ, ◌+◌, ◌/◌, ◌<◌, ◌≤◌, Bool, true, false, refl, sym, ap, ◌∙◌, subst, arith}
+use Rattle.std.proofs.lemmas.Bool.{ne_eqb}
 use Rattle.aia_home.proofs.PhaseLemmas.{carried_pending, carried_enables}
 use Rattle.aia_word.specs.Sets.{has_bit}
 use Rattle.aia_regs.specs.declared.file_registers.FileReg.{FileReg}
 use Rattle.aia_imsic.specs.declared.spot.Spot.{Spot}
 use Rattle.aia_imsic.specs.Imsic.{ImsicState, IsThere}
 use Rattle.aia_home.specs.declared.place.Place.{Place}
-use Rattle.aia_home.specs.Home.{Home, Progress, is_moving, one_more, one_further}
+use Rattle.aia_home.specs.Home.{Home, Progress, one_more, one_further}
 use Rattle.aia_home.specs.Plans.{is_at_last, Access, steps_done, has_access, IsNext, first_take, pending_step, enables_step}
-use Rattle.aia_home.specs.Home.Home.{InMemory, Resident, Leaving, Arriving, Shifting}
+use Rattle.aia_home.specs.Home.Home.{Leaving, Arriving, Shifting}
 use Rattle.aia_home.specs.Plans.Access.{TakeDelivery, PutDelivery, WriteNotice, WriteEntry, Fence, Map, GFence, TakePending, PutPending, TakeEnables, PutEnables, Look, TakeThreshold, PutThreshold, Post}
-use Rattle.aia_home.specs.Phases.{begins}
 use Rattle.aia_home.specs.Aims.{aims_done}
-use Rattle.aia_home.specs.Phases.Phase.{ClosingPhase, DrainPhase, EnablePhase, LookPhase}
 use Rattle.aia_home.specs.BySteps.{own_file, next_file}
 use Rattle.aia_home.proofs.PlanLemmas.{next_in_plan}
 use Rattle.aia_places.specs.Holds.{Hand}
@@ -23,10 +20,9 @@ use Rattle.aia_world.specs.declared.at.At.TheVariants.{File, Slot}
 use Rattle.aia_world.specs.World.{World}
 use Rattle.aia_world.specs.Changes.{PutsRegister, spot_of, with_pending, with_enable}
 use Rattle.aia_moving.specs.Move.{Moving, width, old_at, new_at, PostsIf, Makes, hand_after, MoveFits, Ends}
-use Rattle.aia_moving.specs.Carrier.{CarrierState, carrier_of, progress_of, moving, one_done, Does, closing_access, pending_access, enables_access}
-use Rattle.aia_moving.specs.Turns.{IsIn, IsMove, GoesOn}
+use Rattle.aia_moving.specs.Carrier.{CarrierState, carrier_of, progress_of, moving, one_done, Does}
+use Rattle.aia_moving.specs.Turns.{IsMove, GoesOn}
 use Rattle.aia_moving.specs.Touches.{SameMachine}
-use Rattle.aia_moving.proofs.PhaseSteps.{middle}
 
 -- ---- what an access leaves
 
@@ -86,7 +82,7 @@ same_move words (Shifting from to at) access has = record { steps = refl; own = 
 same_move words there access has = absurd (cc)
 
 -- a word 0 that the next access takes has no identity 0
-record TakesNoZero (w : World) (m t : Moving) : Type 0 where
+pub record TakesNoZero (w : World) (m t : Moving) : Type 0 where
   pub pending : steps_done m.home ≡ pending_step m.home 0 → has_bit t.hand.word 0 ≡ false
   pub enabled : steps_done m.home ≡ enables_step (width w) m.home 0 → has_bit t.hand.word 0 ≡ false
 
@@ -138,20 +134,20 @@ one_step w u m t access fits next made is more zero = record {
 
 -- ---- a step of a state m, which is seen as s
 
-seen_so : (w u : World) (m s t : Moving) (access : Access) → m ≡ s → MoveFits w s → IsNext (width w) m.home access → Makes access m w u
+pub seen_so : (w u : World) (m s t : Moving) (access : Access) → m ≡ s → MoveFits w s → IsNext (width w) m.home access → Makes access m w u
     → t ≡ record m { home = one_more m.home; hand = hand_after access m w } → is_at_last (width w) m.home ≡ false → TakesNoZero w m t → GoesOn w s u t
 seen_so w u m s t access seen fits next made is more zero =
     subst (λ x. GoesOn w x u t) seen (one_step w u m t access (subst (λ x. MoveFits w x) (sym seen) fits) next made is more zero)
 
 -- not the last one
-not_last : (words : ℕ) (there : Home) → steps_done there < enables_step words there words → is_at_last words there ≡ false
+pub not_last : (words : ℕ) (there : Home) → steps_done there < enables_step words there words → is_at_last words there ≡ false
 not_last words (Leaving from at) low = ne_eqb _ _ (λ e. omega (arith, e, low))
 not_last words (Arriving to at) low = ne_eqb _ _ (λ e. omega (arith, e, low))
 not_last words (Shifting from to at) low = ne_eqb _ _ (λ e. omega (arith, e, low))
 not_last words there low = refl
 
 -- the state with a carrier
-loaded : (m : Moving) (there : Progress → Home) (now : CarrierState) (hand : Hand) → there (one_further (record { steps = steps_done m.home; aims = aims_done m.home })) ≡ one_more m.home → now ≡ one_done (carrier_of m) hand
+pub loaded : (m : Moving) (there : Progress → Home) (now : CarrierState) (hand : Hand) → there (one_further (record { steps = steps_done m.home; aims = aims_done m.home })) ≡ one_more m.home → now ≡ one_done (carrier_of m) hand
     → moving there now ≡ record m { home = one_more m.home; hand = hand }
 loaded m there now hand next is = ap (λ (l : CarrierState). moving there l) is ∙ ap (λ (h : Home). record m { home = h; hand = hand }) next
 
@@ -175,78 +171,7 @@ step_last w u m s access seen next made same last =
       last = last;
     })
 
--- ---- the phases of all moves
-
--- the accesses that carry the sets, by their steps
-record CarriesSets (words : ℕ) (there : Home) : Type 0 where
-  pub take_pending : (w : ℕ) → w < words → steps_done there ≡ pending_step there w → IsNext words there (TakePending w)
-  pub put_pending : (w : ℕ) → w < words → steps_done there ≡ pending_step there w + 1 → IsNext words there (PutPending w)
-  pub take_enables : (w : ℕ) → w < words → steps_done there ≡ enables_step words there w → IsNext words there (TakeEnables w)
-  pub put_enables : (w : ℕ) → w < words → steps_done there ≡ enables_step words there w + 1 → IsNext words there (PutEnables w)
-
-carries_sets : (words : ℕ) (there : Home) → is_moving there ≡ true → CarriesSets words there
-carries_sets words (InMemory rest) moves = absurd (cc)
-carries_sets words (Resident p) moves = absurd (cc)
-carries_sets words (Leaving from at) moves = record {
-  take_pending = λ w low e. record { has = lt-ltb w words low; step = e };
-  put_pending = λ w low e. record { has = lt-ltb w words low; step = omega (arith, e) };
-  take_enables = λ w low e. record { has = lt-ltb w words low; step = e };
-  put_enables = λ w low e. record { has = lt-ltb w words low; step = omega (arith, e) };
-}
-carries_sets words (Arriving to at) moves = record {
-  take_pending = λ w low e. record { has = lt-ltb w words low; step = e };
-  put_pending = λ w low e. record { has = lt-ltb w words low; step = omega (arith, e) };
-  take_enables = λ w low e. record { has = lt-ltb w words low; step = e };
-  put_enables = λ w low e. record { has = lt-ltb w words low; step = omega (arith, e) };
-}
-carries_sets words (Shifting from to at) moves = record {
-  take_pending = λ w low e. record { has = lt-ltb w words low; step = e };
-  put_pending = λ w low e. record { has = lt-ltb w words low; step = omega (arith, e) };
-  take_enables = λ w low e. record { has = lt-ltb w words low; step = e };
-  put_enables = λ w low e. record { has = lt-ltb w words low; step = omega (arith, e) };
-}
-
-pending_next : (words first : ℕ) (there : Home) → is_moving there ≡ true → first ≡ begins words there DrainPhase → first ≤ steps_done there → steps_done there < begins words there EnablePhase
-    → IsNext words there (pending_access first (steps_done there))
-pending_next words first there moves is from below =
-    let all = carries_sets words there moves in
-    let mid = middle words there moves in
-    let w = (steps_done there - first) / 2 in
-    let low : w < words = omega (arith, mid.drain, mid.enable, mid.looks) in
-    elim (cases_eq ((steps_done there - first) % 2) 0) [
-      | inl even ↦ rw (eq-eqb ((steps_done there - first) % 2) 0 even) (all.take_pending w low (omega (arith, even, mid.take, mid.drain, mid.enable)))
-      | inr odd ↦ rw (ne_eqb ((steps_done there - first) % 2) 0 odd) (all.put_pending w low (omega (arith, odd, mid.take, mid.drain, mid.enable)))
-    ]
-
-enables_next : (words first : ℕ) (there : Home) → is_moving there ≡ true → first ≡ begins words there EnablePhase → first ≤ steps_done there → steps_done there < begins words there LookPhase
-    → IsNext words there (enables_access first (steps_done there))
-enables_next words first there moves is from below =
-    let all = carries_sets words there moves in
-    let mid = middle words there moves in
-    let w = (steps_done there - first) / 2 in
-    let low : w < words = omega (arith, mid.drain, mid.enable, mid.looks) in
-    elim (cases_eq ((steps_done there - first) % 2) 0) [
-      | inl even ↦ rw (eq-eqb ((steps_done there - first) % 2) 0 even) (all.take_enables w low (omega (arith, even, mid.take, mid.drain, mid.enable)))
-      | inr odd ↦ rw (ne_eqb ((steps_done there - first) % 2) 0 odd) (all.put_enables w low (omega (arith, odd, mid.take, mid.drain, mid.enable)))
-    ]
-
--- ---- a step of these phases, of a move by its home at each progress
-
-closing_next : (words first n : ℕ) (there : Home) → is_moving there ≡ true → n ≡ steps_done there → first ≡ begins words there ClosingPhase → first ≤ n → n < begins words there DrainPhase → IsNext words there (closing_access first n)
-closing_next words first n (InMemory rest) moves at is from below = absurd (cc)
-closing_next words first n (Resident p) moves at is from below = absurd (cc)
-closing_next words first n (Leaving p progress) moves at is from below = elim (cases_eq n first) [
-  | inl e ↦ rw (eq-eqb n first e) (record { has = refl; step = omega (arith, at, is, e) })
-  | inr ne ↦ rw (ne_eqb n first ne) (record { has = refl; step = omega (arith, at, is, ne, from, below) })
-]
-closing_next words first n (Arriving p progress) moves at is from below = elim (cases_eq n first) [
-  | inl e ↦ rw (eq-eqb n first e) (record { has = refl; step = omega (arith, at, is, e) })
-  | inr ne ↦ rw (ne_eqb n first ne) (record { has = refl; step = omega (arith, at, is, ne, from, below) })
-]
-closing_next words first n (Shifting p q progress) moves at is from below = elim (cases_eq n first) [
-  | inl e ↦ rw (eq-eqb n first e) (record { has = refl; step = omega (arith, at, is, e) })
-  | inr ne ↦ rw (ne_eqb n first ne) (record { has = refl; step = omega (arith, at, is, ne, from, below) })
-]
+-- ---- a move by its home at each progress
 
 module _ (there : Progress → Home) (is : IsMove there) where
   pub carrier_is : (l : CarrierState) → carrier_of (moving there l) ≡ l
@@ -255,47 +180,5 @@ module _ (there : Progress → Home) (is : IsMove there) where
   pub steps_are : (l : CarrierState) (s : Moving) → moving there l ≡ s → l.steps ≡ steps_done s.home
   steps_are l s seen = sym (is.steps (progress_of l)) ∙ ap (λ (x : Moving). steps_done x.home) seen
 
-  goes_on : (l : CarrierState) → there (one_further (record { steps = steps_done (moving there l).home; aims = aims_done (moving there l).home })) ≡ one_more (moving there l).home
+  pub goes_on : (l : CarrierState) → there (one_further (record { steps = steps_done (moving there l).home; aims = aims_done (moving there l).home })) ≡ one_more (moving there l).home
   goes_on l = (λ k. there (one_further (record { steps = is.steps (progress_of l) k; aims = is.aims (progress_of l) k }))) ∙ is.more (progress_of l)
-
-  pub move_closes : (w u : World) (l now : CarrierState) (s : Moving) (first : ℕ) → moving there l ≡ s → MoveFits w s → IsIn ClosingPhase (width w) s → first ≡ begins (width w) s.home ClosingPhase
-      → Does (closing_access first l.steps) (moving there l) w u now → GoesOn w s u (moving there now)
-  move_closes w u l now s first seen fits phase begin does =
-      let moves = is.moves (progress_of l) in
-      let steps = is.steps (progress_of l) in
-      let here : IsIn ClosingPhase (width w) (moving there l) = subst (λ x. IsIn ClosingPhase (width w) x) (sym seen) phase in
-      let from : first ≡ begins (width w) (moving there l).home ClosingPhase = begin ∙ ap (λ (x : Moving). begins (width w) x.home ClosingPhase) (sym seen) in
-      let mid = middle (width w) (moving there l).home moves in
-      step_before w u (moving there l) s there now (closing_access first l.steps) seen fits (goes_on l)
-      (closing_next (width w) first l.steps (moving there l).home moves (sym steps) from (omega (arith, steps, from, here)) (omega (arith, steps, from, here, mid.drain))) does
-      (omega (arith, here, mid.drain, mid.take))
-
-  pub move_carries_pending : (w u : World) (l now : CarrierState) (s : Moving) (first : ℕ) → moving there l ≡ s → MoveFits w s → IsIn DrainPhase (width w) s → first ≡ begins (width w) s.home DrainPhase
-      → Does (pending_access first l.steps) (moving there l) w u now → (l.steps ≡ first → has_bit now.hand.word 0 ≡ false) → GoesOn w s u (moving there now)
-  move_carries_pending w u l now s first seen fits phase begin does zero =
-      let m = moving there l in
-      let moves = is.moves (progress_of l) in
-      let steps = is.steps (progress_of l) in
-      let here : IsIn DrainPhase (width w) m = subst (λ x. IsIn DrainPhase (width w) x) (sym seen) phase in
-      let from : first ≡ begins (width w) m.home DrainPhase = begin ∙ ap (λ (x : Moving). begins (width w) x.home DrainPhase) (sym seen) in
-      let mid = middle (width w) m.home moves in
-      seen_so w u m s (moving there now) (pending_access first (steps_done m.home)) seen fits
-      (pending_next (width w) first m.home moves from (omega (arith, from, here)) here.1) (subst (λ n. Does (pending_access first n) m w u now) (sym steps) does).makes
-      (loaded m there now _ (goes_on l) (subst (λ n. Does (pending_access first n) m w u now) (sym steps) does).carrier)
-      (not_last (width w) m.home (omega (arith, here, mid.take, mid.drain, mid.enable)))
-      (record { pending = λ e. zero (omega (arith, e, steps, from, mid.take, mid.drain)); enabled = λ e. absurd (omega (arith, e, here, mid.take, mid.drain, mid.enable)) })
-
-  pub move_carries_enables : (w u : World) (l now : CarrierState) (s : Moving) (first : ℕ) → moving there l ≡ s → MoveFits w s → IsIn EnablePhase (width w) s → 1 ≤ width w → first ≡ begins (width w) s.home EnablePhase
-      → Does (enables_access first l.steps) (moving there l) w u now → (l.steps ≡ first → has_bit now.hand.word 0 ≡ false) → GoesOn w s u (moving there now)
-  move_carries_enables w u l now s first seen fits phase some begin does zero =
-      let m = moving there l in
-      let moves = is.moves (progress_of l) in
-      let steps = is.steps (progress_of l) in
-      let here : IsIn EnablePhase (width w) m = subst (λ x. IsIn EnablePhase (width w) x) (sym seen) phase in
-      let from : first ≡ begins (width w) m.home EnablePhase = begin ∙ ap (λ (x : Moving). begins (width w) x.home EnablePhase) (sym seen) in
-      let mid = middle (width w) m.home moves in
-      seen_so w u m s (moving there now) (enables_access first (steps_done m.home)) seen fits
-      (enables_next (width w) first m.home moves from (omega (arith, from, here)) here.1) (subst (λ n. Does (enables_access first n) m w u now) (sym steps) does).makes
-      (loaded m there now _ (goes_on l) (subst (λ n. Does (enables_access first n) m w u now) (sym steps) does).carrier)
-      (not_last (width w) m.home (omega (arith, here, mid.take, mid.enable, mid.looks)))
-      (record { pending = λ e. absurd (omega (arith, e, here, mid.take, mid.enable, some)); enabled = λ e. zero (omega (arith, e, steps, from, mid.take, mid.enable)) })

@@ -10,4 +10,4 @@ returns-then-stays-clause-phase g c =
     let m = c.args.self.now in
     let mid = middle (width w) m.home c.first_steps.ensures.moves in
     still_drains w c.carry_pending.new.fabric m c.carry_pending.new.self c.requires.phase.phase c.carry_pending.ensures
-    (omega (arith, c.words-words.ensures.value, c.first_steps.ensures.value (width w), mid.enable, c.done.ensures, c.if-stays.true))
+    (omega (arith, c.words-words.ensures.value, c.first_steps.ensures.value (width w), mid.drain, mid.enable, c.done.ensures, c.if-stays.true))

@@ -11,4 +11,4 @@ returns-then-stays-clause-phase g c =
     let m = c.args.self.now in
     let mid = middle (width w) m.home c.first_steps.ensures.moves in
     still_in EnablePhase w c.carry_enables.new.fabric m c.carry_enables.new.self c.requires.phase c.carry_enables.ensures.goes
-    (omega (arith, c.words-words.ensures.value, c.first_steps.ensures.value (width w), mid.looks, c.done.ensures, c.if-stays.true))
+    (omega (arith, c.words-words.ensures.value, c.first_steps.ensures.value (width w), mid.drain, mid.enable, mid.ends, c.done.ensures, c.if-stays.true))

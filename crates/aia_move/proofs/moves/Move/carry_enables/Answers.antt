@@ -4,9 +4,9 @@ use Rattle.aia_world.specs.Changes.{IsPlaceThere}
 use Rattle.aia_moving.specs.Move.{Moving, width, old_at, new_at}
 use Rattle.aia_moving.specs.Carrier.{moving, progress_of}
 use Rattle.aia_home.specs.Phases.{after_enable}
-use Rattle.aia_moving.proofs.PhaseSteps.{middle}
+use Rattle.aia_moving.proofs.PhaseSteps.{middle, move_carries_enables}
 use Rattle.aia_moving.proofs.WhoLemmas.{old_there, new_there}
-use Rattle.aia_moving.proofs.StepLemmas.{carrier_is, move_carries_enables}
+use Rattle.aia_moving.proofs.StepLemmas.{carrier_is}
 use Rattle.aia_move.proofs.PhaseLemmas.{carries_enables}
 use Rattle.aia_move.proofs.moves.Move.carry_enables.Goals as goal
 
@@ -33,8 +33,9 @@ returns-clause-goes g c =
     let there = g.K.Kind.home l.kind in
     let is = g.met.K.Kind.is_move l.kind in
     let words : c.words-words.result ≡ width w = c.words-words.ensures.value in
+    let mid = middle (width w) c.args.self.now.home c.first_steps.ensures.moves in
     move_carries_enables there is w c.carry_enables.new.fabric l.carrier c.carry_enables.new.self c.args.self.now (c.first_steps.result + 2 + 2 * c.words-words.result) c.self.view_is c.requires.fits c.requires.phase (omega (arith, words, c.words-words.ensures.some))
-    (omega (arith, words, c.first_steps.ensures.value (width w), (middle (width w) c.args.self.now.home c.first_steps.ensures.moves).enable))
+    (omega (arith, words, c.first_steps.ensures.value (width w), mid.drain, mid.enable))
     (c.carry_enables.ensures.does (moving there l.carrier) (carrier_is there is l.carrier) (ap old_at c.self.view_is ∙ sym c.old_place-from.ensures) (ap new_at c.self.view_is ∙ sym c.new_place-to.ensures)) c.carry_enables.ensures.no_zero
 
 pub returns-clause-follows : goal.returns-clause-follows

@@ -3,9 +3,9 @@ use Rattle.aia_regs.specs.declared.limits.TheConstants.{FILE_WORDS}
 use Rattle.aia_world.specs.Changes.{IsPlaceThere}
 use Rattle.aia_moving.specs.Move.{width, old_at, new_at}
 use Rattle.aia_moving.specs.Carrier.{moving}
-use Rattle.aia_moving.proofs.PhaseSteps.{middle}
+use Rattle.aia_moving.proofs.PhaseSteps.{middle, move_carries_pending}
 use Rattle.aia_moving.proofs.WhoLemmas.{old_there, new_there}
-use Rattle.aia_moving.proofs.StepLemmas.{carrier_is, move_carries_pending}
+use Rattle.aia_moving.proofs.StepLemmas.{carrier_is}
 use Rattle.aia_move.proofs.PhaseLemmas.{carries_pending}
 use Rattle.aia_move.proofs.moves.Move.carry_pending.Goals as goal
 

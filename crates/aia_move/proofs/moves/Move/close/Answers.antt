@@ -1,7 +1,8 @@
 use Rattle.std.proofs.Common.{sym}
 use Rattle.aia_moving.specs.Move.{width}
 use Rattle.aia_moving.specs.Carrier.{moving, progress_of}
-use Rattle.aia_moving.proofs.StepLemmas.{carrier_is, move_closes}
+use Rattle.aia_moving.proofs.StepLemmas.{carrier_is}
+use Rattle.aia_moving.proofs.PhaseSteps.{move_closes}
 use Rattle.aia_move.proofs.moves.Move.close.Goals as goal
 
 pub returns : goal.returns
