@@ -1,15 +1,15 @@
 -- The phases of a plan: where its steps aim passed sources, and what they leave; which phase comes
 -- after a step; what a step makes, and one in place, by the phase that the plan is in; what the
 -- accesses that carry the sets need of a carrier.
-use Rattle.std.proofs.Common.{◌≡◌, ◌≢◌, ℕ, ◌+◌, ◌<◌, ◌≤◌, Bool, true, false, ◌&&◌, nat_lt, refl, sym, ap, ◌∙◌, subst, arith, Option, Some, None, ◌-◌, ◌*◌, ◌/◌}
+use Rattle.std.proofs.Common.{◌≡◌, ◌≢◌, ℕ, ◌+◌, ◌<◌, ◌≤◌, Bool, true, false, ◌&&◌, nat_lt, refl, sym, ap, ◌∙◌, subst, arith, Option, Some, None, ◌-◌, ◌/◌}
 use Rattle.std.specs.Prelude.{is_none}
 use Rattle.std.proofs.lemmas.Bool.{eq-eqb, ne_eqb}
 use Rattle.aia_word.specs.Sets.{has_bit}
 use Rattle.aia_regs.specs.declared.limits.TheConstants.{FILE_WORDS}
 use Rattle.aia_home.specs.Home.{Home, Progress, is_moving, one_more}
 use Rattle.aia_home.specs.Home.Home.{Leaving, Arriving, Shifting}
-use Rattle.aia_home.specs.Plans.{Access, steps_done, is_last_made, leave_steps, leave_step}
-use Rattle.aia_home.specs.Plans.Access.{Map, TakePending, TakeEnables}
+use Rattle.aia_home.specs.Plans.{Access, steps_done, is_last_made, leave_steps}
+use Rattle.aia_home.specs.Plans.Access.{TakePending, TakeEnables}
 use Rattle.aia_home.specs.Phases.{Phase, following, begins, after_enable}
 use Rattle.aia_home.specs.Phases.Phase.{FirstPhase, ClosingPhase, DrainPhase, EnablePhase, LookPhase, LastPhase}
 use Rattle.aia_home.specs.BySteps.{own_file, next_file}
@@ -25,7 +25,7 @@ use Rattle.aia_moving.specs.Turns.{IsIn, IsAtAims, IsMove, GoesOn, AimsOn, Match
 use Rattle.aia_moving.specs.Landings.{OnceLanded}
 use Rattle.aia_moving.proofs.PhaseSteps.{middle, begins_on, past_fence}
 use Rattle.aia_moving.proofs.LandingLemmas.{none_lands}
-use Rattle.aia_moving.proofs.StepLemmas.{steps_are}
+use Rattle.aia_moving.proofs.StepLemmas.{it_moves, steps_are}
 use Rattle.aia_move.specs.declared.plan.Plan.{Plan}
 use Rattle.aia_move.specs.declared.plan.Next.{Next}
 use Rattle.aia_move.specs.Plan.{moving_of, is_in_aim, IsInDrain, NextStepIsOf, IsInPhase, IsLastOf, phase_of, StepsTo, Advances, StepsByPhase, InPlaceByPhase, EndsPhaseOrAims, StepsInPlace}
@@ -271,26 +271,27 @@ pub record Carries (words start : ℕ) (l : CarrierState) : Type 0 where
   pub no_zero : l.steps ≡ start + 1 → has_bit l.hand.word 0 ≡ false
   pub more : l.steps < leave_steps FILE_WORDS
 
-module _ (there : Progress → Home) (is : IsMove there) (w : World) (l : CarrierState) (s : Moving) (seen : moving there l ≡ s) (fits : MoveFits w s) (moves : is_moving s.home ≡ true) (closing : ℕ)
-    (few : closing ≤ leave_step 0 Map) (begun : closing ≡ begins (width w) s.home ClosingPhase) (narrow : width w ≤ FILE_WORDS) where
-  pub carries_pending : IsIn DrainPhase (width w) s → Carries (width w) (closing + 2) l
-  carries_pending phase =
+module _ (there : Progress → Home) (is : IsMove there) (w : World) (l : CarrierState) (s : Moving) (seen : moving there l ≡ s) (fits : MoveFits w s) (narrow : width w ≤ FILE_WORDS) (start : ℕ) where
+  pub carries_pending : start ≡ begins (width w) s.home DrainPhase → IsIn DrainPhase (width w) s → Carries (width w) start l
+  carries_pending begun phase =
+      let moves = it_moves there is l s seen in
       let mid = middle (width w) s.home moves in
       let steps = steps_are there is l s seen in
       record {
-        first = omega (arith, steps, begun, phase.0, mid.drain);
-        word = omega (arith, steps, begun, phase.0, phase.1, mid.drain, mid.enable);
-        no_zero = λ e. subst (λ (x : Moving). has_bit x.hand.word 0 ≡ false) (sym seen) (fits.no_pending_zero (pending_zero (width w) s.home moves (omega (arith, e, steps, begun, mid.drain))));
-        more = omega (arith, steps, few, begun, narrow, phase.1, mid.drain, mid.enable);
+        first = omega (arith, steps, begun, phase.0);
+        word = omega (arith, steps, begun, phase.0, phase.1, mid.enable);
+        no_zero = λ e. subst (λ (x : Moving). has_bit x.hand.word 0 ≡ false) (sym seen) (fits.no_pending_zero (pending_zero (width w) s.home moves (omega (arith, e, steps, begun))));
+        more = omega (arith, steps, narrow, phase.1, mid.ends, mid.few);
       }
 
-  pub carries_enables : (words : ℕ) → words ≡ width w → IsIn EnablePhase (width w) s → Carries (width w) (closing + 2 + 2 * words) l
-  carries_enables words wide phase =
+  pub carries_enables : start ≡ begins (width w) s.home EnablePhase → IsIn EnablePhase (width w) s → Carries (width w) start l
+  carries_enables begun phase =
+      let moves = it_moves there is l s seen in
       let mid = middle (width w) s.home moves in
       let steps = steps_are there is l s seen in
       record {
-        first = omega (arith, steps, begun, wide, phase.0, mid.drain, mid.enable);
-        word = omega (arith, steps, begun, wide, phase.0, phase.1, mid.drain, mid.enable, mid.ends);
-        no_zero = λ e. subst (λ (x : Moving). has_bit x.hand.word 0 ≡ false) (sym seen) (fits.no_enabled_zero (enables_zero (width w) s.home moves (omega (arith, e, steps, begun, wide, mid.drain, mid.enable))));
-        more = omega (arith, steps, few, begun, narrow, phase.1, mid.drain, mid.enable, mid.ends);
+        first = omega (arith, steps, begun, phase.0);
+        word = omega (arith, steps, begun, phase.0, phase.1, mid.ends);
+        no_zero = λ e. subst (λ (x : Moving). has_bit x.hand.word 0 ≡ false) (sym seen) (fits.no_enabled_zero (enables_zero (width w) s.home moves (omega (arith, e, steps, begun))));
+        more = omega (arith, steps, narrow, phase.1, mid.few);
       }

@@ -72,7 +72,7 @@ impl Arrive<First> {
         ensures goes { FirstGoesInPlace result fabric.old self.old fabric.new self.new }
         ensures phase { IsIn FirstPhase (width fabric.new) self.new }
     {
-        let stays = self.carrier.done() < 1;
+        let stays = self.carrier.done() + 1 < self.first_steps();
         if stays {
             self.begin(fabric);
         }
@@ -108,7 +108,7 @@ impl Arrive<Last> {
         ensures phase { IsIn LastPhase (width fabric.new) self.new }
     {
         let words = fabric.words();
-        let stays = self.carrier.done() < 5 + 4 * words;
+        let stays = self.carrier.done() == self.after_shared(words);
         if stays {
             self.put_threshold(fabric);
         }

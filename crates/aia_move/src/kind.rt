@@ -3,10 +3,8 @@ ghost use Rattle.std.specs.Borrow.{Bor};
 ghost use Rattle.aia_home.specs.declared.place.Place.{Place};
 ghost use Rattle.aia_home.specs.Home.{Home, Progress};
 ghost use Rattle.aia_home.specs.Home.Home.{Leaving, Arriving, Shifting};
-ghost use Rattle.aia_home.specs.Plans.{leave_step};
-ghost use Rattle.aia_home.specs.Plans.Access.{Map};
-ghost use Rattle.aia_home.specs.Phases.{Phase, begins, after_enable};
-ghost use Rattle.aia_home.specs.Phases.Phase.{ClosingPhase, LookPhase, LastPhase};
+ghost use Rattle.aia_home.specs.Phases.{Phase, following, leave_begins, begins, after_enable};
+ghost use Rattle.aia_home.specs.Phases.Phase.{FirstPhase, LookPhase, LastPhase};
 ghost use Rattle.aia_home.specs.BySteps.{new_file};
 ghost use Rattle.aia_world.specs.Changes.{spot_of};
 ghost use Rattle.aia_moving.specs.Move.{old_by, new_by};
@@ -29,9 +27,9 @@ pub trait Kind: Drop {
 
     /// Tells how many steps the first phase has, no more than that of a leave.
     fn first_steps(&self) -> u32
-        ensures few { result ≤ leave_step 0 Map }
+        ensures few { result ≤ leave_begins 0 (following FirstPhase) }
         ensures value { (words : ℕ) (at : Progress)
-            → result ≡ begins words (home self.now at) ClosingPhase };
+            → result ≡ begins words (home self.now at) (following FirstPhase) };
 
     /// Gives the place that the move leaves, where `slot` is the slot of the one who is moved.
     fn old_place(&self, slot: At) -> At

@@ -68,7 +68,7 @@ impl Leave<First> {
         ensures goes { FirstGoesInPlace result fabric.old self.old fabric.new self.new }
         ensures phase { IsIn FirstPhase (width fabric.new) self.new }
     {
-        let stays = self.carrier.done() < 3;
+        let stays = self.carrier.done() + 1 < self.first_steps();
         if stays {
             self.begin(fabric);
         }
@@ -104,7 +104,8 @@ impl Leave<Look> {
         ensures phase { IsIn LookPhase (width fabric.now) self.new }
     {
         let words = fabric.words();
-        let stays = self.carrier.done() < 5 + 5 * words;
+        let end = self.after_shared(words) + words;
+        let stays = self.carrier.done() + 1 < end;
         if stays {
             self.look(fabric);
         }
@@ -140,7 +141,7 @@ impl Leave<Last> {
         ensures phase { IsIn LastPhase (width fabric.new) self.new }
     {
         let words = fabric.words();
-        let stays = self.carrier.done() < 7 + 5 * words;
+        let stays = self.carrier.done() == self.after_shared(words) + words;
         if stays {
             self.take_threshold(fabric);
         }
@@ -175,7 +176,7 @@ impl<P> Leave<P> {
         ensures leaves { is_leaving self.old.home ≡ true }
     {
         let words = fabric.words();
-        let word = (self.carrier.done() - (6 + 4 * words)) as usize;
+        let word = (self.carrier.done() - self.after_shared(words)) as usize;
         self.carrier.look(fabric, word);
     }
 

@@ -1,9 +1,9 @@
 ghost use Rattle.std.specs.Prelude.{◌≡◌, ℕ, ◌≤◌, true, false};
+ghost use Rattle.aia_regs.specs.declared.limits.TheConstants.{FILE_WORDS};
 ghost use Rattle.aia_home.specs.Home.{is_moving};
-ghost use Rattle.aia_home.specs.Plans.{steps_done, leave_step};
-ghost use Rattle.aia_home.specs.Plans.Access.{Map};
-ghost use Rattle.aia_home.specs.Phases.{begins, after_enable};
-ghost use Rattle.aia_home.specs.Phases.Phase.{ClosingPhase, DrainPhase, EnablePhase};
+ghost use Rattle.aia_home.specs.Plans.{steps_done};
+ghost use Rattle.aia_home.specs.Phases.{following, leave_begins, begins, after_enable};
+ghost use Rattle.aia_home.specs.Phases.Phase.{FirstPhase, ClosingPhase, DrainPhase, EnablePhase};
 ghost use Rattle.aia_moving.specs.Move.{MoveFits, old_at, new_at, width};
 ghost use Rattle.aia_moving.specs.Targets.{ArePasses, aim_of, has_unaimed};
 ghost use Rattle.aia_moving.specs.Turns.{IsIn, IsAtAims, GoesOn, AimsOn, MatchTurn, MatchClosed};
@@ -69,7 +69,7 @@ impl<K: Kind> Move<K, Closing> {
         ensures phase { IsIn ClosingPhase (width fabric.new) self.new }
     {
         let _words = fabric.words();
-        let stays = self.done() == self.first_steps();
+        let stays = self.done() == self.before_closing();
         if stays {
             self.close(fabric);
         }
@@ -132,8 +132,8 @@ impl<K: Kind> Move<K, Drain> {
         ensures phase { IsInDrain (width fabric.new) self.new }
     {
         let words = fabric.words();
-        let last = self.first_steps() + 1 + 2 * words;
-        let stays = self.done() < last;
+        let end = self.before_enable(words);
+        let stays = self.done() + 1 < end;
         if stays {
             self.carry_pending(fabric);
         }
@@ -170,12 +170,62 @@ impl<K: Kind> Move<K, Enable> {
         ensures phase { IsIn EnablePhase (width fabric.new) self.new }
     {
         let words = fabric.words();
-        let last = self.first_steps() + 1 + 4 * words;
-        let stays = self.done() < last;
+        let end = self.after_shared(words);
+        let stays = self.done() + 1 < end;
         if stays {
             self.carry_enables(fabric);
         }
         stays
+    }
+}
+
+/// Where the phases that all plans have begin, and where the last of them ends, by how many steps
+/// come before; `words` is how many words each set of a file has.
+#[tactic(auto, using(aia_moving::proofs::PhaseSteps::middle))]
+impl<K: Kind, P> Move<K, P> {
+    /// Tells how many steps the first phase has, no more than that of a leave.
+    pub(crate) fn first_steps(&self) -> u32
+        ensures few { result ≤ leave_begins 0 (following FirstPhase) }
+        ensures moves { is_moving self.now.home ≡ true }
+        ensures value { (words : ℕ) → result ≡ begins words self.now.home (following FirstPhase) }
+    {
+        self.kind.first_steps()
+    }
+
+    /// Tells how many steps come before `Closing`, no more than in a leave.
+    fn before_closing(&self) -> u32
+        ensures few { result ≤ leave_begins 0 ClosingPhase }
+        ensures moves { is_moving self.now.home ≡ true }
+        ensures value { (words : ℕ) → result ≡ begins words self.now.home ClosingPhase }
+    {
+        self.first_steps()
+    }
+
+    /// Tells how many steps come before `Drain`, no more than in a leave.
+    fn before_drain(&self) -> u32
+        ensures few { result ≤ leave_begins 0 DrainPhase }
+        ensures moves { is_moving self.now.home ≡ true }
+        ensures value { (words : ℕ) → result ≡ begins words self.now.home DrainPhase }
+    {
+        self.before_closing() + 2
+    }
+
+    /// Tells how many steps come before `Enable`, no more than in a leave.
+    fn before_enable(&self, words: u32) -> u32
+        requires { words ≤ FILE_WORDS }
+        ensures few { result ≤ leave_begins words EnablePhase }
+        ensures moves { is_moving self.now.home ≡ true }
+        ensures value { result ≡ begins words self.now.home EnablePhase }
+    {
+        self.before_drain() + 2 * words
+    }
+
+    /// Tells how many steps come before the phase after `Enable`.
+    pub(crate) fn after_shared(&self, words: u32) -> u32
+        requires { words ≤ FILE_WORDS }
+        ensures { result ≡ begins words self.now.home (following EnablePhase) }
+    {
+        self.before_enable(words) + 2 * words
     }
 }
 
@@ -188,7 +238,7 @@ impl<K: Kind, P> Move<K, P> {
         ensures { GoesOn fabric.old self.old fabric.new self.new }
     {
         let _words = fabric.words();
-        let first = self.first_steps();
+        let first = self.before_closing();
         self.carrier.close(fabric, first, self.kind.new_file());
     }
 
@@ -213,7 +263,7 @@ impl<K: Kind, P> Move<K, P> {
         ensures { GoesOn fabric.old self.old fabric.new self.new }
     {
         let _words = fabric.words();
-        let first = self.first_steps() + 2;
+        let first = self.before_drain();
         let from = self.old_place();
         let to = self.new_place();
         self.carrier.carry_pending(fabric, first, from, to);
@@ -227,19 +277,10 @@ impl<K: Kind, P> Move<K, P> {
         ensures follows { K.after ≡ after_enable self.old.home }
     {
         let words = fabric.words();
-        let first = self.first_steps() + 2 + 2 * words;
+        let first = self.before_enable(words);
         let from = self.old_place();
         let to = self.new_place();
         self.carrier.carry_enables(fabric, first, from, to);
-    }
-
-    /// Tells how many steps the first phase has, no more than that of a leave.
-    pub(crate) fn first_steps(&self) -> u32
-        ensures few { result ≤ leave_step 0 Map }
-        ensures moves { is_moving self.now.home ≡ true }
-        ensures value { (words : ℕ) → result ≡ begins words self.now.home ClosingPhase }
-    {
-        self.kind.first_steps()
     }
 
     /// Tells how many of its steps are done.

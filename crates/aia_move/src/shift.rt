@@ -68,7 +68,7 @@ impl Shift<First> {
         ensures goes { FirstGoesInPlace result fabric.old self.old fabric.new self.new }
         ensures phase { IsIn FirstPhase (width fabric.new) self.new }
     {
-        let stays = self.carrier.done() < 2;
+        let stays = self.carrier.done() + 1 < self.first_steps();
         if stays {
             self.begin(fabric);
         }
@@ -104,7 +104,7 @@ impl Shift<Last> {
         ensures phase { IsIn LastPhase (width fabric.new) self.new }
     {
         let words = fabric.words();
-        let stays = self.carrier.done() < 7 + 4 * words;
+        let stays = self.carrier.done() < self.after_shared(words) + 2;
         if stays {
             self.carry_threshold(fabric);
         }
@@ -140,7 +140,7 @@ impl<P> Shift<P> {
         let words = fabric.words();
         let old = self.old_spot();
         let new = self.new_spot();
-        if self.carrier.done() < 6 + 4 * words {
+        if self.carrier.done() == self.after_shared(words) {
             self.carrier.take_threshold(fabric, old);
         } else {
             self.carrier.put_threshold(fabric, new);

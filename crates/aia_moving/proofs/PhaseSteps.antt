@@ -6,7 +6,7 @@ use Rattle.aia_home.specs.Home.{Home, Progress, is_moving, one_more}
 use Rattle.aia_home.specs.Home.Home.{InMemory, Resident, Leaving, Arriving, Shifting}
 use Rattle.aia_home.specs.Plans.{IsNext, steps_done, first_take, pending_step, enables_step}
 use Rattle.aia_home.specs.Plans.Access.{TakePending, PutPending, TakeEnables, PutEnables}
-use Rattle.aia_home.specs.Phases.{Phase, following, begins}
+use Rattle.aia_home.specs.Phases.{Phase, following, leave_begins, begins}
 use Rattle.aia_home.specs.Phases.Phase.{FirstPhase, ClosingPhase, DrainPhase, EnablePhase}
 use Rattle.aia_home.specs.Routes.{is_at_fence}
 use Rattle.aia_world.specs.World.{World}
@@ -17,17 +17,19 @@ use Rattle.aia_moving.proofs.StepLemmas.{seen_so, not_last, loaded, step_before,
 
 -- ---- where they begin and end
 
--- each from the beginning of the one before it, and where the last of them ends
+-- each from the beginning of the one before it, and where the last of them ends: in a leave no
+-- earlier than in another move
 pub record Middle (words : ℕ) (there : Home) : Type 0 where
   pub drain : begins words there DrainPhase ≡ begins words there ClosingPhase + 2
   pub enable : begins words there EnablePhase ≡ begins words there DrainPhase + 2 * words
   pub ends : begins words there (following EnablePhase) ≡ begins words there EnablePhase + 2 * words
+  pub few : begins words there (following EnablePhase) ≤ leave_begins words (following EnablePhase)
   pub take : first_take there ≡ begins words there DrainPhase
 
 pub middle : (words : ℕ) (there : Home) → is_moving there ≡ true → Middle words there
-middle words (Leaving from at) moves = record { drain = refl; enable = omega arith; ends = omega arith; take = refl }
-middle words (Arriving to at) moves = record { drain = refl; enable = omega arith; ends = omega arith; take = refl }
-middle words (Shifting from to at) moves = record { drain = refl; enable = omega arith; ends = omega arith; take = refl }
+middle words (Leaving from at) moves = record { drain = refl; enable = omega arith; ends = omega arith; few = omega arith; take = refl }
+middle words (Arriving to at) moves = record { drain = refl; enable = omega arith; ends = omega arith; few = omega arith; take = refl }
+middle words (Shifting from to at) moves = record { drain = refl; enable = omega arith; ends = omega arith; few = omega arith; take = refl }
 middle words there moves = absurd (cc)
 
 -- a step changes no beginning

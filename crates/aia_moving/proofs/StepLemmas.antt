@@ -7,7 +7,7 @@ use Rattle.aia_regs.specs.declared.file_registers.FileReg.{FileReg}
 use Rattle.aia_imsic.specs.declared.spot.Spot.{Spot}
 use Rattle.aia_imsic.specs.Imsic.{ImsicState, IsThere}
 use Rattle.aia_home.specs.declared.place.Place.{Place}
-use Rattle.aia_home.specs.Home.{Home, Progress, one_more, one_further}
+use Rattle.aia_home.specs.Home.{Home, Progress, is_moving, one_more, one_further}
 use Rattle.aia_home.specs.Plans.{is_at_last, Access, steps_done, has_access, IsNext, first_take, pending_step, enables_step}
 use Rattle.aia_home.specs.Home.Home.{Leaving, Arriving, Shifting}
 use Rattle.aia_home.specs.Plans.Access.{TakeDelivery, PutDelivery, WriteNotice, WriteEntry, Fence, Map, GFence, TakePending, PutPending, TakeEnables, PutEnables, Look, TakeThreshold, PutThreshold, Post}
@@ -176,6 +176,9 @@ step_last w u m s access seen next made same last =
 module _ (there : Progress → Home) (is : IsMove there) where
   pub carrier_is : (l : CarrierState) → carrier_of (moving there l) ≡ l
   carrier_is l = λ k. record l { steps = is.steps (progress_of l) k; aims = is.aims (progress_of l) k }
+
+  pub it_moves : (l : CarrierState) (s : Moving) → moving there l ≡ s → is_moving s.home ≡ true
+  it_moves l s seen = subst (λ (x : Moving). is_moving x.home ≡ true) seen (is.moves (progress_of l))
 
   pub steps_are : (l : CarrierState) (s : Moving) → moving there l ≡ s → l.steps ≡ steps_done s.home
   steps_are l s seen = sym (is.steps (progress_of l)) ∙ ap (λ (x : Moving). steps_done x.home) seen

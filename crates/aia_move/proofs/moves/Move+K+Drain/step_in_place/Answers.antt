@@ -1,13 +1,11 @@
-use Rattle.std.proofs.Common.{arith}
-use Rattle.aia_moving.specs.Move.{width}
-use Rattle.aia_moving.proofs.PhaseSteps.{middle}
+use Rattle.std.proofs.Common.{ap, arith}
+use Rattle.aia_home.specs.Phases.{begins}
+use Rattle.aia_home.specs.Phases.Phase.{EnablePhase}
 use Rattle.aia_move.proofs.PhaseLemmas.{still_drains}
 use Rattle.aia_move.proofs.moves.Move+K+Drain.step_in_place.Goals as goal
 
 pub returns-then-stays-clause-phase : goal.returns-then-stays-clause-phase
 returns-then-stays-clause-phase g c =
-    let w = c.args.fabric.now in
     let m = c.args.self.now in
-    let mid = middle (width w) m.home c.first_steps.ensures.moves in
-    still_drains w c.carry_pending.new.fabric m c.carry_pending.new.self c.requires.phase.phase c.carry_pending.ensures
-    (omega (arith, c.words-words.ensures.value, c.first_steps.ensures.value (width w), mid.drain, mid.enable, c.done.ensures, c.if-stays.true))
+    still_drains c.args.fabric.now c.carry_pending.new.fabric m c.carry_pending.new.self c.requires.phase.phase c.carry_pending.ensures
+    (omega (arith, ap (λ n. begins n m.home EnablePhase) c.words-words.ensures.value, c.before_enable-end.ensures.value, c.done.ensures, c.if-stays.true))

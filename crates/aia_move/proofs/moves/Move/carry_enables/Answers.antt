@@ -1,25 +1,31 @@
-use Rattle.std.proofs.Common.{◌≡◌, ◌+◌, ◌*◌, ◌≤◌, sym, ap, ◌∙◌, subst, arith}
+use Rattle.std.proofs.Common.{◌≡◌, ◌≤◌, sym, ap, ◌∙◌, subst, arith}
 use Rattle.aia_regs.specs.declared.limits.TheConstants.{FILE_WORDS}
 use Rattle.aia_world.specs.Changes.{IsPlaceThere}
+use Rattle.aia_home.specs.Phases.{begins, after_enable}
+use Rattle.aia_home.specs.Phases.Phase.{EnablePhase}
 use Rattle.aia_moving.specs.Move.{Moving, width, old_at, new_at}
 use Rattle.aia_moving.specs.Carrier.{moving, progress_of}
-use Rattle.aia_home.specs.Phases.{after_enable}
-use Rattle.aia_moving.proofs.PhaseSteps.{middle, move_carries_enables}
+use Rattle.aia_moving.proofs.PhaseSteps.{move_carries_enables}
 use Rattle.aia_moving.proofs.WhoLemmas.{old_there, new_there}
-use Rattle.aia_moving.proofs.StepLemmas.{carrier_is}
+use Rattle.aia_moving.proofs.StepLemmas.{carrier_is, it_moves}
 use Rattle.aia_move.proofs.PhaseLemmas.{carries_enables}
 use Rattle.aia_move.proofs.moves.Move.carry_enables.Goals as goal
 
 pub carry_enables-requires : goal.carry_enables-requires
 carry_enables-requires g c =
     let l = c.self.inside in
+    let there = g.K.Kind.home l.kind in
+    let is = g.met.K.Kind.is_move l.kind in
     let w = c.args.fabric.now in
-    let begun = c.first_steps.ensures in
-    let narrow = subst (λ n. n ≤ FILE_WORDS) c.words-words.ensures.value c.words-words.ensures.few in
-    let carries = carries_enables (g.K.Kind.home l.kind) (g.met.K.Kind.is_move l.kind) w l.carrier c.args.self.now c.self.view_is c.requires.fits begun.moves c.first_steps.result begun.few (begun.value (width w)) narrow c.words-words.result c.words-words.ensures.value c.requires.phase in
+    let s = c.args.self.now in
+    let moves = it_moves there is l.carrier s c.self.view_is in
+    let wide : c.words-words.result ≡ width w = c.words-words.ensures.value in
+    let narrow = subst (λ n. n ≤ FILE_WORDS) wide c.words-words.ensures.few in
+    let begun = c.before_enable-first.ensures.value ∙ ap (λ n. begins n s.home EnablePhase) wide in
+    let carries = carries_enables there is w l.carrier s c.self.view_is c.requires.fits narrow c.before_enable-first.result begun c.requires.phase in
     record {
-      from = subst (λ at. IsPlaceThere w at) (sym c.old_place-from.ensures) (old_there w c.args.self.now c.words-words.ensures.whole c.requires.fits begun.moves);
-      to = subst (λ at. IsPlaceThere w at) (sym c.new_place-to.ensures) (new_there w c.args.self.now c.words-words.ensures.whole c.requires.fits begun.moves);
+      from = subst (λ at. IsPlaceThere w at) (sym c.old_place-from.ensures) (old_there w s c.words-words.ensures.whole c.requires.fits moves);
+      to = subst (λ at. IsPlaceThere w at) (sym c.new_place-to.ensures) (new_there w s c.words-words.ensures.whole c.requires.fits moves);
       first = carries.first;
       word = carries.word;
       no_zero = carries.no_zero;
@@ -29,13 +35,13 @@ carry_enables-requires g c =
 pub returns-clause-goes : goal.returns-clause-goes
 returns-clause-goes g c =
     let l = c.self.inside in
-    let w = c.args.fabric.now in
     let there = g.K.Kind.home l.kind in
     let is = g.met.K.Kind.is_move l.kind in
-    let words : c.words-words.result ≡ width w = c.words-words.ensures.value in
-    let mid = middle (width w) c.args.self.now.home c.first_steps.ensures.moves in
-    move_carries_enables there is w c.carry_enables.new.fabric l.carrier c.carry_enables.new.self c.args.self.now (c.first_steps.result + 2 + 2 * c.words-words.result) c.self.view_is c.requires.fits c.requires.phase (omega (arith, words, c.words-words.ensures.some))
-    (omega (arith, words, c.first_steps.ensures.value (width w), mid.drain, mid.enable))
+    let w = c.args.fabric.now in
+    let s = c.args.self.now in
+    let wide : c.words-words.result ≡ width w = c.words-words.ensures.value in
+    let begun = c.before_enable-first.ensures.value ∙ ap (λ n. begins n s.home EnablePhase) wide in
+    move_carries_enables there is w c.carry_enables.new.fabric l.carrier c.carry_enables.new.self s c.before_enable-first.result c.self.view_is c.requires.fits c.requires.phase (omega (arith, wide, c.words-words.ensures.some)) begun
     (c.carry_enables.ensures.does (moving there l.carrier) (carrier_is there is l.carrier) (ap old_at c.self.view_is ∙ sym c.old_place-from.ensures) (ap new_at c.self.view_is ∙ sym c.new_place-to.ensures)) c.carry_enables.ensures.no_zero
 
 pub returns-clause-follows : goal.returns-clause-follows

@@ -10,5 +10,5 @@ returns g c =
     let l = c.self.inside in
     let there = g.K.Kind.home l.kind in
     let is = g.met.K.Kind.is_move l.kind in
-    move_closes there is c.args.fabric.now c.close.new.fabric l.carrier c.close.new.self c.args.self.now c.first_steps-first.result c.self.view_is c.requires.fits c.requires.phase (c.first_steps-first.ensures.value (width c.args.fabric.now))
+    move_closes there is c.args.fabric.now c.close.new.fabric l.carrier c.close.new.self c.args.self.now c.before_closing-first.result c.self.view_is c.requires.fits c.requires.phase (c.before_closing-first.ensures.value (width c.args.fabric.now))
     (c.close.ensures (moving there l.carrier) (carrier_is there is l.carrier) (sym (c.new_file.ensures (progress_of l.carrier))))
