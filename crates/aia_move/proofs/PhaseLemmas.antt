@@ -139,7 +139,7 @@ begins_still : (w u : World) (m t : Moving) (phase : Phase) → GoesOn w m u t �
 begins_still w u m t phase goes = ap (λ n. begins n t.home phase) goes.width ∙ ap (λ h. begins (width w) h phase) goes.goes.home ∙ begins_on (width w) m.home phase
 
 -- a step that is not the last one of its phase
-pub still_in : (phase : Phase) (w u : World) (m t : Moving) → IsIn phase (width w) m → GoesOn w m u t → steps_done m.home + 1 < begins (width w) m.home (following phase) → IsIn phase (width u) t
+still_in : (phase : Phase) (w u : World) (m t : Moving) → IsIn phase (width w) m → GoesOn w m u t → steps_done m.home + 1 < begins (width w) m.home (following phase) → IsIn phase (width u) t
 still_in phase w u m t is goes more = (omega (arith, begins_still w u m t phase goes, goes.steps, is), omega (arith, begins_still w u m t (following phase) goes, goes.steps, more))
 
 -- the phase after the last step of the G-stage record's
@@ -169,19 +169,17 @@ still_drains w u m t is goes more = record {
 
 -- the phase that follows in a plan begins where this one ends: a phase between, which the plan does
 -- not have, has no steps
-after_begins : (words : ℕ) (there : Home) → (begins words there EnablePhase ≤ steps_done there) × (steps_done there < begins words there (following EnablePhase))
+after_begins : (words : ℕ) (there : Home) → is_moving there ≡ true → 1 ≤ words
     → (begins words there (after_enable there) ≡ begins words there (following EnablePhase)) × (begins words there (following EnablePhase) < begins words there (following (after_enable there)))
-after_begins words (Leaving from at) is = (refl, omega (arith, is.0, is.1))
-after_begins words (Arriving to at) is = (refl, omega arith)
-after_begins words (Shifting from to at) is = (refl, omega arith)
-after_begins words there is = absurd (omega (arith, is.0, is.1))
+after_begins words (Leaving from at) moves some = (refl, omega (arith, some))
+after_begins words (Arriving to at) moves some = (refl, omega arith)
+after_begins words (Shifting from to at) moves some = (refl, omega arith)
+after_begins words there moves some = absurd (cc)
 
-pub ends_enables : (phase : Phase) (w u : World) (m t : Moving) → phase ≡ after_enable m.home → IsIn EnablePhase (width w) m → GoesOn w m u t → IsLastOf EnablePhase (width w) m → IsIn phase (width u) t
-ends_enables phase w u m t follows is goes last =
-    let next = after_enable m.home in
-    let begun = after_begins (width w) m.home is in
-    subst (λ p. IsIn p (width u) t) (sym follows)
-    (omega (arith, begins_still w u m t next goes, goes.steps, last, begun.0), omega (arith, begins_still w u m t (following next) goes, goes.steps, last, begun.1))
+pub is_after : (phase : Phase) (words : ℕ) (m : Moving) → is_moving m.home ≡ true → phase ≡ after_enable m.home → 1 ≤ words → steps_done m.home ≡ begins words m.home (following EnablePhase) → IsIn phase words m
+is_after phase words m moves follows some at =
+    let begun = after_begins words m.home moves some in
+    subst (λ p. IsIn p words m) (sym follows) (omega (arith, at, begun.0), omega (arith, at, begun.1))
 
 -- ---- whether sources are left to aim, as the carrier tells it
 

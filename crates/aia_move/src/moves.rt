@@ -2,7 +2,7 @@ ghost use Rattle.std.specs.Prelude.{◌≡◌, ℕ, ◌≤◌, true, false};
 ghost use Rattle.aia_regs.specs.declared.limits.TheConstants.{FILE_WORDS};
 ghost use Rattle.aia_home.specs.Home.{is_moving};
 ghost use Rattle.aia_home.specs.Plans.{steps_done};
-ghost use Rattle.aia_home.specs.Phases.{following, leave_begins, begins, after_enable};
+ghost use Rattle.aia_home.specs.Phases.{following, leave_begins, begins};
 ghost use Rattle.aia_home.specs.Phases.Phase.{FirstPhase, ClosingPhase, DrainPhase, EnablePhase};
 ghost use Rattle.aia_moving.specs.Move.{MoveFits, old_at, new_at, width};
 ghost use Rattle.aia_moving.specs.Targets.{ArePasses, aim_of, has_unaimed};
@@ -157,7 +157,7 @@ impl<K: Kind> Move<K, Enable> {
             Turn::Stay(self)
         } else {
             self.carry_enables(fabric);
-            Turn::On(self.into_phase())
+            Turn::On(self.into_after())
         }
     }
 
@@ -273,8 +273,7 @@ impl<K: Kind, P> Move<K, P> {
     fn carry_enables(&mut self, fabric: &mut Fabric)
         requires fits { MoveFits fabric.old self.old }
         requires phase { IsIn EnablePhase (width fabric.old) self.old }
-        ensures goes { GoesOn fabric.old self.old fabric.new self.new }
-        ensures follows { K.after ≡ after_enable self.old.home }
+        ensures { GoesOn fabric.old self.old fabric.new self.new }
     {
         let words = fabric.words();
         let first = self.before_enable(words);
@@ -307,6 +306,20 @@ impl<K: Kind, P> Move<K, P> {
     /// Comes to another phase, with all that it has.
     pub(crate) fn into_phase<Q>(self) -> Move<K, Q>
         ensures { result ≡ self }
+    {
+        Move {
+            kind: self.kind,
+            carrier: self.carrier,
+            phase: PhantomData,
+        }
+    }
+
+    /// Comes to the phase after those that all plans have, as it begins.
+    fn into_after(self) -> Move<K, K::After>
+        ensures same { result ≡ self }
+        ensures phase { (words : ℕ) → 1 ≤ words
+            → steps_done self.home ≡ begins words self.home (following EnablePhase)
+            → IsIn K.after words result }
     {
         Move {
             kind: self.kind,

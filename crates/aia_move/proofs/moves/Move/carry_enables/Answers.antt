@@ -1,10 +1,10 @@
 use Rattle.std.proofs.Common.{◌≡◌, ◌≤◌, sym, ap, ◌∙◌, subst, arith}
 use Rattle.aia_regs.specs.declared.limits.TheConstants.{FILE_WORDS}
 use Rattle.aia_world.specs.Changes.{IsPlaceThere}
-use Rattle.aia_home.specs.Phases.{begins, after_enable}
+use Rattle.aia_home.specs.Phases.{begins}
 use Rattle.aia_home.specs.Phases.Phase.{EnablePhase}
-use Rattle.aia_moving.specs.Move.{Moving, width, old_at, new_at}
-use Rattle.aia_moving.specs.Carrier.{moving, progress_of}
+use Rattle.aia_moving.specs.Move.{width, old_at, new_at}
+use Rattle.aia_moving.specs.Carrier.{moving}
 use Rattle.aia_moving.proofs.PhaseSteps.{move_carries_enables}
 use Rattle.aia_moving.proofs.WhoLemmas.{old_there, new_there}
 use Rattle.aia_moving.proofs.StepLemmas.{carrier_is, it_moves}
@@ -32,8 +32,8 @@ carry_enables-requires g c =
       more = carries.more;
     }
 
-pub returns-clause-goes : goal.returns-clause-goes
-returns-clause-goes g c =
+pub returns : goal.returns
+returns g c =
     let l = c.self.inside in
     let there = g.K.Kind.home l.kind in
     let is = g.met.K.Kind.is_move l.kind in
@@ -43,8 +43,3 @@ returns-clause-goes g c =
     let begun = c.before_enable-first.ensures.value ∙ ap (λ n. begins n s.home EnablePhase) wide in
     move_carries_enables there is w c.carry_enables.new.fabric l.carrier c.carry_enables.new.self s c.before_enable-first.result c.self.view_is c.requires.fits c.requires.phase (omega (arith, wide, c.words-words.ensures.some)) begun
     (c.carry_enables.ensures.does (moving there l.carrier) (carrier_is there is l.carrier) (ap old_at c.self.view_is ∙ sym c.old_place-from.ensures) (ap new_at c.self.view_is ∙ sym c.new_place-to.ensures)) c.carry_enables.ensures.no_zero
-
-pub returns-clause-follows : goal.returns-clause-follows
-returns-clause-follows g c =
-    let l = c.self.inside in
-    g.met.K.Kind.follows l.kind (progress_of l.carrier) ∙ ap (λ (x : Moving). after_enable x.home) c.self.view_is
