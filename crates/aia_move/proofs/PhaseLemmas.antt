@@ -10,7 +10,7 @@ use Rattle.aia_home.specs.Home.{Home, Progress, is_moving, one_more}
 use Rattle.aia_home.specs.Home.Home.{Leaving, Arriving, Shifting}
 use Rattle.aia_home.specs.Plans.{Access, steps_done, is_last_made, leave_steps}
 use Rattle.aia_home.specs.Plans.Access.{TakePending, TakeEnables}
-use Rattle.aia_home.specs.Phases.{Phase, following, begins, after_enable}
+use Rattle.aia_home.specs.Phases.{Phase, following, begins, after_shared}
 use Rattle.aia_home.specs.Phases.Phase.{FirstPhase, ClosingPhase, DrainPhase, EnablePhase, LookPhase, LastPhase}
 use Rattle.aia_home.specs.BySteps.{own_file, next_file}
 use Rattle.aia_home.specs.Aims.{aims_done, is_aiming, aimed}
@@ -170,13 +170,13 @@ still_drains w u m t is goes more = record {
 -- the phase that follows in a plan begins where this one ends: a phase between, which the plan does
 -- not have, has no steps
 after_begins : (words : ℕ) (there : Home) → is_moving there ≡ true → 1 ≤ words
-    → (begins words there (after_enable there) ≡ begins words there (following EnablePhase)) × (begins words there (following EnablePhase) < begins words there (following (after_enable there)))
+    → (begins words there (after_shared there) ≡ begins words there (following EnablePhase)) × (begins words there (following EnablePhase) < begins words there (following (after_shared there)))
 after_begins words (Leaving from at) moves some = (refl, omega (arith, some))
 after_begins words (Arriving to at) moves some = (refl, omega arith)
 after_begins words (Shifting from to at) moves some = (refl, omega arith)
 after_begins words there moves some = absurd (cc)
 
-pub is_after : (phase : Phase) (words : ℕ) (m : Moving) → is_moving m.home ≡ true → phase ≡ after_enable m.home → 1 ≤ words → steps_done m.home ≡ begins words m.home (following EnablePhase) → IsIn phase words m
+pub is_after : (phase : Phase) (words : ℕ) (m : Moving) → is_moving m.home ≡ true → phase ≡ after_shared m.home → 1 ≤ words → steps_done m.home ≡ begins words m.home (following EnablePhase) → IsIn phase words m
 is_after phase words m moves follows some at =
     let begun = after_begins words m.home moves some in
     subst (λ p. IsIn p words m) (sym follows) (omega (arith, at, begun.0), omega (arith, at, begun.1))

@@ -108,7 +108,7 @@ impl Arrive<Last> {
         ensures phase { IsIn LastPhase (width fabric.new) self.new }
     {
         let words = fabric.words();
-        let stays = self.carrier.done() == self.after_shared(words);
+        let stays = self.carrier.done() == self.end_of_shared(words);
         if stays {
             self.put_threshold(fabric);
         }

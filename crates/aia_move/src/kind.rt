@@ -3,7 +3,7 @@ ghost use Rattle.std.specs.Borrow.{Bor};
 ghost use Rattle.aia_home.specs.declared.place.Place.{Place};
 ghost use Rattle.aia_home.specs.Home.{Home, Progress};
 ghost use Rattle.aia_home.specs.Home.Home.{Leaving, Arriving, Shifting};
-ghost use Rattle.aia_home.specs.Phases.{Phase, following, leave_begins, begins, after_enable};
+ghost use Rattle.aia_home.specs.Phases.{Phase, following, leave_begins, begins, after_shared};
 ghost use Rattle.aia_home.specs.Phases.Phase.{FirstPhase, LookPhase, LastPhase};
 ghost use Rattle.aia_home.specs.BySteps.{new_file};
 ghost use Rattle.aia_world.specs.Changes.{spot_of};
@@ -48,7 +48,7 @@ pub trait Kind: Drop {
 
     ghost is_move: { (k : Self) → IsMove (home k) };
 
-    ghost follows: { (k : Self) (at : Progress) → after ≡ after_enable (home k at) };
+    ghost follows: { (k : Self) (at : Progress) → after ≡ after_shared (home k at) };
 }
 
 /// From a guest file to memory: a leave.

@@ -104,7 +104,7 @@ impl Leave<Look> {
         ensures phase { IsIn LookPhase (width fabric.now) self.new }
     {
         let words = fabric.words();
-        let end = self.after_shared(words) + words;
+        let end = self.end_of_shared(words) + words;
         let stays = self.carrier.done() + 1 < end;
         if stays {
             self.look(fabric);
@@ -141,7 +141,7 @@ impl Leave<Last> {
         ensures phase { IsIn LastPhase (width fabric.new) self.new }
     {
         let words = fabric.words();
-        let stays = self.carrier.done() == self.after_shared(words) + words;
+        let stays = self.carrier.done() == self.end_of_shared(words) + words;
         if stays {
             self.take_threshold(fabric);
         }
@@ -176,7 +176,7 @@ impl<P> Leave<P> {
         ensures leaves { is_leaving self.old.home ≡ true }
     {
         let words = fabric.words();
-        let word = (self.carrier.done() - self.after_shared(words)) as usize;
+        let word = (self.carrier.done() - self.end_of_shared(words)) as usize;
         self.carrier.look(fabric, word);
     }
 

@@ -170,7 +170,7 @@ impl<K: Kind> Move<K, Enable> {
         ensures phase { IsIn EnablePhase (width fabric.new) self.new }
     {
         let words = fabric.words();
-        let end = self.after_shared(words);
+        let end = self.end_of_shared(words);
         let stays = self.done() + 1 < end;
         if stays {
             self.carry_enables(fabric);
@@ -179,7 +179,7 @@ impl<K: Kind> Move<K, Enable> {
     }
 }
 
-/// Where the phases that all plans have begin, and where the last of them ends, by how many steps
+/// Where the phases that all plans share begin, and where the last of them ends, by how many steps
 /// come before; `words` is how many words each set of a file has.
 #[tactic(auto, using(aia_moving::proofs::PhaseSteps::middle))]
 impl<K: Kind, P> Move<K, P> {
@@ -221,7 +221,7 @@ impl<K: Kind, P> Move<K, P> {
     }
 
     /// Tells how many steps come before the phase after `Enable`.
-    pub(crate) fn after_shared(&self, words: u32) -> u32
+    pub(crate) fn end_of_shared(&self, words: u32) -> u32
         requires { words ≤ FILE_WORDS }
         ensures { result ≡ begins words self.now.home (following EnablePhase) }
     {

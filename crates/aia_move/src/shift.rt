@@ -104,7 +104,7 @@ impl Shift<Last> {
         ensures phase { IsIn LastPhase (width fabric.new) self.new }
     {
         let words = fabric.words();
-        let stays = self.carrier.done() < self.after_shared(words) + 2;
+        let stays = self.carrier.done() < self.end_of_shared(words) + 2;
         if stays {
             self.carry_threshold(fabric);
         }
@@ -140,7 +140,7 @@ impl<P> Shift<P> {
         let words = fabric.words();
         let old = self.old_spot();
         let new = self.new_spot();
-        if self.carrier.done() == self.after_shared(words) {
+        if self.carrier.done() == self.end_of_shared(words) {
             self.carrier.take_threshold(fabric, old);
         } else {
             self.carrier.put_threshold(fabric, new);

@@ -27,8 +27,8 @@ returns-clause-goes g c =
     let steps : l.carrier.steps ≡ steps_done c.args.self.now.home = ap (λ (x : Moving). steps_done x.home) c.self.view_is in
     let past : leave_step (width w) (Look 0) ≤ l.carrier.steps = omega (arith, steps, phase) in
     let below : l.carrier.steps < leave_step (width w) TakeThreshold = omega (arith, steps, phase) in
-    let first : c.after_shared.result ≡ leave_step c.words-words.result (Look 0) = c.after_shared.ensures ∙ ap (λ (x : Moving). begins c.words-words.result x.home (following EnablePhase)) (sym c.self.view_is) in
-    let at : c.done.result - c.after_shared.result ≡ l.carrier.steps - (leave_step (width w) (Look 0)) = omega (arith, words, c.done.ensures, first) in
+    let first : c.end_of_shared.result ≡ leave_step c.words-words.result (Look 0) = c.end_of_shared.ensures ∙ ap (λ (x : Moving). begins c.words-words.result x.home (following EnablePhase)) (sym c.self.view_is) in
+    let at : c.done.result - c.end_of_shared.result ≡ l.carrier.steps - (leave_step (width w) (Look 0)) = omega (arith, words, c.done.ensures, first) in
     step_after w w m c.args.self.now (Leaving l.kind.file) c.look.new.self (Look (l.carrier.steps - (leave_step (width w) (Look 0)))) c.self.view_is c.requires.fits refl
     (record { has = lt-ltb (l.carrier.steps - (leave_step (width w) (Look 0))) (width w) (omega (arith, past, below)); step = omega (arith, past) })
     (subst (λ n. Does (Look n) m w w c.look.new.self) at (c.look.ensures m refl)) (ne_eqb _ _ (λ e. omega (arith, e, below))) (omega (arith, words, c.words-words.ensures.some)) (omega (arith, past))

@@ -1,5 +1,5 @@
 use Rattle.std.proofs.Common.{sym, ap, ◌∙◌, subst}
-use Rattle.aia_home.specs.Phases.{after_enable}
+use Rattle.aia_home.specs.Phases.{after_shared}
 use Rattle.aia_moving.specs.Move.{Moving}
 use Rattle.aia_moving.specs.Carrier.{progress_of}
 use Rattle.aia_moving.specs.Turns.{IsIn}
@@ -12,5 +12,5 @@ returns-clause-phase g c words some at =
     let l = c.self.inside in
     let m = c.args.self in
     let moves = it_moves (g.K.Kind.home l.kind) (g.met.K.Kind.is_move l.kind) l.carrier m c.self.view_is in
-    let follows = g.met.K.Kind.follows l.kind (progress_of l.carrier) ∙ ap (λ (x : Moving). after_enable x.home) c.self.view_is in
+    let follows = g.met.K.Kind.follows l.kind (progress_of l.carrier) ∙ ap (λ (x : Moving). after_shared x.home) c.self.view_is in
     subst (λ x. IsIn g.K.Kind.after words x) (sym c.self.view_is) (is_after g.K.Kind.after words m moves follows some at)
