@@ -16,7 +16,7 @@ use aia_imsic::Spot;
 use aia_pool::FileLease;
 
 /// A kind of move: what it leaves, where it leads, and what sets its plan apart in the phases that
-/// all plans have.
+/// all plans share.
 pub trait Kind: Drop {
     ghost home: { Self → Progress → Home };
 

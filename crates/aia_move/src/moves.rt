@@ -220,7 +220,7 @@ impl<K: Kind, P> Move<K, P> {
         self.before_drain() + 2 * words
     }
 
-    /// Tells how many steps come before the phase after `Enable`.
+    /// Tells how many steps come before the phase after those that all plans share.
     pub(crate) fn end_of_shared(&self, words: u32) -> u32
         requires { words ≤ FILE_WORDS }
         ensures { result ≡ begins words self.now.home (following EnablePhase) }
@@ -314,7 +314,7 @@ impl<K: Kind, P> Move<K, P> {
         }
     }
 
-    /// Comes to the phase after those that all plans have, as it begins.
+    /// Comes to the phase after those that all plans share, as it begins.
     fn into_after(self) -> Move<K, K::After>
         ensures same { result ≡ self }
         ensures phase { (words : ℕ) → 1 ≤ words
