@@ -23,7 +23,7 @@ use Rattle.aia_moving.specs.Targets.{aims, pass_count, has_unaimed, one_aimed, a
 use Rattle.aia_moving.specs.Carrier.{CarrierState, progress_of, moving, one_aim_done}
 use Rattle.aia_moving.specs.Turns.{IsIn, IsAtAims, IsMove, GoesOn, AimsOn, MatchClosed}
 use Rattle.aia_moving.specs.Landings.{OnceLanded}
-use Rattle.aia_moving.proofs.PhaseSteps.{middle, begins_on, past_fence}
+use Rattle.aia_moving.proofs.PhaseSteps.{Middle, middle, begins_on, past_fence}
 use Rattle.aia_moving.proofs.LandingLemmas.{none_lands}
 use Rattle.aia_moving.proofs.StepLemmas.{it_moves, steps_are}
 use Rattle.aia_move.specs.declared.plan.Plan.{Plan}
@@ -270,26 +270,30 @@ pub record Carries (words start : ℕ) (l : CarrierState) : Type 0 where
   pub more : l.steps < leave_steps FILE_WORDS
 
 module _ (there : Progress → Home) (is : IsMove there) (w : World) (l : CarrierState) (s : Moving) (seen : moving there l ≡ s) (fits : MoveFits w s) (narrow : width w ≤ FILE_WORDS) (start : ℕ) where
+  moves : is_moving s.home ≡ true
+  moves = it_moves there is l s seen
+
+  mid : Middle (width w) s.home
+  mid = middle (width w) s.home moves
+
+  steps : l.steps ≡ steps_done s.home
+  steps = steps_are there is l s seen
+
+  unset : has_bit s.hand.word 0 ≡ false → has_bit l.hand.word 0 ≡ false
+  unset zero = subst (λ (x : Moving). has_bit x.hand.word 0 ≡ false) (sym seen) zero
+
   pub carries_pending : start ≡ begins (width w) s.home DrainPhase → IsIn DrainPhase (width w) s → Carries (width w) start l
-  carries_pending begun phase =
-      let moves = it_moves there is l s seen in
-      let mid = middle (width w) s.home moves in
-      let steps = steps_are there is l s seen in
-      record {
-        first = omega (arith, steps, begun, phase.0);
-        word = omega (arith, steps, begun, phase.0, phase.1, mid.enable);
-        no_zero = λ e. subst (λ (x : Moving). has_bit x.hand.word 0 ≡ false) (sym seen) (fits.no_pending_zero (pending_zero (width w) s.home moves (omega (arith, e, steps, begun))));
-        more = omega (arith, steps, narrow, phase.1, mid.ends, mid.few);
-      }
+  carries_pending begun phase = record {
+    first = omega (arith, steps, begun, phase.0);
+    word = omega (arith, steps, begun, phase.0, phase.1, mid.enable);
+    no_zero = λ e. unset (fits.no_pending_zero (pending_zero (width w) s.home moves (omega (arith, e, steps, begun))));
+    more = omega (arith, steps, narrow, phase.1, mid.ends, mid.few);
+  }
 
   pub carries_enables : start ≡ begins (width w) s.home EnablePhase → IsIn EnablePhase (width w) s → Carries (width w) start l
-  carries_enables begun phase =
-      let moves = it_moves there is l s seen in
-      let mid = middle (width w) s.home moves in
-      let steps = steps_are there is l s seen in
-      record {
-        first = omega (arith, steps, begun, phase.0);
-        word = omega (arith, steps, begun, phase.0, phase.1, mid.ends);
-        no_zero = λ e. subst (λ (x : Moving). has_bit x.hand.word 0 ≡ false) (sym seen) (fits.no_enabled_zero (enables_zero (width w) s.home moves (omega (arith, e, steps, begun))));
-        more = omega (arith, steps, narrow, phase.1, mid.few);
-      }
+  carries_enables begun phase = record {
+    first = omega (arith, steps, begun, phase.0);
+    word = omega (arith, steps, begun, phase.0, phase.1, mid.ends);
+    no_zero = λ e. unset (fits.no_enabled_zero (enables_zero (width w) s.home moves (omega (arith, e, steps, begun))));
+    more = omega (arith, steps, narrow, phase.1, mid.few);
+  }

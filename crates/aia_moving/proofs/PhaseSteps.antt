@@ -5,7 +5,7 @@ use Rattle.aia_word.specs.Sets.{has_bit}
 use Rattle.aia_home.specs.Home.{Home, Progress, is_moving, one_more}
 use Rattle.aia_home.specs.Home.Home.{InMemory, Resident, Leaving, Arriving, Shifting}
 use Rattle.aia_home.specs.Plans.{IsNext, steps_done, first_take, pending_step, enables_step}
-use Rattle.aia_home.specs.Plans.Access.{TakePending, PutPending, TakeEnables, PutEnables}
+use Rattle.aia_home.specs.Plans.Access.{Map, GFence, TakePending, PutPending, TakeEnables, PutEnables}
 use Rattle.aia_home.specs.Phases.{Phase, following, leave_begins, begins}
 use Rattle.aia_home.specs.Phases.Phase.{FirstPhase, ClosingPhase, DrainPhase, EnablePhase}
 use Rattle.aia_home.specs.Routes.{is_at_fence}
@@ -46,56 +46,57 @@ past_fence words there past = refl
 
 -- ---- the next access in each of them
 
-closing_next : (words first n : ℕ) (there : Home) → is_moving there ≡ true → n ≡ steps_done there → first ≡ begins words there ClosingPhase → first ≤ n → n < begins words there (following ClosingPhase)
-    → IsNext words there (closing_access first n)
-closing_next words first n (InMemory rest) moves at is from below = absurd (cc)
-closing_next words first n (Resident p) moves at is from below = absurd (cc)
-closing_next words first n (Leaving p progress) moves at is from below = elim (cases_eq n first) [
-  | inl e ↦ rw (eq-eqb n first e) (record { has = refl; step = omega (arith, at, is, e) })
-  | inr ne ↦ rw (ne_eqb n first ne) (record { has = refl; step = omega (arith, at, is, ne, from, below) })
-]
-closing_next words first n (Arriving p progress) moves at is from below = elim (cases_eq n first) [
-  | inl e ↦ rw (eq-eqb n first e) (record { has = refl; step = omega (arith, at, is, e) })
-  | inr ne ↦ rw (ne_eqb n first ne) (record { has = refl; step = omega (arith, at, is, ne, from, below) })
-]
-closing_next words first n (Shifting p q progress) moves at is from below = elim (cases_eq n first) [
-  | inl e ↦ rw (eq-eqb n first e) (record { has = refl; step = omega (arith, at, is, e) })
-  | inr ne ↦ rw (ne_eqb n first ne) (record { has = refl; step = omega (arith, at, is, ne, from, below) })
-]
-
--- the accesses that carry the sets, by their steps
-record CarriesSets (words : ℕ) (there : Home) : Type 0 where
+-- the accesses that they make, by their steps
+record Accesses (words : ℕ) (there : Home) : Type 0 where
+  pub map : steps_done there ≡ begins words there ClosingPhase → IsNext words there Map
+  pub gfence : steps_done there ≡ begins words there ClosingPhase + 1 → IsNext words there GFence
   pub take_pending : (w : ℕ) → w < words → steps_done there ≡ pending_step there w → IsNext words there (TakePending w)
   pub put_pending : (w : ℕ) → w < words → steps_done there ≡ pending_step there w + 1 → IsNext words there (PutPending w)
   pub take_enables : (w : ℕ) → w < words → steps_done there ≡ enables_step words there w → IsNext words there (TakeEnables w)
   pub put_enables : (w : ℕ) → w < words → steps_done there ≡ enables_step words there w + 1 → IsNext words there (PutEnables w)
 
-carries_sets : (words : ℕ) (there : Home) → is_moving there ≡ true → CarriesSets words there
-carries_sets words (InMemory rest) moves = absurd (cc)
-carries_sets words (Resident p) moves = absurd (cc)
-carries_sets words (Leaving from at) moves = record {
+accesses : (words : ℕ) (there : Home) → is_moving there ≡ true → Accesses words there
+accesses words (InMemory rest) moves = absurd (cc)
+accesses words (Resident p) moves = absurd (cc)
+accesses words (Leaving from at) moves = record {
+  map = λ e. record { has = refl; step = e };
+  gfence = λ e. record { has = refl; step = omega (arith, e) };
   take_pending = λ w low e. record { has = lt-ltb w words low; step = e };
   put_pending = λ w low e. record { has = lt-ltb w words low; step = omega (arith, e) };
   take_enables = λ w low e. record { has = lt-ltb w words low; step = e };
   put_enables = λ w low e. record { has = lt-ltb w words low; step = omega (arith, e) };
 }
-carries_sets words (Arriving to at) moves = record {
+accesses words (Arriving to at) moves = record {
+  map = λ e. record { has = refl; step = e };
+  gfence = λ e. record { has = refl; step = omega (arith, e) };
   take_pending = λ w low e. record { has = lt-ltb w words low; step = e };
   put_pending = λ w low e. record { has = lt-ltb w words low; step = omega (arith, e) };
   take_enables = λ w low e. record { has = lt-ltb w words low; step = e };
   put_enables = λ w low e. record { has = lt-ltb w words low; step = omega (arith, e) };
 }
-carries_sets words (Shifting from to at) moves = record {
+accesses words (Shifting from to at) moves = record {
+  map = λ e. record { has = refl; step = e };
+  gfence = λ e. record { has = refl; step = omega (arith, e) };
   take_pending = λ w low e. record { has = lt-ltb w words low; step = e };
   put_pending = λ w low e. record { has = lt-ltb w words low; step = omega (arith, e) };
   take_enables = λ w low e. record { has = lt-ltb w words low; step = e };
   put_enables = λ w low e. record { has = lt-ltb w words low; step = omega (arith, e) };
 }
 
+closing_next : (words first : ℕ) (there : Home) → is_moving there ≡ true → first ≡ begins words there ClosingPhase → first ≤ steps_done there → steps_done there < begins words there (following ClosingPhase)
+    → IsNext words there (closing_access first (steps_done there))
+closing_next words first there moves is from below =
+    let all = accesses words there moves in
+    let mid = middle words there moves in
+    elim (cases_eq (steps_done there) first) [
+      | inl e ↦ rw (eq-eqb (steps_done there) first e) (all.map (omega (arith, e, is)))
+      | inr ne ↦ rw (ne_eqb (steps_done there) first ne) (all.gfence (omega (arith, ne, is, from, below, mid.drain)))
+    ]
+
 pending_next : (words first : ℕ) (there : Home) → is_moving there ≡ true → first ≡ begins words there DrainPhase → first ≤ steps_done there → steps_done there < begins words there (following DrainPhase)
     → IsNext words there (pending_access first (steps_done there))
 pending_next words first there moves is from below =
-    let all = carries_sets words there moves in
+    let all = accesses words there moves in
     let mid = middle words there moves in
     let w = (steps_done there - first) / 2 in
     let low : w < words = omega (arith, mid.enable) in
@@ -107,7 +108,7 @@ pending_next words first there moves is from below =
 enables_next : (words first : ℕ) (there : Home) → is_moving there ≡ true → first ≡ begins words there EnablePhase → first ≤ steps_done there → steps_done there < begins words there (following EnablePhase)
     → IsNext words there (enables_access first (steps_done there))
 enables_next words first there moves is from below =
-    let all = carries_sets words there moves in
+    let all = accesses words there moves in
     let mid = middle words there moves in
     let w = (steps_done there - first) / 2 in
     let low : w < words = omega (arith, mid.ends) in
@@ -122,13 +123,14 @@ module _ (there : Progress → Home) (is : IsMove there) where
   pub move_closes : (w u : World) (l now : CarrierState) (s : Moving) (first : ℕ) → moving there l ≡ s → MoveFits w s → IsIn ClosingPhase (width w) s → first ≡ begins (width w) s.home ClosingPhase
       → Does (closing_access first l.steps) (moving there l) w u now → GoesOn w s u (moving there now)
   move_closes w u l now s first seen fits phase begin does =
+      let m = moving there l in
       let moves = is.moves (progress_of l) in
       let steps = is.steps (progress_of l) in
-      let here : IsIn ClosingPhase (width w) (moving there l) = subst (λ x. IsIn ClosingPhase (width w) x) (sym seen) phase in
-      let from : first ≡ begins (width w) (moving there l).home ClosingPhase = begin ∙ ap (λ (x : Moving). begins (width w) x.home ClosingPhase) (sym seen) in
-      let mid = middle (width w) (moving there l).home moves in
-      step_before w u (moving there l) s there now (closing_access first l.steps) seen fits (goes_on there is l)
-      (closing_next (width w) first l.steps (moving there l).home moves (sym steps) from (omega (arith, steps, from, here)) (omega (arith, steps, here))) does
+      let here : IsIn ClosingPhase (width w) m = subst (λ x. IsIn ClosingPhase (width w) x) (sym seen) phase in
+      let from : first ≡ begins (width w) m.home ClosingPhase = begin ∙ ap (λ (x : Moving). begins (width w) x.home ClosingPhase) (sym seen) in
+      let mid = middle (width w) m.home moves in
+      step_before w u m s there now (closing_access first (steps_done m.home)) seen fits (goes_on there is l)
+      (closing_next (width w) first m.home moves from (omega (arith, from, here)) here.1) (subst (λ n. Does (closing_access first n) m w u now) (sym steps) does)
       (omega (arith, here, mid.take))
 
   pub move_carries_pending : (w u : World) (l now : CarrierState) (s : Moving) (first : ℕ) → moving there l ≡ s → MoveFits w s → IsIn DrainPhase (width w) s → first ≡ begins (width w) s.home DrainPhase
