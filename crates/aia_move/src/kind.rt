@@ -25,7 +25,7 @@ pub trait Kind: Drop {
     /// The phase after `Enable`.
     type After;
 
-    /// Tells how many steps the first phase has, no more than that of a leave.
+    /// Tells how many steps come before the phase after `First`, no more than in a leave.
     fn first_steps(&self) -> u32
         ensures few { result ≤ leave_begins 0 (following FirstPhase) }
         ensures value { (words : ℕ) (at : Progress)

@@ -183,7 +183,7 @@ impl<K: Kind> Move<K, Enable> {
 /// come before; `words` is how many words each set of a file has.
 #[tactic(auto, using(aia_moving::proofs::PhaseSteps::middle))]
 impl<K: Kind, P> Move<K, P> {
-    /// Tells how many steps the first phase has, no more than that of a leave.
+    /// Tells how many steps come before the phase after `First`, no more than in a leave.
     pub(crate) fn first_steps(&self) -> u32
         ensures few { result ≤ leave_begins 0 (following FirstPhase) }
         ensures moves { is_moving self.now.home ≡ true }
