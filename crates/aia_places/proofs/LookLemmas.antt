@@ -1,6 +1,6 @@
 -- A look sees what it is to see: whether two words of the slot have a one in common, whether some
 -- identity of a word is pending and enabled.
-use Rattle.std.proofs.Common.{◌≡◌, ℕ, zero, suc, ◌+◌, ◌*◌, ◌/◌, ◌%◌, ◌^◌, ◌<◌, ◌≤◌, Bool, true, false, not, ◌&&◌, cond, nat_eq, Some, is_some, bit_and, w64, refl, sym, ap, ◌∙◌, inl, inr, arith}
+use Rattle.std.proofs.Common.{◌≡◌, ℕ, zero, suc, ◌+◌, ◌*◌, ◌/◌, ◌%◌, ◌^◌, ◌<◌, Bool, true, false, not, ◌&&◌, cond, nat_eq, Some, is_some, bit_and, w64, refl, sym, ap, ◌∙◌, inl, inr, arith}
 use Rattle.std.proofs.lemmas.Bool.{cases_eq, eq-eqb, ne_eqb}
 use Rattle.std.proofs.lemmas.Bool.Decides.{nat_tests}
 use Rattle.std.proofs.lemmas.Nat.{and_le_l}
@@ -11,7 +11,7 @@ use Rattle.aia_word.specs.Sets.{has_bit, least_of}
 use Rattle.aia_word.proofs.BitLemmas.{has_bit-and, has_bit-zero}
 use Rattle.aia_word.proofs.LeastLemmas.{least_of-none, least_of-some}
 use Rattle.aia_file.specs.InterruptFile.{InterruptFile, is_live}
-use Rattle.aia_home.specs.Plans.Access.{Look, TakePending}
+use Rattle.aia_home.specs.Plans.Access.{Look, TakePending, TakeEnables}
 use Rattle.aia_home.specs.Plans.{leave_step, is_next}
 use Rattle.aia_home.specs.declared.place.Place.{Place}
 use Rattle.aia_home.specs.Home.{Progress}
@@ -48,7 +48,7 @@ meets-and p e small = elim (cases_eq (bit_and p e) 0) [
 ]
 
 -- the next step of a leave is the look at word w; p and e are both words of the slot
-pub look_meets : (words w word p e : ℕ) (from : Place) (at : Progress) (old new : TwoSets) (file : InterruptFile) → HoldsAt words (leave_step 0 (TakePending 0)) at.steps word old new file → at.steps ≡ leave_step words (Look w) → w < words
+pub look_meets : (words w word p e : ℕ) (from : Place) (at : Progress) (old new : TwoSets) (file : InterruptFile) → HoldsAt words (leave_step 0 (TakePending 0)) (leave_step words (TakeEnables 0)) at.steps word old new file → at.steps ≡ leave_step words (Look w) → w < words
     → Shows p w new.pending → Shows e w new.enabled → meets p e ≡ sees words (Leaving from at) file
 look_meets words w word p e from at old new file h step low pending enabled =
     some_same (λ b. has_bit p b && has_bit e b) (λ i. file.pending i && file.enabled i) 0 (64 * w) 64 same ∙ ap (is_live file) here ∙ sym (rw next refl)
@@ -60,7 +60,7 @@ look_meets words w word p e from at old new file h step low pending enabled =
     next = grind (arith, nat_tests)
 
     all : (i : ℕ) → i / 64 ≡ w → (file.pending i ≡ new.pending i) × (new.enabled i ≡ file.enabled i)
-    all i q = new_has_all words (leave_step 0 (TakePending 0)) old new file at.steps word h (omega arith) i (omega (arith, q))
+    all i q = new_has_all words (leave_step 0 (TakePending 0)) (leave_step words (TakeEnables 0)) old new file at.steps word (omega arith) h (omega arith) i (omega (arith, q))
 
     same : (b : ℕ) → b < 64 → (has_bit p (0 + b) && has_bit e (0 + b)) ≡ (file.pending (64 * w + b) && file.enabled (64 * w + b))
     same b l =
