@@ -21,11 +21,12 @@ use aia_regs::Op;
 use aia_standing::VcpuRecord;
 
 impl Core {
-    /// Sets the level in `hvip` of major interrupt `bit`, 1, 5, 9 or 13, of a virtual hart. It may
-    /// be done at any time, also while the virtual hart is moved. `Err` is `Range` where the
-    /// virtual hart isn't there, or `bit` is no such number; nothing is changed then.
+    /// Sets the level in `hvip` of the major interrupt whose bit of `sip` is `bit`, 1, 5, 9 or 13,
+    /// of a virtual hart. It may be done at any time, also while the virtual hart is moved. `Err`
+    /// is `Range` where the virtual hart isn't there, or `bit` is no such number; nothing is
+    /// changed then.
     ///
-    /// The hypervisor extension 1.0: hvip.
+    /// The hypervisor extension 1.0: `hvip`, which has them at the bits 2, 6, 10 and 13.
     pub fn inject(&mut self, vm: u64, number: u64, bit: u64, level: bool) -> Result<(), Refusal>
         ensures { CoreTakes self.old self.new (Inject vm number bit level)
             (answer_by (λ _. Okay) result) }

@@ -117,7 +117,8 @@ with_hviprio1 v m = record m { hviprio1 = hviprio1_kept v }
 abbrev pub with_hvictl : ℕ → VsMajorState → VsMajorState
 with_hvictl v m = record m { hvictl = hvictl_kept v }
 
--- hvip is written whole: the majors are injected whose bits of the value are ones.
+-- hvip is written whole: the majors are injected whose bits of the value, as sip has them, are
+-- ones. The standard's hvip has the majors 1, 5 and 9 a place further up.
 -- The hypervisor extension 1.0: hvip.
 abbrev pub with_hvip : ℕ → VsMajorState → VsMajorState
 with_hvip v m = record m { injected = λ j. if is_major j then has_bit v j else m.injected j }
@@ -136,7 +137,7 @@ majors_word members =
     bit_number (members 1) * 2 ^ 1 + bit_number (members 5) * 2 ^ 5
     + bit_number (members 9) * 2 ^ 9 + bit_number (members 13) * 2 ^ 13
 
--- Whether hvip and sie may hold a number: its ones are majors alone.
+-- Whether a number may say which majors are injected or enabled: its ones are majors alone.
 abbrev pub fits_hvip : ℕ → Bool
 fits_hvip v = nat_eq (majors_word (has_bit v)) v
 

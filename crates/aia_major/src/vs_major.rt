@@ -81,10 +81,10 @@ impl VsMajor {
         self.enabled.word()
     }
 
-    /// Gives the majors that are injected, as `hvip` has them: of the bits 1, 5, 9 and 13 those of
-    /// the majors that are.
+    /// Gives the majors that are injected: of the bits 1, 5, 9 and 13, where `sip` has them, those
+    /// of the majors that are.
     ///
-    /// The hypervisor extension 1.0: `hvip`.
+    /// The hypervisor extension 1.0: `hvip`, which has them at the bits 2, 6, 10 and 13.
     #[tactic(auto, unfolding(crate::specs::Kept::majors_shown))]
     pub fn injected(&self) -> u64
         ensures { result ≡ majors_word (majors_shown self.now).injected }
@@ -163,7 +163,7 @@ impl VsMajor {
     /// Injects a level at the major with this number, 1, 5, 9 or 13, as a write of `hvip` does.
     /// `Err`: it is another number, and nothing changes.
     ///
-    /// The hypervisor extension 1.0: `hvip`.
+    /// The hypervisor extension 1.0: `hvip`, which has them at the bits 2, 6, 10 and 13.
     #[tactic(auto, unfolding(crate::specs::Kept::majors_shown))]
     pub fn inject(&mut self, major: u32, level: bool) -> Result<(), Range>
         ensures range { is_ok result ≡ is_major major }
@@ -174,10 +174,10 @@ impl VsMajor {
         self.injected.set(major, level)
     }
 
-    /// Writes `hvip`: bits 1, 5, 9 and 13 say whether those majors are injected, and every other
-    /// bit is ignored.
+    /// Writes `hvip`, of a number that has the majors where `sip` has them: bits 1, 5, 9 and 13 say
+    /// whether those majors are injected, and every other bit is ignored.
     ///
-    /// The hypervisor extension 1.0: `hvip`.
+    /// The hypervisor extension 1.0: `hvip`, which has them at the bits 2, 6, 10 and 13.
     #[tactic(auto, unfolding(crate::specs::Kept::majors_shown))]
     pub fn set_hvip(&mut self, v: u64)
         ensures { majors_shown self.new ≡ with_hvip v (majors_shown self.old) }
@@ -304,7 +304,8 @@ impl VsMajor {
     }
 }
 
-/// Tells whether `hvip` and `sie` may hold a number: its ones are at the bits 1, 5, 9 and 13 alone.
+/// Tells whether a number may say which majors are injected or enabled: its ones are at the bits 1,
+/// 5, 9 and 13 alone, where `sip` and `sie` have them.
 ///
 /// The hypervisor extension 1.0: `hvip` and `vsie`. Profile: the four majors.
 pub fn fits_hvip(v: u64) -> bool

@@ -11,7 +11,7 @@ pub enum Part {
         threshold: u32,
         select: u64,
     },
-    /// `majors J E`: the majors that are injected, as `hvip` has them, and `sie`.
+    /// `majors J E`: the majors that are injected, at their bits of `sip`, and `sie`.
     Majors {
         injected: u64,
         enabled: u64,

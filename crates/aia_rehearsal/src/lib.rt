@@ -5,8 +5,6 @@
 pub mod laws;
 mod place;
 mod rehearsal;
-#[cfg(test)]
-mod tests;
 
 pub use aia_plan::Step;
 pub use place::Place;

@@ -26,6 +26,8 @@ mod passes;
 #[cfg(test)]
 mod registers;
 #[cfg(test)]
+mod rehearsals;
+#[cfg(test)]
 mod sets;
 #[cfg(test)]
 mod steps_in_place;

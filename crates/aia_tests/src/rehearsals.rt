@@ -8,27 +8,17 @@ ghost use Rattle.aia_moving.specs.Touches.{SameMachine};
 ghost use Rattle.aia_rehearsal.specs.declared.place.Place.TheVariants as places;
 ghost use Rattle.aia_rehearsal.specs.Rehearsed.{IsOf, IsFileThere, NotBothSlots};
 
-use crate::{Place, Rehearsal, Step};
+use crate::looks::{holds, is_same_in};
 use aia_fabric::{At, Fabric};
 use aia_imsic::Spot;
 use aia_move::Who;
 use aia_pool::{FileLease, Pool};
 use aia_regs::{FileReg, Op};
+use aia_rehearsal::{Place, Rehearsal, Step};
 use arrayvec::ArrayVec;
 use std::alloc::{AllocError, Global};
-use std::fmt::Debug;
 use std::process::Abort;
 use std::test::Fail;
-
-/// Ends the test where it got another value than it wants in a case.
-fn is_same<T: Copy + PartialEq + Debug>(rt: &impl Abort, got: T, want: T, case: usize) {
-    assert_eq!(rt; got, want, "in the case {case:?}");
-}
-
-/// Ends the test where a fact does not hold.
-fn holds(rt: &impl Abort, fact: bool) {
-    assert!(rt; fact);
-}
 
 /// The core's plans, of files of one word.
 const ARRIVE: [Step; 10] = [
@@ -100,7 +90,7 @@ fn who_is(fabric: &Fabric) -> Option<Who>
 }
 
 /// Stores a value for it by a device, and the one after the next by another virtual hart.
-#[tactic(auto, using(crate::proofs::SameMachine::stored_same, crate::proofs::SameMachine::same_again))]
+#[tactic(auto, using(aia_rehearsal::proofs::SameMachine::stored_same, aia_rehearsal::proofs::SameMachine::same_again))]
 fn stores(fabric: &mut Fabric, value: u32)
     requires { value < 60 }
     ensures { SameMachine fabric.old fabric.new }
@@ -174,7 +164,7 @@ fn file_shows(rt: &impl Abort, fabric: &mut Fabric, addr: u64, want: (u64, u64),
     } else {
         let pending = fabric.reg(spot, FileReg::Pending(0), Op::Read);
         let enabled = fabric.reg(spot, FileReg::Enable(0), Op::Read);
-        is_same(rt, (pending, enabled), want, case);
+        is_same_in(rt, (pending, enabled), want, case);
     }
 }
 
@@ -231,14 +221,14 @@ fn goes_round(rt: &impl Abort, files: (FileLease, FileLease), fabric: &mut Fabri
 {
     let (slot, first) = arrives(rt, fabric, files.0, (&ARRIVE, at, 5));
     file_shows(rt, fabric, 0x2802_1000, (0xa8, 0x28), at);
-    is_same(rt, fabric.look(1, 0), (0, 0), at);
+    is_same_in(rt, fabric.look(1, 0), (0, 0), at);
     let (first, second) = moves(rt, fabric, first, Place::File(files.1), (&SHIFT, at, 9));
     file_shows(rt, fabric, 0x2802_1000, (0, 0), at);
     file_shows(rt, fabric, 0x2802_2000, (0xaa8, 0x28), at);
     drop(first);
     let (second, slot) = moves(rt, fabric, second, slot, (&LEAVE, at, 13));
     file_shows(rt, fabric, 0x2802_2000, (0, 0), at);
-    is_same(rt, fabric.look(1, 0), (0xaaa8, 0x28), at);
+    is_same_in(rt, fabric.look(1, 0), (0xaaa8, 0x28), at);
     drop(second);
     drop(slot);
 }
@@ -380,7 +370,7 @@ fn loses(rt: &impl Abort, files: (FileLease, FileLease), fabric: &mut Fabric)
     file_shows(rt, fabric, 0x2802_1000, (0xa8, 0), 0);
     let (first, slot) = moves(rt, fabric, first, slot, (&LATE_FENCE, 7, 9));
     file_shows(rt, fabric, 0x2802_1000, (0x200, 0), 7);
-    is_same(rt, fabric.look(1, 0), (0x8a8, 0), 7);
+    is_same_in(rt, fabric.look(1, 0), (0x8a8, 0), 7);
     drop(first);
     let (slot, second) = moves(rt, fabric, slot, Place::File(files.1), (&ARRIVE, 20, 5));
     drop(slot);
@@ -436,14 +426,14 @@ fn loses_by_the_entry(rt: &impl Abort, files: (FileLease, FileLease), fabric: &m
 {
     let (slot, first) = arrives(rt, fabric, files.0, (&FENCE_FIRST, 5, 5));
     file_shows(rt, fabric, 0x2802_1000, (0x88, 0x28), 5);
-    is_same(rt, fabric.look(1, 0), (0x20, 0), 5);
+    is_same_in(rt, fabric.look(1, 0), (0x20, 0), 5);
     drop(first);
     // All of it again, in order, to the other file.
     let (slot, second) = moves(rt, fabric, slot, Place::File(files.1), (&ARRIVE, 20, 13));
     file_shows(rt, fabric, 0x2802_2000, (0xa020, 0), 20);
     let (second, slot) = moves(rt, fabric, second, slot, (&NO_ENTRY, 5, 9));
     file_shows(rt, fabric, 0x2802_2000, (0x200, 0), 5);
-    is_same(rt, fabric.look(1, 0), (0xa820, 0), 5);
+    is_same_in(rt, fabric.look(1, 0), (0xa820, 0), 5);
     drop(second);
     drop(slot);
 }
@@ -461,7 +451,7 @@ fn keeps_without_notice(
     let (slot, first) = arrives(rt, fabric, files.0, (&ARRIVE, 0, 5));
     let (first, slot) = moves(rt, fabric, first, slot, (&NO_NOTICE, at, 9));
     file_shows(rt, fabric, 0x2802_1000, (0, 0), at);
-    is_same(rt, fabric.look(1, 0), (0xaa8, 0x28), at);
+    is_same_in(rt, fabric.look(1, 0), (0xaa8, 0x28), at);
     drop(first);
     drop(slot);
     drop(files.1);
