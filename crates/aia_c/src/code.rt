@@ -8,7 +8,7 @@ use aia_model::{Answer, Refusal};
 pub enum Code {
     /// 0: the line did what it says, or the call did.
     Done,
-    /// 1: there is no memory, and nothing changed.
+    /// 1: there is no memory, and by the text that wants it nothing changed.
     NoMemory,
     /// 2: the handle is closed, and nothing changed.
     Closed,

@@ -105,7 +105,7 @@ pub extern "C" fn aia_replay(
     front.code.number()
 }
 
-/// Closes a handle, and frees its engine where it was open.
+/// Closes a handle. Its engine's memory is freed, of which no clause speaks.
 #[unsafe(no_mangle)]
 pub extern "C" fn aia_close(handle: &mut Handle, alloc: Global)
     ensures { handle.new.engine ≡ None }

@@ -97,8 +97,8 @@ pub extern "C" fn aia_begin_shift(
     begins(handle, vm, number, Want::Shift(hart), alloc)
 }
 
-/// Does the next step of the move of a virtual hart, as `step VM C`: the code is `Moving` but for
-/// the last one.
+/// Does the next step of the move of a virtual hart, as `step VM C`: of a step that is done the
+/// code is `Moving`, of the last one `Done`.
 #[unsafe(no_mangle)]
 pub extern "C" fn aia_step(handle: &mut Handle, vm: u64, number: u64, alloc: Global) -> i32
     ensures { Acts handle.old.engine handle.new.engine (Line.Step vm number) result }

@@ -75,8 +75,8 @@ pub fn numbers_are_taken()
         ≡ Some (Subcommand.Generate 1 1) }
 {}
 
-/// The word `audit` is taken with the word of each kind of move and each width, as it is printed or
-/// as other numbers may be spelled.
+/// The word `audit` is taken with the word of each kind of move and each width, as it is printed;
+/// and so are three other spellings of the width 1.
 pub fn plans_are_taken()
     ensures printed { (kind : Kind) (words : ℕ) → IsWidth words
         → subcommand_of (codes "audit" ∷ kind_word kind ∷ decimal words ∷ [])

@@ -88,7 +88,7 @@ pub fn topi(idc: &Idc, domain: &Domain, hart: u32) -> u32
     top(idc, domain, hart)
 }
 
-/// Gives what `topi` gives, and counts just one step: the look at the hart's candidates.
+/// Gives what `topi` gives, and counts just one step, for the look at the hart's candidates.
 pub fn topi_counted<L: Ledger>(idc: &Idc, domain: &Domain, hart: u32, steps: &mut Steps<L>) -> u32
     ensures value { result ≡ topi_value (top_shown idc.now domain.now hart) }
     ensures small { IfSome (top_shown idc.now domain.now hart) IsPairOfSource }

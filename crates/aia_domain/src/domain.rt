@@ -45,7 +45,7 @@ impl Model for Domain {
 }
 
 impl Domain {
-    /// Makes a domain of `sources` wired sources, 1 to `SOURCES`, and `harts` harts, 1 to `HARTS`:
+    /// Makes a domain of `sources` wired sources, 1 to `SOURCES`, and `harts` harts, up to `HARTS`:
     /// the root domain, or, as a `leaf`, its child. Every source is inactive, and every register 0
     /// but `domaincfg`.
     pub fn new(alloc: Global, sources: u32, harts: u32, leaf: bool) -> Result<Domain, AllocError>
@@ -63,7 +63,7 @@ impl Domain {
         })
     }
 
-    /// Tells how many wired sources there are, 1 to `SOURCES`.
+    /// Tells how many wired sources there are, up to `SOURCES`.
     pub fn sources(&self) -> u32
         ensures count { length self.now.sources ≡ suc result }
         ensures few { result ≤ SOURCES }
@@ -79,7 +79,8 @@ impl Domain {
         self.sources.harts()
     }
 
-    /// Gives what a register reads: 0 where none is there.
+    /// Gives what a register reads: 0 where none is there, and at one that only takes writes or is
+    /// not kept here.
     ///
     /// AIA 1.0, APLIC, "Memory-mapped control region for an interrupt domain".
     pub fn load(&self, reg: DomainReg) -> u32
@@ -104,7 +105,7 @@ impl Domain {
         domaincfg_read(self.on, self.delivers_by_msi())
     }
 
-    /// Writes a register; where none is there, nothing is done.
+    /// Writes a register; where none is there, or it is not kept here, nothing is done.
     ///
     /// AIA 1.0, APLIC, "Memory-mapped control region for an interrupt domain".
     pub fn store(&mut self, reg: DomainReg, value: u32)
@@ -181,7 +182,7 @@ impl Domain {
     }
 
     /// Loses a source that the root domain does not delegate to this one, its child: where it did,
-    /// the source is inactive here from now on.
+    /// the source is inactive here then.
     pub fn withdraw(&mut self, s: u32)
         ensures sources { EachSource self.old.sources self.new.sources
             (changed_if_named s (granted Bool.false self.old.msi)) }
@@ -210,7 +211,7 @@ impl Domain {
     }
 
     /// Gives a source exactly this target, its guest index too, which a store of its register does
-    /// not keep; an inactive source's stays 0, and a number that is no source's changes none.
+    /// not keep; an inactive source's is 0 then, and a number that is no source's changes none.
     ///
     /// AIA 1.0, APLIC, "Interrupt forwarding by MSIs". Profile: passes.
     pub fn aim(&mut self, s: u32, target: u32)

@@ -223,7 +223,7 @@ impl InterruptSource {
         self.put_target(target_kept(harts, msi, value));
     }
 
-    /// Gets a target; that of an inactive source stays 0.
+    /// Gets a target; that of an inactive source is 0 then.
     fn put_target(&mut self, target: u32)
         ensures { self.new ≡ with_target target self.old }
     {

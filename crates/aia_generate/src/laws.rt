@@ -10,7 +10,8 @@ ghost use Rattle.aia_generate.specs.Generated.{next_number, line_drawn, line_at,
 ghost use Rattle.aia_generate.specs.Sequence.{drawing_number};
 ghost use Rattle.aia_generate.specs.Summary.{summary};
 
-/// A generated script has 31 lines and those of its body, and each is drawn by its own number.
+/// A generated script has 31 lines and those of its body, which are each drawn by a number of its
+/// own.
 pub fn the_generator_draws_its_lines()
     ensures line { (count seed k : ℕ) → k < 31 + count → slice_get (generated count seed) k
         ≡ Some (line_at (drawing_number seed (k + 1)) (k + 1)) }
@@ -26,7 +27,8 @@ pub fn worked_numbers()
     ensures line_1 { line_drawn (next_number 1) ≡ Line.Begin 1 0 Want.Leave }
 {}
 
-/// Lines send so few notices that 64 bits can count them: no more than 200 for each line.
+/// Lines send no more than 200 notices for each line, taken together; so 64 bits can count those of
+/// any script that is generated.
 pub fn few_notices_are_sent()
     ensures { (lines : List Line) → notices_sent (after_lines [] lines) ≤ 200 * length lines }
 {}

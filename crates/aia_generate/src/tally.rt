@@ -65,14 +65,14 @@ impl Tally {
         }
     }
 
-    /// Gives how many lines were counted.
+    /// Gives how many lines were counted, up to 2^64 - 1.
     pub fn lines(&self) -> u64
         ensures { result ≡ self.now.lines }
     {
         self.lines
     }
 
-    /// Gives how many of the lines claimed an identity.
+    /// Gives how many of the lines claimed an identity, up to 2^64 - 1.
     pub fn claims(&self) -> u64
         ensures { result ≡ self.now.claims }
     {

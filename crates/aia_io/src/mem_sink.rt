@@ -40,8 +40,8 @@ impl Model for MemSink {
 
 impl MemSink {
     /// Makes a sink that takes `room` bytes in all, 0 or more, and fails at the calls numbered in
-    /// `fails`. All the memory that it ever needs is taken here, and `Err` comes only where there
-    /// is too little.
+    /// `fails`. All the memory that it ever needs is taken here. `Err`: there is none for it; when
+    /// that comes no clause says.
     pub fn new(alloc: Global, room: usize, fails: Vec<u64>) -> Result<MemSink, AllocError>
         ensures { IfOk result (λ sink. sink ≡ record {
           taken = [];

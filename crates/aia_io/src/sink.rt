@@ -7,7 +7,7 @@ pub enum Write {
     /// So many of the bytes offered, at least one, were taken, from the front.
     Took(usize),
 
-    /// The sink failed, and took none of the bytes.
+    /// The sink failed; where it tells its bytes, it took none.
     Failed,
 }
 
@@ -23,9 +23,9 @@ pub trait Sink {
 
     /// Takes bytes from the front of `bytes`, which isn't empty.
     ///
-    /// `Took(n)`: the first n, with n between 1 and `bytes.len()`, now stand behind those taken
-    /// before. `Failed`: the count of faults rose (or stood at its last value), and where the sink
-    /// tells its bytes, they are as before.
+    /// Where the sink tells its bytes: at `Took(n)`, with n between 1 and `bytes.len()`, the first
+    /// n now stand behind those taken before, and at `Failed` they are as before. At `Failed` the
+    /// count of faults rose (or stood at its last value).
     fn write(&mut self, bytes: &[u8]) -> Write
         requires { 0 < length bytes.now }
         ensures bytes { Writes (taken self.old) (taken self.new) bytes.now result }

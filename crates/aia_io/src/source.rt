@@ -8,10 +8,10 @@ pub enum Read {
     /// So many bytes, at least one, are now at the front of the buffer.
     Got(usize),
 
-    /// No byte is left.
+    /// The source answered that no byte is left; where it tells its bytes, none is.
     End,
 
-    /// The source failed, and no byte was taken from it.
+    /// The source failed; where it tells its bytes, none was taken.
     Failed,
 }
 
@@ -31,7 +31,9 @@ pub trait Source {
     /// `Got(n)`: the first n of the bytes that were left, with n between 1 and `buf.len()`; the
     /// count of bytes given rose by n (or to its last value). `End`: none was left, and the count
     /// of ends rose (or stood at its last value). `Failed`: the count of faults rose (or stood at
-    /// its last value), and nothing was taken, so a later call may go on.
+    /// its last value), the count of bytes given is as before, and none was taken, so a later call
+    /// may go on. Which bytes these are, and that none is left or taken, this says of a source that
+    /// tells its bytes.
     fn read(&mut self, buf: &mut [u8]) -> Read
         requires { 0 < length buf.old }
         ensures bytes { Reads (supply self.old) (supply self.new) buf.new result }

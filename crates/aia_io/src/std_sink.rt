@@ -56,7 +56,8 @@ impl<W: io::Write> Sink for StdSink<W> {
 
     /// Writes once to the writer, and flushes it, so that what a writer keeps in a buffer goes out.
     /// An error of either is `Failed` and a fault, and so is a write that takes nothing. After
-    /// `Failed` some of the bytes may stand in the writer, from the front.
+    /// `Failed` some of the bytes may stand in the writer, from the front. That it writes once and
+    /// flushes, and what becomes `Failed`, no clause says.
     fn write(&mut self, bytes: &[u8]) -> Write
         requires { 0 < length bytes.now }
         ensures bytes { Writes None None bytes.now result }

@@ -73,7 +73,8 @@ impl<R: io::Read> Source for StdSource<R> {
     ghost faults = { source_faults };
 
     /// Reads once from the reader, and counts the bytes that it gave. A read of nothing is `End`
-    /// and an end, and every error, an interrupted read too, is `Failed` and a fault.
+    /// and an end, and every error, an interrupted read too, is `Failed` and a fault. That it reads
+    /// once, and which answer of the reader becomes which, no clause says.
     fn read(&mut self, buf: &mut [u8]) -> Read
         requires { 0 < length buf.old }
         ensures bytes { Reads (source_supply None self.old) (source_supply None self.new)

@@ -21,7 +21,7 @@ use std::sync::ledger::{Blank, Ledger};
 /// as an interrupt file of the identities 1 to `n`, which is 63, 127, 255, 511, 1023 or 2047.
 impl SlotMut<'_> {
     /// Gives what a register of the sets reads, `eip` or `eie` with an even index below 64:
-    /// identities above `n` read 0.
+    /// identity 0 and those above `n` read 0.
     ///
     /// AIA 1.0, IMSIC, "Indirectly accessed interrupt-file registers".
     pub fn read_reg(&self, reg: FileReg, n: u32) -> u64
@@ -59,8 +59,8 @@ impl SlotMut<'_> {
     }
 
     /// Gives what a topei register shows at a threshold: the identity on top twice, in bits 26:16
-    /// and 10:0; 0 where there is none. It looks once at each of the `(n + 1) / 64` pairs of words
-    /// of memory, and at most once more at one of them.
+    /// and 10:0; 0 where there is none. How many looks it takes no clause here says; `top_counted`,
+    /// which is private, bounds its steps by `(n + 1) / 64 + 2`.
     ///
     /// AIA 1.0, IMSIC, "Top external interrupt CSRs".
     pub fn top(&self, n: u32, threshold: u64) -> u64

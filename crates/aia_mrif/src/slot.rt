@@ -127,7 +127,7 @@ impl Bank for SlotMut<'_> {
 
 impl SlotMut<'_> {
     /// Takes a 32-bit store of `value` at `offset` of the slot: it makes the identity pending that
-    /// it names, and then reads whether that one is enabled. `Discarded` exactly where it names no
+    /// it names, and tells whether that one is enabled. `Discarded` exactly where it names no
     /// identity from 1 to `IDENTITIES`; `Notice` exactly where it names one that is enabled.
     #[tactic(auto, using(crate::proofs::SlotLemmas::landed))]
     pub fn land(&mut self, offset: u32, value: u32) -> Stored

@@ -10,8 +10,9 @@ ghost use Rattle.aia_plan.specs.Losses.{FailsAlone, Loses, Doubles, LosesEnable,
 
 use crate::Kind;
 
-/// A plan that keeps the rule is safe: for every number of words, every start, and all that devices
-/// and other virtual harts do between its steps.
+/// A plan that keeps the rule, and names words of the file alone, is safe: for every number of
+/// words, every start, and all that devices and other virtual harts do before, between and after
+/// its steps.
 #[tactic(auto, using(crate::proofs::RuleIsSafe::rule_is_safe))]
 pub fn the_rule_is_safe()
     ensures { (kind : Kind) (words : ℕ) (plan : Plan) → All (IsInside words) plan

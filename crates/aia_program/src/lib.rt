@@ -19,7 +19,7 @@ use std::process::ExitCode;
 use std::{env, io};
 
 /// Runs the program over the standard streams by the words of its command line, and gives its exit
-/// status, which `command` speaks of.
+/// status, which `command` speaks of; the clause here says only that it is one of the program's.
 pub fn start(rt: &HostRuntime) -> ExitCode
     ensures number { Contains exit_numbers (exit_status result) }
 {

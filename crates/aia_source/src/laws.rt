@@ -34,8 +34,9 @@ pub fn an_inactive_source_is_not_pending()
         → (done msi deed Mode.Inactive wire s).pending ≡ false }
 {}
 
-/// The least pair of a range is the least: it is a candidate's, and no candidate's pair comes
-/// before it, by priority and then by number; there is none exactly where there is no candidate.
+/// Of a range of numbers, where each pair has the number that it is of, the least pair is the
+/// least: it is a candidate's, and no candidate's pair comes before it, by priority and then by
+/// number; there is none exactly where there is no candidate.
 ///
 /// AIA 1.0, APLIC, "Interrupt delivery directly by the APLIC".
 pub fn the_least_pair_is_the_least()

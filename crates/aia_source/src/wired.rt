@@ -114,7 +114,8 @@ impl Wired {
     /// Takes the mode that a write of its `sourcecfg` gives it.
     ///
     /// At a level mode it is then pending exactly where its input is high. At an edge or detached
-    /// mode it stays pending if it was (our profile); one that was inactive is not.
+    /// mode it stays pending if it was (our profile), which an inactive one never is; one that
+    /// becomes inactive is not pending.
     pub fn recfg(&mut self, mode: Mode)
         ensures mode { self.new.mode ≡ mode }
         ensures after { (msi : Bool)

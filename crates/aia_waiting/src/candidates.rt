@@ -7,7 +7,7 @@ use std::alloc::{AllocError, Global};
 use std::marker::Model;
 
 /// The candidates of a hart: pairs of a priority and a source's number in rising order, by priority
-/// and then by number. Memory for them is taken when it is made, and not again.
+/// and then by number. Room for them is taken when it is made; no other call may lack memory.
 ///
 /// AIA 1.0, APLIC, "Interrupt delivery directly by the APLIC".
 #[derive(Drop)]
@@ -66,7 +66,7 @@ impl Candidates {
         }
     }
 
-    /// Takes a pair out, where it stands there.
+    /// Takes the first pair that is this one out, where there is one.
     #[inline(always)]
     pub fn take_out(&mut self, pair: (u32, u32))
         ensures { self.new ≡ record self.old { pairs = taken_out pair self.old.pairs } }
