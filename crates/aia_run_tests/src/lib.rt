@@ -1,5 +1,5 @@
-//! The tests of whole runs: the engine and the ends called by themselves, scripts that are cut, and
-//! ends that fail.
+//! The tests of whole runs: the engine and the ends called by themselves, scripts that are cut,
+//! ends that fail, and plans that are rehearsed.
 #![tactic(auto)]
 
 #[cfg(test)]
@@ -22,6 +22,8 @@ mod looks;
 mod outcomes;
 #[cfg(test)]
 mod plans;
+#[cfg(test)]
+mod rehearsals;
 #[cfg(test)]
 mod rows;
 #[cfg(test)]

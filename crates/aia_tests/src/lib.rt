@@ -26,8 +26,6 @@ mod passes;
 #[cfg(test)]
 mod registers;
 #[cfg(test)]
-mod rehearsals;
-#[cfg(test)]
 mod sets;
 #[cfg(test)]
 mod steps_in_place;

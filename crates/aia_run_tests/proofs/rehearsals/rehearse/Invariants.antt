@@ -1,6 +1,6 @@
 use Rattle.std.proofs.Common.{◌≡◌}
 use Rattle.aia_moving.specs.Touches.{SameMachine}
-use Rattle.aia_tests.proofs.rehearsals.rehearse.Given as goal
+use Rattle.aia_run_tests.proofs.rehearsals.rehearse.Given as goal
 
 abbrev pub invariant-loop-k : goal.invariant-loop-k
 invariant-loop-k l = record {
