@@ -27,6 +27,7 @@ use Rattle.aia_moving.proofs.PhaseSteps.{Middle, middle, begins_on, past_fence}
 use Rattle.aia_moving.proofs.LandingLemmas.{none_lands}
 use Rattle.aia_moving.proofs.StepLemmas.{it_moves, steps_are}
 use Rattle.aia_move.specs.declared.plan.Plan.{Plan}
+use Rattle.aia_move.specs.declared.plan.Plan.TheVariants.{LeaveDrain}
 use Rattle.aia_move.specs.declared.plan.Next.{Next}
 use Rattle.aia_move.specs.Plan.{moving_of, is_in_aim, IsInDrain, NextStepIsOf, IsInPhase, IsLastOf, phase_of, StepsTo, Advances, StepsByPhase, InPlaceByPhase, EndsPhaseOrAims, StepsInPlace}
 
@@ -81,6 +82,10 @@ step_aims (Some phase) words m some is = absurd (omega (arith, is.0, is.1))
 
 pub phase_aims : (words : ℕ) (plan : Plan) → 1 ≤ words → IsInPhase words plan → aims (moving_of plan) ≡ is_in_aim plan
 phase_aims words plan = step_aims (phase_of plan) words (moving_of plan)
+
+-- a leave that takes words of the pending set, where no source is left to aim
+pub leave_drains : (words : ℕ) (m : Moving) → IsIn DrainPhase words m → aims m ≡ false → IsInPhase words (LeaveDrain m)
+leave_drains words m is none = record { phase = is; aimed = none }
 
 -- ---- what an aim leaves
 
