@@ -17,8 +17,8 @@ use Rattle.aia_moving.proofs.StepLemmas.{seen_so, not_last, loaded, step_before,
 
 -- ---- where they begin and end
 
--- each ends so far from its beginning, and the next of them begins no earlier; where the last of
--- them ends: in a leave no earlier than in another move
+-- how far from its beginning each of them ends, and that the next begins no earlier; the last ends
+-- in a leave no earlier than in another move; two begin with the first take of a set
 pub record Middle (words : ℕ) (there : Home) : Type 0 where
   pub closes : begins words there (following ClosingPhase) ≡ begins words there ClosingPhase + 2
   pub drain : begins words there (following ClosingPhase) ≤ begins words there DrainPhase
