@@ -239,4 +239,4 @@ abbrev pub pending_step : Home → ℕ → ℕ
 pending_step there w = first_take there + 2 * w
 
 abbrev pub enables_step : ℕ → Home → ℕ → ℕ
-enables_step words there w = first_take there + 2 * words + 2 * w
+enables_step words there w = step_of words there (TakeEnables 0) + 2 * w

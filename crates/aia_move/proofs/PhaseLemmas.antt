@@ -27,6 +27,7 @@ use Rattle.aia_moving.proofs.PhaseSteps.{Middle, middle, begins_on, past_fence}
 use Rattle.aia_moving.proofs.LandingLemmas.{none_lands}
 use Rattle.aia_moving.proofs.StepLemmas.{it_moves, steps_are}
 use Rattle.aia_move.specs.declared.plan.Plan.{Plan}
+use Rattle.aia_move.specs.declared.plan.Plan.TheVariants.{LeaveDrain}
 use Rattle.aia_move.specs.declared.plan.Next.{Next}
 use Rattle.aia_move.specs.Plan.{moving_of, is_in_aim, IsInDrain, NextStepIsOf, IsInPhase, IsLastOf, phase_of, StepsTo, Advances, StepsByPhase, InPlaceByPhase, EndsPhaseOrAims, StepsInPlace}
 
@@ -49,16 +50,16 @@ none_aims words passes there other = refl
 -- ---- a step aims in its phase alone
 
 no_aim_in_first : (words : ℕ) (m : Moving) → IsIn FirstPhase words m → aims m ≡ false
-no_aim_in_first words m is = none_aims words _ m.home (λ moves e. omega (arith, e, is, (middle words m.home moves).drain))
+no_aim_in_first words m is = none_aims words _ m.home (λ moves e. let mid = middle words m.home moves in omega arith)
 
 no_aim_in_closing : (words : ℕ) (m : Moving) → IsIn ClosingPhase words m → aims m ≡ false
-no_aim_in_closing words m is = none_aims words _ m.home (λ moves e. omega (arith, e, is))
+no_aim_in_closing words m is = none_aims words _ m.home (λ moves e. let mid = middle words m.home moves in omega arith)
 
 no_aim_in_enable : (words : ℕ) (m : Moving) → 1 ≤ words → IsIn EnablePhase words m → aims m ≡ false
-no_aim_in_enable words m some is = none_aims words _ m.home (λ moves e. let mid = middle words m.home moves in omega (arith, e, is, some, mid.enable))
+no_aim_in_enable words m some is = none_aims words _ m.home (λ moves e. let mid = middle words m.home moves in omega arith)
 
 no_aim_in_look : (words : ℕ) (m : Moving) → 1 ≤ words → IsIn LookPhase words m → aims m ≡ false
-no_aim_in_look words m some is = none_aims words _ m.home (λ moves e. let mid = middle words m.home moves in omega (arith, e, is, some, mid.enable, mid.ends))
+no_aim_in_look words m some is = none_aims words _ m.home (λ moves e. let mid = middle words m.home moves in omega arith)
 
 -- what is last comes after the looks, which a leave alone has
 looks_before_last : (words : ℕ) (there : Home) → begins words there LookPhase ≤ begins words there LastPhase
@@ -66,7 +67,7 @@ looks_before_last words (Leaving from at) = omega arith
 looks_before_last words there = omega arith
 
 no_aim_in_last : (words : ℕ) (m : Moving) → 1 ≤ words → IsIn LastPhase words m → aims m ≡ false
-no_aim_in_last words m some is = none_aims words _ m.home (λ moves e. let mid = middle words m.home moves in omega (arith, e, is, some, mid.enable, mid.ends, looks_before_last words m.home))
+no_aim_in_last words m some is = none_aims words _ m.home (λ moves e. let mid = middle words m.home moves in omega (arith, looks_before_last words m.home))
 
 -- so a step aims where it is a step of no phase (of AllDone none is)
 step_aims : (phase : Option Phase) (words : ℕ) (m : Moving) → 1 ≤ words → NextStepIsOf phase words m → aims m ≡ is_none phase
@@ -81,6 +82,10 @@ step_aims (Some phase) words m some is = absurd (omega (arith, is.0, is.1))
 
 pub phase_aims : (words : ℕ) (plan : Plan) → 1 ≤ words → IsInPhase words plan → aims (moving_of plan) ≡ is_in_aim plan
 phase_aims words plan = step_aims (phase_of plan) words (moving_of plan)
+
+-- a leave that takes words of the pending set, where no source is left to aim
+pub leave_drains : (words : ℕ) (m : Moving) → IsIn DrainPhase words m → aims m ≡ false → IsInPhase words (LeaveDrain m)
+leave_drains words m is none = record { phase = is; aimed = none }
 
 -- ---- what an aim leaves
 
@@ -127,7 +132,7 @@ at_aims words x moves at left = aims_at words _ x.home moves at ∙ left
 drain_begins : (words : ℕ) (x : Moving) → is_moving x.home ≡ true → 1 ≤ words → steps_done x.home ≡ begins words x.home DrainPhase → has_unaimed x ≡ false → IsInDrain words x
 drain_begins words x moves some at none =
     let mid = middle words x.home moves in
-    record { phase = (omega (arith, at), omega (arith, at, some, mid.enable)); aimed = aims_at words _ x.home moves at ∙ none }
+    record { phase = (omega (arith, at), omega (arith, at, some, mid.drains)); aimed = aims_at words _ x.home moves at ∙ none }
 
 still_moves : (there : Home) → is_moving there ≡ true → is_moving (one_more there) ≡ true
 still_moves (Leaving from at) moves = refl
@@ -192,10 +197,10 @@ unaimed there is l s t more seen same known = ap has_unaimed (same ∙ sym seen)
 no_fence : (phase : Phase) (words : ℕ) (m : Moving) → phase ≢ FirstPhase → NextStepIsOf (Some phase) words m → is_at_fence m.home ≡ false
 no_fence FirstPhase words m other is = absurd (other refl)
 no_fence ClosingPhase words m other is = past_fence words m.home is.0
-no_fence DrainPhase words m other is = let mid = middle words m.home (moves_in DrainPhase words m.home is.phase) in past_fence words m.home (omega (arith, is.phase.0, mid.drain))
-no_fence EnablePhase words m other is = let mid = middle words m.home (moves_in EnablePhase words m.home is) in past_fence words m.home (omega (arith, is.0, mid.drain, mid.enable))
-no_fence LookPhase words m other is = let mid = middle words m.home (moves_in LookPhase words m.home is) in past_fence words m.home (omega (arith, is.0, mid.drain, mid.enable, mid.ends))
-no_fence LastPhase words m other is = let mid = middle words m.home (moves_in LastPhase words m.home is) in past_fence words m.home (omega (arith, is.0, mid.drain, mid.enable, mid.ends, looks_before_last words m.home))
+no_fence DrainPhase words m other is = let mid = middle words m.home (moves_in DrainPhase words m.home is.phase) in past_fence words m.home (omega arith)
+no_fence EnablePhase words m other is = let mid = middle words m.home (moves_in EnablePhase words m.home is) in past_fence words m.home (omega arith)
+no_fence LookPhase words m other is = let mid = middle words m.home (moves_in LookPhase words m.home is) in past_fence words m.home (omega arith)
+no_fence LastPhase words m other is = let mid = middle words m.home (moves_in LastPhase words m.home is) in past_fence words m.home (omega (arith, looks_before_last words m.home))
 no_fence phase words m other is = absurd (omega (arith, is.0, is.1))
 
 -- ---- what a step makes
@@ -285,9 +290,9 @@ module _ (there : Progress → Home) (is : IsMove there) (w : World) (l : Carrie
   pub carries_pending : start ≡ begins (width w) s.home DrainPhase → IsIn DrainPhase (width w) s → Carries (width w) start l
   carries_pending begun phase = record {
     first = omega (arith, steps, begun, phase.0);
-    word = omega (arith, steps, begun, phase.0, phase.1, mid.enable);
+    word = omega (arith, steps, begun, phase.0, phase.1, mid.drains);
     no_zero = λ e. unset (fits.no_pending_zero (pending_zero (width w) s.home moves (omega (arith, e, steps, begun))));
-    more = omega (arith, steps, narrow, phase.1, mid.ends, mid.few);
+    more = omega (arith, steps, narrow, phase.1, mid.enable, mid.ends, mid.few);
   }
 
   pub carries_enables : start ≡ begins (width w) s.home EnablePhase → IsIn EnablePhase (width w) s → Carries (width w) start l

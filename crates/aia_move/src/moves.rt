@@ -132,7 +132,7 @@ impl<K: Kind> Move<K, Drain> {
         ensures phase { IsInDrain (width fabric.new) self.new }
     {
         let words = fabric.words();
-        let end = self.before_enable(words);
+        let end = self.end_of_drain(words);
         let stays = self.done() + 1 < end;
         if stays {
             self.carry_pending(fabric);
@@ -210,6 +210,16 @@ impl<K: Kind, P> Move<K, P> {
         self.before_closing() + 2
     }
 
+    /// Tells how many steps come before the phase after `Drain`, no more than in a leave.
+    fn end_of_drain(&self, words: u32) -> u32
+        requires { words ≤ FILE_WORDS }
+        ensures few { result ≤ leave_begins words (following DrainPhase) }
+        ensures moves { is_moving self.now.home ≡ true }
+        ensures value { result ≡ begins words self.now.home (following DrainPhase) }
+    {
+        self.before_drain() + 2 * words
+    }
+
     /// Tells how many steps come before `Enable`, no more than in a leave.
     fn before_enable(&self, words: u32) -> u32
         requires { words ≤ FILE_WORDS }
@@ -217,7 +227,7 @@ impl<K: Kind, P> Move<K, P> {
         ensures moves { is_moving self.now.home ≡ true }
         ensures value { result ≡ begins words self.now.home EnablePhase }
     {
-        self.before_drain() + 2 * words
+        self.end_of_drain(words)
     }
 
     /// Tells how many steps come before the phase after those that all plans share.

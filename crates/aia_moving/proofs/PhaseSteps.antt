@@ -4,7 +4,7 @@ use Rattle.std.proofs.lemmas.Bool.{cases_eq, lt-ltb, eq-eqb, ne_eqb}
 use Rattle.aia_word.specs.Sets.{has_bit}
 use Rattle.aia_home.specs.Home.{Home, Progress, is_moving, one_more}
 use Rattle.aia_home.specs.Home.Home.{InMemory, Resident, Leaving, Arriving, Shifting}
-use Rattle.aia_home.specs.Plans.{IsNext, steps_done, first_take, pending_step, enables_step}
+use Rattle.aia_home.specs.Plans.{IsNext, step_of, steps_done, first_take, pending_step, enables_step}
 use Rattle.aia_home.specs.Plans.Access.{Map, GFence, TakePending, PutPending, TakeEnables, PutEnables}
 use Rattle.aia_home.specs.Phases.{Phase, following, leave_begins, begins}
 use Rattle.aia_home.specs.Phases.Phase.{FirstPhase, ClosingPhase, DrainPhase, EnablePhase}
@@ -17,19 +17,22 @@ use Rattle.aia_moving.proofs.StepLemmas.{seen_so, not_last, loaded, step_before,
 
 -- ---- where they begin and end
 
--- each from the beginning of the one before it, and where the last of them ends: in a leave no
--- earlier than in another move
+-- how far from its beginning each of them ends, and that the next begins no earlier; the last ends
+-- in a leave no earlier than in another move; two begin with the first take of a set
 pub record Middle (words : ℕ) (there : Home) : Type 0 where
-  pub drain : begins words there DrainPhase ≡ begins words there ClosingPhase + 2
-  pub enable : begins words there EnablePhase ≡ begins words there DrainPhase + 2 * words
+  pub closes : begins words there (following ClosingPhase) ≡ begins words there ClosingPhase + 2
+  pub drain : begins words there (following ClosingPhase) ≤ begins words there DrainPhase
+  pub drains : begins words there (following DrainPhase) ≡ begins words there DrainPhase + 2 * words
+  pub enable : begins words there (following DrainPhase) ≤ begins words there EnablePhase
   pub ends : begins words there (following EnablePhase) ≡ begins words there EnablePhase + 2 * words
   pub few : begins words there (following EnablePhase) ≤ leave_begins words (following EnablePhase)
   pub take : first_take there ≡ begins words there DrainPhase
+  pub take_enables : step_of words there (TakeEnables 0) ≡ begins words there EnablePhase
 
 pub middle : (words : ℕ) (there : Home) → is_moving there ≡ true → Middle words there
-middle words (Leaving from at) moves = record { drain = refl; enable = omega arith; ends = omega arith; few = omega arith; take = refl }
-middle words (Arriving to at) moves = record { drain = refl; enable = omega arith; ends = omega arith; few = omega arith; take = refl }
-middle words (Shifting from to at) moves = record { drain = refl; enable = omega arith; ends = omega arith; few = omega arith; take = refl }
+middle words (Leaving from at) moves = record { closes = refl; drain = omega arith; drains = omega arith; enable = omega arith; ends = omega arith; few = omega arith; take = refl; take_enables = refl }
+middle words (Arriving to at) moves = record { closes = refl; drain = omega arith; drains = omega arith; enable = omega arith; ends = omega arith; few = omega arith; take = refl; take_enables = refl }
+middle words (Shifting from to at) moves = record { closes = refl; drain = omega arith; drains = omega arith; enable = omega arith; ends = omega arith; few = omega arith; take = refl; take_enables = refl }
 middle words there moves = absurd (cc)
 
 -- a step changes no beginning
@@ -63,7 +66,7 @@ accesses words (Leaving from at) moves = record {
   gfence = λ e. record { has = refl; step = omega (arith, e) };
   take_pending = λ w low e. record { has = lt-ltb w words low; step = e };
   put_pending = λ w low e. record { has = lt-ltb w words low; step = omega (arith, e) };
-  take_enables = λ w low e. record { has = lt-ltb w words low; step = e };
+  take_enables = λ w low e. record { has = lt-ltb w words low; step = omega (arith, e) };
   put_enables = λ w low e. record { has = lt-ltb w words low; step = omega (arith, e) };
 }
 accesses words (Arriving to at) moves = record {
@@ -71,7 +74,7 @@ accesses words (Arriving to at) moves = record {
   gfence = λ e. record { has = refl; step = omega (arith, e) };
   take_pending = λ w low e. record { has = lt-ltb w words low; step = e };
   put_pending = λ w low e. record { has = lt-ltb w words low; step = omega (arith, e) };
-  take_enables = λ w low e. record { has = lt-ltb w words low; step = e };
+  take_enables = λ w low e. record { has = lt-ltb w words low; step = omega (arith, e) };
   put_enables = λ w low e. record { has = lt-ltb w words low; step = omega (arith, e) };
 }
 accesses words (Shifting from to at) moves = record {
@@ -79,7 +82,7 @@ accesses words (Shifting from to at) moves = record {
   gfence = λ e. record { has = refl; step = omega (arith, e) };
   take_pending = λ w low e. record { has = lt-ltb w words low; step = e };
   put_pending = λ w low e. record { has = lt-ltb w words low; step = omega (arith, e) };
-  take_enables = λ w low e. record { has = lt-ltb w words low; step = e };
+  take_enables = λ w low e. record { has = lt-ltb w words low; step = omega (arith, e) };
   put_enables = λ w low e. record { has = lt-ltb w words low; step = omega (arith, e) };
 }
 
@@ -90,7 +93,7 @@ closing_next words first there moves is from below =
     let mid = middle words there moves in
     elim (cases_eq (steps_done there) first) [
       | inl e ↦ rw (eq-eqb (steps_done there) first e) (all.map (omega (arith, e, is)))
-      | inr ne ↦ rw (ne_eqb (steps_done there) first ne) (all.gfence (omega (arith, ne, is, from, below, mid.drain)))
+      | inr ne ↦ rw (ne_eqb (steps_done there) first ne) (all.gfence (omega (arith, ne, is, from, below, mid.closes)))
     ]
 
 pending_next : (words first : ℕ) (there : Home) → is_moving there ≡ true → first ≡ begins words there DrainPhase → first ≤ steps_done there → steps_done there < begins words there (following DrainPhase)
@@ -99,7 +102,7 @@ pending_next words first there moves is from below =
     let all = accesses words there moves in
     let mid = middle words there moves in
     let w = (steps_done there - first) / 2 in
-    let low : w < words = omega (arith, mid.enable) in
+    let low : w < words = omega (arith, mid.drains) in
     elim (cases_eq ((steps_done there - first) % 2) 0) [
       | inl even ↦ rw (eq-eqb ((steps_done there - first) % 2) 0 even) (all.take_pending w low (omega (arith, even, mid.take)))
       | inr odd ↦ rw (ne_eqb ((steps_done there - first) % 2) 0 odd) (all.put_pending w low (omega (arith, odd, mid.take)))
@@ -113,8 +116,8 @@ enables_next words first there moves is from below =
     let w = (steps_done there - first) / 2 in
     let low : w < words = omega (arith, mid.ends) in
     elim (cases_eq ((steps_done there - first) % 2) 0) [
-      | inl even ↦ rw (eq-eqb ((steps_done there - first) % 2) 0 even) (all.take_enables w low (omega (arith, even, mid.take, mid.enable)))
-      | inr odd ↦ rw (ne_eqb ((steps_done there - first) % 2) 0 odd) (all.put_enables w low (omega (arith, odd, mid.take, mid.enable)))
+      | inl even ↦ rw (eq-eqb ((steps_done there - first) % 2) 0 even) (all.take_enables w low (omega (arith, even, mid.take_enables)))
+      | inr odd ↦ rw (ne_eqb ((steps_done there - first) % 2) 0 odd) (all.put_enables w low (omega (arith, odd, mid.take_enables)))
     ]
 
 -- ---- a step of each, of a move by its home at each progress
@@ -131,7 +134,7 @@ module _ (there : Progress → Home) (is : IsMove there) where
       let mid = middle (width w) m.home moves in
       step_before w u m s there now (closing_access first (steps_done m.home)) seen fits (goes_on there is l)
       (closing_next (width w) first m.home moves from (omega (arith, from, here)) here.1) (subst (λ n. Does (closing_access first n) m w u now) (sym steps) does)
-      (omega (arith, here, mid.take))
+      (omega (arith, here, mid.take, mid.drain))
 
   pub move_carries_pending : (w u : World) (l now : CarrierState) (s : Moving) (first : ℕ) → moving there l ≡ s → MoveFits w s → IsIn DrainPhase (width w) s → first ≡ begins (width w) s.home DrainPhase
       → Does (pending_access first l.steps) (moving there l) w u now → (l.steps ≡ first → has_bit now.hand.word 0 ≡ false) → GoesOn w s u (moving there now)
@@ -146,7 +149,7 @@ module _ (there : Progress → Home) (is : IsMove there) where
       (pending_next (width w) first m.home moves from (omega (arith, from, here)) here.1) (subst (λ n. Does (pending_access first n) m w u now) (sym steps) does).makes
       (loaded m there now _ (goes_on there is l) (subst (λ n. Does (pending_access first n) m w u now) (sym steps) does).carrier)
       (not_last (width w) m.home (omega (arith, here, mid.take, mid.enable)))
-      (record { pending = λ e. zero (omega (arith, e, steps, from, mid.take)); enabled = λ e. absurd (omega (arith, e, here, mid.take, mid.enable)) })
+      (record { pending = λ e. zero (omega (arith, e, steps, from, mid.take)); enabled = λ e. absurd (omega (arith, e, here, mid.take_enables, mid.enable)) })
 
   pub move_carries_enables : (w u : World) (l now : CarrierState) (s : Moving) (first : ℕ) → moving there l ≡ s → MoveFits w s → IsIn EnablePhase (width w) s → 1 ≤ width w → first ≡ begins (width w) s.home EnablePhase
       → Does (enables_access first l.steps) (moving there l) w u now → (l.steps ≡ first → has_bit now.hand.word 0 ≡ false) → GoesOn w s u (moving there now)
@@ -160,5 +163,5 @@ module _ (there : Progress → Home) (is : IsMove there) where
       seen_so w u m s (moving there now) (enables_access first (steps_done m.home)) seen fits
       (enables_next (width w) first m.home moves from (omega (arith, from, here)) here.1) (subst (λ n. Does (enables_access first n) m w u now) (sym steps) does).makes
       (loaded m there now _ (goes_on there is l) (subst (λ n. Does (enables_access first n) m w u now) (sym steps) does).carrier)
-      (not_last (width w) m.home (omega (arith, here, mid.take, mid.enable, mid.ends)))
-      (record { pending = λ e. absurd (omega (arith, e, here, mid.take, mid.enable, some)); enabled = λ e. zero (omega (arith, e, steps, from, mid.take, mid.enable)) })
+      (not_last (width w) m.home (omega (arith, here, mid.take_enables, mid.ends)))
+      (record { pending = λ e. absurd (omega (arith, e, here, mid.take, mid.drains, mid.enable, some)); enabled = λ e. zero (omega (arith, e, steps, from, mid.take_enables)) })

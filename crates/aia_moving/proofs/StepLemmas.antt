@@ -1,5 +1,5 @@
 -- A step of a move: what its access leaves, and that the next step can be made.
-use Rattle.std.proofs.Common.{◌≡◌, ℕ, ◌+◌, ◌/◌, ◌<◌, ◌≤◌, Bool, true, false, refl, sym, ap, ◌∙◌, subst, arith}
+use Rattle.std.proofs.Common.{◌≡◌, ℕ, ◌+◌, ◌*◌, ◌/◌, ◌<◌, ◌≤◌, Bool, true, false, refl, sym, ap, ◌∙◌, subst, arith}
 use Rattle.std.proofs.lemmas.Bool.{ne_eqb}
 use Rattle.aia_home.proofs.PhaseLemmas.{carried_pending, carried_enables}
 use Rattle.aia_word.specs.Sets.{has_bit}
@@ -8,7 +8,7 @@ use Rattle.aia_imsic.specs.declared.spot.Spot.{Spot}
 use Rattle.aia_imsic.specs.Imsic.{ImsicState, IsThere}
 use Rattle.aia_home.specs.declared.place.Place.{Place}
 use Rattle.aia_home.specs.Home.{Home, Progress, is_moving, one_more, one_further}
-use Rattle.aia_home.specs.Plans.{is_at_last, Access, steps_done, has_access, IsNext, first_take, pending_step, enables_step}
+use Rattle.aia_home.specs.Plans.{is_at_last, Access, steps_done, has_access, step_of, IsNext, first_take, pending_step, enables_step}
 use Rattle.aia_home.specs.Home.Home.{Leaving, Arriving, Shifting}
 use Rattle.aia_home.specs.Plans.Access.{TakeDelivery, PutDelivery, WriteNotice, WriteEntry, Fence, Map, GFence, TakePending, PutPending, TakeEnables, PutEnables, Look, TakeThreshold, PutThreshold, Post}
 use Rattle.aia_home.specs.Aims.{aims_done}
@@ -68,17 +68,19 @@ access_keeps Post m w u made = post_kept w u m.hand.seen m.who.found.notice (m.w
 
 -- ---- one step more
 
--- it is the same move
-record IsSame (there : Home) : Type 0 where
+-- it is the same move, and takes the enabled set after the pending set
+record IsSame (words : ℕ) (there : Home) : Type 0 where
   pub steps : steps_done (one_more there) ≡ steps_done there + 1
   pub own : own_file (one_more there) ≡ own_file there
   pub next : next_file (one_more there) ≡ next_file there
   pub first : first_take (one_more there) ≡ first_take there
+  pub second : step_of words (one_more there) (TakeEnables 0) ≡ step_of words there (TakeEnables 0)
+  pub order : first_take there + 2 * words ≤ step_of words there (TakeEnables 0)
 
-same_move : (words : ℕ) (there : Home) (access : Access) → has_access words there access ≡ true → IsSame there
-same_move words (Leaving from at) access has = record { steps = refl; own = refl; next = refl; first = refl }
-same_move words (Arriving to at) access has = record { steps = refl; own = refl; next = refl; first = refl }
-same_move words (Shifting from to at) access has = record { steps = refl; own = refl; next = refl; first = refl }
+same_move : (words : ℕ) (there : Home) (access : Access) → has_access words there access ≡ true → IsSame words there
+same_move words (Leaving from at) access has = record { steps = refl; own = refl; next = refl; first = refl; second = refl; order = omega arith }
+same_move words (Arriving to at) access has = record { steps = refl; own = refl; next = refl; first = refl; second = refl; order = omega arith }
+same_move words (Shifting from to at) access has = record { steps = refl; own = refl; next = refl; first = refl; second = refl; order = omega arith }
 same_move words there access has = absurd (cc)
 
 -- a word 0 that the next access takes has no identity 0
@@ -105,7 +107,7 @@ one_step w u m t access fits next made is more zero = record {
     own = λ p e. file_stays w u p kept (fits.own p (sym (ap own_file home ∙ same.own) ∙ e));
     next = λ p e. file_stays w u p kept (fits.next p (sym (ap next_file home ∙ same.next) ∙ e));
     no_pending_zero = λ e. zero.pending (omega (arith, steps, first, carried_pending (width u) 0 t.home e));
-    no_enabled_zero = λ e. zero.enabled (omega (arith, steps, first, carried_enables (width u) 0 t.home e, wide));
+    no_enabled_zero = λ e. zero.enabled (omega (arith, steps, second, carried_enables (width u) 0 t.home e));
   };
   width = wide;
   steps = steps;
@@ -114,7 +116,7 @@ one_step w u m t access fits next made is more zero = record {
     kept : SameMachine w u
     kept = access_keeps access m w u made
 
-    same : IsSame m.home
+    same : IsSame (width w) m.home
     same = same_move (width w) m.home access next.has
 
     home : t.home ≡ one_more m.home
@@ -131,6 +133,9 @@ one_step w u m t access fits next made is more zero = record {
 
     first : first_take t.home ≡ first_take m.home
     first = ap first_take home ∙ same.first
+
+    second : step_of (width u) t.home (TakeEnables 0) ≡ step_of (width w) m.home (TakeEnables 0)
+    second = ap (λ n. step_of n t.home (TakeEnables 0)) wide ∙ ap (λ h. step_of (width w) h (TakeEnables 0)) home ∙ same.second
 
 -- ---- a step of a state m, which is seen as s
 
@@ -155,12 +160,14 @@ loaded m there now hand next is = ap (λ (l : CarrierState). moving there l) is 
 pub step_before : (w u : World) (m s : Moving) (there : Progress → Home) (now : CarrierState) (access : Access) → m ≡ s → MoveFits w s → there (one_further (record { steps = steps_done m.home; aims = aims_done m.home })) ≡ one_more m.home
     → IsNext (width w) m.home access → Does access m w u now → steps_done m.home < first_take m.home → GoesOn w s u (moving there now)
 step_before w u m s there now access seen fits more next does low =
-    seen_so w u m s (moving there now) access seen fits next does.makes (loaded m there now _ more does.carrier) (not_last (width w) m.home (omega (arith, low))) (record { pending = λ e. absurd (omega (arith, e, low)); enabled = λ e. absurd (omega (arith, e, low)) })
+    let same = same_move (width w) m.home access next.has in
+    seen_so w u m s (moving there now) access seen fits next does.makes (loaded m there now _ more does.carrier) (not_last (width w) m.home (omega (arith, low, same.order))) (record { pending = λ e. absurd (omega (arith, e, low)); enabled = λ e. absurd (omega (arith, e, low, same.order)) })
 
 pub step_after : (w u : World) (m s : Moving) (there : Progress → Home) (now : CarrierState) (access : Access) → m ≡ s → MoveFits w s → there (one_further (record { steps = steps_done m.home; aims = aims_done m.home })) ≡ one_more m.home
     → IsNext (width w) m.home access → Does access m w u now → is_at_last (width w) m.home ≡ false → 1 ≤ width w → enables_step (width w) m.home (width w) ≤ steps_done m.home → GoesOn w s u (moving there now)
 step_after w u m s there now access seen fits more next does unfinished some past =
-    seen_so w u m s (moving there now) access seen fits next does.makes (loaded m there now _ more does.carrier) unfinished (record { pending = λ e. absurd (omega (arith, e, past, some)); enabled = λ e. absurd (omega (arith, e, past, some)) })
+    let same = same_move (width w) m.home access next.has in
+    seen_so w u m s (moving there now) access seen fits next does.makes (loaded m there now _ more does.carrier) unfinished (record { pending = λ e. absurd (omega (arith, e, past, some, same.order)); enabled = λ e. absurd (omega (arith, e, past, some)) })
 
 -- the last step
 pub step_last : (w u : World) (m s : Moving) (access : Access) → m ≡ s → IsNext (width w) m.home access → Makes access m w u → hand_after access m w ≡ m.hand → is_at_last (width w) m.home ≡ true

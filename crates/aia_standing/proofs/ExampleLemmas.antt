@@ -38,6 +38,7 @@ use Rattle.aia_world.specs.World.{no_stage}
 use Rattle.aia_world.specs.Changes.{spot_of, places_of}
 use Rattle.aia_world.specs.Whole.{IsWhole, IsVm}
 use Rattle.aia_moving.specs.Move.{MoveFits}
+use Rattle.aia_move.proofs.PhaseLemmas.{leave_drains}
 use Rattle.aia_entry.specs.Translation.{is_mask}
 use Rattle.aia_model.specs.Act.{newest}
 use Rattle.aia_regs.specs.DomainRegisters.{domain_register_of}
@@ -494,7 +495,7 @@ leaver_stands = record {
   select = sym leaver_select;
   majors = shown_at_first ∙ sym (no_majors_written leaver);
   two_files = subst AreApart (sym leaver_home) tt;
-  plan = (leave_fits, record { phase = (omega arith, omega arith); aimed = refl }, refl, refl);
+  plan = (leave_fits, leave_drains 1 leave_under_way (omega arith, omega arith) refl, refl, refl);
   passes = ap (own_passes 0 leaver) (sym passed_one);
   holds = subst IsHeld (λ k. record {
     words = 1;
