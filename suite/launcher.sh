@@ -1,7 +1,8 @@
 # shellcheck shell=bash disable=SC2154
 
-# What ./aia, ./plans and ./library share. Each sets `name`, its own, `top`, and `unbuilt`, the status
-# where nothing could be built, has functions `usage` and `manual` that print these, and sources this.
+# What ./aia, ./plans and ./library share. Each sets `name`, its own, `top`, and `unbuilt`, the
+# status where nothing could be built, has functions `usage` and `manual` that print these, and
+# sources this.
 
 # Says something on standard error, as the launcher.
 say() { printf '%s: %s\n' "$name" "$*" >&2; }
@@ -65,11 +66,11 @@ crates_of() { # CRATE
 # Prints how far a build is by its log: the crate that was named last, among those of a list.
 progress_of() { # LOG LIST
   awk -v begun="$build_begun" -v now="$SECONDS" -v name="$name" '
+    BEGIN { at = 1 }
     NR == FNR { place[$1] = ++count; next }
-    /^crate [a-z0-9_]+:/ { sub(/:.*/, "", $2); last = $2; done = 1 }
-    /^rt: chose --jobs [0-9]+ for / { last = $NF; done = 0 }
+    /^crate [a-z0-9_]+:/ { sub(/:.*/, "", $2); if ($2 in place) at = place[$2] + 1 }
+    /^rt: chose --jobs [0-9]+ for / { if ($NF in place) at = place[$NF] }
     END {
-      at = last in place ? place[last] + done : 1
       if (at > count) at = count
       printf "%s: crate %d of %d, %d minutes so far", name, at, count, (now - begun) / 60
     }' "$2" "$1"
@@ -107,6 +108,7 @@ build() { # CRATE INPUT COMMAND..
   mkdir -p "$top/out"
   crates_of "$crate" > "$list"
   build_begun=$SECONDS
+  : > "$log"
   # A group of its own, so that all that rt starts ends with it.
   setsid env -C "$top/crates/$crate" "$@" < "$input" > "$log" 2>&1 &
   worker=$!

@@ -1,5 +1,5 @@
-"""Tries the launchers ./aia, ./plans and ./library: what they say before the program runs, and after
-it. They run in a tree of their own, with a toolchain and programs that only pretend."""
+"""Tries the launchers ./aia, ./plans and ./library: what they say before the program runs, and
+after it. They run in a tree of their own, with a toolchain and programs that only pretend."""
 
 import os
 import random
@@ -60,7 +60,8 @@ class Tree:
         for file in FILES:
             (self.folder / file).parent.mkdir(parents=True, exist_ok=True)
             shutil.copy(TOP / file, self.folder / file)
-        self.calls, self.bare, self.path = (self.folder / each for each in ("calls", "bare", "bin"))
+        self.calls, self.bare = self.folder / "calls", self.folder / "bare"
+        self.path = self.folder / "bin"
         self.bare.mkdir()
         self.path.mkdir()
         for command in COMMANDS:
@@ -75,7 +76,8 @@ class Tree:
         """Puts a toolchain on the path that says much, makes a program, and ends with a status."""
         rt = self.path / "rt"
         rt.write_text(
-            f"#!/bin/sh\necho \"$*\" >> '{self.calls}'\nfor crate in aia_io plans_machine aia_regs; do\n"
+            f"#!/bin/sh\necho \"$*\" >> '{self.calls}'\n"
+            "for crate in aia_regs plans_machine plans_run; do\n"
             "  echo \"rt: chose --jobs 4 for $crate\"\n  echo flood flood flood >&2\n"
             "  sleep 1.2\n  echo \"crate $crate: modules loaded=1 checked=1\"\ndone\n"
             f"mkdir -p out\nprintf '#!/bin/sh\\n{program}\\n' > out/${{PWD##*/}}\n"
@@ -172,8 +174,9 @@ def launchers_build(trial):
         said = ran.errors.splitlines()
         trial.sees(ran.status == 0 and " minutes of processor time" in said[0],
                    f"{launcher} says before a first build {said[:1]}")
-        trial.sees(all(re.fullmatch(rf"{launcher}: crate \d+ of \d+, 0 minutes so far", line)
-                       for line in said[1:]) and len(said) > 2, f"{launcher} builds with {said[1:]}")
+        is_quiet = all(re.fullmatch(rf"{launcher}: crate \d+ of \d+, 0 minutes so far", line)
+                       for line in said[1:])
+        trial.sees(is_quiet and len(said) > 2, f"{launcher} builds with {said[1:]}")
         log = tree.folder / "out" / f"build-{launcher}.log"
         trial.sees("flood" in log.read_text(encoding="ascii"), f"{log.name} has no flood")
         trial.sees(tree.calls.read_text(encoding="ascii").startswith("run -- "), "another build")
