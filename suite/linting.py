@@ -191,10 +191,10 @@ def of_instruction(words, front):
     """Finds what is wrong with a CSR instruction behind the words of a hart or virtual hart."""
     level, mnemonic = words.words[0], words.words[words.at - 1]
     words.form = f"{front} {mnemonic} {MNEMONICS[mnemonic]}"
-    known = {name.decode() for name in CSRS[level]}
+    known = [name.decode() for name in CSRS[level]]
     csr = words.word()
-    if csr in ALL_CSRS - known:
-        return words.fault(f"{csr} is no CSR of `{front}`, which has {', '.join(sorted(known))}")
+    if csr in ALL_CSRS.difference(known):
+        return words.fault(f"{csr} is no CSR of `{front}`, which has {', '.join(known)}")
     return words.one_of("CSR", known) or last_numbers(words, "n" * (mnemonic != "csrr"), "V")
 
 
