@@ -270,9 +270,9 @@ def step_fault(text, width):
     fault = words.numbers("n", "w")
     if fault:
         return fault
-    word = words.words[1]
-    if reading.number(word.encode(), width or MOST_WORDS) is None:
-        return Fault(words.columns[1], f"w of `{words.form}` is below {width or MOST_WORDS}: {word}")
+    word, limit = words.words[1], width or MOST_WORDS
+    if reading.number(word.encode(), limit) is None:
+        return Fault(words.columns[1], f"w of `{words.form}` is below {limit}: {word}")
     return words.end()
 
 

@@ -1,5 +1,5 @@
-"""Why a line of a plan for `judge` is bad, as docs/ANY-PLAN.md has it: it spells nothing, or it says
-what it may not there."""
+"""Why a line of a plan for `judge` is bad, as docs/ANY-PLAN.md has it: it spells nothing, or it
+says what it may not say there."""
 
 import re
 from typing import NamedTuple
@@ -64,8 +64,8 @@ def field_fault(what, column, word, form):
 def said_of(text):
     """Gives what a line says, its fault where it spells nothing, None where it is skipped."""
     if len(text) > LINE_BYTES:
-        return Fault(LINE_BYTES + 1, f"a line of {len(text)} bytes; it has {LINE_BYTES} at most, its"
-                                     " comment and spaces with them")
+        return Fault(LINE_BYTES + 1, f"a line of {len(text)} bytes; it has {LINE_BYTES} at most,"
+                                     " its comment among them")
     words = cut(text)
     if not words:
         return None

@@ -25,9 +25,9 @@ class Shrinker:
 
     Lines are left out only where a difference of the first one's kind was seen without them. A line
     that the model answered as a machine would is not made one by which the script is wrong: that
-    another machine takes it says nothing. What stands behind the first difference is cut off unseen,
-    unless the first time shows that it is wanted; so `seen` keeps the lines of the last run that
-    differed."""
+    another machine takes it says nothing. What stands behind the first difference is cut off
+    without a run, unless the first time shows that it is wanted; so `seen` keeps the lines of the
+    last run that differed."""
 
     def __init__(self, script, try_, is_machine_fixed=False, times=1):
         self.try_, self.is_machine_fixed, self.times = try_, is_machine_fixed, times

@@ -474,8 +474,9 @@ def lints_files(trial):
     trial.prints(0, ["0 bad"], LINT, "--words", 4, plan)
     ran_ = trial.run(LINT, "-", text=b"wire 1 1\nwire 1 2\n")
     trial.sees(ran_.status == 1 and ran_.output.startswith(b"-:2:8: L of"), f"lint - says {ran_}")
-    for status, *words in ((2,), (2, "/nosuch"), (2, "--language", "x", bad), (2, "--words", 3, bad),
-                           (2, "try"), (2, "try", 1, 1, "x"), (2, "--x"), (0, "--help")):
+    for status, *words in ((2,), (2, "/nosuch"), (2, "--language", "x", bad), (2, "try"),
+                           (2, "--words", 3, bad), (2, "try", 1, 1, "x"), (2, "--x"),
+                           (0, "--help")):
         ended = trial.run(LINT, *words)
         trial.sees(ended.status == status and bool(ended.errors) == (status == 2),
                    f"lint {words} ends with {ended.status}: {ended.errors}")
@@ -489,4 +490,15 @@ def lints_with_the_program(trial):
         trial.prints(0, ["judge: "], LINT, "try", 5000, 1, "judge")
 
 
-PARTS = (lints_by_reasons, lints_as_documents, lints_files, lints_with_the_program)
+def lints_documented(trial):
+    """What docs/TRACES.md says that lint prints."""
+    text = (TOP / "docs/TRACES.md").read_text(encoding="utf-8").partition("\n## Lint\n")[2]
+    script = text.partition("cat > my.script <<'END'\n")[2].partition("END\n")[0]
+    wanted = text.partition("what the file is:\n\n```\n")[2].partition("```\n")[0]
+    trial.file("my.script", script)
+    said = trial.prints(1, [], "env", "-C", trial.folder, LINT, "my.script")
+    trial.sees(said == wanted and script, f"lint does not print what docs/TRACES.md says: {said}")
+
+
+PARTS = (lints_by_reasons, lints_as_documents, lints_documented, lints_files,
+         lints_with_the_program)
