@@ -99,9 +99,11 @@ def shape_fault(text):
         what = "comment" if text[:1] == b"#" else "line"
         return Fault(LINE_BYTES + 1, f"a {what} of {len(text)} bytes; it has {LINE_BYTES} at most")
     at = text.find(b"#")
+    if at > 0 and not text[:at].strip():
+        return Fault(at + 1, "a comment that does not begin with the line")
     if at > 0:
-        return Fault(at + 1, "a comment behind a line; it is a line of its own" if text[:at].strip()
-                     else "a comment that does not begin with the line")
+        return Fault(at + 1, ("a comment behind a line; it" if text[at - 1] in b" \t" else
+                              "a # within a word; a comment") + " is a line of its own")
     fault = bytes_of_no_text(text)
     if fault:
         return fault

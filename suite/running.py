@@ -73,7 +73,7 @@ def usage():
     sys.exit(2)
 
 
-def help_():
+def tell_help():
     """Prints the tool's head comment, and ends it with status 0."""
     print(sys.modules["__main__"].__doc__.strip(), flush=True)
     sys.exit(0)
@@ -90,7 +90,7 @@ def words(short, *long):
         print(f"{Path(sys.argv[0]).name}: {wrong}", file=sys.stderr)
         usage()
     if {"-h", "--help"} & dict(options).keys():
-        help_()
+        tell_help()
     read = len(given) - len(rest)
     is_divided = read > 0 and given[read - 1] == "--" and ("--" not in dict(options).values())
     return {name.lstrip("-"): value for name, value in options}, rest, is_divided

@@ -8,7 +8,7 @@ import time
 from pathlib import Path
 
 import answers
-import running
+import hunting
 from running import TOP
 
 # The way to this is in answers.
@@ -89,7 +89,8 @@ def hunts_by_processes(trial):
     one, three = (trial.run(HUNT, "--jobs", jobs, *plant) for jobs in (1, 3))
     trial.sees(one == three and one.status == 1, f"hunt --jobs 3 prints {three}, and not {one}")
     words = answers.shown(one.output).split()
-    seed = words[words.index("suite/random") + 1]
+    seed, fewest = (words[words.index(word) + 1] for word in ("suite/random", "to"))
+    trial.sees(int(fewest) <= 2, f"hunt shrinks {plant[1]} to {fewest} lines")
     trial.prints(1, [f"{seed}\n"], HUNT, "--jobs", 3, "--find", *plant)
     trial.prints(0, ["same, by the numbers 1 to "], HUNT, "--scripts", int(seed) - 1, "--jobs", 3,
                  *plant)
@@ -100,6 +101,15 @@ def hunts_by_processes(trial):
     ran = trial.run("env", f"PROGRAM={ends}", HUNT, "--jobs", 3, "true")
     trial.sees(ran.status == 2 and ran.errors == "hunt: the model: the command ended with status 3:"
                " no board", f"hunt with a model that ends so: {ran}")
+
+
+def hunts_ranges(trial):
+    """The ranges that processes look through: each number once, in order, and not too many."""
+    for first, count, jobs in ((1, 2000, 4), (7, 1, 64), (0, 30, 2), (5, 4, 3), (1, 100_000, 8)):
+        ranges = list(hunting.units(first, count, jobs))
+        tried = [number for begin, size in ranges for number in range(begin, begin + size)]
+        trial.sees(tried == list(range(first, first + count)) and len(ranges) < 50 * jobs + 400,
+                   f"{count} numbers from {first} on, by {jobs} processes: {ranges}")
 
 
 def hunts_kinds(trial):
@@ -234,4 +244,5 @@ def all_plants(trial, jobs):
         print(f"{plant}: {fewest} lines, {time.monotonic() - began:.0f} seconds", flush=True)
 
 
-PARTS = (hunts, hunts_by_processes, hunts_kinds, hunts_now_and_then, hunts_first, hunts_stopped)
+PARTS = (hunts, hunts_ranges, hunts_by_processes, hunts_kinds, hunts_now_and_then, hunts_first,
+         hunts_stopped)
