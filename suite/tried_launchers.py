@@ -137,6 +137,16 @@ def versions_agree(trial):
                "the first version of CHANGELOG.md")
 
 
+def files_are_licensed(trial):
+    """Each file that is meant to be copied says its licence, and each of the READMEs for users."""
+    files = [TOP / "include/aia.h", TOP / "README.md", TOP / "suite/README.md",
+             TOP / "peers/README.md", *sorted((TOP / "examples").glob("*.[cpr]*")),
+             TOP / "examples/migrate"]
+    for file in files:
+        trial.sees("Apache-2.0" in file.read_text(encoding="utf-8"), f"{file.name} has no licence")
+    trial.sees("Apache License" in (TOP / "LICENSE").read_text(encoding="utf-8")[:200], "LICENSE")
+
+
 def launchers_refuse_as_programs(trial):
     """Words at random, which ./aia refuses where the program does."""
     tree, draw = Tree(trial, "words"), random.Random(7)
@@ -222,5 +232,5 @@ def launchers_end(trial):
         trial.sees(ended and status > 128, f"aia told {each.name} ends with {status}")
 
 
-PARTS = (launchers_speak, versions_agree, launchers_refuse_as_programs,
+PARTS = (launchers_speak, versions_agree, files_are_licensed, launchers_refuse_as_programs,
          launchers_without_toolchain, launchers_build, launchers_say_statuses, launchers_end)
