@@ -148,7 +148,7 @@ def left_of(hunt, script, is_machine_fixed, tell):
             found, seen, runs = hunt.again(lines, MANY)
         if seen:
             return Left(lines, found, seen, runs, shrinker.runs)
-    return Left(script, None, 0, runs, shrinker.runs)
+    return Left(script, None, 0, runs, shrinker.runs if shrunk else 0)
 
 
 def times(seen, runs):

@@ -33,6 +33,7 @@ CSRS = {"m": reading.MACHINE_CSRS, "h": reading.FILE_CSRS, "g": reading.GUEST_CS
 ALL_CSRS = {word.decode() for names in CSRS.values() for word in names}
 # Bytes that a text of words has, whether or not it spells a line.
 PLAIN = frozenset(range(0x20, 0x7f))
+MARK = b"\xef\xbb\xbf"
 KINDS = {"b": "is 0 or 1", "w": "is below 2^32"}
 
 
@@ -98,6 +99,8 @@ def shape_fault(text):
     if len(text) > LINE_BYTES:
         what = "comment" if text[:1] == b"#" else "line"
         return Fault(LINE_BYTES + 1, f"a {what} of {len(text)} bytes; it has {LINE_BYTES} at most")
+    if text.startswith(MARK):
+        return Fault(1, "a byte order mark before the first word")
     at = text.find(b"#")
     if at > 0 and not text[:at].strip():
         return Fault(at + 1, "a comment that does not begin with the line")

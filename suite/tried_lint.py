@@ -315,6 +315,7 @@ CASES = (
     ("load 0 0 image 1 63 2 0 0", 21, "D of `load VM C image 1 N D T S` is 0 or 1: 2"),
     ("load 0 0 word 0 1", 18, "too few words: `load VM C word w P E`"),
     ("\x00", 1, "a byte that is no text here: 0x00"),
+    ("\xef\xbb\xbf# so", 1, "a byte order mark"),
 )
 STEP_CASES = (
     ("takep 4", 7, "w of `takep w` is below 4: 4"), ("takep", 6, "too few words: `takep w`"),
