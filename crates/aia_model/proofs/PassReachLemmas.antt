@@ -6,7 +6,8 @@ use Rattle.std.proofs.lemmas.Bool.Decides.{nat_tests}
 use Rattle.aia_home.specs.declared.place.Place.{Place}
 use Rattle.aia_home.specs.Home.{Home, is_place, holds, ended, one_more, leaving, arriving, shifting}
 use Rattle.aia_home.specs.declared.rest.Rest.TheVariants.{Parked}
-use Rattle.aia_home.specs.Home.Home.{InMemory, Resident, Leaving, Arriving, Shifting}
+use Rattle.aia_home.specs.Home.Home.{InMemory, Resident, OnWay}
+use Rattle.aia_home.specs.Home.Way.{Outward, Inward, Across}
 use Rattle.aia_home.specs.Plans.{is_at_last, stepped}
 use Rattle.aia_home.specs.BySteps.{new_file}
 use Rattle.aia_home.specs.Routes.{origin}
@@ -20,7 +21,7 @@ none_below r = grind (arith, nat_tests)
 -- ---- a move begins
 
 pub leaving_passes : (r : ℕ) (there : Home) → pass_reaches r (leaving there) ≡ pass_reaches r there
-leaving_passes r (Leaving from at) = refl
+leaving_passes r (OnWay (Outward from) at) = refl
 leaving_passes r there = refl
 
 pub arriving_passes : (r : ℕ) (q : Place) (there : Home) → pass_reaches r (arriving q there) ≡ pass_reaches r there
@@ -42,14 +43,12 @@ shifts_passes r hart (Some f) there = shifting_passes r (guest_place hart f) the
 -- ---- a step that aims none
 
 one_more_passes : (r : ℕ) (there : Home) → pass_reaches r (one_more there) ≡ pass_reaches r there
-one_more_passes r (Leaving from at) = refl
+one_more_passes r (OnWay (Outward from) at) = refl
 one_more_passes r there = refl
 
 -- at the last step all are aimed
 ended_passes : (passes words r : ℕ) (there : Home) → nat_lt r passes ≡ true → AreAimed passes there → is_at_last words there ≡ true → pass_reaches r (ended there) ≡ pass_reaches r there
-ended_passes passes words r (Leaving from at) below a last = let all = a.all (grind (arith, nat_tests)) in let e : nat_lt r at.aims ≡ true = grind (arith, nat_tests) in rw (e, none_below r) refl
-ended_passes passes words r (Arriving to at) below a last = let all = a.all (grind (arith, nat_tests)) in let e : nat_lt r at.aims ≡ true = grind (arith, nat_tests) in rw (e, none_below r) refl
-ended_passes passes words r (Shifting from to at) below a last = let all = a.all (grind (arith, nat_tests)) in let e : nat_lt r at.aims ≡ true = grind (arith, nat_tests) in rw (e, none_below r) refl
+ended_passes passes words r (OnWay way at) below a last = let all = a.all (grind (arith, nat_tests)) in let e : nat_lt r at.aims ≡ true = grind (arith, nat_tests) in rw (e, none_below r) refl
 ended_passes passes words r there below a last = absurd (cc)
 
 pub stepped_passes : (passes words r : ℕ) (there : Home) → nat_lt r passes ≡ true → AreAimed passes there → pass_reaches r (stepped words there) ≡ pass_reaches r there
@@ -71,9 +70,9 @@ aims_on r a other = elim (cases_Bool (nat_lt r a)) [
 ]
 
 pub aimed_other : (r : ℕ) (there : Home) → nat_eq r (aims_done there) ≡ false → pass_reaches r (aimed there) ≡ pass_reaches r there
-aimed_other r (Leaving from at) other = ap (λ b. if b then None else Some from) (aims_on r at.aims other)
-aimed_other r (Arriving to at) other = ap (λ b. if b then Some to else None) (aims_on r at.aims other)
-aimed_other r (Shifting from to at) other = ap (λ b. if b then Some to else Some from) (aims_on r at.aims other)
+aimed_other r (OnWay (Outward from) at) other = ap (λ b. if b then None else Some from) (aims_on r at.aims other)
+aimed_other r (OnWay (Inward to) at) other = ap (λ b. if b then Some to else None) (aims_on r at.aims other)
+aimed_other r (OnWay (Across from to) at) other = ap (λ b. if b then Some to else Some from) (aims_on r at.aims other)
 aimed_other r there other = refl
 
 -- ---- it leads to no guest file that its virtual hart does not hold
@@ -90,8 +89,8 @@ reach_is_held r there q e = by_test (nat_lt r (aims_done there)) there e
     by_test false (InMemory rest) e = absurd (cc)
     by_test true (Resident p) e = absurd (cc)
     by_test false (Resident p) e = some_same p q e
-    by_test true (Leaving from at) e = absurd (cc)
-    by_test false (Leaving from at) e = some_same from q e
-    by_test true (Arriving to at) e = some_same to q e
-    by_test false (Arriving to at) e = absurd (cc)
-    by_test b (Shifting from to at) e = from_or from to b e
+    by_test true (OnWay (Outward from) at) e = absurd (cc)
+    by_test false (OnWay (Outward from) at) e = some_same from q e
+    by_test true (OnWay (Inward to) at) e = some_same to q e
+    by_test false (OnWay (Inward to) at) e = absurd (cc)
+    by_test b (OnWay (Across from to) at) e = from_or from to b e

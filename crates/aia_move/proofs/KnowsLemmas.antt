@@ -19,7 +19,8 @@ use Rattle.aia_entry.specs.Translation.{is_msi_address, file_number}
 use Rattle.aia_home.specs.declared.place.Place.{Place}
 use Rattle.aia_home.specs.Vms.{Vcpu, is_vcpu_in, slot_of, notice_identity, notice_hart}
 use Rattle.aia_home.specs.Home.{Home, is_place, holds}
-use Rattle.aia_home.specs.Home.Home.{InMemory, Resident, Leaving, Arriving, Shifting}
+use Rattle.aia_home.specs.Home.Home.{InMemory, Resident, OnWay}
+use Rattle.aia_home.specs.Home.Way.{Outward, Inward, Across}
 use Rattle.aia_home.specs.BySteps.{own_file, next_file}
 use Rattle.aia_home.specs.Routes.{peers_reach, MayReach, MayLand}
 use Rattle.aia_home.proofs.RouteLemmas.{reach_lands, peers_may}
@@ -87,9 +88,9 @@ held_there w m fits p held = by_home m.home fits.own fits.next held
     by_home : (z : Home) → ((r : Place) → own_file z ≡ Some r → IsThere w.imsic (spot_of r)) → ((r : Place) → next_file z ≡ Some r → IsThere w.imsic (spot_of r)) → holds p z ≡ true → IsThere w.imsic (spot_of p)
     by_home (InMemory rest) own next e = absurd (cc)
     by_home (Resident q) own next e = at q e (own q refl)
-    by_home (Leaving from at_) own next e = at from e (own from refl)
-    by_home (Arriving to at_) own next e = at to e (own to refl)
-    by_home (Shifting from to at_) own next e = elim (cases_Bool (is_place p from)) [
+    by_home (OnWay (Outward from) at_) own next e = at from e (own from refl)
+    by_home (OnWay (Inward to) at_) own next e = at to e (own to refl)
+    by_home (OnWay (Across from to) at_) own next e = elim (cases_Bool (is_place p from)) [
       | inl first ↦ at from first (own from refl)
       | inr other ↦ at to (sym (ap (λ b. b || is_place p to) other) ∙ e) (next to refl)
     ]

@@ -21,7 +21,8 @@ use Rattle.aia_home.specs.declared.place.Place.{Place}
 use Rattle.aia_home.specs.declared.vm.Vm.{Vm}
 use Rattle.aia_home.specs.Vms.{Vcpu, is_vcpu, vcpus_in, is_vcpu_in, slot_of, notice_identity, notice_hart}
 use Rattle.aia_home.specs.Home.{Home, is_place, holds}
-use Rattle.aia_home.specs.Home.Home.{Resident, Leaving, Arriving, Shifting}
+use Rattle.aia_home.specs.Home.Home.{Resident, OnWay}
+use Rattle.aia_home.specs.Home.Way.{Outward, Inward, Across}
 use Rattle.aia_home.specs.Routes.{peers_reach, MayLand, sends_notice}
 use Rattle.aia_home.proofs.RouteLemmas.{reach_lands, peers_may}
 use Rattle.aia_model.proofs.ReachLemmas.{in_force_may}
@@ -131,19 +132,19 @@ unfolding view_with
 view_stored w u g (Resident q) p offset value s held apart here =
     let same = same_place p q here in
     seen_by w u g (Resident q) (landed offset value (file_in w (Some q))) (file_in w None) s.rest (subst (λ (x : Place). shown (file_at u.imsic (spot_of x)) ≡ landed offset value (shown (file_at w.imsic (spot_of x)))) same (file_landed w u p offset value s)) (ap (λ (x : World). file_in x None) s.rest)
-view_stored w u g (Leaving q at) p offset value s held apart here =
+view_stored w u g (OnWay (Outward q) at) p offset value s held apart here =
     let same = same_place p q here in
-    seen_by w u g (Leaving q at) (landed offset value (file_in w (Some q))) (file_in w None) s.rest (subst (λ (x : Place). shown (file_at u.imsic (spot_of x)) ≡ landed offset value (shown (file_at w.imsic (spot_of x)))) same (file_landed w u p offset value s)) (ap (λ (x : World). file_in x None) s.rest)
-view_stored w u g (Arriving q at) p offset value s held apart here =
+    seen_by w u g (OnWay (Outward q) at) (landed offset value (file_in w (Some q))) (file_in w None) s.rest (subst (λ (x : Place). shown (file_at u.imsic (spot_of x)) ≡ landed offset value (shown (file_at w.imsic (spot_of x)))) same (file_landed w u p offset value s)) (ap (λ (x : World). file_in x None) s.rest)
+view_stored w u g (OnWay (Inward q) at) p offset value s held apart here =
     let same = same_place p q here in
-    seen_by w u g (Arriving q at) (landed offset value (file_in w (Some q))) (file_in w None) s.rest (subst (λ (x : Place). shown (file_at u.imsic (spot_of x)) ≡ landed offset value (shown (file_at w.imsic (spot_of x)))) same (file_landed w u p offset value s)) (ap (λ (x : World). file_in x None) s.rest)
-view_stored w u g (Shifting from to at) p offset value s held apart here = elim (cases_Bool (is_place p to)) [
+    seen_by w u g (OnWay (Inward q) at) (landed offset value (file_in w (Some q))) (file_in w None) s.rest (subst (λ (x : Place). shown (file_at u.imsic (spot_of x)) ≡ landed offset value (shown (file_at w.imsic (spot_of x)))) same (file_landed w u p offset value s)) (ap (λ (x : World). file_in x None) s.rest)
+view_stored w u g (OnWay (Across from to) at) p offset value s held apart here = elim (cases_Bool (is_place p to)) [
   | inl e ↦
       let same = same_place p to e in
       let old = held from (ap (λ b. b || is_place from to) (is_itself_place from)) in
       let new = held to (or_right (is_place to from) (is_place to to) (is_itself_place to)) in
       let other : is_place from p ≡ false = ap (is_place from) same ∙ apart in
-      seen_by w u g (Shifting from to at) (file_in w (Some from)) (landed offset value (file_in w (Some to))) s.rest
+      seen_by w u g (OnWay (Across from to) at) (file_in w (Some from)) (landed offset value (file_in w (Some to))) s.rest
       (ap shown (other_file w u p from offset value s (subst (λ (x : Place). IsThere w.imsic (spot_of x)) (sym same) new) old other))
       (subst (λ (x : Place). shown (file_at u.imsic (spot_of x)) ≡ landed offset value (shown (file_at w.imsic (spot_of x)))) same (file_landed w u p offset value s))
       ∙ sym (cond-true _ _ _ e)
@@ -153,7 +154,7 @@ view_stored w u g (Shifting from to at) p offset value s held apart here = elim 
       let old = held from (ap (λ b. b || is_place from to) (is_itself_place from)) in
       let new = held to (or_right (is_place to from) (is_place to to) (is_itself_place to)) in
       let other : is_place to p ≡ false = ap (is_place to) same ∙ turned from to apart in
-      seen_by w u g (Shifting from to at) (landed offset value (file_in w (Some from))) (file_in w (Some to)) s.rest
+      seen_by w u g (OnWay (Across from to) at) (landed offset value (file_in w (Some from))) (file_in w (Some to)) s.rest
       (subst (λ (x : Place). shown (file_at u.imsic (spot_of x)) ≡ landed offset value (shown (file_at w.imsic (spot_of x)))) same (file_landed w u p offset value s))
       (ap shown (other_file w u p to offset value s (subst (λ (x : Place). IsThere w.imsic (spot_of x)) (sym same) old) new other))
       ∙ sym (cond-false _ _ _ ne)
