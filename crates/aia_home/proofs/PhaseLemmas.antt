@@ -40,9 +40,15 @@ enable_drained words w (OnWay way at) moves low come = (grind (arith, nat_tests)
 enable_drained words w there moves low come = absurd (cc)
 
 -- the looks come directly after both sets, and the numbers after the looks
-looks_begin : (from to : End) (words : ℕ) → phase_begins from to words LookPhase ≡ before_entry from to + 4 + 4 * words
+pub looks_begin : (from to : End) (words : ℕ) → phase_begins from to words LookPhase ≡ before_entry from to + 4 + 4 * words
 looks_begin from File words = refl
 looks_begin from Memory words = omega arith
+
+pub few_before : (from to : End) → before_entry from to ≤ 2
+few_before File File = omega arith
+few_before File Memory = omega arith
+few_before Memory File = omega arith
+few_before Memory Memory = omega arith
 
 pub sets_first : (to : End) (words : ℕ) → 4 * words ≤ word_steps to words
 sets_first File words = omega arith

@@ -37,6 +37,7 @@ use Rattle.aia_home.specs.Vms.{is_vcpu_in}
 use Rattle.aia_home.specs.BySteps.{new_file}
 use Rattle.aia_home.specs.declared.place.Place.{Place}
 use Rattle.aia_home.specs.Routes.{is_at_fence, is_closed, origin, MayReach}
+use Rattle.aia_home.proofs.HomeLemmas.{two_after}
 use Rattle.aia_model.specs.Flight.{Sending, flight, flying}
 use Rattle.aia_model.specs.GuestFile.{sent_to}
 use Rattle.aia_model.specs.ReachOf.{sent_into, MayFly, AllMayFly, IsForOne, AllAreForOne}
@@ -81,10 +82,10 @@ step_less t all passes k a count low aimed on e = elim (cases_lt k all) [
 
 one_less : (passes words count : ℕ) (there : Home) → AreAimed passes there → steps_left passes words there ≡ suc count → (is_moving there ≡ true) × (steps_left passes words (further passes words there) ≡ count)
 one_less passes words count (OnWay way at) aimed e = elim (cases_Bool (nat_eq at.steps (aims_step (OnWay way at)) && nat_lt at.aims passes)) [
-  | inl aims ↦ (refl, rw aims (aim_less (aims_step (OnWay way at)) (plan_steps (old_end way) (new_end way) words) passes at.steps at.aims count (omega arith) aims e))
+  | inl aims ↦ (refl, rw aims (aim_less (aims_step (OnWay way at)) (plan_steps (old_end way) (new_end way) words) passes at.steps at.aims count (omega (arith, two_after way words)) aims e))
   | inr on ↦ elim (cases_Bool (nat_eq (at.steps + 1) (plan_steps (old_end way) (new_end way) words))) [
-    | inl last ↦ (refl, rw (on, last) (last_less (aims_step (OnWay way at)) (plan_steps (old_end way) (new_end way) words) passes at.steps at.aims count (omega arith) (eqb-true _ _ last) aimed.all on e))
-    | inr more ↦ (refl, rw (on, more) (step_less (aims_step (OnWay way at)) (plan_steps (old_end way) (new_end way) words) passes at.steps at.aims count (omega arith) aimed.all on e))
+    | inl last ↦ (refl, rw (on, last) (last_less (aims_step (OnWay way at)) (plan_steps (old_end way) (new_end way) words) passes at.steps at.aims count (omega (arith, two_after way words)) (eqb-true _ _ last) aimed.all on e))
+    | inr more ↦ (refl, rw (on, more) (step_less (aims_step (OnWay way at)) (plan_steps (old_end way) (new_end way) words) passes at.steps at.aims count (omega (arith, two_after way words)) aimed.all on e))
   ]
 ]
 one_less passes words count (InMemory rest) aimed e = absurd (omega (arith, e))

@@ -14,7 +14,7 @@ use Rattle.aia_home.specs.Plans.Access.{TakePending, TakeEnables}
 use Rattle.aia_home.specs.Phases.{Phase, following, begins, after_shared}
 use Rattle.aia_home.specs.Phases.Phase.{FirstPhase, ClosingPhase, DrainPhase, EnablePhase, LookPhase, LastPhase}
 use Rattle.aia_home.specs.BySteps.{own_file, next_file}
-use Rattle.aia_home.specs.Aims.{aims_done, is_aiming, aimed}
+use Rattle.aia_home.specs.Aims.{aims_done, aims_step, is_aiming, aimed}
 use Rattle.aia_home.specs.Routes.{is_at_fence}
 use Rattle.aia_world.specs.World.{World}
 use Rattle.aia_moving.specs.declared.turn.Closed.{Closed}
@@ -36,12 +36,12 @@ use Rattle.aia_move.specs.Plan.{moving_of, is_in_aim, IsInDrain, NextStepIsOf, I
 
 -- just before the first word is taken it aims while a source is left
 aims_at : (words passes : ℕ) (there : Home) → is_moving there ≡ true → steps_done there ≡ begins words there DrainPhase → is_aiming passes there ≡ nat_lt (aims_done there) passes
-aims_at words passes (OnWay way at) moves e = ap (λ b. b && nat_lt at.aims passes) (eq-eqb _ _ e)
+aims_at words passes (OnWay way at) moves e = ap (λ b. b && nat_lt at.aims passes) (eq-eqb at.steps (aims_step (OnWay way at)) (omega (arith, e)))
 aims_at words passes there moves e = absurd (cc)
 
 -- elsewhere none does
 none_aims : (words passes : ℕ) (there : Home) → (is_moving there ≡ true → steps_done there ≢ begins words there DrainPhase) → is_aiming passes there ≡ false
-none_aims words passes (OnWay way at) other = ap (λ b. b && nat_lt at.aims passes) (ne_eqb _ _ (other refl))
+none_aims words passes (OnWay way at) other = ap (λ b. b && nat_lt at.aims passes) (ne_eqb at.steps (aims_step (OnWay way at)) (λ same. other refl (omega (arith, same))))
 none_aims words passes there other = refl
 
 -- ---- a step aims in its phase alone
@@ -87,15 +87,15 @@ leave_drains words m is none = record { phase = is; aimed = none }
 -- ---- what an aim leaves
 
 aimed_own : (there : Home) → own_file (aimed there) ≡ own_file there
-aimed_own (OnWay (Outward from) at) = refl
+aimed_own (OnWay way at) = refl
 aimed_own there = refl
 
 aimed_next : (there : Home) → next_file (aimed there) ≡ next_file there
-aimed_next (OnWay (Outward from) at) = refl
+aimed_next (OnWay way at) = refl
 aimed_next there = refl
 
 aimed_carried : (words : ℕ) (there : Home) (access : Access) → is_last_made words (aimed there) access ≡ is_last_made words there access
-aimed_carried words (OnWay (Outward from) at) access = refl
+aimed_carried words (OnWay way at) access = refl
 aimed_carried words there access = refl
 
 pub aim_fits : (w : World) (m : Moving) → MoveFits w m → MoveFits w (one_aimed m)

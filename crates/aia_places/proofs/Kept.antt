@@ -64,8 +64,13 @@ module _ (words : ℕ) (at : Progress) (v : Places) (word next : ℕ) (file : In
       (subst (λ o. At way (at.steps + 1) next o (new_place u (OnWay way (one_further at)))) (sym (old_same v u same at (one_further at) way)) (subst (λ n. At way (at.steps + 1) next (old_place v (OnWay way at)) n) (sym (new_same v u same at (one_further at) way)) h))
       (λ z i l. absurd (omega arith))
       (λ i l. (ap (λ (x : TwoSets). x.pending i) (spare_same v u same at (one_further at) way) ∙ (s.spare i l).0, ap (λ (x : TwoSets). x.enabled i) (spare_same v u same at (one_further at) way) ∙ (s.spare i l).1))
-      (λ i l. (ap (λ (x : TwoSets). x.pending i) same.own ∙ (s.past i l).0, ap (λ (x : TwoSets). x.enabled i) same.own ∙ (s.past i l).1,
-          ap (λ (x : TwoSets). x.pending i) same.next ∙ (s.past i l).2, ap (λ (x : TwoSets). x.enabled i) same.next ∙ (s.past i l).3, ap (λ (x : TwoSets). x.enabled i) same.slot ∙ (s.past i l).4))
+      (λ i l. (
+        ap (λ (x : TwoSets). x.pending i) same.own ∙ (s.past i l).0,
+        ap (λ (x : TwoSets). x.enabled i) same.own ∙ (s.past i l).1,
+        ap (λ (x : TwoSets). x.pending i) same.next ∙ (s.past i l).2,
+        ap (λ (x : TwoSets). x.enabled i) same.next ∙ (s.past i l).3,
+        ap (λ (x : TwoSets). x.enabled i) same.slot ∙ (s.past i l).4,
+      ))
 
   old_set : (way : Way) (sets : TwoSets) → KeepsPast words (old_place v (OnWay way at)) sets → HoldsSets words v (OnWay way at) word file → At way (at.steps + 1) next sets (new_place v (OnWay way at))
       → HoldsSets words (with_old (OnWay way at) v sets) (OnWay way (one_further at)) next file

@@ -60,15 +60,15 @@ use Rattle.aia_standing.proofs.MoveSteps.{stepped_home}
 -- ---- what a home is that aims
 
 aimed_apart : (there : Home) → AreApart there → AreApart (aimed there)
-aimed_apart (OnWay (Outward from) at) a = a
+aimed_apart (OnWay way at) a = a
 aimed_apart there a = a
 
 aimed_holds : (q : Place) (there : Home) → holds q (aimed there) ≡ holds q there
-aimed_holds q (OnWay (Outward from) at) = refl
+aimed_holds q (OnWay way at) = refl
 aimed_holds q there = refl
 
 aimed_moves : (there : Home) → is_moving (aimed there) ≡ is_moving there
-aimed_moves (OnWay (Outward from) at) = refl
+aimed_moves (OnWay way at) = refl
 aimed_moves there = refl
 
 -- its next step is not the last one

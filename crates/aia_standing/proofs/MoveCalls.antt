@@ -134,7 +134,7 @@ left_fewer words (OnWay way at) access next =
 left_fewer words there access next = let no : false ≡ true = next.has in absurd (cc)
 
 aims_stay : (there : Home) → aims_done (one_more there) ≡ aims_done there
-aims_stay (OnWay (Outward from) at) = refl
+aims_stay (OnWay way at) = refl
 aims_stay there = refl
 
 -- the plan that is kept can make its next step
@@ -335,7 +335,7 @@ aims_once (OnWay way at) moves = omega arith
 aims_once there moves = absurd (true≢false (sym moves))
 
 left_aimed : (words : ℕ) (there : Home) → steps_left words (aimed there) ≡ steps_left words there
-left_aimed words (OnWay (Outward from) at) = refl
+left_aimed words (OnWay way at) = refl
 left_aimed words there = refl
 
 -- What a step's calls say that aims a passed source.
