@@ -5,8 +5,8 @@ use Rattle.aia_home.specs.declared.place.Place.{Place}
 use Rattle.aia_home.specs.Home.{End, Home, old_end, new_end, is_moving}
 use Rattle.aia_home.specs.Home.Home.{OnWay}
 use Rattle.aia_home.specs.Home.End.{File, Memory}
-use Rattle.aia_home.specs.Plans.{before_entry, word_steps, is_last_made, steps_done, pending_step, enables_step}
-use Rattle.aia_home.specs.Plans.Access.{TakePending, TakeEnables}
+use Rattle.aia_home.specs.Plans.{word_steps, plan_step, is_last_made, steps_done, pending_step, enables_step}
+use Rattle.aia_home.specs.Plans.Access.{WriteEntry, TakePending, TakeEnables}
 use Rattle.aia_home.specs.Phases.{phase_begins, has_come}
 use Rattle.aia_home.specs.Phases.Phase.{ClosingPhase, DrainPhase, EnablePhase, LookPhase, LastPhase}
 use Rattle.aia_home.specs.BySteps.{new_file, is_drained, is_enable_taken, is_enable_put}
@@ -40,11 +40,12 @@ enable_drained words w (OnWay way at) moves low come = (grind (arith, nat_tests)
 enable_drained words w there moves low come = absurd (cc)
 
 -- the looks come directly after both sets, and the numbers after the looks
-pub looks_begin : (from to : End) (words : ℕ) → phase_begins from to words LookPhase ≡ before_entry from to + 4 + 4 * words
-looks_begin from File words = refl
+pub looks_begin : (from to : End) (words : ℕ) → phase_begins from to words LookPhase ≡ plan_step from to words (TakeEnables 0) + 2 * words
+looks_begin from File words = omega arith
 looks_begin from Memory words = omega arith
 
-pub few_before : (from to : End) → before_entry from to ≤ 2
+-- no move has more before its entry is written than a leave
+pub few_before : (from to : End) → plan_step from to 0 WriteEntry ≤ plan_step File Memory 0 WriteEntry
 few_before File File = omega arith
 few_before File Memory = omega arith
 few_before Memory File = omega arith

@@ -12,7 +12,7 @@ use Rattle.aia_home.specs.Plans.{is_at_last, stepped}
 use Rattle.aia_home.specs.BySteps.{new_file}
 use Rattle.aia_home.specs.Routes.{origin}
 use Rattle.aia_home.specs.Aims.{aims_done, is_aiming, aimed, further, pass_reaches, AreAimed}
-use Rattle.aia_home.proofs.HomeLemmas.{some_same, two_after}
+use Rattle.aia_home.proofs.HomeLemmas.{some_same, not_the_last}
 use Rattle.aia_model.specs.HomeOf.{guest_place}
 
 none_below : (r : ℕ) → nat_lt r 0 ≡ false
@@ -53,7 +53,7 @@ rests_reached r (Some p) = cond-false _ _ _ (none_below r)
 
 ended_passes : (passes words r : ℕ) (there : Home) → nat_lt r passes ≡ true → AreAimed passes there → is_at_last words there ≡ true → pass_reaches r (ended there) ≡ pass_reaches r there
 ended_passes passes words r (OnWay way at) below a last =
-    let far = two_after way words in
+    let far = not_the_last way words in
     let all = a.all (grind (arith, nat_tests)) in
     let e : nat_lt r at.aims ≡ true = grind (arith, nat_tests) in
     rests_reached r (led_to way) ∙ sym (cond-true _ _ _ e)

@@ -169,15 +169,12 @@ module _ (words q hart : ℕ) (reach : Option Place) (way : Way) (at : Progress)
   at_places : HoldsSets words v there hand.word file → HoldsAt words first enables at.steps hand.word (old_place v there) (new_place v there) file
   at_places s = of_sets words hand.word v there file s
 
-  order : first + 2 * words ≤ enables
-  order = omega arith
-
   -- a step before the first word, or after the last, that leaves all sets
   before : (u : Places) → SameSets v u → at.steps < first → HoldsSets words v there hand.word file → HoldsSets words u later now.word file
-  before u same l s = sets_still words at v hand.word now.word file way u same s (before-holds words first enables at.steps hand.word now.word (old_place v there) (new_place v there) file order (at_places s) l)
+  before u same l s = sets_still words at v hand.word now.word file way u same s (before-holds words first enables at.steps hand.word now.word (old_place v there) (new_place v there) file (omega arith) (at_places s) l)
 
   after : (u : Places) → SameSets v u → enables + 2 * words ≤ at.steps → HoldsSets words v there hand.word file → HoldsSets words u later now.word file
-  after u same l s = sets_still words at v hand.word now.word file way u same s (after-holds words first enables at.steps hand.word now.word (old_place v there) (new_place v there) file order (at_places s) l)
+  after u same l s = sets_still words at v hand.word now.word file way u same s (after-holds words first enables at.steps hand.word now.word (old_place v there) (new_place v there) file (omega arith) (at_places s) l)
 
   -- a step whose numbers, routes and looks stay, among those that carry words
   carries : (u : Places) → SameNumbers v u → SameRoutes v u → SameKept hand now → now.seen ≡ hand.seen → first ≤ at.steps → at.steps < plan_step (old_end way) (new_end way) words (Look 0)
@@ -267,28 +264,28 @@ module _ (words q hart : ℕ) (reach : Option Place) (way : Way) (at : Progress)
       let sets = record (old_place v there) { pending = without_word w (old_place v there).pending } in
       carries (with_old there v sets) (with_old-numbers way at v sets) (with_old-routes way at v sets) (other_word hand now carried.1) (ap (λ (h : Hand). h.seen) carried.1) (omega arith) (omega arith)
       (old_set words at v hand.word now.word file way sets (λ i l. (λ e. and_right _ _ e, λ e. e)) h.sets
-      (take_pending-holds words first enables at.steps hand.word now.word (old_place v there) (new_place v there) file order (at_places h.sets) w few_words e carried.0)) h
+      (take_pending-holds words first enables at.steps hand.word now.word (old_place v there) (new_place v there) file (omega arith) (at_places h.sets) w few_words e carried.0)) h
   kept_by (PutPending w) step more carried h =
       let few_words : w < words = ltb-true _ _ step.has in
       let e : at.steps ≡ first + 1 + 2 * w = omega (arith, step.step) in
       let sets = record (new_place v there) { pending = joined_by w hand.word (new_place v there).pending } in
       carries (with_new there v sets) (with_new-numbers way at v sets) (with_new-routes way at v sets) (rw carried (same_kept hand)) (ap (λ (h : Hand). h.seen) carried) (omega arith) (omega arith)
       (new_set words at v hand.word now.word file way sets (λ i l. (λ e. elsewhere i w words few_words l _ _ ∙ e, λ e. e)) h.sets
-      (put_pending-holds words first enables at.steps hand.word now.word (old_place v there) (new_place v there) file order (at_places h.sets) w few_words e)) h
+      (put_pending-holds words first enables at.steps hand.word now.word (old_place v there) (new_place v there) file (omega arith) (at_places h.sets) w few_words e)) h
   kept_by (TakeEnables w) step more carried h =
       let few_words : w < words = ltb-true _ _ step.has in
       let e : at.steps ≡ enables + 2 * w = omega (arith, step.step) in
       let sets = record (old_place v there) { enabled = without_word w (old_place v there).enabled } in
       carries (with_old there v sets) (with_old-numbers way at v sets) (with_old-routes way at v sets) (other_word hand now carried.1) (ap (λ (h : Hand). h.seen) carried.1) (omega arith) (omega arith)
       (old_set words at v hand.word now.word file way sets (λ i l. (λ e. e, λ e. and_right _ _ e)) h.sets
-      (take_enables-holds words first enables at.steps hand.word now.word (old_place v there) (new_place v there) file order (at_places h.sets) w few_words e carried.0)) h
+      (take_enables-holds words first enables at.steps hand.word now.word (old_place v there) (new_place v there) file (omega arith) (at_places h.sets) w few_words e carried.0)) h
   kept_by (PutEnables w) step more carried h =
       let few_words : w < words = ltb-true _ _ step.has in
       let e : at.steps ≡ enables + 1 + 2 * w = omega (arith, step.step) in
       let sets = record (new_place v there) { enabled = replaced_by w hand.word (new_place v there).enabled } in
       carries (with_new there v sets) (with_new-numbers way at v sets) (with_new-routes way at v sets) (rw carried (same_kept hand)) (ap (λ (h : Hand). h.seen) carried) (omega arith) (omega arith)
       (new_set words at v hand.word now.word file way sets (λ i l. (λ e. e, λ e. elsewhere i w words few_words l _ _ ∙ e)) h.sets
-      (put_enables-holds words first enables at.steps hand.word now.word (old_place v there) (new_place v there) file order (at_places h.sets) w few_words e)) h
+      (put_enables-holds words first enables at.steps hand.word now.word (old_place v there) (new_place v there) file (omega arith) (at_places h.sets) w few_words e)) h
   kept_by TakeDelivery step more carried h =
       record {
         sets = before (places_after q hart TakeDelivery there v hand) (record { own = refl; next = refl; slot = refl }) (omega (arith, step.step)) h.sets;
