@@ -1,18 +1,17 @@
 -- Where a passed source leads, as its virtual hart is moved: only its own aim changes it.
 use Rattle.std.proofs.Common.{◌≡◌, ◌+◌, ◌||◌, ℕ, Bool, true, false, cond, if◌then◌else◌, nat_eq, nat_lt, Option, Some, None, inl, inr, refl, sym, ap, ◌∙◌, arith}
 use Rattle.std.specs.Option.{option_map_or}
-use Rattle.std.proofs.lemmas.Bool.{cases_Bool, or_right, cond-true, cond-false}
+use Rattle.std.proofs.lemmas.Bool.{cases_Bool, cond-true, cond-false}
 use Rattle.std.proofs.lemmas.Bool.Decides.{nat_tests}
 use Rattle.aia_home.specs.declared.place.Place.{Place}
-use Rattle.aia_home.specs.Home.{Home, left, led_to, at_rest, is_place, holds, ended, one_more, leaving, arriving, shifting}
+use Rattle.aia_home.specs.Home.{Home, left, led_to, at_rest, holds, ended, one_more, leaving, arriving, shifting}
 use Rattle.aia_home.specs.declared.rest.Rest.TheVariants.{Parked}
 use Rattle.aia_home.specs.Home.Home.{InMemory, Resident, OnWay}
-use Rattle.aia_home.specs.Home.Way.{Outward, Inward, Across}
 use Rattle.aia_home.specs.Plans.{is_at_last, stepped}
 use Rattle.aia_home.specs.BySteps.{new_file}
 use Rattle.aia_home.specs.Routes.{origin}
 use Rattle.aia_home.specs.Aims.{aims_done, is_aiming, aimed, further, pass_reaches, AreAimed}
-use Rattle.aia_home.proofs.HomeLemmas.{some_same, not_the_last}
+use Rattle.aia_home.proofs.HomeLemmas.{not_the_last, origin_is_held, new_is_held}
 use Rattle.aia_model.specs.HomeOf.{guest_place}
 
 none_below : (r : ℕ) → nat_lt r 0 ≡ false
@@ -84,19 +83,8 @@ aimed_other r there other = refl
 -- ---- it leads to no guest file that its virtual hart does not hold
 
 pub reach_is_held : (r : ℕ) (there : Home) (q : Place) → pass_reaches r there ≡ Some q → holds q there ≡ true
-reach_is_held r there q e = by_test (nat_lt r (aims_done there)) there e
+reach_is_held r there q e = by_test (nat_lt r (aims_done there)) e
   where
-    from_or : (from to : Place) (b : Bool) → ◌≡◌ {A = Option Place} (cond b (Some to) (Some from)) (Some q) → (is_place q from || is_place q to) ≡ true
-    from_or from to true e = or_right (is_place q from) (is_place q to) (some_same to q e)
-    from_or from to false e = ap (λ b. b || is_place q to) (some_same from q e)
-
-    by_test : (b : Bool) (there : Home) → (if b then new_file there else origin there) ≡ Some q → holds q there ≡ true
-    by_test true (InMemory rest) e = absurd (cc)
-    by_test false (InMemory rest) e = absurd (cc)
-    by_test true (Resident p) e = absurd (cc)
-    by_test false (Resident p) e = some_same p q e
-    by_test true (OnWay (Outward from) at) e = absurd (cc)
-    by_test false (OnWay (Outward from) at) e = some_same from q e
-    by_test true (OnWay (Inward to) at) e = some_same to q e
-    by_test false (OnWay (Inward to) at) e = absurd (cc)
-    by_test b (OnWay (Across from to) at) e = from_or from to b e
+    by_test : (b : Bool) → (if b then new_file there else origin there) ≡ Some q → holds q there ≡ true
+    by_test true e = new_is_held there q e
+    by_test false e = origin_is_held there q e

@@ -1,17 +1,17 @@
 -- The phases of a plan: where its steps aim passed sources, and what they leave; which phase comes
 -- after a step; what a step makes, and one in place, by the phase that the plan is in; what the
 -- accesses that carry the sets need of a carrier.
-use Rattle.std.proofs.Common.{◌≡◌, ◌≢◌, ℕ, ◌+◌, ◌<◌, ◌≤◌, Bool, true, false, ◌&&◌, nat_lt, refl, sym, ap, ◌∙◌, subst, arith, Option, Some, None, ◌-◌, ◌/◌}
+use Rattle.std.proofs.Common.{◌≡◌, ◌≢◌, ℕ, ◌+◌, ◌<◌, ◌≤◌, Bool, true, false, ◌&&◌, if◌then◌else◌, nat_lt, refl, sym, ap, ◌∙◌, subst, arith, Option, Some, None, ◌-◌, ◌/◌}
 use Rattle.std.specs.Prelude.{is_none}
 use Rattle.std.proofs.lemmas.Bool.{eq-eqb, ne_eqb}
 use Rattle.aia_word.specs.Sets.{has_bit}
 use Rattle.aia_regs.specs.declared.limits.TheConstants.{FILE_WORDS}
-use Rattle.aia_home.specs.Home.{Home, Progress, is_moving, one_more}
+use Rattle.aia_home.specs.Home.{End, is_file, old_end, new_end, Home, Progress, is_moving, one_more}
 use Rattle.aia_home.specs.Home.Home.{OnWay}
-use Rattle.aia_home.specs.Home.Way.{Outward, Inward, Across}
+use Rattle.aia_home.specs.Home.End.{File, Memory}
 use Rattle.aia_home.specs.Plans.{Access, steps_done, is_last_made, leave_steps}
 use Rattle.aia_home.specs.Plans.Access.{TakePending, TakeEnables}
-use Rattle.aia_home.specs.Phases.{Phase, following, begins, after_shared}
+use Rattle.aia_home.specs.Phases.{Phase, following, phase_begins, begins, after_shared}
 use Rattle.aia_home.specs.Phases.Phase.{FirstPhase, ClosingPhase, DrainPhase, EnablePhase, LookPhase, LastPhase}
 use Rattle.aia_home.specs.BySteps.{own_file, next_file}
 use Rattle.aia_home.specs.Aims.{aims_done, aims_step, is_aiming, aimed}
@@ -24,6 +24,7 @@ use Rattle.aia_moving.specs.Targets.{aims, pass_count, has_unaimed, one_aimed, a
 use Rattle.aia_moving.specs.Carrier.{CarrierState, progress_of, moving, one_aim_done}
 use Rattle.aia_moving.specs.Turns.{IsIn, IsAtAims, IsMove, GoesOn, AimsOn, MatchClosed}
 use Rattle.aia_moving.specs.Landings.{OnceLanded}
+use Rattle.aia_home.proofs.PhaseLemmas.{looks_begin, sets_first}
 use Rattle.aia_moving.proofs.PhaseSteps.{Middle, middle, begins_on, past_fence}
 use Rattle.aia_moving.proofs.LandingLemmas.{none_lands}
 use Rattle.aia_moving.proofs.StepLemmas.{it_moves, steps_are}
@@ -60,7 +61,7 @@ no_aim_in_look words m some is = none_aims words _ m.home (λ moves e. let mid =
 
 -- what is last comes after the looks, which a leave alone has
 looks_before_last : (words : ℕ) (there : Home) → begins words there LookPhase ≤ begins words there LastPhase
-looks_before_last words (OnWay (Outward from) at) = omega arith
+looks_before_last words (OnWay way at) = let looks = looks_begin (old_end way) (new_end way) words in let enough = sets_first (new_end way) words in omega (arith, looks, enough)
 looks_before_last words there = omega arith
 
 no_aim_in_last : (words : ℕ) (m : Moving) → 1 ≤ words → IsIn LastPhase words m → aims m ≡ false
@@ -169,9 +170,12 @@ still_drains w u m t is goes more = record {
 -- not have, has no steps
 after_begins : (words : ℕ) (there : Home) → is_moving there ≡ true → 1 ≤ words
     → (begins words there (after_shared there) ≡ begins words there (following EnablePhase)) × (begins words there (following EnablePhase) < begins words there (following (after_shared there)))
-after_begins words (OnWay (Outward from) at) moves some = (refl, omega (arith, some))
-after_begins words (OnWay (Inward to) at) moves some = (refl, omega arith)
-after_begins words (OnWay (Across from to) at) moves some = (refl, omega arith)
+after_begins words (OnWay way at) moves some = by_end (old_end way) (new_end way)
+  where
+    by_end : (from to : End)
+        → (phase_begins from to words (if is_file to then LastPhase else LookPhase) ≡ phase_begins from to words LookPhase) × (phase_begins from to words LookPhase < phase_begins from to words (following (if is_file to then LastPhase else LookPhase)))
+    by_end from File = (refl, omega arith)
+    by_end from Memory = (refl, omega (arith, some))
 after_begins words there moves some = absurd (cc)
 
 pub is_after : (phase : Phase) (words : ℕ) (m : Moving) → is_moving m.home ≡ true → phase ≡ after_shared m.home → 1 ≤ words → steps_done m.home ≡ begins words m.home (following EnablePhase) → IsIn phase words m

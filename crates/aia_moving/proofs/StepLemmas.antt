@@ -1,14 +1,14 @@
 -- A step of a move: what its access leaves, and that the next step can be made.
 use Rattle.std.proofs.Common.{◌≡◌, ℕ, ◌+◌, ◌*◌, ◌/◌, ◌<◌, ◌≤◌, Bool, true, false, refl, sym, ap, ◌∙◌, subst, arith}
 use Rattle.std.proofs.lemmas.Bool.{ne_eqb}
-use Rattle.aia_home.proofs.PhaseLemmas.{sets_first}
+use Rattle.aia_home.proofs.HomeLemmas.{not_the_last}
 use Rattle.aia_home.proofs.PhaseLemmas.{carried_pending, carried_enables}
 use Rattle.aia_word.specs.Sets.{has_bit}
 use Rattle.aia_regs.specs.declared.file_registers.FileReg.{FileReg}
 use Rattle.aia_imsic.specs.declared.spot.Spot.{Spot}
 use Rattle.aia_imsic.specs.Imsic.{ImsicState, IsThere}
 use Rattle.aia_home.specs.declared.place.Place.{Place}
-use Rattle.aia_home.specs.Home.{Home, Progress, new_end, is_moving, one_more, one_further}
+use Rattle.aia_home.specs.Home.{Home, Progress, is_moving, one_more, one_further}
 use Rattle.aia_home.specs.Plans.{is_at_last, Access, steps_done, has_access, step_of, IsNext, first_take, pending_step, enables_step}
 use Rattle.aia_home.specs.Home.Home.{OnWay}
 use Rattle.aia_home.specs.Home.Way.{Outward, Inward, Across}
@@ -146,7 +146,7 @@ seen_so w u m s t access seen fits next made is more zero =
 
 -- not the last one
 pub not_last : (words : ℕ) (there : Home) → steps_done there < enables_step words there words → is_at_last words there ≡ false
-not_last words (OnWay way at) low = let enough = sets_first (new_end way) words in ne_eqb _ _ (λ e. omega (arith, e, low, enough))
+not_last words (OnWay way at) low = let more = not_the_last way words in ne_eqb _ _ (λ e. omega (arith, e, low, more))
 not_last words there low = refl
 
 -- the state with a carrier

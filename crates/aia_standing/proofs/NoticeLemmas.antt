@@ -10,7 +10,7 @@ use Rattle.aia_home.specs.declared.place.Place.{Place}
 use Rattle.aia_home.specs.Vms.{Vcpu, slot_of, notice_hart}
 use Rattle.aia_home.specs.Home.{Home, Progress}
 use Rattle.aia_home.specs.Home.Home.{OnWay}
-use Rattle.aia_home.specs.Home.Way.{Outward, Inward, Across}
+use Rattle.aia_home.specs.Home.Way.{Outward}
 use Rattle.aia_home.specs.BySteps.{is_leaving}
 use Rattle.aia_home.specs.Plans.{Access, IsNext, leave_step, leave_steps}
 use Rattle.aia_home.specs.Plans.Access.{Post}
@@ -47,20 +47,11 @@ leave_sent words access from at hand saw next seen = elim (cases_eq at.steps (le
     silent Post next more = absurd (more next.step)
     silent access next more = refl
 
-arrive_sent : (words : ℕ) (access : Access) (to : Place) (at : Progress) (hand : Hand) → IsNext words (OnWay (Inward to) at) access → sends access hand ≡ false
-arrive_sent words Post to at hand next = let no : false ≡ true = next.has in absurd (cc)
-arrive_sent words access to at hand next = refl
-
-shift_sent : (words : ℕ) (access : Access) (from to : Place) (at : Progress) (hand : Hand) → IsNext words (OnWay (Across from to) at) access → sends access hand ≡ false
-shift_sent words Post from to at hand next = let no : false ≡ true = next.has in absurd (cc)
-shift_sent words access from to at hand next = refl
-
 -- at the end of a leave whose looks saw something
 pub sent_where : (words : ℕ) (access : Access) (there : Home) (hand : Hand) (saw : Bool) → IsNext words there access → (is_leaving there && hand.seen) ≡ (is_leaving there && saw) → sends access hand ≡ (ends_leave words there && saw)
 sent_where words access (OnWay (Outward from) at) hand saw next looks = leave_sent words access from at hand saw next looks
-sent_where words access (OnWay (Inward to) at) hand saw next looks = arrive_sent words access to at hand next
-sent_where words access (OnWay (Across from to) at) hand saw next looks = shift_sent words access from to at hand next
-sent_where words access there hand saw next looks = let no : false ≡ true = next.has in absurd (cc)
+sent_where words Post there hand saw next looks = let no : false ≡ true = next.has in absurd (cc)
+sent_where words access there hand saw next looks = refl
 
 -- ---- what it is to the host
 

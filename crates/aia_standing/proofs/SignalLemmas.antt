@@ -17,7 +17,7 @@ use Rattle.aia_home.specs.declared.place.Place.{Place}
 use Rattle.aia_home.specs.Vms.{Vcpu, slot_of, notice_hart, all_vcpus}
 use Rattle.aia_home.specs.Home.{Home, is_place, holds}
 use Rattle.aia_home.specs.Home.Home.{Resident, OnWay}
-use Rattle.aia_home.specs.Home.Way.{Outward, Inward, Across}
+use Rattle.aia_home.specs.Home.Way.{Outward, Across}
 use Rattle.aia_home.specs.BySteps.{own_file, next_file, delivery_in_own}
 use Rattle.aia_home.proofs.AllLemmas.{any_vcpu, some_vcpu, no_vcpu, of_none}
 use Rattle.aia_places.specs.Holds.{IsWithin}
@@ -39,7 +39,7 @@ use Rattle.aia_model.specs.Gate.{is_heard, is_signalled_at, hgeip_value}
 use Rattle.aia_model.proofs.AnswerLemmas.{hgeip_refusal}
 use Rattle.aia_standing.specs.Core.{CoreState, record_of, hand_in}
 use Rattle.aia_standing.specs.Stands.{CoreStands, CoreTakes, VcpuStands, is_held}
-use Rattle.aia_home.proofs.HomeLemmas.{same_place, some_same}
+use Rattle.aia_home.proofs.HomeLemmas.{same_place, some_same, either_file}
 use Rattle.aia_standing.proofs.EventLemmas.{hosts_line, nothing_done, accepted, refused}
 use Rattle.aia_standing.proofs.WithinLemmas.{guest_within}
 
@@ -61,21 +61,6 @@ unheld_unheard p there none = elim (cases_Bool (is_heard p there)) [
   | inl t ↦ absurd (false≢true (sym none ∙ heard_holds p there t))
   | inr f ↦ f
 ]
-
--- it is its own file or the other one of its shift
-either_file : (p : Place) (there : Home) → holds p there ≡ true → (own_file there ≡ Some p) ⊎ (next_file there ≡ Some p)
-either_file p (Resident q) e = inl (ap Some (sym (same_place p q e)))
-either_file p (OnWay (Outward from) at) e = inl (ap Some (sym (same_place p from e)))
-either_file p (OnWay (Inward to) at) e = inl (ap Some (sym (same_place p to e)))
-either_file p (OnWay (Across from to) at) e = elim (cases_Bool (is_place p from)) [
-  | inl t ↦ inl (ap Some (sym (same_place p from t)))
-  | inr f ↦ inr (ap Some (sym (same_place p to (left (is_place p from) (is_place p to) f e))))
-]
-  where
-    left : (a b : Bool) → a ≡ false → (a || b) ≡ true → b ≡ true
-    left true b f e = absurd (false≢true (sym f))
-    left false b f e = e
-either_file p there e = absurd (false≢true e)
 
 -- in its own file it is heard while eidelivery stands there
 own_heard : (p : Place) (there : Home) → own_file there ≡ Some p → is_heard p there ≡ delivery_in_own there
