@@ -8,7 +8,6 @@ use Rattle.aia_home.specs.Plans.{leave_steps, arrive_steps, shift_steps, plan_st
 use Rattle.aia_home.specs.Aims.{aims_step, AreAimed, further}
 use Rattle.aia_home.specs.declared.rest.Rest.TheVariants.{Parked}
 use Rattle.aia_home.specs.Home.Home.{InMemory, Resident, OnWay}
-use Rattle.aia_home.specs.Home.Way.{Outward, Inward, Across}
 use Rattle.aia_model.specs.declared.line.Line.{Line}
 use Rattle.aia_model.specs.declared.line.Line.TheVariants.{Machine, Step, Send, Land}
 use Rattle.aia_model.specs.declared.line.Line.TheVariants as lines

@@ -13,7 +13,6 @@ use Rattle.aia_word.proofs.LeastLemmas.{least_of-found, least_of_is, least_of_is
 use Rattle.aia_home.specs.Vms.{Vcpu, vcpu, is_vcpu, notice_hart}
 use Rattle.aia_home.specs.Home.{Home, is_moving}
 use Rattle.aia_home.specs.Home.Home.{OnWay}
-use Rattle.aia_home.specs.Home.Way.{Outward, Inward, Across}
 use Rattle.aia_home.specs.BySteps.{new_file, is_drained}
 use Rattle.aia_home.proofs.PassLemmas.{pass_drained}
 use Rattle.aia_home.specs.Aims.{is_aiming, aims_done, aimed, further, pass_reaches, target_to}

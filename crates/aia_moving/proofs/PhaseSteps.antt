@@ -4,7 +4,6 @@ use Rattle.std.proofs.lemmas.Bool.{cases_eq, lt-ltb, eq-eqb, ne_eqb}
 use Rattle.aia_word.specs.Sets.{has_bit}
 use Rattle.aia_home.specs.Home.{Home, Progress, old_end, new_end, is_moving, one_more}
 use Rattle.aia_home.specs.Home.Home.{InMemory, Resident, OnWay}
-use Rattle.aia_home.specs.Home.Way.{Outward, Inward, Across}
 use Rattle.aia_home.specs.Plans.{IsNext, step_of, steps_done, first_take, pending_step, enables_step}
 use Rattle.aia_home.specs.Plans.Access.{Map, GFence, TakePending, PutPending, TakeEnables, PutEnables}
 use Rattle.aia_home.specs.Phases.{Phase, following, leave_begins, begins}

@@ -6,11 +6,10 @@ use Rattle.aia_regs.specs.declared.access.Op.TheVariants as ops
 use Rattle.aia_regs.specs.declared.file_registers.FileReg.TheVariants.{Delivery, Threshold}
 use Rattle.aia_file.specs.InterruptFile.{InterruptFile, accessed}
 use Rattle.aia_home.specs.declared.place.Place.{Place}
-use Rattle.aia_home.specs.Home.{End, Way, left, led_to, old_end, new_end, Home, Progress, one_further}
-use Rattle.aia_home.specs.Home.End.{File, Memory}
+use Rattle.aia_home.specs.Home.{Way, left, led_to, old_end, new_end, Home, Progress, one_further}
 use Rattle.aia_home.specs.Home.Home.{OnWay}
 use Rattle.aia_home.specs.Home.Way.{Outward, Inward, Across}
-use Rattle.aia_home.specs.Plans.{Access, IsNext, is_at_last, one_at_file, word_steps, plan_step, plan_has}
+use Rattle.aia_home.specs.Plans.{Access, IsNext, is_at_last, one_at_file, plan_step, plan_has}
 use Rattle.aia_home.specs.Plans.Access.{TakeDelivery, PutDelivery, WriteNotice, WriteEntry, Fence, Map, GFence, TakePending, PutPending, TakeEnables, PutEnables, Look, TakeThreshold, PutThreshold, Post}
 use Rattle.aia_home.proofs.PhaseLemmas.{sets_first}
 use Rattle.aia_home.proofs.RouteLemmas.{reach_on, reach_fenced, reach_after}

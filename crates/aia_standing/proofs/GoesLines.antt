@@ -6,7 +6,6 @@ use Rattle.aia_home.specs.Vms.{Vcpu, vcpu}
 use Rattle.aia_home.specs.Home.{Home, holds, is_moving, one_more}
 use Rattle.aia_home.specs.Plans.{is_at_last}
 use Rattle.aia_home.specs.Home.Home.{OnWay}
-use Rattle.aia_home.specs.Home.Way.{Outward, Across}
 use Rattle.aia_places.specs.Holds.{Hand, sees}
 use Rattle.aia_places.specs.Stores.{AreApart}
 use Rattle.aia_pool.specs.Leases.{Leases, is_out}

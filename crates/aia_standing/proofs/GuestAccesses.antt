@@ -22,7 +22,6 @@ use Rattle.aia_home.specs.declared.vm.Vm.{Vm}
 use Rattle.aia_home.specs.Vms.{Vcpu, vcpu, is_vcpu, is_vcpu_in, slot_of, notice_hart}
 use Rattle.aia_home.specs.Home.{Home, holds, is_place, is_moving}
 use Rattle.aia_home.specs.Home.Home.{Resident, OnWay}
-use Rattle.aia_home.specs.Home.Way.{Outward, Inward, Across}
 use Rattle.aia_places.specs.Holds.{Holds}
 use Rattle.aia_places.proofs.FileLemmas.{resident, resident_replaced}
 use Rattle.aia_world.specs.World.{World}

@@ -7,7 +7,6 @@ use Rattle.aia_home.specs.Vms.{Vcpu}
 use Rattle.aia_home.specs.declared.rest.Rest.TheVariants.{Parked, Entered}
 use Rattle.aia_home.specs.Home.{Home, is_moving, is_entered, runs}
 use Rattle.aia_home.specs.Home.Home.{OnWay}
-use Rattle.aia_home.specs.Home.Way.{Outward, Inward, Across}
 use Rattle.aia_world.specs.World.{World}
 use Rattle.aia_moving.specs.declared.who.KeptNumbers.{KeptNumbers}
 use Rattle.aia_move.specs.Plan.{moving_of}

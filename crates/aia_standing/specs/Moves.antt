@@ -5,7 +5,7 @@ use Rattle.aia_home.specs.declared.rest.Rest.TheVariants.{Parked}
 use Rattle.aia_home.specs.Vms.{Vcpu, vcpu}
 use Rattle.aia_home.specs.Aims.{aims_done}
 use Rattle.aia_home.specs.Home.{Home, at_first, is_moving, old_end, new_end}
-use Rattle.aia_home.specs.Plans.{is_at_last, leave_steps, arrive_steps, shift_steps, plan_steps}
+use Rattle.aia_home.specs.Plans.{is_at_last, plan_steps}
 use Rattle.aia_home.specs.Home.Home.{OnWay}
 use Rattle.aia_home.specs.Home.Way.{Outward, Inward, Across}
 use Rattle.aia_places.specs.Holds.{Hand}
