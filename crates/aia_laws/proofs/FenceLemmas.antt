@@ -5,8 +5,7 @@ use Rattle.std.proofs.lemmas.Bool.{eq-eqb, ne_eqb, and_left}
 use Rattle.aia_home.specs.Home.{Home, is_moving, rests_in_memory, leaving, arriving, shifting, old_end, new_end}
 use Rattle.aia_home.specs.declared.rest.Rest.TheVariants.{Parked}
 use Rattle.aia_home.specs.Home.Home.{InMemory, Resident, OnWay}
-use Rattle.aia_home.specs.Home.Way.{Outward, Inward, Across}
-use Rattle.aia_home.specs.Plans.{leave_step, arrive_step, shift_step, leave_steps, arrive_steps, shift_steps, plan_step, plan_steps}
+use Rattle.aia_home.specs.Plans.{leave_step, arrive_step, shift_step, plan_step, plan_steps}
 use Rattle.aia_home.specs.Plans.Access.{Fence}
 use Rattle.aia_home.specs.Aims.{aims_step, is_aiming, further}
 use Rattle.aia_home.specs.Routes.{is_at_fence}
