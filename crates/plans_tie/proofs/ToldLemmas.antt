@@ -5,7 +5,7 @@ use Rattle.aia_home.specs.Plans.{Access}
 use Rattle.aia_home.specs.Plans.{Access as accesses}
 use Rattle.aia_home.specs.Plans as home
 use Rattle.plans_machine.specs.declared.step.Bank.TheVariants.{Pending, Enabled}
-use Rattle.plans_machine.specs.declared.step.Number.TheVariants.{Threshold, Delivery}
+use Rattle.plans_machine.specs.declared.step.Number.TheVariants.{Delivery}
 use Rattle.plans_machine.specs.declared.step.Step.{Step}
 use Rattle.plans_machine.specs.declared.step.Step.TheVariants.{Route, Fence, Take, Join, TakeNumber, Look}
 use Rattle.plans_machine.specs.Plans.{each, core_words, core_leave, core_arrive, core_shift}

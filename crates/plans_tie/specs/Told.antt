@@ -1,5 +1,5 @@
 -- The plan of a move of this project's core, told as anybody's plan. Profile.
-use Rattle.std.specs.Prelude.{ℕ, true, not, List, [], ◌∷◌, ◌++◌}
+use Rattle.std.specs.Prelude.{ℕ, true, false, not, List, [], ◌∷◌, ◌++◌}
 use Rattle.aia_home.specs.Home.{End, is_file}
 use Rattle.aia_home.specs.Home.End.{File, Memory}
 use Rattle.aia_home.specs.Plans.{Access, plan}
