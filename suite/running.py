@@ -74,8 +74,12 @@ def usage():
 
 def words(short, *long):
     """Reads the words of the command line: gives the options by their names, with the values of
-    those that have one, the other words, and whether `--` stands before these."""
+    those that have one, the other words, and whether `--` stands before these. Where help is asked
+    for it prints the tool's head comment, and ends with status 0."""
     given = sys.argv[1:]
+    if given[:1] in (["-h"], ["--help"]):
+        print(sys.modules["__main__"].__doc__.strip())
+        sys.exit(0)
     try:
         options, rest = getopt.getopt(given, short, long)
     except getopt.GetoptError as wrong:
