@@ -1,0 +1,3 @@
+"""Tries the edges of the tools, as suite/tools does: each function takes its Trial."""
+
+PARTS = ()
