@@ -1,3 +1,4 @@
+/* SPDX-License-Identifier: Apache-2.0 */
 /* A device model for an emulator: the interrupt files of the harts and the APLIC, on the emulator's
  * bus, by the library. The emulator hands on accesses of its bus, the wires of its devices and the
  * CSR instructions that it does not know; the device calls back where a hart's signal changes.

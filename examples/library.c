@@ -1,3 +1,4 @@
+/* SPDX-License-Identifier: Apache-2.0 */
 /* The library from C: a device stores two identities, and the hart claims them by stopei.
  * `examples/check-library` builds it, with the folder that `library` fills: cc library.c -I FOLDER
  * FOLDER/libaia.a

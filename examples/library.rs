@@ -1,3 +1,5 @@
+// SPDX-License-Identifier: Apache-2.0
+
 //! The library from plain Rust: a model that closes its handle when it is dropped.
 //! `examples/check-library` builds it with rustc.
 

@@ -1,3 +1,4 @@
+/* SPDX-License-Identifier: Apache-2.0 */
 /* lockstep PROGRAM: holds a machine against the model access by access, in C.
  *
  *     cc -o lockstep lockstep.c && ./lockstep ../aia

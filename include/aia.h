@@ -1,4 +1,7 @@
-/* The proved model of a RISC-V machine's interrupts, as a library for C and C++.
+/* SPDX-License-Identifier: Apache-2.0
+ * Copyright the Lemdwab authors.
+ *
+ * The proved model of a RISC-V machine's interrupts, as a library for C and C++.
  *
  * A handle is one model. Its calls answer what the program `aia` answers to the same lines: after
  * whatever lines a handle was given, by whichever calls, each answer is the model's. What a line
@@ -36,6 +39,14 @@
 #ifdef __cplusplus
 extern "C" {
 #endif
+
+/* The version of this header: 10,000 times the major number, 100 times the minor one, and the patch
+ * number, so 10000 is 1.0.0. */
+#define AIA_VERSION 10000
+
+/* The version of the library, as AIA_VERSION is that of the header. A program that was compiled
+ * with one may be linked with the other if their major numbers are the same. */
+uint32_t aia_version(void);
 
 /* A model. A `struct aia *` is a handle; NULL is a closed one. */
 struct aia;

@@ -161,14 +161,21 @@ class Known:
             fail(f"{path}, line {number}: a row is LINE | MODEL | MINE | REASON")
         return fields
 
+    def row_of(self, line, model, mine):
+        """Gives the place of the first row that fits a difference; None where none does."""
+        for at, (pattern, *patterns, _) in enumerate(self.rows):
+            if fits(line, pattern) and all(map(fnmatchcase, (model, mine), patterns)):
+                return at
+        return None
+
     def reason(self, line, model, mine):
         """Gives the reason of the first row that fits a difference, and counts it; None where none
         does."""
-        for at, (pattern, *patterns, why) in enumerate(self.rows):
-            if fits(line, pattern) and all(map(fnmatchcase, (model, mine), patterns)):
-                self.met[at] += 1
-                return why
-        return None
+        at = self.row_of(line, model, mine)
+        if at is None:
+            return None
+        self.met[at] += 1
+        return self.rows[at][-1]
 
     def has(self, line, model, mine):
         """Says whether a difference is known, and counts it."""
@@ -180,6 +187,26 @@ class Known:
             yield f"known, met {counted(met, 'time')}: {row[3]} ({' | '.join(row[:3])})"
 
 
+def passes(line, want, got, known):
+    """Says whether an answer is the model's, or passes for it; what is known is not counted."""
+    return (want == got or got == NOT_SHOWN and want not in MISTAKES
+            or known.row_of(line.text, want, got) is not None)
+
+
+def shift(script, model, mine, known):
+    """Gives where answers are missing or spare, and how many are spare, below 0 where they are
+    missing. It is where the first differs, if all behind it are then the model's; else the end."""
+    spare, end = len(mine) - len(model), min(len(model), len(mine))
+    if not spare:
+        return end, 0
+    same = (passes(*three, known) for three in zip(script, model, mine))
+    first = next((at for at, is_same in enumerate(same) if not is_same), end)
+    behind, left = first + max(0, -spare), mine[first + max(0, spare):]
+    is_shift = all(passes(*three, known)
+                   for three in zip(script[behind:], model[behind:], left))
+    return (first if is_shift else end), spare
+
+
 class Verdict:
     """What came of holding answers against those of the model."""
 
@@ -188,10 +215,32 @@ class Verdict:
         self.head = head_comment(script)
         self.same = self.known = self.not_shown = self.refused = self.bad = 0
         self.differences = []
-        for at, (line, want, got) in enumerate(zip(self.script, self.model, self.mine)):
-            self.look(at, line, want, got, known, is_strict)
-        self.missing = max(0, len(self.model) - len(self.mine))
-        self.spare = self.mine[len(self.model):]
+        self.place, spare = shift(self.script, self.model, self.mine, known)
+        self.missing = max(0, -spare)
+        self.spare = self.mine[self.place:self.place + max(0, spare)]
+        for at, want, got in self.pairs():
+            self.look(at, self.script[at], want, got, known, is_strict)
+
+    def pairs(self):
+        """Lists the places of lines that are answered twice, with the model's answer and mine."""
+        mine = self.mine[:self.place] + self.mine[self.place + len(self.spare):]
+        for at, want in enumerate(self.model[:len(self.script)]):
+            if not self.place <= at < self.place + self.missing:
+                yield at, want, mine[at - (self.missing if at >= self.place else 0)]
+
+    def first(self):
+        """Gives the kind of the first difference, and its place; None where there is none. Of its
+        kinds `answer` is a line that is answered otherwise, `missing` and `spare` are answers."""
+        is_uneven = self.missing or self.spare
+        if self.differences and not (is_uneven and self.differences[0].at >= self.place):
+            return "answer", self.differences[0].at
+        if is_uneven:
+            return "missing" if self.missing else "spare", self.place
+        return None
+
+    def line(self, at):
+        """Gives the line at a place; a model that is none may have said more than there are."""
+        return self.script[at] if at < len(self.script) else Line(len(self.script) + 1, "(no line)")
 
     def look(self, at, line, want, got, known, is_strict):
         """Looks at one answer of each."""
@@ -230,12 +279,21 @@ class Verdict:
             yield f"  mine:  {cut(difference.mine)}{hint(difference)}"
         if len(self.differences) > most:
             yield f"and {len(self.differences) - most} more that differ"
+        yield from self.uneven()
+
+    def uneven(self):
+        """Says which answers are missing, or spare."""
         if self.missing:
-            line = self.script[len(self.mine)]
-            yield (f"{counted(self.missing, 'answer')} missing, from line {line.number} on:"
+            line, last = self.line(self.place), self.place + self.missing
+            until = "on" if last >= len(self.model) else f"to {self.line(last - 1).number}"
+            yield (f"{counted(self.missing, 'answer')} missing, from line {line.number} {until}:"
                    f" {line.text}")
         if self.spare:
-            yield f"{counted(len(self.spare), 'answer')} spare, the first: {cut(self.spare[0])}"
+            where = ("" if self.place >= len(self.model) else
+                     f", before that of line {self.line(self.place).number}" if self.place else
+                     ", before all others")
+            yield (f"{counted(len(self.spare), 'answer')} spare{where}, the first:"
+                   f" {cut(self.spare[0])}")
 
     def summary(self):
         """Says in one line how many answers are the same, and not."""

@@ -53,11 +53,12 @@ class Ran(NamedTuple):
 
 
 class State:
-    """What runs, and whether the tool is being stopped."""
+    """What runs, whether the tool is being stopped, and how long a command has to end then."""
 
     lock = threading.Lock()
     running = set()
     is_stopping = False
+    grace = GRACE
 
 
 def fail(message):
@@ -72,19 +73,24 @@ def usage():
     sys.exit(2)
 
 
+def tell_help():
+    """Prints the tool's head comment, and ends it with status 0."""
+    print(sys.modules["__main__"].__doc__.strip(), flush=True)
+    sys.exit(0)
+
+
 def words(short, *long):
     """Reads the words of the command line: gives the options by their names, with the values of
     those that have one, the other words, and whether `--` stands before these. Where help is asked
-    for it prints the tool's head comment, and ends with status 0."""
+    for it is given, and nothing else is done."""
     given = sys.argv[1:]
-    if given[:1] in (["-h"], ["--help"]):
-        print(sys.modules["__main__"].__doc__.strip())
-        sys.exit(0)
     try:
-        options, rest = getopt.getopt(given, short, long)
+        options, rest = getopt.getopt(given, short + "h", [*long, "help"])
     except getopt.GetoptError as wrong:
         print(f"{Path(sys.argv[0]).name}: {wrong}", file=sys.stderr)
         usage()
+    if {"-h", "--help"} & dict(options).keys():
+        tell_help()
     read = len(given) - len(rest)
     is_divided = read > 0 and given[read - 1] == "--" and ("--" not in dict(options).values())
     return {name.lstrip("-"): value for name, value in options}, rest, is_divided
@@ -124,7 +130,7 @@ def kill(processes):
     started, and have one grace together."""
     for process in processes:
         tell(process, signal.SIGTERM)
-    deadline = time.monotonic() + GRACE
+    deadline = time.monotonic() + State.grace
     for process in processes:
         try:
             process.wait(max(0, deadline - time.monotonic()))
@@ -141,6 +147,12 @@ def stop(signal_number, _frame):
         State.is_stopping = True
         kill(State.running)
     sys.exit(128 + signal_number)
+
+
+def end_running():
+    """Ends all that runs now; the tool goes on."""
+    with State.lock:
+        kill(State.running)
 
 
 def main(tool):
@@ -238,6 +250,14 @@ def check_started(ran, command):
         why = ran.errors.splitlines()
         fail(f"{command[0]} can't be started (status {ran.status})"
              + (f": {why[0]}" if why else ""))
+
+
+def tried(workers, command, seconds):
+    """Starts a command over an empty script, for so many seconds at most; gives how it ended. Ends
+    the tool where it could not be started."""
+    ran = workers.submit(run, command, b"", seconds, 1 << 16).result()
+    check_started(ran, command)
+    return ran
 
 
 def model_command(workers):

@@ -1,47 +1,89 @@
 """Shrinks a script that two programs answer differently to the fewest lines that still are."""
 
+import time
+
 import answers
 
-# The most runs of both programs that a shrinking takes.
+# The most runs of a command, and the most seconds, that a shrinking takes.
 MOST_RUNS = 2000
+LONGEST = 900
 # Two lines at most so far apart are tried to be left out together.
 NEAR = 8
 # What is tried for each number of a machine.
 SMALLER = ((1, 2, 3), (0, 1, 2), (63, 127, 255, 511, 1023), (1, 8, 32))
 
 
-class Shrinker:
-    """A script's lines, made fewer. `try_` runs both programs over a script, and gives the place of
-    the first difference among the lines that have an answer, with the model's answer there, None
-    where there is none. A line that the model answered as a machine would is not made one by which
-    the script is wrong: that another machine takes it says nothing."""
+def script_of(texts):
+    """Gives lines as a script."""
+    return b"".join(text + b"\n" for text in texts)
 
-    def __init__(self, script, try_, is_machine_fixed=False):
-        self.try_, self.is_machine_fixed = try_, is_machine_fixed
-        self.runs = 0
-        self.allowed = answers.MISTAKES
+
+class Shrinker:
+    """A script's lines, made fewer. `try_` runs both programs over a script, and gives the first
+    difference, None where there is none: its kind, its place among the lines that have an answer,
+    and the model's answer there. It is run so many `times` at most until the difference comes.
+
+    Lines are left out only where a difference of the first one's kind was seen without them. A line
+    that the model answered as a machine would is not made one by which the script is wrong: that
+    another machine takes it says nothing. What stands behind the first difference is cut off
+    without a run, unless the first time shows that it is wanted; so `seen` keeps the lines of the
+    last run that differed."""
+
+    def __init__(self, script, try_, is_machine_fixed=False, times=1):
+        self.try_, self.is_machine_fixed, self.times = try_, is_machine_fixed, times
+        self.runs, self.deadline = 0, time.monotonic() + LONGEST
+        self.allowed, self.kind, self.cuts = answers.MISTAKES, None, True
         self.texts = [text for text in answers.reading.texts(script)
                       if not answers.reading.is_skipped(text)]
+        self.seen = self.texts
 
     def script(self):
         """Gives the lines that are left, as a script."""
-        return b"".join(text + b"\n" for text in self.texts)
+        return script_of(self.texts)
+
+    def seen_script(self):
+        """Gives the lines over which a difference was last seen, as a script."""
+        return script_of(self.seen)
 
     def read(self, at):
         """Gives the form and the fields of a line."""
         return answers.reading.read(self.texts[at])
 
+    def tried(self, texts):
+        """Gives the first difference over these lines that is of the kind that is kept, by some of
+        the runs that are left; None where none came."""
+        for _ in range(self.times):
+            if self.runs == MOST_RUNS or time.monotonic() > self.deadline:
+                return None
+            self.runs += 1
+            found = self.try_(script_of(texts))
+            if found and self.kind in (None, found.kind) and not (
+                    found.model in answers.MISTAKES - self.allowed):
+                return found
+        return None
+
     def takes(self, texts):
         """Takes these lines, up to the first difference, if there is one."""
-        if self.runs == MOST_RUNS:
+        found = self.tried(texts)
+        if not found:
             return False
-        self.runs += 1
-        found = self.try_(b"".join(text + b"\n" for text in texts))
-        if not found or found[1] in answers.MISTAKES - self.allowed:
-            return False
-        self.texts = texts[:found[0] + 1]
-        self.allowed = {found[1]} & self.allowed
+        self.seen, self.texts = texts, texts[:found.at + 1] if self.cuts else texts
+        self.allowed = {found.model} & self.allowed
         return True
+
+    def begin(self):
+        """Cuts off what stands behind the first difference, and settles the kind that is kept: that
+        without these lines, which may differ in other ways; or that of the whole, where they are
+        wanted. Says whether a difference came."""
+        whole = self.texts
+        if not self.takes(whole):
+            return False
+        found = self.tried(self.texts)
+        if not found:
+            self.texts, self.cuts = whole, False
+            found = self.tried(whole)
+        self.kind = found.kind if found else None
+        return bool(found)
 
     def leave_out(self):
         """Leaves out runs of lines, ever shorter ones, from the end on; then two near each other.
@@ -107,9 +149,11 @@ class Shrinker:
         self.takes([b" ".join(map(plain, text.split(b" "))) for text in self.texts])
 
     def shrink(self):
-        """Makes the script as short as it gets."""
-        self.takes(self.texts)
+        """Makes the script as short as it gets; says whether a difference came at first."""
+        if not self.begin():
+            return False
         self.make_smaller()
         while self.leave_out() or self.make_whole() or self.make_smaller():
             pass
         self.spell()
+        return True

@@ -163,11 +163,14 @@ def answers():
 
 
 def statuses():
-    """Compares the exit statuses with the numbers that the contract of `command` has."""
-    path = next(TOP.glob("crates/*/specs/Command.antt"))
-    wanted = re.findall(r"\d+", clauses(path.parts[-3], "Command", "exit_numbers")[0][1])
-    stands = [cells[0] for cells in rows(section(REFERENCE, "Exit statuses"))]
-    yield from differ(f"{REFERENCE}, Exit statuses,", [s for s in stands if s != "1"], wanted)
+    """Compares the exit statuses with the numbers that the contracts of `command` have, those of
+    launchers that could not build a program left out."""
+    tables = (("aia_program", REFERENCE, "Exit statuses", "1"),
+              ("plans_program", "docs/ANY-PLAN.md", "Exit statuses", "126"))
+    for crate, document, heading, unbuilt in tables:
+        wanted = re.findall(r"\d+", clauses(crate, "Command", "exit_numbers")[0][1])
+        stands = [cells[0] for cells in rows(section(document, heading))]
+        yield from differ(f"{document}, {heading},", [s for s in stands if s != unbuilt], wanted)
 
 
 def places():
@@ -459,10 +462,7 @@ def dated():
     """Compares the days of figures with the day on which what they measure last changed."""
     code = [f"crates/{crate}/src" for crate in sorted(below("aia"))]
     measured = section("docs/PERFORMANCE.md", "What was measured")
-    kinds = [
-        ("docs/PERFORMANCE.md, What was measured,", measured, code),
-        ("README.md, minutes,", section("README.md", "Build and run"), ["crates", "crates.txt"]),
-    ]
+    kinds = [("docs/PERFORMANCE.md, What was measured,", measured, code)]
     for where, text, paths in kinds:
         days = re.findall(r"\d{4}-\d\d-\d\d", text)
         day, commit = newest(paths)

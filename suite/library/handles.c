@@ -74,6 +74,7 @@ static void numbers(struct aia **handle)
 static void edges(void)
 {
     struct aia *handle = NULL, *other = NULL, *moved;
+    CHECK(aia_version() == AIA_VERSION);
     closed_ones();
     CHECK(aia_open(&handle) == AIA_DONE && handle);
     moved = handle;

@@ -15,6 +15,7 @@ mod serve;
 #[cfg(test)]
 mod tests;
 mod texts;
+mod version;
 
 use aia_model::limits::ANSWER_BYTES;
 use aia_replay::Engine;

@@ -1,5 +1,5 @@
 -- Bytes that are read and written in pieces.
-use Rattle.std.proofs.Common.{append_assoc, ◌≡◌, ℕ, ◌+◌, ◌-◌, ◌≤◌, inl, inr, List, [], ◌++◌, length, take, drop, Option, Some, None, IfSome, refl, sym, ap, subst, ◌∙◌, arith}
+use Rattle.std.proofs.Common.{append_assoc, ◌≡◌, ℕ, ◌+◌, ◌-◌, ◌≤◌, inl, inr, List, [], ◌++◌, length, take, drop, Option, Some, None, IfSome, Result, Ok, Err, OnOk, IfOk, refl, sym, ap, subst, ◌∙◌, arith}
 use Rattle.std.proofs.lemmas.List.{append-nil, take-append-drop, length-append, length-take}
 use Rattle.std.proofs.Math.Seq.{take-add}
 use Rattle.std.proofs.lemmas.Grind.{common_steps}
@@ -7,7 +7,8 @@ use Rattle.std.specs.Io.KnownBytes.{Appends, Keeps, Consumes, IsAtEnd}
 use Rattle.std.proofs.KnownBytes.{Appends-nil, Appends-trans, Appends-kept, Consumes-whole}
 use Rattle.aia_io.specs.Ends.{Supply, Gives, GivesNone, Rose, CutOff}
 use Rattle.aia_io.proofs.SupplyLemmas.{gives_nothing, gives_more, gives_no_more}
-use Rattle.plans_text.specs.PlanFile.{Read, answers}
+use Rattle.plans_text.specs.declared.outcome.Outcome.{Outcome}
+use Rattle.plans_text.specs.PlanFile.{Read, answers, outcome}
 use Rattle.plans_program.specs.declared.limits.TheConstants.{FILE_BYTES}
 use Rattle.plans_program.specs.declared.judging.Stop.{Stop}
 use Rattle.plans_program.specs.declared.judging.Stop.TheVariants.{Sink, Memory as LacksMemory}
@@ -16,7 +17,7 @@ use Rattle.plans_program.specs.declared.program.Status.TheVariants.{Done, ReadFa
 use Rattle.plans_text.specs.declared.plan_reader.PlanReader.{PlanReader}
 use Rattle.plans_text.specs.Streaming.{HasRead, NoneWaits, WhateverWasRead}
 use Rattle.plans_text.proofs.StreamLemmas.{answers_grow}
-use Rattle.plans_program.specs.Runs.{AnswersEnded, CutsAnswers, EndsJudge, IsFront, Judged, WhateverWasJudged, WritesFront, stopped}
+use Rattle.plans_program.specs.Runs.{AnswersEnded, CutsAnswers, EndsJudge, IsFront, Judged, JudgesAll, WhateverWasJudged, WritesFront, stopped}
 
 -- ---- writing
 
@@ -81,8 +82,14 @@ piece_cut old fed new mid now piece text feeds takes cut = λ before bytes j mor
 
 -- ---- the end
 
-pub last_written : (reader : PlanReader) (mid now : Option (List ℕ)) (text : List ℕ) → WhateverWasRead reader (λ given bytes. given ++ text ≡ answers bytes) → Appends mid now text → WhateverWasJudged reader mid (λ before bytes. Appends before now (answers bytes))
-last_written reader mid now text ends wrote = λ before bytes j. subst (Appends before now) (ends j.given bytes j.read) (Appends-trans before mid now j.given text j.written wrote)
+pub last_written : (reader : PlanReader) (mid now : Option (List ℕ)) (text : List ℕ) (came : Outcome) → WhateverWasRead reader (λ given bytes. given ++ text ≡ answers bytes) → WhateverWasRead reader (λ given bytes. came ≡ outcome bytes) → Appends mid now text
+    → WhateverWasJudged reader mid (λ before bytes. Appends before now (answers bytes) × (came ≡ outcome bytes))
+last_written reader mid now text came ends comes wrote = λ before bytes j. (subst (Appends before now) (ends j.given bytes j.read) (Appends-trans before mid now j.given text j.written wrote), comes j.given bytes j.read)
+
+pub last_given : (reader : PlanReader) (mid now : Option (List ℕ)) (text : List ℕ) (said : Outcome) (given : Result Outcome Stop) → WhateverWasRead reader (λ given bytes. given ++ text ≡ answers bytes) → WhateverWasRead reader (λ given bytes. said ≡ outcome bytes)
+    → OnOk given (Appends mid now text) → IfOk given (λ came. came ≡ said) → IfOk given (λ came. WhateverWasJudged reader mid (λ before bytes. Appends before now (answers bytes) × (came ≡ outcome bytes)))
+last_given reader mid now text said (Ok came) ends comes wrote is = last_written reader mid now text came ends (λ given bytes h. is ∙ comes given bytes h) wrote
+last_given reader mid now text said (Err stop) ends comes wrote is = tt
 
 pub last_cut : (reader : PlanReader) (mid now : Option (List ℕ)) (text : List ℕ) → WhateverWasRead reader (λ given bytes. given ++ text ≡ answers bytes) → CutOff mid now text → WhateverWasJudged reader mid (λ before bytes. CutOff before now (answers bytes))
 last_cut reader mid now text ends cut = λ before bytes j. cut_more before mid now j.given text [] _ j.written cut (append-nil (j.given ++ text) ∙ ends j.given bytes j.read)
@@ -151,14 +158,22 @@ of_file P (Some file) bytes whole h = subst P (sym whole) h
 whole_front : (before now : Option (List ℕ)) (all : List ℕ) → Appends before now all → CutOff before now all
 whole_front before now all wrote = record { part = all; lost = []; appended = wrote; together = append-nil all }
 
-pub ends_done : (reader : PlanReader) (left mid rest : Supply) (before middle now : Option (List ℕ)) (taken a b c d : ℕ) → SoFar reader left mid before middle taken → IsAtEnd mid.to_come → GivesNone mid rest → Rose mid.ends rest.ends
-    → WhateverWasJudged reader middle (λ before bytes. Appends before now (answers bytes)) → EndsJudge Done left rest before now a b c d
-ends_done reader left mid rest before middle now taken a b c d so ended none rose last =
+same_outcome : (one other : Outcome) → ◌≡◌ {A = Status} (Done one) (Done other) → one ≡ other
+same_outcome one other e = cc
+
+pub ends_done : (reader : PlanReader) (left mid rest : Supply) (before middle now : Option (List ℕ)) (came : Outcome) (taken a b c d : ℕ) → SoFar reader left mid before middle taken → IsAtEnd mid.to_come → GivesNone mid rest → Rose mid.ends rest.ends
+    → WhateverWasJudged reader middle (λ before bytes. Appends before now (answers bytes) × (came ≡ outcome bytes)) → EndsJudge (Done came) left rest before now a b c d
+ends_done reader left mid rest before middle now came taken a b c d so ended none rose last =
     let all = gives_no_more left mid rest so.bytes so.gave none in
     let file = Consumes-whole left.to_come mid.to_come so.bytes (λ file. file ≡ so.bytes) so.gave.0 ended refl in
-    let wrote = last before so.bytes so.judged in
+    let (wrote, comes) = last before so.bytes so.judged in
+    let judged : JudgesAll came left rest before now = record {
+      taken = (subst (λ n. Rose n rest.ends) so.ends rose, none_left left.to_come mid.to_come rest.to_come so.bytes so.gave.0 ended none.0);
+      written = of_file (λ file. Appends before now (answers file)) left.to_come so.bytes file wrote;
+      came = of_file (λ file. came ≡ outcome file) left.to_come so.bytes file comes;
+    } in
     record {
-      done = λ e. (of_file (λ file. Appends before now (answers file)) left.to_come so.bytes file wrote, (subst (λ n. Rose n rest.ends) so.ends rose, none_left left.to_come mid.to_come rest.to_come so.bytes so.gave.0 ended none.0));
+      done = λ other e. subst (λ (o : Outcome). JudgesAll o left rest before now) (same_outcome came other e) judged;
       write_fault = λ e. absurd (cc);
       memory = λ e. absurd (cc);
       read_fault = λ e. absurd (cc);
@@ -170,7 +185,7 @@ ends_done reader left mid rest before middle now taken a b c d so ended none ros
 
 stops : (stop : Stop) (left rest : Supply) (before now : Option (List ℕ)) (a b c d : ℕ) → WritesFront left rest before now → CutsAnswers left before now → (stop ≡ Sink → Rose c d) → EndsJudge (stopped stop) left rest before now a b c d
 stops Sink left rest before now a b c d w front rose = record {
-  done = λ e. absurd (cc);
+  done = λ other e. absurd (cc);
   write_fault = λ e. (w, rose refl);
   memory = λ e. absurd (cc);
   read_fault = λ e. absurd (cc);
@@ -180,7 +195,7 @@ stops Sink left rest before now a b c d w front rose = record {
   usage = λ e. absurd (cc);
 }
 stops LacksMemory left rest before now a b c d w front rose = record {
-  done = λ e. absurd (cc);
+  done = λ other e. absurd (cc);
   write_fault = λ e. absurd (cc);
   memory = λ e. w;
   read_fault = λ e. absurd (cc);
@@ -224,7 +239,7 @@ pub ends_failed : (reader : PlanReader) (left mid rest : Supply) (before now : O
 ends_failed reader left mid rest before now taken a b c d so none rose =
     let all = gives_no_more left mid rest so.bytes so.gave none in
     record {
-      done = λ e. absurd (cc);
+      done = λ other e. absurd (cc);
       write_fault = λ e. absurd (cc);
       memory = λ e. absurd (cc);
       read_fault = λ e. (record { bytes = so.bytes; beyond = []; taken = subst (Gives left rest) (sym (append-nil so.bytes)) all; within = omega (arith, so.size, so.within); past = refl; answered = ended_so reader before now so.bytes so.judged }, rose);
@@ -239,7 +254,7 @@ ends_past reader left mid rest before now n a b c d piece so gave size one =
     let all = gives_more left mid rest so.bytes (take n piece) so.gave gave in
     let long : length (so.bytes ++ take n piece) ≡ FILE_BYTES + 1 = omega (arith, length-append so.bytes (take n piece), so.size, size, one) in
     record {
-      done = λ e. absurd (cc);
+      done = λ other e. absurd (cc);
       write_fault = λ e. absurd (cc);
       memory = λ e. absurd (cc);
       read_fault = λ e. absurd (cc);

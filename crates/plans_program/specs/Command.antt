@@ -4,6 +4,8 @@ use Rattle.std.specs.IoError.{error_kind}
 use Rattle.std.specs.declared.alloc.Global.{Global}
 use Rattle.std.specs.declared.io.Error.{Error}
 use Rattle.std.specs.declared.io.ErrorKind.TheVariants.{OutOfMemory}
+use Rattle.plans_text.specs.declared.outcome.Outcome.{Outcome}
+use Rattle.plans_text.specs.declared.outcome.Outcome.TheVariants.{Accepted, BadLine, NoPlan, Refused}
 use Rattle.plans_program.specs.declared.words.Subcommand.{Subcommand}
 use Rattle.plans_program.specs.CommandLine.{subcommand_of}
 use Rattle.plans_program.specs.declared.program.Status.{Status}
@@ -23,9 +25,16 @@ abbrev pub AreRefused : Result (Vec (String Global) Global) Error → Type 0
 AreRefused (Ok arguments) = subcommand_of (words_of arguments.items) ≡ None
 AreRefused (Err error) = error_kind error ≢ OutOfMemory
 
--- The number that the program ends with, by how the run ended; and all of them.
+-- The number that the program ends with, where it judged a whole file, by what came of its plans.
+abbrev pub outcome_number : Outcome → ℕ
+outcome_number Accepted = 0
+outcome_number Refused = 1
+outcome_number BadLine = 7
+outcome_number NoPlan = 8
+
+-- The number that it ends with, by how the run ended; and all of them.
 abbrev pub exit_number : Status → ℕ
-exit_number Done = 0
+exit_number (Done outcome) = outcome_number outcome
 exit_number Usage = 2
 exit_number ReadFault = 3
 exit_number WriteFault = 4
@@ -33,4 +42,4 @@ exit_number Memory = 5
 exit_number TooLong = 6
 
 abbrev pub exit_numbers : List ℕ
-exit_numbers = 0 ∷ 2 ∷ 3 ∷ 4 ∷ 5 ∷ 6 ∷ []
+exit_numbers = 0 ∷ 1 ∷ 2 ∷ 3 ∷ 4 ∷ 5 ∷ 6 ∷ 7 ∷ 8 ∷ []

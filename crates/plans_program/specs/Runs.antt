@@ -4,7 +4,9 @@ use Rattle.std.specs.Borrow.{Bor}
 use Rattle.std.specs.Io.KnownBytes.{Appends}
 use Rattle.aia_io.specs.Ends.{Supply, Gives, Rose, Takes, TakesAtMost, TakesAll, CutOff}
 use Rattle.plans_text.specs.declared.plan_reader.PlanReader.{PlanReader}
+use Rattle.plans_text.specs.declared.outcome.Outcome.{Outcome}
 use Rattle.plans_text.specs.PlanFile.{answers}
+use Rattle.plans_text.specs.PlanFile.{outcome as outcome_of_file}
 use Rattle.plans_text.specs.Streaming.{AreWhole, HasRead, NoEnd, NoneWaits, ended_answers}
 use Rattle.plans_program.specs.declared.words.Subcommand.{Subcommand}
 use Rattle.plans_program.specs.declared.words.Subcommand.TheVariants.{Judge}
@@ -29,6 +31,13 @@ WritesAnswers left before now = IfSome left.to_come (λ file. Appends before now
 
 abbrev pub CutsAnswers : Supply → Option (List ℕ) → Option (List ℕ) → Type 0
 CutsAnswers left before now = IfSome left.to_come (λ file. CutOff before now (answers file))
+
+-- The whole file was taken, what is answered of it was written, and that came of its plans.
+pub record JudgesAll (outcome : Outcome) (left rest : Supply) (before now : Option (List ℕ))
+    : Type 0 where
+  pub taken : TakesAll left rest
+  pub written : WritesAnswers left before now
+  pub came : IfSome left.to_come (λ file. outcome ≡ outcome_of_file file)
 
 -- The sink took a front of what is answered of the bytes that were taken, no more than a file has.
 pub record WritesFront (left rest : Supply) (before now : Option (List ℕ)) : Type 0 where
@@ -87,7 +96,8 @@ stopped LacksMemory = Memory
 -- A run of `judge`, which answers each plan as it ends.
 pub record EndsJudge (status : Status) (left rest : Supply) (before now : Option (List ℕ))
     (source_old source_new sink_old sink_new : ℕ) : Type 0 where
-  pub done : status ≡ Done → WritesAnswers left before now × TakesAll left rest
+  pub done : (outcome : Outcome) → status ≡ Done outcome
+      → JudgesAll outcome left rest before now
   pub write_fault : status ≡ WriteFault
       → WritesFront left rest before now × Rose sink_old sink_new
   pub memory : status ≡ Memory → WritesFront left rest before now

@@ -1,9 +1,9 @@
 //! Plans are answered as they end.
 
-ghost use Rattle.std.specs.Prelude.{◌≡◌, ◌≤◌, ◌<◌, ◌+◌, ◌-◌, ◌^◌, ◌++◌, OnOk, OnErr, Err, length};
+ghost use Rattle.std.specs.Prelude.{◌≡◌, ◌≤◌, ◌<◌, ◌+◌, ◌-◌, ◌^◌, ◌++◌, OnOk, OnErr, IfOk, Err, length};
 ghost use Rattle.std.specs.Io.KnownBytes.{Appends};
 ghost use Rattle.aia_io.specs.Ends.{Rose, CutOff};
-ghost use Rattle.plans_text.specs.PlanFile.{answers};
+ghost use Rattle.plans_text.specs.PlanFile.{answers, outcome};
 ghost use Rattle.plans_text.specs.Streaming.{IsReady, lines_read};
 ghost use Rattle.plans_program.specs.Runs.{EndsJudge, IsFront, Judged, WhateverWasJudged, stopped};
 
@@ -12,7 +12,7 @@ use crate::limits::{FILE_BYTES, PIECE_BYTES};
 use crate::pieces::read_front;
 use crate::program::Status;
 use aia_io::{Read, Sink, Source};
-use plans_text::PlanReader;
+use plans_text::{Answered, Outcome, PlanReader};
 use std::alloc::Global;
 
 /// Why a run stops before its source ends, where the source does not fail.
@@ -70,19 +70,34 @@ fn judge_piece<K: Sink>(
     }
 }
 
-/// Ends the file, and writes what is answered of its last plan.
-fn judge_last<K: Sink>(alloc: Global, reader: PlanReader, sink: &mut K) -> Result<(), Stop>
+/// Writes the last answers of a file, and gives what came of its plans.
+fn give_last<K: Sink>(sink: &mut K, last: Answered) -> Result<Outcome, Stop>
+    ensures ok { OnOk result (Appends (K.taken sink.old) (K.taken sink.new) last.text.items) }
+    ensures came { IfOk result (λ came. came ≡ last.outcome) }
+    ensures cut { OnErr result (CutOff (K.taken sink.old) (K.taken sink.new) last.text.items) }
+    ensures fault { result ≡ Err Stop.Sink → Rose (K.faults sink.old) (K.faults sink.new) }
+    ensures later { K.faults sink.old ≤ K.faults sink.new }
+{
+    match give(sink, &last.text) {
+        Ok(()) => Ok(last.outcome),
+        Err(stop) => Err(stop),
+    }
+}
+
+/// Ends the file, writes what is answered of its last plan, and gives what came of all its plans.
+fn judge_last<K: Sink>(alloc: Global, reader: PlanReader, sink: &mut K) -> Result<Outcome, Stop>
     requires ready { IsReady reader }
     requires room { lines_read reader < 2 ^ 64 - 1 }
-    ensures ok { OnOk result (WhateverWasJudged reader (K.taken sink.old)
-        (λ before bytes. Appends before (K.taken sink.new) (answers bytes))) }
+    ensures ok { IfOk result (λ came. WhateverWasJudged reader (K.taken sink.old)
+        (λ before bytes. Appends before (K.taken sink.new) (answers bytes)
+        × (came ≡ outcome bytes))) }
     ensures cut { OnErr result (WhateverWasJudged reader (K.taken sink.old)
         (λ before bytes. CutOff before (K.taken sink.new) (answers bytes))) }
     ensures fault { result ≡ Err Stop.Sink → Rose (K.faults sink.old) (K.faults sink.new) }
     ensures later { K.faults sink.old ≤ K.faults sink.new }
 {
     match reader.finish(alloc) {
-        Ok(text) => give(sink, &text),
+        Ok(last) => give_last(sink, last),
         Err(_) => Err(Stop::Memory),
     }
 }
@@ -108,7 +123,7 @@ pub(crate) fn judge_file<S: Source, K: Sink>(alloc: Global, source: &mut S, sink
             }
             Read::End => {
                 return match judge_last(alloc, reader, sink) {
-                    Ok(()) => Status::Done,
+                    Ok(outcome) => Status::Done(outcome),
                     Err(stop) => stopped(stop),
                 };
             }

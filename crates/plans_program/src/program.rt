@@ -6,13 +6,14 @@ ghost use Rattle.plans_program.specs.Runs.{asked, EndsAsAsked};
 use crate::judging::judge_file;
 use crate::words::{Subcommand, read_words};
 use aia_io::{Sink, Source};
+use plans_text::Outcome;
 use std::alloc::Global;
 
 /// How a run ended.
 #[derive(Clone, Copy, Debug, PartialEq, Eq)]
 pub enum Status {
-    /// The file was read to its end, and all its answers were written.
-    Done,
+    /// The file was read to its end, and all its answers were written; this came of its plans.
+    Done(Outcome),
 
     /// The words of the command line are refused.
     Usage,

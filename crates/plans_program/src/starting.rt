@@ -4,12 +4,12 @@ ghost use Rattle.std.specs.Prelude.{◌≡◌, ◌≢◌, ◌⊎◌, ◌↔◌, 
 ghost use Rattle.std.specs.IoError.{error_kind};
 ghost use Rattle.std.specs.Process.{exit_status};
 ghost use Rattle.plans_program.specs.CommandLine.{subcommand_of};
-ghost use Rattle.plans_program.specs.Command.{AreRefused, asked_by, exit_number, exit_numbers, words_of};
-ghost use Rattle.aia_io.specs.Ends.{TakesAll};
-ghost use Rattle.plans_program.specs.Runs.{EndsAsAsked, WritesAnswers};
+ghost use Rattle.plans_program.specs.Command.{AreRefused, asked_by, exit_number, exit_numbers, outcome_number, words_of};
+ghost use Rattle.plans_program.specs.Runs.{EndsAsAsked, JudgesAll};
 
 use crate::program::{Status, run};
 use aia_io::{Sink, Source, StdSink, StdSource};
+use plans_text::Outcome;
 use std::alloc::{AllocError, Global};
 use std::io::ErrorKind;
 use std::process::ExitCode;
@@ -40,10 +40,11 @@ pub fn command<S: Source, K: Sink>(
     source: &mut S,
     sink: &mut K,
 ) -> ExitCode
-    // The headline: at 0 all was read, and what is written is what is answered of the whole file.
-    ensures done { exit_status result ≡ 0
-        → WritesAnswers (S.supply source.old) (K.taken sink.old) (K.taken sink.new)
-        × TakesAll (S.supply source.old) (S.supply source.new) }
+    // The headline: at the number of an outcome, as 0 where each plan is accepted, all was read,
+    // what is written is what is answered of the whole file, and that came of its plans.
+    ensures done { (outcome : Outcome) → exit_status result ≡ outcome_number outcome
+        → JudgesAll outcome (S.supply source.old) (S.supply source.new) (K.taken sink.old)
+        (K.taken sink.new) }
 
     // What every number promises.
     ensures ends { (status : Status) → exit_status result ≡ exit_number status
@@ -57,11 +58,26 @@ pub fn command<S: Source, K: Sink>(
         → (source.new ≡ source.old) × (sink.new ≡ sink.old) }
     ensures number { Contains exit_numbers (exit_status result) }
 {
-    let status = match arguments {
+    exit_code(run_arguments(alloc, arguments, source, sink))
+}
+
+/// Runs the command that the words of the command line give, the program's name first.
+fn run_arguments<S: Source, K: Sink>(
+    alloc: Global,
+    arguments: io::Result<Vec<String>>,
+    source: &mut S,
+    sink: &mut K,
+) -> Status
+    ensures ends { EndsAsAsked (asked_by arguments) result (S.supply source.old)
+        (S.supply source.new) (K.taken sink.old) (K.taken sink.new) (S.faults source.old)
+        (S.faults source.new) (K.faults sink.old) (K.faults sink.new) }
+    ensures usage { result ≢ Status.Memory → ((result ≡ Status.Usage) ↔ AreRefused arguments) }
+    ensures nothing { result ≡ Status.Usage → (source.new ≡ source.old) × (sink.new ≡ sink.old) }
+{
+    match arguments {
         Ok(arguments) => run_words(alloc, &arguments, source, sink),
         Err(error) => refusal(&error),
-    };
-    exit_code(status)
+    }
 }
 
 /// Says what words that can't be read mean: they are no text, or there is no memory for them.
@@ -114,7 +130,10 @@ fn exit_code(status: Status) -> ExitCode
     ensures number { Contains exit_numbers (exit_status result) }
 {
     ExitCode::from(match status {
-        Status::Done => 0,
+        Status::Done(Outcome::Accepted) => 0,
+        Status::Done(Outcome::Refused) => 1,
+        Status::Done(Outcome::BadLine) => 7,
+        Status::Done(Outcome::NoPlan) => 8,
         Status::Usage => 2,
         Status::ReadFault => 3,
         Status::WriteFault => 4,

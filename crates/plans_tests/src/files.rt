@@ -2,7 +2,7 @@
 
 use plans_judge::{Kind, Rule, Spot, Step, Terms, Verdict, judge};
 use plans_run::{losing_run, untold_run};
-use plans_text::{Line, Reading, answers, parse_line};
+use plans_text::{Line, Outcome, Reading, answers, parse_line};
 use std::test::Fail;
 
 /// A plan of one word and one producer with a route that keeps all rules.
@@ -15,16 +15,16 @@ take pending 0  # too early\njoin pending 0\ntake enabled 0\njoin enabled 0\n";
 
 #[test]
 fn a_plan_that_keeps_all_rules_is_accepted(rt: HostRuntime) -> Result<(), Fail> {
-    let text = answers(rt.alloc(), GOOD)?;
-    assert!(rt; text.as_slice() == b"accepted\n".as_slice());
+    let found = answers(rt.alloc(), GOOD)?;
+    assert!(rt; found.text.as_slice() == b"accepted\n".as_slice());
     Ok(())
 }
 
 #[test]
 fn one_without_its_fence_is_refused_and_loses_what_is_stored(rt: HostRuntime) -> Result<(), Fail> {
-    let text = answers(rt.alloc(), UNFENCED)?;
+    let found = answers(rt.alloc(), UNFENCED)?;
     assert!(rt;
-        text.as_slice()
+        found.text.as_slice()
             == b"refused routes in the end\n  run: identity 1 is pending \
 nowhere at the start; producer 0 stores it behind line 5 by its route in force\n"
                 .as_slice()
@@ -38,9 +38,9 @@ look 0\ntake enabled 0\njoin enabled 0\npost\n";
 
 #[test]
 fn one_that_looks_early_leaves_what_is_pending_untold(rt: HostRuntime) -> Result<(), Fail> {
-    let text = answers(rt.alloc(), LOOKED_EARLY)?;
+    let found = answers(rt.alloc(), LOOKED_EARLY)?;
     assert!(rt;
-        text.as_slice()
+        found.text.as_slice()
             == b"refused notice in the end\n  run: identity 1 is enabled in the old place at the \
 start, and pending there; in the end it is pending and enabled in the new place, and the host was \
 not told\n"
@@ -56,9 +56,9 @@ join pending 0\n";
 
 #[test]
 fn one_that_tells_once_leaves_a_store_untold(rt: HostRuntime) -> Result<(), Fail> {
-    let text = answers(rt.alloc(), TOLD_ONCE)?;
+    let found = answers(rt.alloc(), TOLD_ONCE)?;
     assert!(rt;
-        text.as_slice()
+        found.text.as_slice()
             == b"refused notice in the end\n  run: identity 1 is enabled in the old place at the \
 start; producer 0 stores it behind line 7 by its route in force; in the end it is pending and \
 enabled in the new place, and the host was not told\n"
@@ -73,9 +73,9 @@ take pending 0\njoin pending 0\ntake enabled 0\njoin enabled 0\ntell\nput thresh
 
 #[test]
 fn a_threshold_that_is_put_late_lets_through_untold(rt: HostRuntime) -> Result<(), Fail> {
-    let text = answers(rt.alloc(), PUT_LATE)?;
+    let found = answers(rt.alloc(), PUT_LATE)?;
     assert!(rt;
-        text.as_slice()
+        found.text.as_slice()
             == b"refused notice in the end\n  run: identity 1 is enabled in the old place at the \
 start, and pending there; at the start delivery is 1 in the old place and 0 elsewhere, and the \
 threshold is 0 in the old place and 1 elsewhere; in the end it is pending, enabled and let through \
@@ -92,9 +92,9 @@ join enabled 0\ntell\nput threshold\n";
 
 #[test]
 fn where_the_rule_asks_for_more_no_run_is_found(rt: HostRuntime) -> Result<(), Fail> {
-    let text = answers(rt.alloc(), ZEROED_FIRST)?;
+    let found = answers(rt.alloc(), ZEROED_FIRST)?;
     assert!(rt;
-        text.as_slice()
+        found.text.as_slice()
             == b"refused notice in the end\n  run: none was found with one store at most; the \
 rule asks for more than that the host is told\n"
                 .as_slice()
@@ -113,9 +113,9 @@ fn what_has_come_is_heeded_in_memory_alone(rt: HostRuntime) -> Result<(), Fail> 
     file.extend_from_slice(SHUT_AGAIN)?;
     file.extend_from_slice(b"plan\nmemory\n")?;
     file.extend_from_slice(SHUT_AGAIN)?;
-    let text = answers(rt.alloc(), &file)?;
+    let found = answers(rt.alloc(), &file)?;
     assert!(rt;
-        text.as_slice()
+        found.text.as_slice()
             == b"accepted\nrefused notice at line 31: zero new delivery\n  run: identity 1 is \
 enabled in the old place at the start, and pending there; at the start delivery is 1 in the old \
 place and 0 elsewhere, and the threshold is 0 in the old place and 1 elsewhere; in the end it is \
@@ -127,11 +127,11 @@ pending, enabled and let through in the new place, and the host was not told\n"
 
 #[test]
 fn bad_lines_are_named_by_their_numbers(rt: HostRuntime) -> Result<(), Fail> {
-    let text = answers(
+    let found = answers(
         rt.alloc(),
         b"# a plan\nwords 2\n\ntake pending 2\nplan\nroute 0",
     )?;
-    assert!(rt; text.as_slice() == b"bad line 4\nbad line 6\n".as_slice());
+    assert!(rt; found.text.as_slice() == b"bad line 4\nbad line 6\n".as_slice());
     Ok(())
 }
 
@@ -162,5 +162,36 @@ fn a_plan_that_forgets_its_words_is_refused_in_the_end(rt: HostRuntime) -> Resul
     assert!(rt; verdict == refused);
     assert!(rt; losing_run(&[Kind::Routed], terms, &plan).is_some());
     assert!(rt; untold_run(&[Kind::Routed], terms, &plan).is_none());
+    Ok(())
+}
+
+/// Tells whether that comes of the plans of a file.
+fn comes(rt: &HostRuntime, file: &[u8], outcome: Outcome) -> Result<(), Fail> {
+    let found = answers(rt.alloc(), file)?;
+    assert!(rt; found.outcome == outcome);
+    Ok(())
+}
+
+#[test]
+fn the_worst_comes_of_plans(rt: HostRuntime) -> Result<(), Fail> {
+    comes(&rt, b"", Outcome::NoPlan)?;
+    comes(&rt, b"# nothing\n\n", Outcome::NoPlan)?;
+    comes(&rt, GOOD, Outcome::Accepted)?;
+    comes(&rt, UNFENCED, Outcome::Refused)?;
+    comes(&rt, b"plan", Outcome::Refused)?;
+    comes(&rt, b"nonsense", Outcome::BadLine)?;
+    Ok(())
+}
+
+#[test]
+fn it_comes_of_any_of_many(rt: HostRuntime) -> Result<(), Fail> {
+    let mut file = Vec::new(rt.alloc());
+    file.extend_from_slice(UNFENCED)?;
+    file.extend_from_slice(b"plan\n")?;
+    file.extend_from_slice(GOOD)?;
+    comes(&rt, &file, Outcome::Refused)?;
+    file.extend_from_slice(b"plan\nnonsense\nplan\n")?;
+    file.extend_from_slice(GOOD)?;
+    comes(&rt, &file, Outcome::BadLine)?;
     Ok(())
 }

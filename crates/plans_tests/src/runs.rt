@@ -2,6 +2,7 @@
 
 use aia_io::{MemSink, MemSource};
 use plans_program::{Status, run};
+use plans_text::Outcome;
 use std::alloc::{AllocError, Global};
 use std::test::Fail;
 
@@ -56,7 +57,7 @@ fn judged(alloc: Global, words: &[&str], failing: Failing) -> Result<Ended, Allo
 #[test]
 fn a_file_is_answered_whole(rt: HostRuntime) -> Result<(), Fail> {
     let ended = judged(rt.alloc(), &["judge"], Failing { read: 0, write: 0 })?;
-    assert!(rt; ended.status == Status::Done);
+    assert!(rt; ended.status == Status::Done(Outcome::BadLine));
     assert!(rt; ended.is_front && ended.written == ANSWERS.len());
     Ok(())
 }

@@ -9,7 +9,7 @@ use Rattle.std.proofs.lemmas.List.Sums.{fails_before_first, passes_at_first, spl
 use Rattle.std.proofs.lemmas.Bool.{cases_lt, cond-true, cond-false, lt-ltb, le-ltb}
 use Rattle.std.proofs.lemmas.Option.{slice_get-map}
 use Rattle.plans_text.specs.Streaming.{NoEnd}
-use Rattle.plans_text.specs.PlanFile.{Read, none_read, with_text, with_texts, all_answers, answers, texts_of}
+use Rattle.plans_text.specs.PlanFile.{Read, none_read, with_text, with_texts, all_answers, all_outcomes, answers, outcome, texts_of}
 
 pub ruleset place_lemmas = (slice_get-map, length-map)
 
@@ -83,6 +83,10 @@ some_bytes (b ∷ bytes) e = omega arith
 pub whole : (bytes : List ℕ) (read : Read) → read ≡ with_texts none_read (texts_of bytes) → all_answers read ≡ answers bytes
 unfolding answers
 whole bytes read e = ap all_answers e
+
+pub whole_outcome : (bytes : List ℕ) (read : Read) → read ≡ with_texts none_read (texts_of bytes) → all_outcomes read ≡ outcome bytes
+unfolding outcome
+whole_outcome bytes read e = ap all_outcomes e
 
 pub three_parts : (a b c d first second third : List ℕ) → b ≡ a ++ first → c ≡ b ++ second → d ≡ c ++ third → d ≡ a ++ (first ++ (second ++ third))
 three_parts a b c d first second third e f g =

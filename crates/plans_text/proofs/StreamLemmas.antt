@@ -10,7 +10,8 @@ use Rattle.plans_text.specs.declared.line.Reading.TheVariants as readings
 use Rattle.plans_text.specs.declared.plan_reader.PlanReader.{PlanReader}
 use Rattle.plans_text.specs.declared.plan_file.PlanFile.{PlanFile}
 use Rattle.plans_text.specs.Reading.{Text, reading}
-use Rattle.plans_text.specs.PlanFile.{AreInFile, Read, all_answers, answers, as_read, bad_at, line_read, none_read, plan_answer, read_of, texts_of, with_line, with_text, with_texts}
+use Rattle.plans_text.specs.declared.outcome.Outcome.{Outcome}
+use Rattle.plans_text.specs.PlanFile.{AreInFile, Read, all_answers, all_outcomes, answers, as_read, bad_at, line_read, none_read, outcome, plan_answer, read_of, texts_of, with_line, with_text, with_texts}
 use Rattle.plans_text.specs.Streaming.{AreWhole, HasRead, NoEnd, WhateverWasRead, after, ended_answers}
 use Rattle.plans_text.proofs.FileLemmas.{cut_at_end, no_end_before, none_found, texts_front, texts_last, is_end}
 
@@ -143,14 +144,21 @@ pub last_of : (old new : Read) (text : Text) → 0 < length text → new ≡ wit
 last_of old new [] some is none = absurd (omega (arith, some))
 last_of old new (x ∷ xs) some is none = is ∙ sym (ap (with_texts old) (texts_last x xs none))
 
+-- the whole file is read, as the last line is
+whole_read : (reader : PlanReader) (last : PlanFile) (given bytes : Text) → (NoEnd reader.rest.items → read_of last ≡ with_texts (read_of reader.file) (texts_of reader.rest.items)) → HasRead reader given bytes → after given (read_of last) ≡ with_texts none_read (texts_of bytes)
+whole_read reader last given bytes read h =
+    let end : read_of last ≡ with_texts (read_of reader.file) (texts_of h.tail) = read (subst NoEnd (sym h.rest) h.no_end) ∙ ap (λ xs. with_texts (read_of reader.file) (texts_of xs)) h.rest in
+    ap (after given) end ∙ sym (texts_after given (read_of reader.file) (texts_of h.tail)) ∙ ap (λ s. with_texts s (texts_of h.tail)) h.read
+    ∙ sym (ap (λ xs. with_texts none_read (texts_of xs)) h.split ∙ ap (with_texts none_read) (h.lines h.tail) ∙ with_texts-append none_read (texts_of h.whole) (texts_of h.tail))
+
 pub ended_whole : (reader : PlanReader) (last : PlanFile) (out given bytes : Text) → (NoEnd reader.rest.items → read_of last ≡ with_texts (read_of reader.file) (texts_of reader.rest.items)) → out ≡ all_answers (read_of last) → HasRead reader given bytes → given ++ out ≡ answers bytes
+unfolding answers
 ended_whole reader last out given bytes read is h =
-    let r : Read = with_texts (read_of reader.file) (texts_of h.tail) in
-    let end : read_of last ≡ r = read (subst NoEnd (sym h.rest) h.no_end) ∙ ap (λ xs. with_texts (read_of reader.file) (texts_of xs)) h.rest in
-    ap (λ xs. given ++ xs) (is ∙ ap all_answers end)
-    ∙ sym (append_assoc given r.answers (plan_answer r.plan))
-    ∙ ap all_answers (sym (texts_after given (read_of reader.file) (texts_of h.tail)) ∙ ap (λ s. with_texts s (texts_of h.tail)) h.read)
-    ∙ sym (ap answers h.split ∙ answers_split h.whole h.tail h.lines)
+    ap (λ xs. given ++ xs) is ∙ sym (append_assoc given (read_of last).answers (plan_answer (read_of last).plan)) ∙ ap all_answers (whole_read reader last given bytes read h)
+
+pub ended_outcome : (reader : PlanReader) (last : PlanFile) (came : Outcome) (given bytes : Text) → (NoEnd reader.rest.items → read_of last ≡ with_texts (read_of reader.file) (texts_of reader.rest.items)) → came ≡ all_outcomes (read_of last) → HasRead reader given bytes → came ≡ outcome bytes
+unfolding outcome
+ended_outcome reader last came given bytes read is h = is ∙ ap all_outcomes (whole_read reader last given bytes read h)
 
 -- ---- what was answered is a front of what is answered in the end
 

@@ -38,6 +38,9 @@ use Rattle.plans_text.specs.declared.line.Line.{Line}
 use Rattle.plans_text.specs.declared.line.Line.TheVariants as lines
 use Rattle.plans_text.specs.declared.line.Reading.{Reading}
 use Rattle.plans_text.specs.declared.line.Reading.TheVariants as readings
+use Rattle.plans_text.specs.declared.outcome.Outcome.{Outcome}
+use Rattle.plans_text.specs.declared.outcome.Outcome.TheVariants.{BadLine, NoPlan}
+use Rattle.plans_text.specs.Outcomes.{outcome_of, worse}
 use Rattle.plans_text.specs.Reading.{Text, reading}
 
 -- ---- a plan, as far as it is read
@@ -315,17 +318,33 @@ abbrev pub plan_answer : Plan → Text
 plan_answer plan =
     if plan.is_begun then bad_or_verdict plan.bad plan ++ 10 ∷ [] else []
 
+-- What comes of a plan that ends: a bad line, or what the verdict says; no plan, where it did not
+-- begin.
+abbrev pub bad_or_outcome : Option ℕ → Plan → Outcome
+bad_or_outcome (Some line) plan = BadLine
+bad_or_outcome None plan =
+    outcome_of (verdict_on (setting_of plan.producers plan.terms) plan.steps)
+
+abbrev pub plan_outcome : Plan → Outcome
+plan_outcome plan = if plan.is_begun then bad_or_outcome plan.bad plan else NoPlan
+
 -- ---- a file
 
--- The plan that is being read, how many lines were read, and the answers of the plans before it.
+-- The plan that is being read, how many lines were read, and of the plans before it the answers and
+-- what came of them.
 pub record Read : Type 0 where
   pub plan : Plan
   pub lines : ℕ
   pub answers : Text
+  pub outcome : Outcome
 
 -- Nothing is read yet.
 abbrev pub none_read : Read
-none_read = record { plan = no_plan; lines = 0; answers = [] }
+none_read = record { plan = no_plan; lines = 0; answers = []; outcome = NoPlan }
+
+-- What came of all plans, once the last one ends too.
+abbrev pub all_outcomes : Read → Outcome
+all_outcomes read = worse read.outcome (plan_outcome read.plan)
 
 -- A plan begins: the one before it ends.
 abbrev pub plan_begun : Read → Read
@@ -333,6 +352,7 @@ plan_begun read = record {
   plan = record no_plan { is_begun = true };
   lines = read.lines;
   answers = read.answers ++ plan_answer read.plan;
+  outcome = all_outcomes read;
 }
 
 -- A line that is no `plan`; after a bad one nothing more is read of a plan.
@@ -374,6 +394,10 @@ texts_of (b ∷ bytes) = if nat_eq b 10 then [] ∷ texts_of bytes else onto_fir
 unfoldable pub answers : Text → Text
 answers bytes = all_answers (with_texts none_read (texts_of bytes))
 
+-- What comes of the plans of a file, by its bytes.
+unfoldable pub outcome : Text → Outcome
+outcome bytes = all_outcomes (with_texts none_read (texts_of bytes))
+
 -- ---- what the program's values stand for
 
 -- Where a step was read, as the program keeps it.
@@ -401,4 +425,5 @@ read_of file = record {
   plan = plan_of file.draft;
   lines = file.lines;
   answers = file.answers.items;
+  outcome = file.outcome;
 }

@@ -7,6 +7,7 @@ ghost use Rattle.plans_text.specs.PlanFile.{AreInFile, plan_of, place_of};
 use crate::answer::{push_number, push_verdict};
 use crate::limits::{PRODUCERS, STEPS, WORDS};
 use crate::line::Line;
+use crate::outcome::Outcome;
 use crate::shown::shown_of;
 use plans_judge::{Kind, Spot, Step, Terms, judge};
 use std::alloc::{AllocError, Global};
@@ -224,37 +225,48 @@ impl Draft {
 }
 
 impl Draft {
-    /// Appends which line is bad, or the verdict. `Err`: there is no memory for it, or for the
-    /// verdict.
-    fn push_found(&self, alloc: Global, out: &mut Vec<u8>) -> Result<(), AllocError>
+    /// Appends which line is bad, or the verdict, and gives what came of the plan. `Err`: there is
+    /// no memory for it, or for the verdict.
+    fn push_found(&self, alloc: Global, out: &mut Vec<u8>) -> Result<Outcome, AllocError>
         requires { AreInFile self.now }
-        ensures { OnOk result (out.new.items
+        ensures text { OnOk result (out.new.items
             ≡ out.old.items ++ file.bad_or_verdict self.now.bad (plan_of self.now)) }
+        ensures outcome { IfOk result
+            (λ came. came ≡ file.bad_or_outcome self.now.bad (plan_of self.now)) }
     {
         match self.bad {
             Some(line) => {
                 out.extend_from_slice(b"bad line ")?;
-                push_number(out, line as u64)
+                push_number(out, line as u64)?;
+                Ok(Outcome::BadLine)
             }
             None => {
                 let verdict = judge(alloc, &self.producers, self.terms, &self.steps)?;
                 let shown = shown_of(&self.producers, self.terms, &self.steps, verdict);
-                push_verdict(out, &self.marks, shown, verdict)
+                push_verdict(out, &self.marks, shown, verdict)?;
+                Ok(Outcome::of(verdict))
             }
         }
     }
 
-    /// Appends what is answered of the plan, with its LF, if any line of it was read. `Err`: there
-    /// is no memory for it.
-    pub(crate) fn push_answer(&self, alloc: Global, out: &mut Vec<u8>) -> Result<(), AllocError>
+    /// Appends what is answered of the plan, with its LF, if any line of it was read, and gives what
+    /// came of it. `Err`: there is no memory for it.
+    pub(crate) fn push_answer(
+        &self,
+        alloc: Global,
+        out: &mut Vec<u8>,
+    ) -> Result<Outcome, AllocError>
         requires { AreInFile self.now }
-        ensures { OnOk result
+        ensures text { OnOk result
             (out.new.items ≡ out.old.items ++ file.plan_answer (plan_of self.now)) }
+        ensures outcome { IfOk result (λ came. came ≡ file.plan_outcome (plan_of self.now)) }
     {
         if self.is_begun {
-            self.push_found(alloc, out)?;
+            let outcome = self.push_found(alloc, out)?;
             out.push(b'\n')?;
+            Ok(outcome)
+        } else {
+            Ok(Outcome::NoPlan)
         }
-        Ok(())
     }
 }

@@ -6,6 +6,7 @@ mod answer;
 mod draft;
 pub mod limits;
 mod line;
+mod outcome;
 mod parse;
 mod plan_file;
 mod plan_reader;
@@ -14,6 +15,7 @@ mod untold;
 mod words;
 
 pub use line::{Line, Reading};
+pub use outcome::{Answered, Outcome};
 pub use parse::parse_line;
 pub use plan_file::answers;
 pub use plan_reader::PlanReader;

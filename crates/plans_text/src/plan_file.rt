@@ -7,6 +7,7 @@ ghost use Rattle.plans_text.specs.Streaming.{NoEnd};
 
 use crate::draft::Draft;
 use crate::line::{Line, Reading};
+use crate::outcome::{Answered, Outcome};
 use crate::parse::parse_line;
 use crate::words::find_byte;
 use std::alloc::{AllocError, Global};
@@ -22,6 +23,9 @@ pub(crate) struct PlanFile {
 
     /// What is answered of the plans before the one that is being read.
     answers: Vec<u8>,
+
+    /// What came of them.
+    outcome: Outcome,
 }
 
 impl PlanFile {
@@ -34,6 +38,7 @@ impl PlanFile {
             draft: Draft::new(alloc),
             lines: 0,
             answers: Vec::new(alloc),
+            outcome: Outcome::NoPlan,
         }
     }
 
@@ -44,7 +49,8 @@ impl PlanFile {
         ensures lines { self.new.lines ≡ self.old.lines }
         ensures inside { AreInFile self.new.draft }
     {
-        self.draft.push_answer(alloc, &mut self.answers)?;
+        let came = self.draft.push_answer(alloc, &mut self.answers)?;
+        self.outcome = self.outcome.worse(came);
         self.draft = Draft::begun(alloc);
         Ok(())
     }
@@ -115,24 +121,28 @@ impl PlanFile {
         answers
     }
 
-    /// Ends the file, and gives all that is answered. `Err`: there is no memory for it.
-    pub(crate) fn finish(self, alloc: Global) -> Result<Vec<u8>, AllocError>
+    /// Ends the file, and gives all that is answered, and what came of all plans. `Err`: there is no
+    /// memory for it.
+    pub(crate) fn finish(self, alloc: Global) -> Result<Answered, AllocError>
         requires { AreInFile self.draft }
-        ensures { IfOk result (λ out. out.items ≡ file.all_answers (read_of self)) }
+        ensures text { IfOk result (λ out. out.text.items ≡ file.all_answers (read_of self)) }
+        ensures outcome { IfOk result (λ out. out.outcome ≡ file.all_outcomes (read_of self)) }
     {
-        let mut answers = self.answers;
-        self.draft.push_answer(alloc, &mut answers)?;
-        Ok(answers)
+        let mut text = self.answers;
+        let came = self.draft.push_answer(alloc, &mut text)?;
+        let outcome = self.outcome.worse(came);
+        Ok(Answered { text, outcome })
     }
 }
 
 /// Gives what is answered of the bytes of a file: a line for each plan, and one more where it is
-/// refused. `Err`: there is no memory for it.
+/// refused; and what came of its plans. `Err`: there is no memory for it.
 ///
 /// A plan that is read takes memory for its steps, at most 4096, and their lines, at most 128 bytes
 /// each; one that has ended for its answer alone.
-pub fn answers(alloc: Global, bytes: &[u8]) -> Result<Vec<u8>, AllocError>
-    ensures { IfOk result (λ out. out.items ≡ file.answers bytes.now) }
+pub fn answers(alloc: Global, bytes: &[u8]) -> Result<Answered, AllocError>
+    ensures text { IfOk result (λ out. out.text.items ≡ file.answers bytes.now) }
+    ensures outcome { IfOk result (λ out. out.outcome ≡ file.outcome bytes.now) }
 {
     let mut file = PlanFile::new(alloc);
     let mut rest = bytes;

@@ -5,6 +5,7 @@ ghost use Rattle.plans_text.specs.PlanFile as file;
 ghost use Rattle.plans_text.specs.PlanFile.{AreInFile};
 ghost use Rattle.plans_text.specs.Streaming.{HasRead, IsReady, NoEnd, NoneWaits, WhateverWasRead, lines_read};
 
+use crate::outcome::Answered;
 use crate::plan_file::PlanFile;
 use crate::words::find_byte;
 use std::alloc::{AllocError, Global};
@@ -69,13 +70,15 @@ impl PlanReader {
         self.file.take_answers(alloc)
     }
 
-    /// Ends the file, and gives the answers that it did not give before. `Err`: there is no memory
-    /// for them.
-    pub fn finish(self, alloc: Global) -> Result<Vec<u8>, AllocError>
+    /// Ends the file, and gives the answers that it did not give before, and what came of all its
+    /// plans. `Err`: there is no memory for them.
+    pub fn finish(self, alloc: Global) -> Result<Answered, AllocError>
         requires ready { IsReady self }
         requires room { lines_read self < 2 ^ 64 - 1 }
-        ensures { IfOk result (λ out. WhateverWasRead self
-            (λ given bytes. given ++ out.items ≡ file.answers bytes)) }
+        ensures text { IfOk result (λ out. WhateverWasRead self
+            (λ given bytes. given ++ out.text.items ≡ file.answers bytes)) }
+        ensures outcome { IfOk result (λ out. WhateverWasRead self
+            (λ given bytes. out.outcome ≡ file.outcome bytes)) }
     {
         let mut file = self.file;
         file.add_last(alloc, &self.rest)?;

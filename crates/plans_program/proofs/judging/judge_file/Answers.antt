@@ -31,7 +31,7 @@ loop-reader-preserved g c =
 
 pub returns-in-Ok : goal.returns-in-Ok
 returns-in-Ok g c = record {
-  ends = ends_done c.loop-reader.reader _ _ _ _ _ _ _ _ _ _ _ c.loop-reader.invariant.so_far c.in-End.ensures.bytes.0 c.in-End.ensures.bytes.1 c.in-End.ensures.bytes.2 c.in-Ok.ensures.ok;
+  ends = ends_done c.loop-reader.reader _ _ _ _ _ _ _ _ _ _ _ _ c.loop-reader.invariant.so_far c.in-End.ensures.bytes.0 c.in-End.ensures.bytes.1 c.in-End.ensures.bytes.2 c.in-Ok.ensures.ok;
 }
 
 pub returns-in-Failed : goal.returns-in-Failed

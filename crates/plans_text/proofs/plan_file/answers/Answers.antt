@@ -1,7 +1,8 @@
 use Rattle.std.proofs.Common.{◌≡◌, ◌∙◌, ◌+◌, ap, subst, sym, IfOk, length, arith, length-drop}
+use Rattle.plans_text.specs.declared.outcome.Outcome.{Outcome}
 use Rattle.plans_text.specs.Reading.{Text}
 use Rattle.plans_text.specs.PlanFile.{read_of, texts_of, with_texts}
-use Rattle.plans_text.proofs.FileLemmas.{all_of_rest, is_end, none_found, text_more, position_within, whole}
+use Rattle.plans_text.proofs.FileLemmas.{all_of_rest, is_end, none_found, text_more, position_within, whole, whole_outcome}
 use Rattle.plans_text.proofs.plan_file.answers.Goals as goal
 
 pub loop-end-preserved : goal.loop-end-preserved
@@ -17,4 +18,8 @@ loop-end-preserved c =
 
 pub returns : goal.returns
 returns c =
-    subst (λ (x : Text). IfOk c.finish.result (λ out. out.items ≡ x)) (whole c.args.bytes.now _ (c.in_ok-add_last.ensures.read (none_found is_end _ (sym c.in_default.ensures)) ∙ c.loop-end.invariant.read)) c.finish.ensures
+    let read = c.in_ok-add_last.ensures.read (none_found is_end _ (sym c.in_default.ensures)) ∙ c.loop-end.invariant.read in
+    record {
+      text = subst (λ (x : Text). IfOk c.finish.result (λ out. out.text.items ≡ x)) (whole c.args.bytes.now _ read) c.finish.ensures.text;
+      outcome = subst (λ (x : Outcome). IfOk c.finish.result (λ out. out.outcome ≡ x)) (whole_outcome c.args.bytes.now _ read) c.finish.ensures.outcome;
+    }

@@ -1,0 +1,22 @@
+-- What comes of plans: the worst that comes of any of them. Profile.
+use Rattle.std.specs.Prelude.{ℕ, ◌≤◌, Bool, if◌then◌else◌, nat_le, Option, Some, None}
+use Rattle.plans_judge.specs.declared.verdict.Verdict.{Verdict}
+use Rattle.plans_judge.specs.declared.verdict.Verdict.TheVariants.{Accepted, Refused}
+use Rattle.plans_text.specs.declared.outcome.Outcome.{Outcome}
+use Rattle.plans_text.specs.declared.outcome.Outcome.TheVariants as outcomes
+
+-- How bad an outcome is: no plan is the least, and a bad line the most.
+abbrev pub badness : Outcome → ℕ
+badness outcomes.NoPlan = 0
+badness outcomes.Accepted = 1
+badness outcomes.Refused = 2
+badness outcomes.BadLine = 3
+
+-- The worse of two.
+abbrev pub worse : Outcome → Outcome → Outcome
+worse one other = if nat_le (badness other) (badness one) then one else other
+
+-- What comes of a plan by the verdict on it.
+abbrev pub outcome_of : Verdict → Outcome
+outcome_of Accepted = outcomes.Accepted
+outcome_of (Refused rule before) = outcomes.Refused

@@ -1,0 +1,171 @@
+# shellcheck shell=bash disable=SC2154
+
+# What ./aia, ./plans and ./library share. Each sets `name`, its own, `top`, and `unbuilt`, the
+# status where nothing could be built, has functions `usage` and `manual` that print these, and
+# sources this.
+
+# Says something on standard error, as the launcher.
+say() { printf '%s: %s\n' "$name" "$*" >&2; }
+
+# Answers a request for help or for the version, and ends; `manual` prints the help.
+answer_requests() { # WORDS..
+  case "${1-}" in
+    -h | --help | help) manual ;;
+    --version) printf '%s %s\n' "$name" "$(< "$top/VERSION")" ;;
+    *) return 0 ;;
+  esac
+  exit 0
+}
+
+# Says what is wrong with the words, and what they may be, and ends; `usage` prints that.
+refuse() { # WHAT
+  say "$1"
+  usage >&2
+  exit 2
+}
+
+# Refuses a word; where it names a file, that file's text was meant.
+refuse_word() { # WHAT WORD COMMAND
+  [ ! -f "$2" ] || refuse "'$2' is a file: have it read from standard input, as $3 < $2"
+  refuse "$1"
+}
+
+# Puts the words behind a command into `rest`, but for the first `--`, which divides and says
+# nothing.
+read_rest() { # WORDS..
+  local word is_divided=
+  rest=()
+  for word; do
+    if [ "$word" = -- ] && [ ! "$is_divided" ]; then is_divided=1; else rest+=("$word"); fi
+  done
+}
+
+# Says whether a word spells a number in decimal that is at most so great.
+is_number() { # WORD MOST
+  local digits LC_ALL=C
+  [[ $1 =~ ^[+]?0*([0-9]+)$ ]] || return 1
+  digits=${BASH_REMATCH[1]}
+  [ ${#digits} -lt ${#2} ] || { [ ${#digits} = ${#2} ] && [[ ! $digits > $2 ]]; }
+}
+
+# Prints the crates on which a crate stands, each after those that it uses, and last itself: the
+# order in which rt proves them.
+crates_of() { # CRATE
+  awk -v crate="$1" '
+    function visit(each, uses, count, k) {
+      if (!(each in line) || seen[each]++) return
+      count = split(line[each], uses, " ")
+      for (k = 1; k <= count; k++) visit(uses[k])
+      print each
+    }
+    { sub(/#.*/, "") }
+    /:/ { split($1, first, ":"); each = first[1]; sub(/[^:]*:/, ""); line[each] = $0 }
+    END { visit(crate) }' "$top/crates.txt"
+}
+
+# Prints how far a build is by its log: the crate that was named last, among those of a list.
+progress_of() { # LOG LIST
+  awk -v begun="$build_begun" -v now="$SECONDS" -v name="$name" '
+    BEGIN { at = 1 }
+    NR == FNR { place[$1] = ++count; next }
+    /^crate [a-z0-9_]+:/ { sub(/:.*/, "", $2); if ($2 in place) at = place[$2] + 1 }
+    /^rt: chose --jobs [0-9]+ for / { if ($NF in place) at = place[$NF] }
+    END {
+      if (at > count) at = count
+      printf "%s: crate %d of %d, %d minutes so far", name, at, count, (now - begun) / 60
+    }' "$2" "$1"
+}
+
+# Says whether what is built of a crate is missing, or older than a source that it is made of.
+is_stale() { # CRATE BUILT
+  local crates
+  mapfile -t crates < <(crates_of "$1")
+  "$top/suite/stale" "$2" "${crates[@]}"
+}
+
+# Shows how a build goes on until it ends: on a terminal in one line, else in a line a crate.
+watch_build() { # PROCESS LOG LIST
+  local shown=x line
+  while kill -0 "$1" 2> /dev/null; do
+    line=$(progress_of "$2" "$3")
+    if [ -t 2 ]; then
+      printf '\r%s' "$line" >&2
+    elif [ "${line%%,*}" != "${shown%%,*}" ]; then
+      printf '%s\n' "$line" >&2
+    fi
+    shown=$line
+    sleep 1
+  done
+  [ ! -t 2 ] || printf '\r\033[K' >&2
+}
+
+# Proves and builds by a command of rt in the folder of a crate, with nothing printed but how far it
+# is; what the prover says goes to a log, which is named where something fails.
+build() { # CRATE INPUT COMMAND..
+  local crate=$1 input=$2 log=$top/out/build-$name.log list worker status
+  shift 2
+  list=$(mktemp) || exit "$unbuilt"
+  mkdir -p "$top/out"
+  crates_of "$crate" > "$list"
+  build_begun=$SECONDS
+  : > "$log"
+  # A group of its own, so that all that rt starts ends with it.
+  setsid env -C "$top/crates/$crate" "$@" < "$input" > "$log" 2>&1 &
+  worker=$!
+  trap 'kill -TERM -- "-$worker"; rm -f "$list"; exit 130' INT TERM HUP
+  watch_build "$worker" "$log" "$list"
+  wait "$worker"
+  status=$?
+  trap - INT TERM HUP
+  rm -f "$list"
+  [ "$status" = 0 ] || {
+    say "it could not be built: rt ended with status $status, and $log has what it said:"
+    tail -n 5 "$log" >&2
+    exit "$unbuilt"
+  }
+}
+
+# Sees that rt is there, and says before a first build how long it takes, by the minutes of
+# processor time that it took on a server's processor of 2.5 GHz. Ends where there is none.
+begin_build() { # WHAT MINUTES WITH_RT WITHOUT_RT
+  local processors
+  command -v rt > /dev/null || {
+    say "rt, the toolchain that proves and builds its program, is not on the path; $4"
+    exit "$unbuilt"
+  }
+  processors=$(nproc 2> /dev/null || echo 1)
+  [ "$processors" -le 4 ] || processors=4
+  if [ -f "$1" ]; then
+    say "sources have changed since it was built: what they touch is proved again, which takes at" \
+      "most $2 minutes of processor time. $3"
+  else
+    say "first its program is proved and built, once: some $2 minutes of processor time, which" \
+      "take about $((($2 + processors - 1) / processors)) here. $3"
+  fi
+}
+
+# Runs the program, and hands on to it what would end this; says of a failure in a sentence what it
+# is. Ends with the program's status.
+run_program() { # PROGRAM WORDS..
+  local child status
+  if { : <&0; } 2> /dev/null; then
+    "$@" <&0 &
+  else
+    "$@" &
+  fi
+  child=$!
+  trap 'kill -TERM "$child" 2> /dev/null' INT TERM HUP
+  wait "$child"
+  status=$?
+  while kill -0 "$child" 2> /dev/null; do
+    wait "$child"
+    status=$?
+  done
+  case "$status" in
+    3) say 'the input could not be read to its end' ;;
+    4) say 'the output could not be written to its end' ;;
+    5) say 'there was not enough memory' ;;
+    6) say 'the input has more than 16,777,216 bytes' ;;
+  esac
+  exit "$status"
+}

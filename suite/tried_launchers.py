@@ -1,0 +1,236 @@
+"""Tries the launchers ./aia, ./plans and ./library: what they say before the program runs, and
+after it. They run in a tree of their own, with a toolchain and programs that only pretend."""
+
+import os
+import random
+import re
+import shutil
+import signal
+import subprocess
+import time
+from pathlib import Path
+
+from running import TOP
+
+# What the launchers need of a tree, and of a path without the toolchain.
+FILES = ("aia", "plans", "library", "VERSION", "crates.txt", "include/aia.h", "suite/launcher.sh",
+         "suite/stale", "examples/hypervisors/core-leave.plan")
+COMMANDS = ("bash", "sh", "env", "dirname", "readlink", "find", "mktemp", "awk", "setsid", "tail",
+            "nproc", "mkdir", "rm", "touch", "sleep", "cat", "chmod", "ar", "cc")
+# Of each launcher the crate that it builds, what that makes, and its status where it can't.
+BUILT = {"aia": ("aia", "aia", 1), "plans": ("plans", "plans", 126),
+         "library": ("aia_c", "libaia_c.a", 1)}
+RIGHT = {"aia": ("replay",), "plans": ("judge",), "library": ("library-folder",)}
+# Words that are refused, and what is said of them.
+WRONG = (
+    ("aia", (), "a word is wanted"),
+    ("aia", ("replai",), "there is no command 'replai'"),
+    ("aia", ("--what",), "there is no command '--what'"),
+    ("aia", ("VERSION",), "'VERSION' is a file: have it read from standard input"),
+    ("aia", ("replay", "VERSION"), "'VERSION' is a file: have it read from standard input"),
+    ("aia", ("replay", "x"), "replay has no word behind it, and not 'x'"),
+    ("aia", ("gen",), "two numbers are wanted behind gen, COUNT and SEED, and 0 given"),
+    ("aia", ("gen", "1"), "two numbers are wanted behind gen, COUNT and SEED, and 1 given"),
+    ("aia", ("gen", "100001", "1"), "COUNT of gen is a number up to 100000, and not '100001'"),
+    ("aia", ("gen", "1", str(1 << 64)), f"SEED of gen is a number below 2^64, and not '{1 << 64}'"),
+    ("aia", ("audit", "leave"), "two words are wanted behind audit, KIND and W, and 1 given"),
+    ("aia", ("audit", "go", "1"), "KIND of audit is leave, arrive or shift, and not 'go'"),
+    ("aia", ("audit", "leave", "3"), "W of audit is 1, 2, 4, 8, 16 or 32, and not '3'"),
+    ("plans", (), "a word is wanted"),
+    ("plans", ("jugde",), "there is no command 'jugde'"),
+    ("plans", ("judge", "VERSION"), "'VERSION' is a file: have it read from standard input"),
+    ("library", (), "one folder is wanted, and 0 words given"),
+    ("library", ("a", "b"), "one folder is wanted, and 2 words given"),
+    ("library", ("-x",), "a folder is wanted, and not '-x'"),
+)
+# Words of which command lines are made at random.
+WORDS = ("replay", "gen", "audit", "leave", "arrive", "shift", "0", "1", "3", "32", "33", "+5",
+         "007", "100000", "100001", str((1 << 64) - 1), str(1 << 64), "--", "-1", "x", "", "0x1",
+         "1 1")
+SENTENCES = {3: "the input could not be read to its end",
+             4: "the output could not be written to its end", 5: "there was not enough memory",
+             6: "the input has more than 16,777,216 bytes"}
+
+
+class Tree:
+    """A tree with the launchers, a path with a toolchain that pretends, and one without."""
+
+    def __init__(self, trial, name):
+        self.trial, self.folder = trial, trial.folder / name
+        for file in FILES:
+            (self.folder / file).parent.mkdir(parents=True, exist_ok=True)
+            shutil.copy(TOP / file, self.folder / file)
+        self.calls, self.bare = self.folder / "calls", self.folder / "bare"
+        self.path = self.folder / "bin"
+        self.bare.mkdir()
+        self.path.mkdir()
+        for command in COMMANDS:
+            found = shutil.which(command)
+            if found:
+                (self.bare / command).symlink_to(found)
+        crates = (TOP / "crates.txt").read_text(encoding="utf-8")
+        for crate in re.findall(r"(?m)^(\w+)", crates):
+            (self.folder / "crates" / crate / "src").mkdir(parents=True)
+
+    def pretend(self, status, program="exec cat"):
+        """Puts a toolchain on the path that says much, makes a program, and ends with a status."""
+        rt = self.path / "rt"
+        rt.write_text(
+            f"#!/bin/sh\necho \"$*\" >> '{self.calls}'\n"
+            "for crate in aia_regs plans_machine plans_run; do\n"
+            "  echo \"rt: chose --jobs 4 for $crate\"\n  echo flood flood flood >&2\n"
+            "  sleep 1.2\n  echo \"crate $crate: modules loaded=1 checked=1\"\ndone\n"
+            f"mkdir -p out\nprintf '#!/bin/sh\\n{program}\\n' > out/${{PWD##*/}}\n"
+            f"chmod +x out/*\nexit {status}\n", encoding="ascii")
+        rt.chmod(0o755)
+
+    def put(self, launcher, program):
+        """Puts a program where the launcher has one built."""
+        crate, name, _ = BUILT[launcher]
+        built = self.folder / "crates" / crate / "out" / name
+        built.parent.mkdir(exist_ok=True)
+        built.write_text(f"#!/bin/sh\n{program}\n", encoding="ascii")
+        built.chmod(0o755)
+
+    def run(self, launcher, *words, path=None):
+        """Runs a launcher in the tree; gives how it ended."""
+        searched = f"{path or self.path}:{self.bare}" if path != self.bare else self.bare
+        return self.trial.run("env", "-C", self.folder, f"PATH={searched}",
+                              self.folder / launcher, *words)
+
+    def has_built(self):
+        """Says whether the toolchain was called."""
+        return self.calls.exists()
+
+
+def launchers_speak(trial):
+    """Help, the version and wrong words, of which nothing is built."""
+    tree = Tree(trial, "speak")
+    tree.pretend(0)
+    version = (TOP / "VERSION").read_text(encoding="ascii").strip()
+    for launcher in BUILT:
+        for word in ("-h", "--help", "help"):
+            ran = tree.run(launcher, word)
+            trial.sees(ran.status == 0 and ran.output.decode().startswith(f"{launcher}: ")
+                       and not ran.errors, f"{launcher} {word} ends with {ran.status}")
+        ran = tree.run(launcher, "--version")
+        trial.sees(ran.output.decode() == f"{launcher} {version}\n" and not ran.status,
+                   f"{launcher} --version prints {ran.output}")
+    for launcher, words, said in WRONG:
+        ran = tree.run(launcher, *words)
+        trial.sees(ran.status == 2 and not ran.output and said in ran.errors
+                   and f"usage: {launcher} " in ran.errors,
+                   f"{launcher} {words} ends with {ran.status}: {ran.errors}")
+    trial.sees(not tree.has_built(), "a launcher builds before it has looked at its words")
+
+
+def versions_agree(trial):
+    """One version in the file VERSION, in the header and in the library."""
+    major, minor, patch = map(int, (TOP / "VERSION").read_text(encoding="ascii").split("."))
+    number = 10_000 * major + 100 * minor + patch
+    header = (TOP / "include/aia.h").read_text(encoding="utf-8")
+    library = (TOP / "crates/aia_c/src/version.rt").read_text(encoding="utf-8")
+    trial.sees(f"#define AIA_VERSION {number}\n" in header, "AIA_VERSION of include/aia.h")
+    trial.sees(re.search(rf"VERSION: u32 = {number:_};", library), "VERSION of aia_c")
+    changes = (TOP / "CHANGELOG.md").read_text(encoding="utf-8")
+    trial.sees(re.search(r"(?m)^## (\S+)", changes).group(1) == f"{major}.{minor}.{patch}",
+               "the first version of CHANGELOG.md")
+
+
+def files_are_licensed(trial):
+    """Each file that is meant to be copied says its licence, and each of the READMEs for users."""
+    files = [TOP / "include/aia.h", TOP / "README.md", TOP / "suite/README.md",
+             TOP / "peers/README.md", *sorted((TOP / "examples").glob("*.[cpr]*")),
+             TOP / "examples/migrate"]
+    for file in files:
+        trial.sees("Apache-2.0" in file.read_text(encoding="utf-8"), f"{file.name} has no licence")
+    trial.sees("Apache License" in (TOP / "LICENSE").read_text(encoding="utf-8")[:200], "LICENSE")
+
+
+def launchers_refuse_as_programs(trial):
+    """Words at random, which ./aia refuses where the program does."""
+    tree, draw = Tree(trial, "words"), random.Random(7)
+    tree.put("aia", "exit 0")
+    lists = [["replay", "--"], ["gen", "--", "+1", "007"], ["audit", "leave", "--", "+032"]]
+    lists += [[draw.choice(WORDS[:3]), *draw.choices(WORDS, k=draw.randrange(4))]
+              for _ in range(200)]
+    for words in lists:
+        refused = tree.run("aia", *words).status == 2
+        trial.sees(refused == (trial.run(trial.program, *words).status == 2),
+                   f"aia {words} is refused by the launcher or by the program alone")
+
+
+def launchers_without_toolchain(trial):
+    """No toolchain on the path: a sentence says so, and what there is without it."""
+    tree = Tree(trial, "without")
+    for launcher, (_, _, status) in BUILT.items():
+        ran = tree.run(launcher, *RIGHT[launcher], path=tree.bare)
+        trial.sees(ran.status == status and not ran.output and len(ran.errors.splitlines()) == 1
+                   and "rt" in ran.errors and "released package" in ran.errors,
+                   f"{launcher} without rt ends with {ran.status}: {ran.errors}")
+    ran = tree.run("aia", "replay", path=tree.bare)
+    trial.sees("peers/apart/model.py" in ran.errors, f"aia without rt says {ran.errors}")
+    tree.put("aia", "echo here")
+    ran = tree.run("aia", "replay", path=tree.bare)
+    trial.sees(ran.output == b"here\n" and not ran.status, "aia is built, and wants rt")
+
+
+def launchers_build(trial):
+    """A first build: what is said before it, how it goes on, and where it failed."""
+    for launcher, (crate, _, status) in list(BUILT.items())[:2]:
+        tree = Tree(trial, f"build-{launcher}")
+        tree.pretend(0, "exec cat")
+        ran = tree.run(launcher, *RIGHT[launcher])
+        said = ran.errors.splitlines()
+        trial.sees(ran.status == 0 and " minutes of processor time" in said[0],
+                   f"{launcher} says before a first build {said[:1]}")
+        is_quiet = all(re.fullmatch(rf"{launcher}: crate \d+ of \d+, 0 minutes so far", line)
+                       for line in said[1:])
+        trial.sees(is_quiet and len(said) > 2, f"{launcher} builds with {said[1:]}")
+        log = tree.folder / "out" / f"build-{launcher}.log"
+        trial.sees("flood" in log.read_text(encoding="ascii"), f"{log.name} has no flood")
+        trial.sees(tree.calls.read_text(encoding="ascii").startswith("run -- "), "another build")
+        tree.pretend(7)
+        source = tree.folder / "crates" / crate / "src/main.rt"
+        source.touch()
+        os.utime(source, (time.time() + 60, time.time() + 60))
+        ran = tree.run(launcher, *RIGHT[launcher])
+        trial.sees(ran.status == status and "sources have changed" in ran.errors
+                   and f"rt ended with status 7, and {log} has what it said" in ran.errors,
+                   f"{launcher} that fails to build ends with {ran.status}: {ran.errors}")
+
+
+def launchers_say_statuses(trial):
+    """The statuses of a program, which a launcher keeps and, of failures, says in a sentence."""
+    tree = Tree(trial, "statuses")
+    for launcher in ("aia", "plans"):
+        for status in range(10):
+            tree.put(launcher, f"cat > /dev/null; exit {status}")
+            ran = tree.run(launcher, *RIGHT[launcher])
+            wanted = f"{launcher}: {SENTENCES[status]}" if status in SENTENCES else ""
+            trial.sees(ran.status == status and ran.errors == wanted and not ran.output,
+                       f"{launcher} of status {status} ends with {ran.status}: {ran.errors!r}")
+
+
+def launchers_end(trial):
+    """A launcher that is told to end, which ends its program."""
+    tree = Tree(trial, "end")
+    tree.put("aia", "echo $$ > \"$0.pid\"\nexec sleep 1000")
+    pid = tree.folder / "crates/aia/out/aia.pid"
+    for each in (signal.SIGTERM, signal.SIGINT, signal.SIGHUP):
+        pid.unlink(missing_ok=True)
+        tool = subprocess.Popen([str(tree.folder / "aia"), "replay"], stdin=subprocess.PIPE,
+                                stdout=subprocess.DEVNULL)
+        for _ in range(100):
+            if pid.exists() and pid.read_text(encoding="ascii").endswith("\n"):
+                break
+            time.sleep(0.05)
+        tool.send_signal(each)
+        status = tool.wait(20)
+        tool.stdin.close()
+        ended = not Path(f"/proc/{int(pid.read_text(encoding='ascii'))}").exists()
+        trial.sees(ended and status > 128, f"aia told {each.name} ends with {status}")
+
+
+PARTS = (launchers_speak, versions_agree, files_are_licensed, launchers_refuse_as_programs,
+         launchers_without_toolchain, launchers_build, launchers_say_statuses, launchers_end)
