@@ -1,4 +1,5 @@
 #!/usr/bin/env python3
+# SPDX-License-Identifier: Apache-2.0
 """A bridge to a machine whose sizes and addresses are its own: lines in, answers out.
 
     fixed-machine.py [CHOICE..] < script > answers

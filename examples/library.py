@@ -1,4 +1,5 @@
 #!/usr/bin/env python3
+# SPDX-License-Identifier: Apache-2.0
 """The library from Python: the answers of a script, line by line, and calls without text.
 
     library.py LIBRARY SCRIPT

@@ -1,4 +1,5 @@
 #!/usr/bin/env python3
+# SPDX-License-Identifier: Apache-2.0
 """lockstep.py [PROGRAM]: holds a machine against the model access by access, in Python.
 
 The model is PROGRAM with the word `replay`, else ../aia. Here the machine is a list of accesses and

@@ -379,6 +379,8 @@ def verdicts(program, plans):
             answers[-1] = (verdict, shown_of(setting, plan, firsts[len(answers) - 1], verdict, answer))
         else:
             answers.append((' '.join(answer.split()[:2]), 'none shown'))
+    if len(answers) != len(plans):
+        command_line.fail(f'{program} judges {len(answers)} of {len(plans)} plans')
     return answers
 
 
