@@ -5,8 +5,8 @@
     library.py LIBRARY SCRIPT
 
 LIBRARY is the shared object, libaia.so, in the folder that `library` fills. A number without a type
-of ctypes goes as one of 32 bits. Ends with status 2 where the words are wrong, or the library or the
-script can't be opened.
+of ctypes goes as one of 32 bits. Ends with status 2 where the words are wrong, or the library or
+the script can't be opened.
 """
 
 import ctypes

@@ -1,5 +1,5 @@
-"""What each script of the suite and of the examples tests, as suite/classes.txt has it, and which of
-them a machine of given sizes can be asked."""
+"""What each script of the suite and of the examples tests, as suite/classes.txt has it, and which
+of them a machine of given sizes can be asked."""
 
 from typing import NamedTuple
 

@@ -75,7 +75,7 @@ def standard_scripts(trial):
                    f"{path.stem} needs more than its machine has")
         for one in (script, least):
             said = answers.answers(generated.model.answers(one))
-            trial.sees(not answers.REFUSALS & set(said), f"{path.stem} has an answer that is refused")
+            trial.sees(not answers.REFUSALS & set(said), f"a line of {path.stem} is refused")
 
 
 def asked_of(has):
@@ -91,7 +91,7 @@ def is_alike(trial, has, *words):
     ran = trial.run(sys.executable, "-B", FIXED, *words, text=b"\n".join(scripts) + b"\n")
     wanted = b"".join(map(generated.model.answers, scripts))
     trial.sees(scripts and ran.output == wanted and not ran.status,
-               f"fixed-machine.py {' '.join(words)} answers a standard script otherwise: {ran.errors}")
+               f"fixed-machine.py {words} answers a standard script otherwise: {ran.errors}")
 
 
 def fixed_machines(trial):

@@ -61,7 +61,7 @@ def helps(trial):
             ran = trial.run("env", path, f"PROGRAM={folder}/program", script, word, seconds=20)
             said = answers.shown(ran.output)
             trial.sees(ran.status == 0 and not ran.errors and len(said) > 80,
-                       f"{script.relative_to(TOP)} {word} ends with {ran.status}: {ran.errors[:60]}")
+                       f"{script.relative_to(TOP)} {word} ends with {ran.status}: {ran.errors}")
             trial.sees("set -" not in said and "#!" not in said and "import " not in said,
                        f"{script.relative_to(TOP)} {word} prints more than its head comment")
     trial.sees(not noted.exists(), "help is asked for, and something is run")
@@ -159,7 +159,8 @@ def same_and_different(trial):
     for leak, status in ((0, 0), (1, 1)):
         trial.sees(trial.run(suite / "isolation", 3, leak).status == status,
                    f"isolation with the leak {leak}")
-    for words, status in ((["1", "4"], 0), (["1", "40", "--plant", "a_claim_clears_a_level_source"], 1)):
+    plant = ("--plant", "a_claim_clears_a_level_source")
+    for words, status in ((["1", "4"], 0), (["1", "40", *plant], 1)):
         ran = trial.run(APART / "compare.py", right, *words)
         trial.sees(ran.status == status, f"compare.py {words} ends with {ran.status}")
     for one, status in ((right, 0), (cuts, 1)):

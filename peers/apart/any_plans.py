@@ -6,10 +6,9 @@ plan is one of a hypervisor's with some edits. It is tried with one store, or on
 place, from several starts; and where the program shows a run, that run is made: one that loses
 something, or, of a plan that the rule on notices alone refuses, one that leaves the host untold.
 Prints how many accepted plans had a bad run, how many refused ones had none, and how many runs that
-were shown were good or missing, and ends with 1 if any was, and with 2 if the words are wrong or PROGRAM
-can't be run. A plan into memory that heeds its
-numbers may be refused by the rule on notices though no run of it leaves the host untold: none is
-shown then.
+were shown were good or missing, and ends with 1 if any was, and with 2 if the words are wrong or
+PROGRAM can't be run. A plan into memory that heeds its numbers may be refused by the rule on
+notices though no run of it leaves the host untold: none is shown then.
 """
 import random
 import re
@@ -368,7 +367,8 @@ def verdicts(program, plans):
         text += setting.lines() + [' '.join(map(str, step)) for step in plan]
         firsts.append(line + len(setting.lines()))
         line = len(text) + 1
-    done = subprocess.run([program, 'judge'], input='\n'.join(text) + '\n', capture_output=True, text=True)
+    done = subprocess.run([program, 'judge'], input='\n'.join(text) + '\n', capture_output=True,
+                          text=True)
     if done.returncode not in (0, 1):  # 1 where it refuses a plan
         command_line.fail(f'{program} ended with status {done.returncode}')
     answers = []

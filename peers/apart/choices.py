@@ -1,5 +1,5 @@
-"""Choices that the standard leaves open, made otherwise than the model makes them: docs/DECISIONS.md
-has each. A machine with any of them, or with all, is right.
+"""Choices that the standard leaves open, made otherwise than the model makes them. A machine with any
+of them, or with all, is right; docs/DECISIONS.md has each.
 
 Each is a function that changes one rule of the machine of fixed.py, for good in this process; its
 name says the rule.
@@ -119,8 +119,8 @@ def operands_of_0_write_nothing():
 # Sources.
 
 def sourcecfg(change):
-    """Changes what a write of sourcecfg does: `change` gives the number that is written in the place
-    of another one, None where none is."""
+    """Changes what a write of sourcecfg does: `change` gives the number that is written in another
+    one's place, None where none is."""
     def write(old, part, domain, source, value):
         new = change(part, domain, source, value)
         if new is not None:

@@ -47,7 +47,8 @@ def run(program, script):
 
 def check_program(program):
     """Ends with status 2 where a program can't be started."""
-    running.check_started(running.run([program, "replay"], b"", TIME_LIMIT, OUTPUT_LIMIT), [program])
+    ran = running.run([program, "replay"], b"", TIME_LIMIT, OUTPUT_LIMIT)
+    running.check_started(ran, [program])
 
 
 def answered(script):

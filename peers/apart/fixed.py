@@ -1,5 +1,5 @@
-"""A machine with the AIA whose sizes are its own: two harts, seven guest files each, the identities 1
-to 255, 96 wired sources, and pages at the places where QEMU's board `virt` has them.
+"""A machine with the AIA whose sizes are its own: two harts, seven guest files each, the identities
+1 to 255, 96 wired sources, and pages at the places where QEMU's board `virt` has them.
 
 It knows nothing of scripts: it has loads, stores, CSRs, wires and signals, as a simulated chip has.
 examples/fixed-machine.py is a bridge to it. What it answers where the standard leaves a choice is

@@ -52,4 +52,5 @@ def main(count, seed):
 
 
 if __name__ == "__main__":
-    main(*map(int, words.given(__doc__, lambda given: len(given) == 2 and words.are_numbers(given))))
+    NUMBERS = words.given(__doc__, lambda given: len(given) == 2 and words.are_numbers(given))
+    main(*map(int, NUMBERS))
