@@ -9,11 +9,11 @@ from antt import clauses, has_clauses, module_path
 TOKEN = re.compile(r"\s*(\d+|[A-Za-z_][\w.]*|&&|\|\||[()+*\-])")
 # The modules in which moves are defined.
 MODULES = ("Home", "Plans", "Routes", "BySteps", "Aims")
-# A kind of move: its constructor of Home, and its two places.
+# A kind of move: the constructor of its way, and its two places.
 KINDS = {
-    "leave": ("Leaving", "guest file", "memory"),
-    "arrive": ("Arriving", "memory", "guest file"),
-    "shift": ("Shifting", "old guest file", "new guest file"),
+    "leave": ("Outward", "guest file", "memory"),
+    "arrive": ("Inward", "memory", "guest file"),
+    "shift": ("Across", "old guest file", "new guest file"),
 }
 # What std has of numbers and truth values.
 STD = {
@@ -26,23 +26,38 @@ STD = {
 }
 
 
+def read_patterns(text):
+    """Reads the patterns of a clause: each a name, or a constructor with its patterns, as a list."""
+    found = [[]]
+    for token in re.findall(r"[()]|[^\s()]+", text):
+        if token == "(":
+            found.append([])
+        elif token == ")":
+            found[-2].append(found.pop())
+        else:
+            found[-1].append(token)
+    return found[0]
+
+
 @cache
 def definition(name):
     """Gives the clauses of a definition of aia_home, each as (patterns, right side)."""
     for module in MODULES:
         if has_clauses("aia_home", module, name):
             found = clauses("aia_home", module, name)
-            return [([one or two for one, two in re.findall(r"\(([^()]*)\)|(\S+)", patterns)], right)
-                    for patterns, right in found]
+            return [(read_patterns(patterns), right) for patterns, right in found]
     raise SystemExit(f"the plans name {name}, which docs/make/plans.py does not find")
 
 
 def bound(pattern, value):
     """Gives what the names of a pattern stand for, or None where the value is none of it."""
-    head, *names = pattern.split()
-    if head[0].isupper():
-        return dict(zip(names, value[1:])) if value[0] == head else None
-    return {head: value}
+    head, *parts = [pattern] if isinstance(pattern, str) else pattern
+    if not head[0].isupper():
+        return {head: value}
+    if value[0] != head:
+        return None
+    found = [bound(part, of_it) for part, of_it in zip(parts, value[1:])]
+    return None if None in found else {key: one for names in found for key, one in names.items()}
 
 
 def computed(name, values):
@@ -148,7 +163,7 @@ class Move:
         """Gives the home of a virtual hart that is moved so, after so many steps and aims."""
         at = {"steps": steps, "aims": aims}
         places = {"leave": ["old"], "arrive": ["new"], "shift": ["old", "new"]}
-        return (KINDS[self.kind][0], *places[self.kind], at)
+        return ("OnWay", (KINDS[self.kind][0], *places[self.kind]), at)
 
     def named_place(self, place):
         """Gives `old` or `new` for a guest file or, by None, for the slot."""

@@ -3,9 +3,9 @@ use Rattle.std.proofs.Common.{◌≡◌, ◌⊎◌, ℕ, ◌+◌, Bool, true, fa
 use Rattle.std.proofs.lemmas.Bool.{cases_Bool, and_parts, and_from}
 use Rattle.std.proofs.lemmas.Bool.Decides.{nat_tests}
 use Rattle.aia_home.specs.declared.place.Place.{Place}
-use Rattle.aia_home.specs.Home.{Home, is_moving, ended, one_more, leaving, arriving, shifting}
+use Rattle.aia_home.specs.Home.{Home, left, led_to, is_moving, at_rest, ended, one_more, leaving, arriving, shifting}
 use Rattle.aia_home.specs.declared.rest.Rest.TheVariants.{Parked}
-use Rattle.aia_home.specs.Home.Home.{InMemory, Resident, Leaving, Arriving, Shifting}
+use Rattle.aia_home.specs.Home.Home.{InMemory, Resident, OnWay}
 use Rattle.aia_home.specs.Plans.{is_at_last, stepped, first_take}
 use Rattle.aia_home.specs.BySteps.{new_file, is_drained}
 use Rattle.aia_home.specs.Routes.{is_at_fence, is_closed, is_at_gfence, reach_stepped, stage_stepped, peers_reach, devices_by, MayReach, MayLand}
@@ -15,23 +15,19 @@ use Rattle.aia_home.proofs.RouteLemmas.{reach_kept, stepped_by, stage_by_stepped
 -- ---- a step that aims is no fence, and leaves all routes as they were
 
 pub aim_is_no_fence : (passes : ℕ) (there : Home) → is_aiming passes there ≡ true → is_at_fence there ≡ false
-aim_is_no_fence passes (Leaving from at) e = let here : nat_eq at.steps (aims_step (Leaving from at)) ≡ true = (and_parts _ _ e).0 in grind (arith, nat_tests)
-aim_is_no_fence passes (Arriving to at) e = let here : nat_eq at.steps (aims_step (Arriving to at)) ≡ true = (and_parts _ _ e).0 in grind (arith, nat_tests)
-aim_is_no_fence passes (Shifting from to at) e = let here : nat_eq at.steps (aims_step (Shifting from to at)) ≡ true = (and_parts _ _ e).0 in grind (arith, nat_tests)
+aim_is_no_fence passes (OnWay way at) e = let here : nat_eq at.steps (aims_step (OnWay way at)) ≡ true = (and_parts _ _ e).0 in grind (arith, nat_tests)
 aim_is_no_fence passes there e = refl
 
 aim_is_closed : (passes : ℕ) (there : Home) → is_aiming passes there ≡ true → is_closed there ≡ true
-aim_is_closed passes (Leaving from at) e = let here : nat_eq at.steps (aims_step (Leaving from at)) ≡ true = (and_parts _ _ e).0 in grind (arith, nat_tests)
-aim_is_closed passes (Arriving to at) e = let here : nat_eq at.steps (aims_step (Arriving to at)) ≡ true = (and_parts _ _ e).0 in grind (arith, nat_tests)
-aim_is_closed passes (Shifting from to at) e = let here : nat_eq at.steps (aims_step (Shifting from to at)) ≡ true = (and_parts _ _ e).0 in grind (arith, nat_tests)
+aim_is_closed passes (OnWay way at) e = let here : nat_eq at.steps (aims_step (OnWay way at)) ≡ true = (and_parts _ _ e).0 in grind (arith, nat_tests)
 aim_is_closed passes there e = absurd (cc)
 
 pub aimed_reach : (there : Home) (place : Option Place) → MayReach there place → MayReach (aimed there) place
-aimed_reach (Leaving from at) place m = m
+aimed_reach (OnWay way at) place m = m
 aimed_reach there place m = m
 
 aimed_by_table : (there : Home) (r : Bool) → devices_by r (aimed there) ≡ devices_by r there
-aimed_by_table (Leaving from at) r = refl
+aimed_by_table (OnWay way at) r = refl
 aimed_by_table there r = refl
 
 pub further_kept : (passes words : ℕ) (there : Home) (place : Option Place) → MayReach there place → MayReach (further passes words there) (reach_stepped there place)
@@ -53,13 +49,11 @@ further_by passes words there r reach e = by_aim (is_aiming passes there) refl
 
 -- nor is it the fence of the G-stage record, which is made
 aim_is_no_gfence : (passes : ℕ) (there : Home) → is_aiming passes there ≡ true → is_at_gfence there ≡ false
-aim_is_no_gfence passes (Leaving from at) e = let here : nat_eq at.steps (aims_step (Leaving from at)) ≡ true = (and_parts _ _ e).0 in grind (arith, nat_tests)
-aim_is_no_gfence passes (Arriving to at) e = let here : nat_eq at.steps (aims_step (Arriving to at)) ≡ true = (and_parts _ _ e).0 in grind (arith, nat_tests)
-aim_is_no_gfence passes (Shifting from to at) e = let here : nat_eq at.steps (aims_step (Shifting from to at)) ≡ true = (and_parts _ _ e).0 in grind (arith, nat_tests)
+aim_is_no_gfence passes (OnWay way at) e = let here : nat_eq at.steps (aims_step (OnWay way at)) ≡ true = (and_parts _ _ e).0 in grind (arith, nat_tests)
 aim_is_no_gfence passes there e = refl
 
 aimed_stage : (there : Home) → peers_reach (aimed there) ≡ peers_reach there
-aimed_stage (Leaving from at) = refl
+aimed_stage (OnWay way at) = refl
 aimed_stage there = refl
 
 pub stage_by_further : (passes words : ℕ) (there : Home) → stage_stepped there (peers_reach there) ≡ peers_reach (further passes words there)
@@ -75,9 +69,7 @@ further_on passes words there e = rw e refl
 -- ---- the two counts
 
 pub rest_aimed : (passes : ℕ) (there : Home) → is_moving there ≡ false → AreAimed passes there
-rest_aimed passes (Leaving from at) e = absurd (cc)
-rest_aimed passes (Arriving to at) e = absurd (cc)
-rest_aimed passes (Shifting from to at) e = absurd (cc)
+rest_aimed passes (OnWay way at) e = absurd (cc)
 rest_aimed passes there e = record { late = λ e. absurd (cc); all = λ e. absurd (cc) }
 
 pub leaving_aimed : (passes : ℕ) (there : Home) → AreAimed passes there → AreAimed passes (leaving there)
@@ -116,22 +108,20 @@ count_aim passes t k a here = let at : nat_eq k t ≡ true = (and_parts _ _ here
   all = λ e. let no : true ≡ false = grind (arith, nat_tests) in absurd (cc);
 }
 
+rests_unmoved : (to : Option Place) → is_moving (at_rest to) ≡ false
+rests_unmoved None = refl
+rests_unmoved (Some p) = refl
+
 ended_aimed : (passes : ℕ) (there : Home) → AreAimed passes there → AreAimed passes (ended there)
-ended_aimed passes (Leaving from at) a = rest_aimed passes (InMemory Parked) refl
-ended_aimed passes (Arriving to at) a = rest_aimed passes (Resident to) refl
-ended_aimed passes (Shifting from to at) a = rest_aimed passes (Resident to) refl
+ended_aimed passes (OnWay way at) a = rest_aimed passes (at_rest (led_to way)) (rests_unmoved (led_to way))
 ended_aimed passes there a = a
 
 one_more_aimed : (passes : ℕ) (there : Home) → is_aiming passes there ≡ false → AreAimed passes there → AreAimed passes (one_more there)
-one_more_aimed passes (Leaving from at) e a = let c = count_on passes (aims_step (Leaving from at)) at.steps at.aims e (record { late = a.late; all = a.all }) in record { late = c.late; all = c.all }
-one_more_aimed passes (Arriving to at) e a = let c = count_on passes (aims_step (Arriving to at)) at.steps at.aims e (record { late = a.late; all = a.all }) in record { late = c.late; all = c.all }
-one_more_aimed passes (Shifting from to at) e a = let c = count_on passes (aims_step (Shifting from to at)) at.steps at.aims e (record { late = a.late; all = a.all }) in record { late = c.late; all = c.all }
+one_more_aimed passes (OnWay way at) e a = let c = count_on passes (aims_step (OnWay way at)) at.steps at.aims e (record { late = a.late; all = a.all }) in record { late = c.late; all = c.all }
 one_more_aimed passes there e a = a
 
 aimed_aimed : (passes : ℕ) (there : Home) → is_aiming passes there ≡ true → AreAimed passes (aimed there)
-aimed_aimed passes (Leaving from at) e = let c = count_aim passes (aims_step (Leaving from at)) at.steps at.aims e in record { late = c.late; all = c.all }
-aimed_aimed passes (Arriving to at) e = let c = count_aim passes (aims_step (Arriving to at)) at.steps at.aims e in record { late = c.late; all = c.all }
-aimed_aimed passes (Shifting from to at) e = let c = count_aim passes (aims_step (Shifting from to at)) at.steps at.aims e in record { late = c.late; all = c.all }
+aimed_aimed passes (OnWay way at) e = let c = count_aim passes (aims_step (OnWay way at)) at.steps at.aims e in record { late = c.late; all = c.all }
 aimed_aimed passes there e = absurd (cc)
 
 pub further_aimed : (passes words : ℕ) (there : Home) → AreAimed passes there → AreAimed passes (further passes words there)
@@ -160,14 +150,10 @@ over passes r t d k a old new below first low c = elim (cases_Bool (nat_lt r a))
 
 pub pass_lands : (passes words r : ℕ) (there : Home) → nat_lt r passes ≡ true → AreAimed passes there → MayLand words there (pass_reaches r there)
 pass_lands passes words r (Resident p) below a = let e : nat_lt r 0 ≡ false = grind (arith, nat_tests) in inl (ap (λ b. if b then None else Some p) e, refl)
-pass_lands passes words r (Leaving from at) below a = over passes r (aims_step (Leaving from at)) (first_take (Leaving from at)) at.steps at.aims (Some from) None below refl refl (record { late = a.late; all = a.all })
-pass_lands passes words r (Arriving to at) below a = over passes r (aims_step (Arriving to at)) (first_take (Arriving to at)) at.steps at.aims None (Some to) below refl refl (record { late = a.late; all = a.all })
-pass_lands passes words r (Shifting from to at) below a = over passes r (aims_step (Shifting from to at)) (first_take (Shifting from to at)) at.steps at.aims (Some from) (Some to) below refl refl (record { late = a.late; all = a.all })
+pass_lands passes words r (OnWay way at) below a = over passes r (aims_step (OnWay way at)) (first_take (OnWay way at)) at.steps at.aims (left way) (led_to way) below (grind (arith, nat_tests)) (grind (arith, nat_tests)) (record { late = a.late; all = a.all })
 pass_lands passes words r there below a = let e : nat_lt r 0 ≡ false = grind (arith, nat_tests) in inl (ap (λ b. if b then None else None) e, refl)
 
 -- once a word is taken, each pass leads to the new place
 pub pass_drained : (passes words w r : ℕ) (there : Home) → nat_lt r passes ≡ true → AreAimed passes there → is_moving there ≡ true → is_drained words there w ≡ true → pass_reaches r there ≡ new_file there
-pass_drained passes words w r (Leaving from at) below a moves drained = let all = a.all (grind (arith, nat_tests)) in let e : nat_lt r at.aims ≡ true = grind (arith, nat_tests) in ap (λ b. if b then None else Some from) e
-pass_drained passes words w r (Arriving to at) below a moves drained = let all = a.all (grind (arith, nat_tests)) in let e : nat_lt r at.aims ≡ true = grind (arith, nat_tests) in ap (λ b. if b then Some to else None) e
-pass_drained passes words w r (Shifting from to at) below a moves drained = let all = a.all (grind (arith, nat_tests)) in let e : nat_lt r at.aims ≡ true = grind (arith, nat_tests) in ap (λ b. if b then Some to else Some from) e
+pass_drained passes words w r (OnWay way at) below a moves drained = let all = a.all (grind (arith, nat_tests)) in let e : nat_lt r at.aims ≡ true = grind (arith, nat_tests) in ap (λ b. if b then led_to way else left way) e
 pass_drained passes words w r there below a moves drained = absurd (cc)

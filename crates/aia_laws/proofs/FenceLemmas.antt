@@ -2,10 +2,10 @@
 use Rattle.std.proofs.Common.{◌≡◌, ℕ, suc, ◌+◌, true, false, nat_lt, is_none, Option, Some, None, refl, arith}
 use Rattle.std.specs.Option.{option_map_or}
 use Rattle.std.proofs.lemmas.Bool.{eq-eqb, ne_eqb, and_left}
-use Rattle.aia_home.specs.Home.{Home, is_moving, rests_in_memory, leaving, arriving, shifting}
+use Rattle.aia_home.specs.Home.{Home, is_moving, rests_in_memory, leaving, arriving, shifting, old_end, new_end}
 use Rattle.aia_home.specs.declared.rest.Rest.TheVariants.{Parked}
-use Rattle.aia_home.specs.Home.Home.{InMemory, Resident, Leaving, Arriving, Shifting}
-use Rattle.aia_home.specs.Plans.{leave_step, arrive_step, shift_step, leave_steps, arrive_steps, shift_steps}
+use Rattle.aia_home.specs.Home.Home.{InMemory, Resident, OnWay}
+use Rattle.aia_home.specs.Plans.{leave_step, arrive_step, shift_step, plan_step, plan_steps}
 use Rattle.aia_home.specs.Plans.Access.{Fence}
 use Rattle.aia_home.specs.Aims.{aims_step, is_aiming, further}
 use Rattle.aia_home.specs.Routes.{is_at_fence}
@@ -13,34 +13,24 @@ use Rattle.aia_model.specs.HomeOf.{guest_place}
 
 -- The fence comes after so many steps more.
 abbrev pub FenceIn : ℕ → Home → Type 0
-FenceIn count (Leaving from at) = at.steps + count ≡ leave_step 0 Fence
-FenceIn count (Arriving to at) = at.steps + count ≡ arrive_step 0 Fence
-FenceIn count (Shifting from to at) = at.steps + count ≡ shift_step 0 Fence
+FenceIn count (OnWay way at) = at.steps + count ≡ plan_step (old_end way) (new_end way) 0 Fence
 FenceIn count there = ⊥
 
 pub fence_here : (there : Home) → FenceIn 0 there → is_at_fence there ≡ true
-fence_here (Leaving from at) e = eq-eqb at.steps (leave_step 0 Fence) (omega (arith, e))
-fence_here (Arriving to at) e = eq-eqb at.steps (arrive_step 0 Fence) (omega (arith, e))
-fence_here (Shifting from to at) e = eq-eqb at.steps (shift_step 0 Fence) (omega (arith, e))
+fence_here (OnWay way at) e = eq-eqb at.steps (plan_step (old_end way) (new_end way) 0 Fence) (omega (arith, e))
 fence_here there e = absurd e
 
 pub fence_later : (count : ℕ) (there : Home) → FenceIn (suc count) there → is_at_fence there ≡ false
-fence_later count (Leaving from at) e = ne_eqb at.steps (leave_step 0 Fence) (λ same. absurd (omega (arith, e, same)))
-fence_later count (Arriving to at) e = ne_eqb at.steps (arrive_step 0 Fence) (λ same. absurd (omega (arith, e, same)))
-fence_later count (Shifting from to at) e = ne_eqb at.steps (shift_step 0 Fence) (λ same. absurd (omega (arith, e, same)))
+fence_later count (OnWay way at) e = ne_eqb at.steps (plan_step (old_end way) (new_end way) 0 Fence) (λ same. absurd (omega (arith, e, same)))
 fence_later count there e = absurd e
 
 -- no step before it aims a passed source
 aims_later : (passes count : ℕ) (there : Home) → FenceIn (suc count) there → is_aiming passes there ≡ false
-aims_later passes count (Leaving from at) e = and_left _ (nat_lt at.aims passes) (ne_eqb at.steps (aims_step (Leaving from at)) (λ same. absurd (omega (arith, e, same))))
-aims_later passes count (Arriving to at) e = and_left _ (nat_lt at.aims passes) (ne_eqb at.steps (aims_step (Arriving to at)) (λ same. absurd (omega (arith, e, same))))
-aims_later passes count (Shifting from to at) e = and_left _ (nat_lt at.aims passes) (ne_eqb at.steps (aims_step (Shifting from to at)) (λ same. absurd (omega (arith, e, same))))
+aims_later passes count (OnWay way at) e = and_left _ (nat_lt at.aims passes) (ne_eqb at.steps (aims_step (OnWay way at)) (λ same. absurd (omega (arith, e, same))))
 aims_later passes count there e = absurd e
 
 pub fence_nearer : (passes words count : ℕ) (there : Home) → FenceIn (suc count) there → FenceIn count (further passes words there)
-fence_nearer passes words count (Leaving from at) e = rw (aims_later passes count (Leaving from at) e) (rw (ne_eqb (at.steps + 1) (leave_steps words) (λ last. absurd (omega (arith, e, last)))) (omega (arith, e)))
-fence_nearer passes words count (Arriving to at) e = rw (aims_later passes count (Arriving to at) e) (rw (ne_eqb (at.steps + 1) (arrive_steps words) (λ last. absurd (omega (arith, e, last)))) (omega (arith, e)))
-fence_nearer passes words count (Shifting from to at) e = rw (aims_later passes count (Shifting from to at) e) (rw (ne_eqb (at.steps + 1) (shift_steps words) (λ last. absurd (omega (arith, e, last)))) (omega (arith, e)))
+fence_nearer passes words count (OnWay way at) e = rw (aims_later passes count (OnWay way at) e) (rw (ne_eqb (at.steps + 1) (plan_steps (old_end way) (new_end way) words) (λ last. absurd (omega (arith, e, last)))) (omega (arith, e)))
 fence_nearer passes words count there e = absurd e
 
 -- ---- from where a move begins

@@ -3,11 +3,11 @@ use Rattle.std.proofs.Common.{◌≡◌, ℕ, zero, suc, ◌+◌, ◌-◌, ◌<�
 use Rattle.std.specs.Option.{option_map_or}
 use Rattle.std.proofs.lemmas.Bool.{cases_Bool, cases_eq, cases_lt, not-false, eqb-true, eq-eqb, ltb-true, ltb-false, lt-ltb, and_parts, and_from, cond-true, false≢true}
 use Rattle.aia_home.specs.Vms.{Vcpu, vcpu}
-use Rattle.aia_home.specs.Home.{Home, is_moving, rests_in_memory, leaving, arriving, shifting}
-use Rattle.aia_home.specs.Plans.{leave_steps, arrive_steps, shift_steps}
+use Rattle.aia_home.specs.Home.{Home, is_moving, rests_in_memory, leaving, arriving, shifting, led_to, at_rest, old_end, new_end}
+use Rattle.aia_home.specs.Plans.{leave_steps, arrive_steps, shift_steps, plan_steps}
 use Rattle.aia_home.specs.Aims.{aims_step, AreAimed, further}
 use Rattle.aia_home.specs.declared.rest.Rest.TheVariants.{Parked}
-use Rattle.aia_home.specs.Home.Home.{InMemory, Resident, Leaving, Arriving, Shifting}
+use Rattle.aia_home.specs.Home.Home.{InMemory, Resident, OnWay}
 use Rattle.aia_model.specs.declared.line.Line.{Line}
 use Rattle.aia_model.specs.declared.line.Line.TheVariants.{Machine, Step, Send, Land}
 use Rattle.aia_model.specs.declared.line.Line.TheVariants as lines
@@ -36,6 +36,7 @@ use Rattle.aia_home.specs.Vms.{is_vcpu_in}
 use Rattle.aia_home.specs.BySteps.{new_file}
 use Rattle.aia_home.specs.declared.place.Place.{Place}
 use Rattle.aia_home.specs.Routes.{is_at_fence, is_closed, origin, MayReach}
+use Rattle.aia_home.proofs.HomeLemmas.{not_the_last}
 use Rattle.aia_model.specs.Flight.{Sending, flight, flying}
 use Rattle.aia_model.specs.GuestFile.{sent_to}
 use Rattle.aia_model.specs.ReachOf.{sent_into, MayFly, AllMayFly, IsForOne, AllAreForOne}
@@ -49,10 +50,12 @@ use Rattle.aia_model.proofs.RefusalLemmas.{machine_stands, arrive_allowed, leave
 
 -- how many steps of its move a home has left
 abbrev steps_left : ℕ → ℕ → Home → ℕ
-steps_left passes words (Leaving from at) = (leave_steps words - at.steps) + (passes - at.aims)
-steps_left passes words (Arriving to at) = (arrive_steps words - at.steps) + (passes - at.aims)
-steps_left passes words (Shifting from to at) = (shift_steps words - at.steps) + (passes - at.aims)
+steps_left passes words (OnWay way at) = (plan_steps (old_end way) (new_end way) words - at.steps) + (passes - at.aims)
 steps_left passes words there = 0
+
+none_left : (passes words : ℕ) (to : Option Place) → steps_left passes words (at_rest to) ≡ 0
+none_left passes words None = refl
+none_left passes words (Some p) = refl
 
 -- over plain numbers: t steps come before the first that aims, of `all`, k are done, a aims
 aim_less : (t all passes k a count : ℕ) → t < all → (nat_eq k t && nat_lt a passes) ≡ true → (all - k) + (passes - a) ≡ suc count → (all - k) + (passes - (a + 1)) ≡ count
@@ -81,25 +84,11 @@ step_less t all passes k a count low aimed on e = elim (cases_lt k all) [
 ]
 
 one_less : (passes words count : ℕ) (there : Home) → AreAimed passes there → steps_left passes words there ≡ suc count → (is_moving there ≡ true) × (steps_left passes words (further passes words there) ≡ count)
-one_less passes words count (Leaving from at) aimed e = elim (cases_Bool (nat_eq at.steps (aims_step (Leaving from at)) && nat_lt at.aims passes)) [
-  | inl aims ↦ (refl, rw aims (aim_less (aims_step (Leaving from at)) (leave_steps words) passes at.steps at.aims count (omega arith) aims e))
-  | inr on ↦ elim (cases_Bool (nat_eq (at.steps + 1) (leave_steps words))) [
-    | inl last ↦ (refl, rw (on, last) (last_less (aims_step (Leaving from at)) (leave_steps words) passes at.steps at.aims count (omega arith) (eqb-true _ _ last) aimed.all on e))
-    | inr more ↦ (refl, rw (on, more) (step_less (aims_step (Leaving from at)) (leave_steps words) passes at.steps at.aims count (omega arith) aimed.all on e))
-  ]
-]
-one_less passes words count (Arriving to at) aimed e = elim (cases_Bool (nat_eq at.steps (aims_step (Arriving to at)) && nat_lt at.aims passes)) [
-  | inl aims ↦ (refl, rw aims (aim_less (aims_step (Arriving to at)) (arrive_steps words) passes at.steps at.aims count (omega arith) aims e))
-  | inr on ↦ elim (cases_Bool (nat_eq (at.steps + 1) (arrive_steps words))) [
-    | inl last ↦ (refl, rw (on, last) (last_less (aims_step (Arriving to at)) (arrive_steps words) passes at.steps at.aims count (omega arith) (eqb-true _ _ last) aimed.all on e))
-    | inr more ↦ (refl, rw (on, more) (step_less (aims_step (Arriving to at)) (arrive_steps words) passes at.steps at.aims count (omega arith) aimed.all on e))
-  ]
-]
-one_less passes words count (Shifting from to at) aimed e = elim (cases_Bool (nat_eq at.steps (aims_step (Shifting from to at)) && nat_lt at.aims passes)) [
-  | inl aims ↦ (refl, rw aims (aim_less (aims_step (Shifting from to at)) (shift_steps words) passes at.steps at.aims count (omega arith) aims e))
-  | inr on ↦ elim (cases_Bool (nat_eq (at.steps + 1) (shift_steps words))) [
-    | inl last ↦ (refl, rw (on, last) (last_less (aims_step (Shifting from to at)) (shift_steps words) passes at.steps at.aims count (omega arith) (eqb-true _ _ last) aimed.all on e))
-    | inr more ↦ (refl, rw (on, more) (step_less (aims_step (Shifting from to at)) (shift_steps words) passes at.steps at.aims count (omega arith) aimed.all on e))
+one_less passes words count (OnWay way at) aimed e = elim (cases_Bool (nat_eq at.steps (aims_step (OnWay way at)) && nat_lt at.aims passes)) [
+  | inl aims ↦ (refl, rw aims (aim_less (aims_step (OnWay way at)) (plan_steps (old_end way) (new_end way) words) passes at.steps at.aims count (omega (arith, not_the_last way words)) aims e))
+  | inr on ↦ elim (cases_Bool (nat_eq (at.steps + 1) (plan_steps (old_end way) (new_end way) words))) [
+    | inl last ↦ (refl, rw (on, last) (none_left passes words (led_to way) ∙ last_less (aims_step (OnWay way at)) (plan_steps (old_end way) (new_end way) words) passes at.steps at.aims count (omega (arith, not_the_last way words)) (eqb-true _ _ last) aimed.all on e))
+    | inr more ↦ (refl, rw (on, more) (step_less (aims_step (OnWay way at)) (plan_steps (old_end way) (new_end way) words) passes at.steps at.aims count (omega (arith, not_the_last way words)) aimed.all on e))
   ]
 ]
 one_less passes words count (InMemory rest) aimed e = absurd (omega (arith, e))
@@ -286,9 +275,7 @@ rest_reach : (there : Home) (into : Option Place) → is_moving there ≡ false 
 rest_reach there into rests (inl old) = old.0
 rest_reach (InMemory rest) into rests (inr new) = absurd (cc)
 rest_reach (Resident p) into rests (inr new) = absurd (cc)
-rest_reach (Leaving from at) into rests (inr new) = absurd (cc)
-rest_reach (Arriving to at) into rests (inr new) = absurd (cc)
-rest_reach (Shifting from to at) into rests (inr new) = absurd (cc)
+rest_reach (OnWay way at) into rests (inr new) = absurd (cc)
 
 pub flying_rests : (h : History) (vm k : ℕ) (s : Sending) → IsHistory h → flying h vm k ≡ Some s → is_moving (home h (sent_to vm s)) ≡ false → sent_into vm s ≡ origin (home h (sent_to vm s))
 flying_rests h vm k s good e rests = rest_reach (home h (sent_to vm s)) (sent_into vm s) rests (all_at (MayFly h vm) k (flight h vm) s e (flights_may h good vm))

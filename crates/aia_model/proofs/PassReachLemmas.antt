@@ -1,17 +1,17 @@
 -- Where a passed source leads, as its virtual hart is moved: only its own aim changes it.
 use Rattle.std.proofs.Common.{◌≡◌, ◌+◌, ◌||◌, ℕ, Bool, true, false, cond, if◌then◌else◌, nat_eq, nat_lt, Option, Some, None, inl, inr, refl, sym, ap, ◌∙◌, arith}
 use Rattle.std.specs.Option.{option_map_or}
-use Rattle.std.proofs.lemmas.Bool.{cases_Bool, or_right, cond-false}
+use Rattle.std.proofs.lemmas.Bool.{cases_Bool, cond-true, cond-false}
 use Rattle.std.proofs.lemmas.Bool.Decides.{nat_tests}
 use Rattle.aia_home.specs.declared.place.Place.{Place}
-use Rattle.aia_home.specs.Home.{Home, is_place, holds, ended, one_more, leaving, arriving, shifting}
+use Rattle.aia_home.specs.Home.{Home, left, led_to, at_rest, holds, ended, one_more, leaving, arriving, shifting}
 use Rattle.aia_home.specs.declared.rest.Rest.TheVariants.{Parked}
-use Rattle.aia_home.specs.Home.Home.{InMemory, Resident, Leaving, Arriving, Shifting}
+use Rattle.aia_home.specs.Home.Home.{InMemory, Resident, OnWay}
 use Rattle.aia_home.specs.Plans.{is_at_last, stepped}
 use Rattle.aia_home.specs.BySteps.{new_file}
 use Rattle.aia_home.specs.Routes.{origin}
 use Rattle.aia_home.specs.Aims.{aims_done, is_aiming, aimed, further, pass_reaches, AreAimed}
-use Rattle.aia_home.proofs.HomeLemmas.{some_same}
+use Rattle.aia_home.proofs.HomeLemmas.{not_the_last, origin_is_held, new_is_held}
 use Rattle.aia_model.specs.HomeOf.{guest_place}
 
 none_below : (r : ℕ) → nat_lt r 0 ≡ false
@@ -20,7 +20,7 @@ none_below r = grind (arith, nat_tests)
 -- ---- a move begins
 
 pub leaving_passes : (r : ℕ) (there : Home) → pass_reaches r (leaving there) ≡ pass_reaches r there
-leaving_passes r (Leaving from at) = refl
+leaving_passes r (OnWay way at) = refl
 leaving_passes r there = refl
 
 pub arriving_passes : (r : ℕ) (q : Place) (there : Home) → pass_reaches r (arriving q there) ≡ pass_reaches r there
@@ -42,14 +42,20 @@ shifts_passes r hart (Some f) there = shifting_passes r (guest_place hart f) the
 -- ---- a step that aims none
 
 one_more_passes : (r : ℕ) (there : Home) → pass_reaches r (one_more there) ≡ pass_reaches r there
-one_more_passes r (Leaving from at) = refl
+one_more_passes r (OnWay way at) = refl
 one_more_passes r there = refl
 
 -- at the last step all are aimed
+rests_reached : (r : ℕ) (to : Option Place) → pass_reaches r (at_rest to) ≡ to
+rests_reached r None = cond-false _ _ _ (none_below r)
+rests_reached r (Some p) = cond-false _ _ _ (none_below r)
+
 ended_passes : (passes words r : ℕ) (there : Home) → nat_lt r passes ≡ true → AreAimed passes there → is_at_last words there ≡ true → pass_reaches r (ended there) ≡ pass_reaches r there
-ended_passes passes words r (Leaving from at) below a last = let all = a.all (grind (arith, nat_tests)) in let e : nat_lt r at.aims ≡ true = grind (arith, nat_tests) in rw (e, none_below r) refl
-ended_passes passes words r (Arriving to at) below a last = let all = a.all (grind (arith, nat_tests)) in let e : nat_lt r at.aims ≡ true = grind (arith, nat_tests) in rw (e, none_below r) refl
-ended_passes passes words r (Shifting from to at) below a last = let all = a.all (grind (arith, nat_tests)) in let e : nat_lt r at.aims ≡ true = grind (arith, nat_tests) in rw (e, none_below r) refl
+ended_passes passes words r (OnWay way at) below a last =
+    let far = not_the_last way words in
+    let all = a.all (grind (arith, nat_tests)) in
+    let e : nat_lt r at.aims ≡ true = grind (arith, nat_tests) in
+    rests_reached r (led_to way) ∙ sym (cond-true _ _ _ e)
 ended_passes passes words r there below a last = absurd (cc)
 
 pub stepped_passes : (passes words r : ℕ) (there : Home) → nat_lt r passes ≡ true → AreAimed passes there → pass_reaches r (stepped words there) ≡ pass_reaches r there
@@ -71,27 +77,14 @@ aims_on r a other = elim (cases_Bool (nat_lt r a)) [
 ]
 
 pub aimed_other : (r : ℕ) (there : Home) → nat_eq r (aims_done there) ≡ false → pass_reaches r (aimed there) ≡ pass_reaches r there
-aimed_other r (Leaving from at) other = ap (λ b. if b then None else Some from) (aims_on r at.aims other)
-aimed_other r (Arriving to at) other = ap (λ b. if b then Some to else None) (aims_on r at.aims other)
-aimed_other r (Shifting from to at) other = ap (λ b. if b then Some to else Some from) (aims_on r at.aims other)
+aimed_other r (OnWay way at) other = ap (λ b. if b then led_to way else left way) (aims_on r at.aims other)
 aimed_other r there other = refl
 
 -- ---- it leads to no guest file that its virtual hart does not hold
 
 pub reach_is_held : (r : ℕ) (there : Home) (q : Place) → pass_reaches r there ≡ Some q → holds q there ≡ true
-reach_is_held r there q e = by_test (nat_lt r (aims_done there)) there e
+reach_is_held r there q e = by_test (nat_lt r (aims_done there)) e
   where
-    from_or : (from to : Place) (b : Bool) → ◌≡◌ {A = Option Place} (cond b (Some to) (Some from)) (Some q) → (is_place q from || is_place q to) ≡ true
-    from_or from to true e = or_right (is_place q from) (is_place q to) (some_same to q e)
-    from_or from to false e = ap (λ b. b || is_place q to) (some_same from q e)
-
-    by_test : (b : Bool) (there : Home) → (if b then new_file there else origin there) ≡ Some q → holds q there ≡ true
-    by_test true (InMemory rest) e = absurd (cc)
-    by_test false (InMemory rest) e = absurd (cc)
-    by_test true (Resident p) e = absurd (cc)
-    by_test false (Resident p) e = some_same p q e
-    by_test true (Leaving from at) e = absurd (cc)
-    by_test false (Leaving from at) e = some_same from q e
-    by_test true (Arriving to at) e = some_same to q e
-    by_test false (Arriving to at) e = absurd (cc)
-    by_test b (Shifting from to at) e = from_or from to b e
+    by_test : (b : Bool) → (if b then new_file there else origin there) ≡ Some q → holds q there ≡ true
+    by_test true e = new_is_held there q e
+    by_test false e = origin_is_held there q e

@@ -12,7 +12,7 @@ use Rattle.aia_word.specs.Sets.{least_of}
 use Rattle.aia_word.proofs.LeastLemmas.{least_of-found, least_of_is, least_of_is_none}
 use Rattle.aia_home.specs.Vms.{Vcpu, vcpu, is_vcpu, notice_hart}
 use Rattle.aia_home.specs.Home.{Home, is_moving}
-use Rattle.aia_home.specs.Home.Home.{Leaving, Arriving, Shifting}
+use Rattle.aia_home.specs.Home.Home.{OnWay}
 use Rattle.aia_home.specs.BySteps.{new_file, is_drained}
 use Rattle.aia_home.proofs.PassLemmas.{pass_drained}
 use Rattle.aia_home.specs.Aims.{is_aiming, aims_done, aimed, further, pass_reaches, target_to}
@@ -394,9 +394,7 @@ passes_stand (event ∷ h) good = let all = passes_stand h good.1 in record {
 
 -- once a word is taken each leads to the new place
 drained_moves : (words w : ℕ) (there : Home) → is_drained words there w ≡ true → is_moving there ≡ true
-drained_moves words w (Leaving from at) e = refl
-drained_moves words w (Arriving to at) e = refl
-drained_moves words w (Shifting from to at) e = refl
+drained_moves words w (OnWay way at) e = refl
 drained_moves words w there e = let no : false ≡ true = grind (arith, nat_tests) in absurd (false≢true no)
 
 pub pass_after_take : (h : History) (p w : ℕ) → IsHistory h → p < length (passes_of h) → is_drained (file_words h) (home h (nth_pass h p).to) w ≡ true → pass_reach h p ≡ new_file (home h (nth_pass h p).to)

@@ -18,8 +18,7 @@ use Rattle.aia_entry.specs.Tables.{table_of, entry_in_force, leads_by, route_of}
 use Rattle.aia_entry.specs.Translation.{is_msi_address, file_number}
 use Rattle.aia_home.specs.declared.place.Place.{Place}
 use Rattle.aia_home.specs.Vms.{Vcpu, is_vcpu_in, slot_of, notice_identity, notice_hart}
-use Rattle.aia_home.specs.Home.{Home, is_place, holds}
-use Rattle.aia_home.specs.Home.Home.{InMemory, Resident, Leaving, Arriving, Shifting}
+use Rattle.aia_home.specs.Home.{holds}
 use Rattle.aia_home.specs.BySteps.{own_file, next_file}
 use Rattle.aia_home.specs.Routes.{peers_reach, MayReach, MayLand}
 use Rattle.aia_home.proofs.RouteLemmas.{reach_lands, peers_may}
@@ -32,7 +31,7 @@ use Rattle.aia_world.specs.Whole.{IsWhole}
 use Rattle.aia_world.specs.Stores.{StoresIn, StoresInGuestFile, NoticedBy, StoresInSlot, Reaches, ReachesBy, ReachesByRecord, with_store, page_spot}
 use Rattle.aia_world.specs.Changes.{spot_of, file_in, places_of}
 use Rattle.aia_world.specs.Own.{TouchesOwn}
-use Rattle.aia_home.proofs.HomeLemmas.{same_place, landing_is_held}
+use Rattle.aia_home.proofs.HomeLemmas.{either_file, landing_is_held}
 use Rattle.aia_world.proofs.OwnLemmas.{by_entry, guest_spot, touches_file, touches_slot, others_stay}
 use Rattle.aia_world.proofs.PlaceLemmas.{slot_found, host_page, named_guest}
 use Rattle.aia_world.proofs.StoreViews.{file_store-places, slot_store-places}
@@ -79,20 +78,7 @@ Lands w u g (Some p) offset value = StoresIn w u (spot_of p) offset value
 Lands w u g None offset value = StoresInSlot w u (Some (slot_of w.vms g)) (SupervisorFile (notice_hart w.vms g)) (notice_identity w.vms g) offset value
 
 held_there : (w : World) (m : Moving) → MoveFits w m → (p : Place) → holds p m.home ≡ true → IsThere w.imsic (spot_of p)
-held_there w m fits p held = by_home m.home fits.own fits.next held
-  where
-    at : (q : Place) → is_place p q ≡ true → IsThere w.imsic (spot_of q) → IsThere w.imsic (spot_of p)
-    at q e inside = subst (λ (r : Place). IsThere w.imsic (spot_of r)) (sym (same_place p q e)) inside
-
-    by_home : (z : Home) → ((r : Place) → own_file z ≡ Some r → IsThere w.imsic (spot_of r)) → ((r : Place) → next_file z ≡ Some r → IsThere w.imsic (spot_of r)) → holds p z ≡ true → IsThere w.imsic (spot_of p)
-    by_home (InMemory rest) own next e = absurd (cc)
-    by_home (Resident q) own next e = at q e (own q refl)
-    by_home (Leaving from at_) own next e = at from e (own from refl)
-    by_home (Arriving to at_) own next e = at to e (own to refl)
-    by_home (Shifting from to at_) own next e = elim (cases_Bool (is_place p from)) [
-      | inl first ↦ at from first (own from refl)
-      | inr other ↦ at to (sym (ap (λ b. b || is_place p to) other) ∙ e) (next to refl)
-    ]
+held_there w m fits p held = elim (either_file p m.home held) [ inl own ↦ fits.own p own | inr next ↦ fits.next p next ]
 
 module _ (w u : World) (plan : Plan) (reach : Option Place) (file : InterruptFile) (saw : Bool) (offset value : ℕ) (whole : IsWhole w) (apart : AreApart (moving_of plan).home) (within : IsWithin w.n (width w) file) (knows : Knows w plan reach file saw) where
   abbrev mv : Moving

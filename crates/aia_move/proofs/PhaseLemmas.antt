@@ -1,19 +1,20 @@
 -- The phases of a plan: where its steps aim passed sources, and what they leave; which phase comes
 -- after a step; what a step makes, and one in place, by the phase that the plan is in; what the
 -- accesses that carry the sets need of a carrier.
-use Rattle.std.proofs.Common.{◌≡◌, ◌≢◌, ℕ, ◌+◌, ◌<◌, ◌≤◌, Bool, true, false, ◌&&◌, nat_lt, refl, sym, ap, ◌∙◌, subst, arith, Option, Some, None, ◌-◌, ◌/◌}
+use Rattle.std.proofs.Common.{◌≡◌, ◌≢◌, ℕ, ◌+◌, ◌<◌, ◌≤◌, Bool, true, false, ◌&&◌, if◌then◌else◌, nat_lt, refl, sym, ap, ◌∙◌, subst, arith, Option, Some, None, ◌-◌, ◌/◌}
 use Rattle.std.specs.Prelude.{is_none}
 use Rattle.std.proofs.lemmas.Bool.{eq-eqb, ne_eqb}
 use Rattle.aia_word.specs.Sets.{has_bit}
 use Rattle.aia_regs.specs.declared.limits.TheConstants.{FILE_WORDS}
-use Rattle.aia_home.specs.Home.{Home, Progress, is_moving, one_more}
-use Rattle.aia_home.specs.Home.Home.{Leaving, Arriving, Shifting}
+use Rattle.aia_home.specs.Home.{End, is_file, old_end, new_end, Home, Progress, is_moving, one_more}
+use Rattle.aia_home.specs.Home.Home.{OnWay}
+use Rattle.aia_home.specs.Home.End.{File, Memory}
 use Rattle.aia_home.specs.Plans.{Access, steps_done, is_last_made, leave_steps}
 use Rattle.aia_home.specs.Plans.Access.{TakePending, TakeEnables}
-use Rattle.aia_home.specs.Phases.{Phase, following, begins, after_shared}
+use Rattle.aia_home.specs.Phases.{Phase, following, phase_begins, begins, after_shared}
 use Rattle.aia_home.specs.Phases.Phase.{FirstPhase, ClosingPhase, DrainPhase, EnablePhase, LookPhase, LastPhase}
 use Rattle.aia_home.specs.BySteps.{own_file, next_file}
-use Rattle.aia_home.specs.Aims.{aims_done, is_aiming, aimed}
+use Rattle.aia_home.specs.Aims.{aims_done, aims_step, is_aiming, aimed}
 use Rattle.aia_home.specs.Routes.{is_at_fence}
 use Rattle.aia_world.specs.World.{World}
 use Rattle.aia_moving.specs.declared.turn.Closed.{Closed}
@@ -23,6 +24,7 @@ use Rattle.aia_moving.specs.Targets.{aims, pass_count, has_unaimed, one_aimed, a
 use Rattle.aia_moving.specs.Carrier.{CarrierState, progress_of, moving, one_aim_done}
 use Rattle.aia_moving.specs.Turns.{IsIn, IsAtAims, IsMove, GoesOn, AimsOn, MatchClosed}
 use Rattle.aia_moving.specs.Landings.{OnceLanded}
+use Rattle.aia_home.proofs.PhaseLemmas.{looks_begin, sets_first}
 use Rattle.aia_moving.proofs.PhaseSteps.{Middle, middle, begins_on, past_fence}
 use Rattle.aia_moving.proofs.LandingLemmas.{none_lands}
 use Rattle.aia_moving.proofs.StepLemmas.{it_moves, steps_are}
@@ -35,16 +37,12 @@ use Rattle.aia_move.specs.Plan.{moving_of, is_in_aim, IsInDrain, NextStepIsOf, I
 
 -- just before the first word is taken it aims while a source is left
 aims_at : (words passes : ℕ) (there : Home) → is_moving there ≡ true → steps_done there ≡ begins words there DrainPhase → is_aiming passes there ≡ nat_lt (aims_done there) passes
-aims_at words passes (Leaving from at) moves e = ap (λ b. b && nat_lt at.aims passes) (eq-eqb _ _ e)
-aims_at words passes (Arriving to at) moves e = ap (λ b. b && nat_lt at.aims passes) (eq-eqb _ _ e)
-aims_at words passes (Shifting from to at) moves e = ap (λ b. b && nat_lt at.aims passes) (eq-eqb _ _ e)
+aims_at words passes (OnWay way at) moves e = ap (λ b. b && nat_lt at.aims passes) (eq-eqb at.steps (aims_step (OnWay way at)) (omega (arith, e)))
 aims_at words passes there moves e = absurd (cc)
 
 -- elsewhere none does
 none_aims : (words passes : ℕ) (there : Home) → (is_moving there ≡ true → steps_done there ≢ begins words there DrainPhase) → is_aiming passes there ≡ false
-none_aims words passes (Leaving from at) other = ap (λ b. b && nat_lt at.aims passes) (ne_eqb _ _ (other refl))
-none_aims words passes (Arriving to at) other = ap (λ b. b && nat_lt at.aims passes) (ne_eqb _ _ (other refl))
-none_aims words passes (Shifting from to at) other = ap (λ b. b && nat_lt at.aims passes) (ne_eqb _ _ (other refl))
+none_aims words passes (OnWay way at) other = ap (λ b. b && nat_lt at.aims passes) (ne_eqb at.steps (aims_step (OnWay way at)) (λ same. other refl (omega (arith, same))))
 none_aims words passes there other = refl
 
 -- ---- a step aims in its phase alone
@@ -63,7 +61,7 @@ no_aim_in_look words m some is = none_aims words _ m.home (λ moves e. let mid =
 
 -- what is last comes after the looks, which a leave alone has
 looks_before_last : (words : ℕ) (there : Home) → begins words there LookPhase ≤ begins words there LastPhase
-looks_before_last words (Leaving from at) = omega arith
+looks_before_last words (OnWay way at) = let looks = looks_begin (old_end way) (new_end way) words in let enough = sets_first (new_end way) words in omega (arith, looks, enough)
 looks_before_last words there = omega arith
 
 no_aim_in_last : (words : ℕ) (m : Moving) → 1 ≤ words → IsIn LastPhase words m → aims m ≡ false
@@ -90,15 +88,15 @@ leave_drains words m is none = record { phase = is; aimed = none }
 -- ---- what an aim leaves
 
 aimed_own : (there : Home) → own_file (aimed there) ≡ own_file there
-aimed_own (Leaving from at) = refl
+aimed_own (OnWay way at) = refl
 aimed_own there = refl
 
 aimed_next : (there : Home) → next_file (aimed there) ≡ next_file there
-aimed_next (Leaving from at) = refl
+aimed_next (OnWay way at) = refl
 aimed_next there = refl
 
 aimed_carried : (words : ℕ) (there : Home) (access : Access) → is_last_made words (aimed there) access ≡ is_last_made words there access
-aimed_carried words (Leaving from at) access = refl
+aimed_carried words (OnWay way at) access = refl
 aimed_carried words there access = refl
 
 pub aim_fits : (w : World) (m : Moving) → MoveFits w m → MoveFits w (one_aimed m)
@@ -121,9 +119,7 @@ move_aims there is w l now s seen fits done =
 
 -- in each phase the home moves
 moves_in : (phase : Phase) (words : ℕ) (there : Home) → (begins words there phase ≤ steps_done there) × (steps_done there < begins words there (following phase)) → is_moving there ≡ true
-moves_in phase words (Leaving from at) is = refl
-moves_in phase words (Arriving to at) is = refl
-moves_in phase words (Shifting from to at) is = refl
+moves_in phase words (OnWay way at) is = refl
 moves_in phase words there is = absurd (omega (arith, is.1))
 
 at_aims : (words : ℕ) (x : Moving) → is_moving x.home ≡ true → steps_done x.home ≡ begins words x.home DrainPhase → has_unaimed x ≡ true → IsAtAims x
@@ -135,9 +131,7 @@ drain_begins words x moves some at none =
     record { phase = (omega (arith, at), omega (arith, at, some, mid.drains)); aimed = aims_at words _ x.home moves at ∙ none }
 
 still_moves : (there : Home) → is_moving there ≡ true → is_moving (one_more there) ≡ true
-still_moves (Leaving from at) moves = refl
-still_moves (Arriving to at) moves = refl
-still_moves (Shifting from to at) moves = refl
+still_moves (OnWay way at) moves = refl
 still_moves there moves = moves
 
 begins_still : (w u : World) (m t : Moving) (phase : Phase) → GoesOn w m u t → begins (width u) t.home phase ≡ begins (width w) m.home phase
@@ -176,9 +170,12 @@ still_drains w u m t is goes more = record {
 -- not have, has no steps
 after_begins : (words : ℕ) (there : Home) → is_moving there ≡ true → 1 ≤ words
     → (begins words there (after_shared there) ≡ begins words there (following EnablePhase)) × (begins words there (following EnablePhase) < begins words there (following (after_shared there)))
-after_begins words (Leaving from at) moves some = (refl, omega (arith, some))
-after_begins words (Arriving to at) moves some = (refl, omega arith)
-after_begins words (Shifting from to at) moves some = (refl, omega arith)
+after_begins words (OnWay way at) moves some = by_end (old_end way) (new_end way)
+  where
+    by_end : (from to : End)
+        → (phase_begins from to words (if is_file to then LastPhase else LookPhase) ≡ phase_begins from to words LookPhase) × (phase_begins from to words LookPhase < phase_begins from to words (following (if is_file to then LastPhase else LookPhase)))
+    by_end from File = (refl, omega arith)
+    by_end from Memory = (refl, omega (arith, some))
 after_begins words there moves some = absurd (cc)
 
 pub is_after : (phase : Phase) (words : ℕ) (m : Moving) → is_moving m.home ≡ true → phase ≡ after_shared m.home → 1 ≤ words → steps_done m.home ≡ begins words m.home (following EnablePhase) → IsIn phase words m
@@ -256,15 +253,11 @@ module _ (w u : World) (plan later : Plan) (words : ℕ) (value : words ≡ widt
 -- ---- the sets are carried
 
 pending_zero : (words : ℕ) (there : Home) → is_moving there ≡ true → steps_done there ≡ begins words there DrainPhase + 1 → is_last_made words there (TakePending 0) ≡ true
-pending_zero words (Leaving from at) moves e = eq-eqb _ _ e
-pending_zero words (Arriving to at) moves e = eq-eqb _ _ e
-pending_zero words (Shifting from to at) moves e = eq-eqb _ _ e
+pending_zero words (OnWay way at) moves e = eq-eqb _ _ e
 pending_zero words there moves e = absurd (cc)
 
 enables_zero : (words : ℕ) (there : Home) → is_moving there ≡ true → steps_done there ≡ begins words there EnablePhase + 1 → is_last_made words there (TakeEnables 0) ≡ true
-enables_zero words (Leaving from at) moves e = eq-eqb _ _ e
-enables_zero words (Arriving to at) moves e = eq-eqb _ _ e
-enables_zero words (Shifting from to at) moves e = eq-eqb _ _ e
+enables_zero words (OnWay way at) moves e = eq-eqb _ _ e
 enables_zero words there moves e = absurd (cc)
 
 -- the next access carries a word of a set, in the phase that began with step `start`

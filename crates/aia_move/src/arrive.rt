@@ -1,6 +1,7 @@
 ghost use Rattle.std.specs.Prelude.{◌≡◌, false, ⊤};
 ghost use Rattle.aia_home.specs.Home.{at_first};
-ghost use Rattle.aia_home.specs.Home.Home.{Arriving};
+ghost use Rattle.aia_home.specs.Home.Home.{OnWay};
+ghost use Rattle.aia_home.specs.Home.Way.{Inward};
 ghost use Rattle.aia_home.specs.Plans.{arrive_step, steps_done};
 ghost use Rattle.aia_home.specs.Plans.Access.{PutThreshold, PutDelivery};
 ghost use Rattle.aia_home.specs.Phases.Phase.{FirstPhase, ClosingPhase, LastPhase};
@@ -28,7 +29,7 @@ impl Arrive<First> {
     pub(crate) fn new(file: FileLease, who: Who, kept: KeptNumbers) -> Arrive<First>
         ensures { result ≡ record {
           who = who;
-          home = Arriving file at_first;
+          home = OnWay (Inward file) at_first;
           hand = record {
             word = 0;
             delivery = kept.delivery;

@@ -2,7 +2,8 @@ ghost use Rattle.std.specs.Prelude.{◌≡◌, ℕ, ◌≤◌, option_map, refl}
 ghost use Rattle.std.specs.Borrow.{Bor};
 ghost use Rattle.aia_home.specs.declared.place.Place.{Place};
 ghost use Rattle.aia_home.specs.Home.{Home, Progress};
-ghost use Rattle.aia_home.specs.Home.Home.{Leaving, Arriving, Shifting};
+ghost use Rattle.aia_home.specs.Home.Home.{OnWay};
+ghost use Rattle.aia_home.specs.Home.Way.{Outward, Inward, Across};
 ghost use Rattle.aia_home.specs.Phases.{Phase, following, leave_begins, begins, after_shared};
 ghost use Rattle.aia_home.specs.Phases.Phase.{FirstPhase, LookPhase, LastPhase};
 ghost use Rattle.aia_home.specs.BySteps.{new_file};
@@ -59,7 +60,7 @@ pub struct ToMemory {
 }
 
 impl Kind for ToMemory {
-    ghost home = { λ k at. Leaving k.file at };
+    ghost home = { λ k at. OnWay (Outward k.file) at };
 
     ghost after = { LookPhase };
 
@@ -100,7 +101,7 @@ pub struct ToFile {
 }
 
 impl Kind for ToFile {
-    ghost home = { λ k at. Arriving k.file at };
+    ghost home = { λ k at. OnWay (Inward k.file) at };
 
     ghost after = { LastPhase };
 
@@ -143,7 +144,7 @@ pub struct ToOtherFile {
 }
 
 impl Kind for ToOtherFile {
-    ghost home = { λ k at. Shifting k.from k.to at };
+    ghost home = { λ k at. OnWay (Across k.from k.to) at };
 
     ghost after = { LastPhase };
 

@@ -1,6 +1,7 @@
 ghost use Rattle.std.specs.Prelude.{◌≡◌, true, false, ⊤};
 ghost use Rattle.aia_home.specs.Home.{at_first};
-ghost use Rattle.aia_home.specs.Home.Home.{Leaving};
+ghost use Rattle.aia_home.specs.Home.Home.{OnWay};
+ghost use Rattle.aia_home.specs.Home.Way.{Outward};
 ghost use Rattle.aia_home.specs.Plans.{leave_step, steps_done};
 ghost use Rattle.aia_home.specs.Plans.Access.{TakeThreshold, Post};
 ghost use Rattle.aia_home.specs.Phases.Phase.{FirstPhase, ClosingPhase, LookPhase, LastPhase};
@@ -29,7 +30,7 @@ impl Leave<First> {
     pub(crate) fn new(file: FileLease, who: Who) -> Leave<First>
         ensures { result ≡ record {
           who = who;
-          home = Leaving file at_first;
+          home = OnWay (Outward file) at_first;
           hand = record { word = 0; delivery = 0; threshold = 0; seen = false };
         } }
     {

@@ -1,7 +1,8 @@
 ghost use Rattle.std.specs.Prelude.{◌≡◌, ℕ, false, ⊤};
 ghost use Rattle.aia_imsic.specs.Imsic.{IsThere};
 ghost use Rattle.aia_home.specs.Home.{at_first};
-ghost use Rattle.aia_home.specs.Home.Home.{Leaving, Arriving, Shifting};
+ghost use Rattle.aia_home.specs.Home.Home.{OnWay};
+ghost use Rattle.aia_home.specs.Home.Way.{Outward, Inward, Across};
 ghost use Rattle.aia_places.specs.Stores.{AreApart};
 ghost use Rattle.aia_world.specs.World.{World};
 ghost use Rattle.aia_world.specs.Changes.{spot_of};
@@ -87,7 +88,7 @@ impl Plan {
     pub fn leave(file: FileLease, who: Who) -> Plan
         ensures begins { moving_of result ≡ record {
           who = who;
-          home = Leaving file at_first;
+          home = OnWay (Outward file) at_first;
           hand = record { word = 0; delivery = 0; threshold = 0; seen = false };
         } }
         ensures phase { (words : ℕ) → IsInPhase words result }
@@ -103,7 +104,7 @@ impl Plan {
     pub fn arrive(file: FileLease, who: Who, kept: KeptNumbers) -> Plan
         ensures begins { moving_of result ≡ record {
           who = who;
-          home = Arriving file at_first;
+          home = OnWay (Inward file) at_first;
           hand = record {
             word = 0;
             delivery = kept.delivery;
@@ -124,7 +125,7 @@ impl Plan {
     pub fn shift(old: FileLease, new: FileLease, who: Who) -> Plan
         ensures begins { moving_of result ≡ record {
           who = who;
-          home = Shifting old new at_first;
+          home = OnWay (Across old new) at_first;
           hand = record { word = 0; delivery = 0; threshold = 0; seen = false };
         } }
         ensures phase { (words : ℕ) → IsInPhase words result }

@@ -1,6 +1,7 @@
 ghost use Rattle.std.specs.Prelude.{◌≡◌, false, ⊤};
 ghost use Rattle.aia_home.specs.Home.{at_first};
-ghost use Rattle.aia_home.specs.Home.Home.{Shifting};
+ghost use Rattle.aia_home.specs.Home.Home.{OnWay};
+ghost use Rattle.aia_home.specs.Home.Way.{Across};
 ghost use Rattle.aia_home.specs.Plans.{shift_step, steps_done};
 ghost use Rattle.aia_home.specs.Plans.Access.{TakeThreshold, PutDelivery};
 ghost use Rattle.aia_home.specs.Phases.Phase.{FirstPhase, ClosingPhase, LastPhase};
@@ -29,7 +30,7 @@ impl Shift<First> {
     pub(crate) fn new(from: FileLease, to: FileLease, who: Who) -> Shift<First>
         ensures { result ≡ record {
           who = who;
-          home = Shifting from to at_first;
+          home = OnWay (Across from to) at_first;
           hand = record { word = 0; delivery = 0; threshold = 0; seen = false };
         } }
     {

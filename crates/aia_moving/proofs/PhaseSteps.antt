@@ -2,13 +2,14 @@
 use Rattle.std.proofs.Common.{◌≡◌, ℕ, ◌+◌, ◌-◌, ◌*◌, ◌/◌, ◌%◌, ◌<◌, ◌≤◌, true, false, inl, inr, refl, sym, ap, ◌∙◌, subst, arith}
 use Rattle.std.proofs.lemmas.Bool.{cases_eq, lt-ltb, eq-eqb, ne_eqb}
 use Rattle.aia_word.specs.Sets.{has_bit}
-use Rattle.aia_home.specs.Home.{Home, Progress, is_moving, one_more}
-use Rattle.aia_home.specs.Home.Home.{InMemory, Resident, Leaving, Arriving, Shifting}
+use Rattle.aia_home.specs.Home.{Home, Progress, old_end, new_end, is_moving, one_more}
+use Rattle.aia_home.specs.Home.Home.{InMemory, Resident, OnWay}
 use Rattle.aia_home.specs.Plans.{IsNext, step_of, steps_done, first_take, pending_step, enables_step}
 use Rattle.aia_home.specs.Plans.Access.{Map, GFence, TakePending, PutPending, TakeEnables, PutEnables}
 use Rattle.aia_home.specs.Phases.{Phase, following, leave_begins, begins}
 use Rattle.aia_home.specs.Phases.Phase.{FirstPhase, ClosingPhase, DrainPhase, EnablePhase}
 use Rattle.aia_home.specs.Routes.{is_at_fence}
+use Rattle.aia_home.proofs.PhaseLemmas.{looks_begin, few_before}
 use Rattle.aia_world.specs.World.{World}
 use Rattle.aia_moving.specs.Move.{Moving, width, MoveFits}
 use Rattle.aia_moving.specs.Carrier.{CarrierState, progress_of, moving, Does, closing_access, pending_access, enables_access}
@@ -30,21 +31,20 @@ pub record Middle (words : ℕ) (there : Home) : Type 0 where
   pub take_enables : step_of words there (TakeEnables 0) ≡ begins words there EnablePhase
 
 pub middle : (words : ℕ) (there : Home) → is_moving there ≡ true → Middle words there
-middle words (Leaving from at) moves = record { closes = refl; drain = omega arith; drains = omega arith; enable = omega arith; ends = omega arith; few = omega arith; take = refl; take_enables = refl }
-middle words (Arriving to at) moves = record { closes = refl; drain = omega arith; drains = omega arith; enable = omega arith; ends = omega arith; few = omega arith; take = refl; take_enables = refl }
-middle words (Shifting from to at) moves = record { closes = refl; drain = omega arith; drains = omega arith; enable = omega arith; ends = omega arith; few = omega arith; take = refl; take_enables = refl }
+middle words (OnWay way at) moves =
+    let looks = looks_begin (old_end way) (new_end way) words in
+    let few = few_before (old_end way) (new_end way) in
+    record { closes = omega arith; drain = omega arith; drains = omega arith; enable = omega arith; ends = omega (arith, looks); few = omega (arith, looks, few); take = refl; take_enables = refl }
 middle words there moves = absurd (cc)
 
 -- a step changes no beginning
 pub begins_on : (words : ℕ) (there : Home) (phase : Phase) → begins words (one_more there) phase ≡ begins words there phase
-begins_on words (Leaving from at) phase = refl
+begins_on words (OnWay way at) phase = refl
 begins_on words there phase = refl
 
 -- past the first phase a move is past its fence
 pub past_fence : (words : ℕ) (there : Home) → begins words there (following FirstPhase) ≤ steps_done there → is_at_fence there ≡ false
-past_fence words (Leaving from at) past = ne_eqb _ _ (λ e. omega (arith, e, past))
-past_fence words (Arriving to at) past = ne_eqb _ _ (λ e. omega (arith, e, past))
-past_fence words (Shifting from to at) past = ne_eqb _ _ (λ e. omega (arith, e, past))
+past_fence words (OnWay way at) past = ne_eqb _ _ (λ e. omega (arith, e, past))
 past_fence words there past = refl
 
 -- ---- the next access in each of them
@@ -61,26 +61,10 @@ record Accesses (words : ℕ) (there : Home) : Type 0 where
 accesses : (words : ℕ) (there : Home) → is_moving there ≡ true → Accesses words there
 accesses words (InMemory rest) moves = absurd (cc)
 accesses words (Resident p) moves = absurd (cc)
-accesses words (Leaving from at) moves = record {
+accesses words (OnWay way at) moves = record {
   map = λ e. record { has = refl; step = e };
   gfence = λ e. record { has = refl; step = omega (arith, e) };
-  take_pending = λ w low e. record { has = lt-ltb w words low; step = e };
-  put_pending = λ w low e. record { has = lt-ltb w words low; step = omega (arith, e) };
-  take_enables = λ w low e. record { has = lt-ltb w words low; step = omega (arith, e) };
-  put_enables = λ w low e. record { has = lt-ltb w words low; step = omega (arith, e) };
-}
-accesses words (Arriving to at) moves = record {
-  map = λ e. record { has = refl; step = e };
-  gfence = λ e. record { has = refl; step = omega (arith, e) };
-  take_pending = λ w low e. record { has = lt-ltb w words low; step = e };
-  put_pending = λ w low e. record { has = lt-ltb w words low; step = omega (arith, e) };
-  take_enables = λ w low e. record { has = lt-ltb w words low; step = omega (arith, e) };
-  put_enables = λ w low e. record { has = lt-ltb w words low; step = omega (arith, e) };
-}
-accesses words (Shifting from to at) moves = record {
-  map = λ e. record { has = refl; step = e };
-  gfence = λ e. record { has = refl; step = omega (arith, e) };
-  take_pending = λ w low e. record { has = lt-ltb w words low; step = e };
+  take_pending = λ w low e. record { has = lt-ltb w words low; step = omega (arith, e) };
   put_pending = λ w low e. record { has = lt-ltb w words low; step = omega (arith, e) };
   take_enables = λ w low e. record { has = lt-ltb w words low; step = omega (arith, e) };
   put_enables = λ w low e. record { has = lt-ltb w words low; step = omega (arith, e) };

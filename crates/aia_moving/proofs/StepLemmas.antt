@@ -1,6 +1,7 @@
 -- A step of a move: what its access leaves, and that the next step can be made.
 use Rattle.std.proofs.Common.{◌≡◌, ℕ, ◌+◌, ◌*◌, ◌/◌, ◌<◌, ◌≤◌, Bool, true, false, refl, sym, ap, ◌∙◌, subst, arith}
 use Rattle.std.proofs.lemmas.Bool.{ne_eqb}
+use Rattle.aia_home.proofs.HomeLemmas.{not_the_last}
 use Rattle.aia_home.proofs.PhaseLemmas.{carried_pending, carried_enables}
 use Rattle.aia_word.specs.Sets.{has_bit}
 use Rattle.aia_regs.specs.declared.file_registers.FileReg.{FileReg}
@@ -9,7 +10,7 @@ use Rattle.aia_imsic.specs.Imsic.{ImsicState, IsThere}
 use Rattle.aia_home.specs.declared.place.Place.{Place}
 use Rattle.aia_home.specs.Home.{Home, Progress, is_moving, one_more, one_further}
 use Rattle.aia_home.specs.Plans.{is_at_last, Access, steps_done, has_access, step_of, IsNext, first_take, pending_step, enables_step}
-use Rattle.aia_home.specs.Home.Home.{Leaving, Arriving, Shifting}
+use Rattle.aia_home.specs.Home.Home.{OnWay}
 use Rattle.aia_home.specs.Plans.Access.{TakeDelivery, PutDelivery, WriteNotice, WriteEntry, Fence, Map, GFence, TakePending, PutPending, TakeEnables, PutEnables, Look, TakeThreshold, PutThreshold, Post}
 use Rattle.aia_home.specs.Aims.{aims_done}
 use Rattle.aia_home.specs.BySteps.{own_file, next_file}
@@ -78,9 +79,7 @@ record IsSame (words : ℕ) (there : Home) : Type 0 where
   pub order : first_take there + 2 * words ≤ step_of words there (TakeEnables 0)
 
 same_move : (words : ℕ) (there : Home) (access : Access) → has_access words there access ≡ true → IsSame words there
-same_move words (Leaving from at) access has = record { steps = refl; own = refl; next = refl; first = refl; second = refl; order = omega arith }
-same_move words (Arriving to at) access has = record { steps = refl; own = refl; next = refl; first = refl; second = refl; order = omega arith }
-same_move words (Shifting from to at) access has = record { steps = refl; own = refl; next = refl; first = refl; second = refl; order = omega arith }
+same_move words (OnWay way at) access has = record { steps = refl; own = refl; next = refl; first = refl; second = refl; order = omega arith }
 same_move words there access has = absurd (cc)
 
 -- a word 0 that the next access takes has no identity 0
@@ -146,9 +145,7 @@ seen_so w u m s t access seen fits next made is more zero =
 
 -- not the last one
 pub not_last : (words : ℕ) (there : Home) → steps_done there < enables_step words there words → is_at_last words there ≡ false
-not_last words (Leaving from at) low = ne_eqb _ _ (λ e. omega (arith, e, low))
-not_last words (Arriving to at) low = ne_eqb _ _ (λ e. omega (arith, e, low))
-not_last words (Shifting from to at) low = ne_eqb _ _ (λ e. omega (arith, e, low))
+not_last words (OnWay way at) low = let more = not_the_last way words in ne_eqb _ _ (λ e. omega (arith, e, low, more))
 not_last words there low = refl
 
 -- the state with a carrier

@@ -8,8 +8,9 @@ use Rattle.aia_entry.specs.declared.entry.Entry.{Entry}
 use Rattle.aia_entry.specs.declared.entry.Entry.TheVariants as entries
 use Rattle.aia_entry.specs.Format.{basic_word, mrif_word, notice_word}
 use Rattle.aia_home.specs.declared.place.Place.{Place}
-use Rattle.aia_home.specs.Home.{Home}
-use Rattle.aia_home.specs.Home.Home.{Resident, Leaving, Arriving, Shifting}
+use Rattle.aia_home.specs.Home.{End, Home, old_end, new_end}
+use Rattle.aia_home.specs.Home.Home.{Resident, OnWay}
+use Rattle.aia_home.specs.Home.End.{File, Memory}
 use Rattle.aia_home.specs.BySteps.{own_file, next_file}
 use Rattle.aia_regs.specs.declared.limits.TheConstants.{HARTS, GUEST_FILES}
 
@@ -42,24 +43,36 @@ of_slot slot = record { pending = slot.pending; enabled = slot.enabled }
 abbrev pub no_sets : TwoSets
 no_sets = record { pending = λ i. false; enabled = λ i. false }
 
+-- The old end of a move, its new end by what it leads from, and the slot of memory where it is
+-- neither end. The file at one end is its own; where both ends are files the new one is the next.
+abbrev pub old_sets : Places → End → TwoSets
+old_sets v File = of_file v.own
+old_sets v Memory = of_slot v.slot
+
+abbrev pub new_sets : Places → End → End → TwoSets
+new_sets v from Memory = of_slot v.slot
+new_sets v Memory File = of_file v.own
+new_sets v File File = of_file v.next
+
+abbrev pub spare_sets : Places → End → End → TwoSets
+spare_sets v File File = of_slot v.slot
+spare_sets v from to = no_sets
+
 -- The place where it is, or that a move leaves.
 abbrev pub old_place : Places → Home → TwoSets
 old_place v (Resident p) = of_file v.own
-old_place v (Leaving from at) = of_file v.own
-old_place v (Shifting from to at) = of_file v.own
+old_place v (OnWay way at) = old_sets v (old_end way)
 old_place v there = of_slot v.slot
 
 -- The place to which a move leads.
 abbrev pub new_place : Places → Home → TwoSets
-new_place v (Leaving from at) = of_slot v.slot
-new_place v (Arriving to at) = of_file v.own
-new_place v (Shifting from to at) = of_file v.next
+new_place v (OnWay way at) = new_sets v (old_end way) (new_end way)
 new_place v there = no_sets
 
 -- The slot of memory where it is neither the old place nor the new one.
 abbrev pub spare_place : Places → Home → TwoSets
 spare_place v (Resident p) = of_slot v.slot
-spare_place v (Shifting from to at) = of_slot v.slot
+spare_place v (OnWay way at) = spare_sets v (old_end way) (new_end way)
 spare_place v there = no_sets
 
 -- ---- its routes

@@ -6,8 +6,9 @@ use Rattle.aia_regs.specs.declared.access.Op.TheVariants as ops
 use Rattle.aia_regs.specs.declared.file_registers.FileReg.TheVariants.{Delivery, Threshold}
 use Rattle.aia_file.specs.InterruptFile.{InterruptFile, accessed, empty_file}
 use Rattle.aia_entry.specs.Format.{decoded}
-use Rattle.aia_home.specs.Home.{Home}
-use Rattle.aia_home.specs.Home.Home.{Leaving, Arriving, Shifting}
+use Rattle.aia_home.specs.Home.{End, Home, old_end, new_end}
+use Rattle.aia_home.specs.Home.Home.{OnWay}
+use Rattle.aia_home.specs.Home.End.{File, Memory}
 use Rattle.aia_home.specs.BySteps.{new_file}
 use Rattle.aia_home.specs.Plans.{Access}
 use Rattle.aia_home.specs.Plans.Access.{TakeDelivery, PutDelivery, WriteNotice, WriteEntry, Fence, Map, GFence, TakePending, PutPending, TakeEnables, PutEnables, Look, TakeThreshold, PutThreshold, Post}
@@ -25,20 +26,32 @@ abbrev pub with_slot_sets : Places → TwoSets → Places
 with_slot_sets v sets =
     record v { slot = record { pending = sets.pending; enabled = sets.enabled } }
 
+-- The old end of a move with other sets, and the new end.
+abbrev pub with_old_sets : End → Places → TwoSets → Places
+with_old_sets File v sets = record v { own = with_file_sets v.own sets }
+with_old_sets Memory v sets = with_slot_sets v sets
+
+abbrev pub with_new_sets : End → End → Places → TwoSets → Places
+with_new_sets from Memory v sets = with_slot_sets v sets
+with_new_sets Memory File v sets = record v { own = with_file_sets v.own sets }
+with_new_sets File File v sets = record v { next = with_file_sets v.next sets }
+
 -- The old place, and the new place, of a move with other sets.
 abbrev pub with_old : Home → Places → TwoSets → Places
-with_old (Arriving to at) v sets = with_slot_sets v sets
+with_old (OnWay way at) v sets = with_old_sets (old_end way) v sets
 with_old there v sets = record v { own = with_file_sets v.own sets }
 
 abbrev pub with_new : Home → Places → TwoSets → Places
-with_new (Leaving from at) v sets = with_slot_sets v sets
-with_new (Arriving to at) v sets = record v { own = with_file_sets v.own sets }
-with_new (Shifting from to at) v sets = record v { next = with_file_sets v.next sets }
+with_new (OnWay way at) v sets = with_new_sets (old_end way) (new_end way) v sets
 with_new there v sets = v
 
--- The new file of a move with other numbers.
+-- The new file of a move as an access leaves it, where there is one.
+abbrev pub with_end_file : End → End → Places → (InterruptFile → InterruptFile) → Places
+with_end_file File File v after = record v { next = after v.next }
+with_end_file from to v after = record v { own = after v.own }
+
 abbrev pub with_new_file : Home → Places → (InterruptFile → InterruptFile) → Places
-with_new_file (Shifting from to at) v after = record v { next = after v.next }
+with_new_file (OnWay way at) v after = with_end_file (old_end way) (new_end way) v after
 with_new_file there v after = record v { own = after v.own }
 
 -- ---- the access
@@ -108,7 +121,11 @@ pub record StepMade (q hart : ℕ) (access : Access) (there : Home) (v : Places)
 -- ---- a move ends
 
 -- The places of a virtual hart whose move has ended: the file that it left is its own no more.
+abbrev pub given_back : ℕ → End → End → Places → Places
+given_back n Memory to v = v
+given_back n File Memory v = record v { own = empty_file n }
+given_back n File File v = record v { own = v.next; next = empty_file n }
+
 abbrev pub places_ended : ℕ → Home → Places → Places
-places_ended n (Leaving from at) v = record v { own = empty_file n }
-places_ended n (Shifting from to at) v = record v { own = v.next; next = empty_file n }
+places_ended n (OnWay way at) v = given_back n (old_end way) (new_end way) v
 places_ended n there v = v

@@ -6,11 +6,14 @@ use Rattle.std.proofs.lemmas.Bool.Decides.{nat_tests}
 use Rattle.std.proofs.lemmas.List.{length-set}
 use Rattle.aia_home.specs.declared.place.Place.{Place}
 use Rattle.aia_home.specs.Vms.{Vcpu, vcpu, is_vcpu, slot_of, notice_hart}
-use Rattle.aia_home.specs.Home.{Home, holds, is_moving}
-use Rattle.aia_home.specs.Home.Home.{Leaving, Arriving, Shifting}
-use Rattle.aia_home.specs.Plans.{is_at_last, stepped}
-use Rattle.aia_home.specs.BySteps.{new_file, look_sees, look_step, look_word}
+use Rattle.aia_home.specs.Home.{Home, left, led_to, holds, is_moving}
+use Rattle.aia_home.specs.Home.Home.{OnWay}
+use Rattle.aia_home.specs.Home.Way.{Outward}
+use Rattle.aia_home.specs.Plans.{has_access, step_of, is_at_last, stepped}
+use Rattle.aia_home.specs.Plans.Access.{Look}
+use Rattle.aia_home.specs.BySteps.{new_file, look_sees, look_word}
 use Rattle.aia_home.specs.Aims.{aims_done, aims_step, is_aiming, aimed, pass_reaches}
+use Rattle.aia_home.proofs.HomeLemmas.{not_the_last}
 use Rattle.aia_home.proofs.PassLemmas.{aim_is_no_fence}
 use Rattle.aia_places.specs.Stores.{AreApart}
 use Rattle.aia_model.specs.Event.{History, file_words}
@@ -59,38 +62,34 @@ use Rattle.aia_standing.proofs.MoveSteps.{stepped_home}
 -- ---- what a home is that aims
 
 aimed_apart : (there : Home) → AreApart there → AreApart (aimed there)
-aimed_apart (Leaving from at) a = a
+aimed_apart (OnWay way at) a = a
 aimed_apart there a = a
 
 aimed_holds : (q : Place) (there : Home) → holds q (aimed there) ≡ holds q there
-aimed_holds q (Leaving from at) = refl
+aimed_holds q (OnWay way at) = refl
 aimed_holds q there = refl
 
 aimed_moves : (there : Home) → is_moving (aimed there) ≡ is_moving there
-aimed_moves (Leaving from at) = refl
+aimed_moves (OnWay way at) = refl
 aimed_moves there = refl
 
 -- its next step is not the last one
 pub aim_is_not_last : (passes words : ℕ) (there : Home) → is_aiming passes there ≡ true → is_at_last words there ≡ false
-aim_is_not_last passes words (Leaving from at) e = let here : nat_eq at.steps (aims_step (Leaving from at)) ≡ true = (and_parts _ _ e).0 in grind (arith, nat_tests)
-aim_is_not_last passes words (Arriving to at) e = let here : nat_eq at.steps (aims_step (Arriving to at)) ≡ true = (and_parts _ _ e).0 in grind (arith, nat_tests)
-aim_is_not_last passes words (Shifting from to at) e = let here : nat_eq at.steps (aims_step (Shifting from to at)) ≡ true = (and_parts _ _ e).0 in grind (arith, nat_tests)
+aim_is_not_last passes words (OnWay way at) e = let here : nat_eq at.steps (aims_step (OnWay way at)) ≡ true = (and_parts _ _ e).0 in let far = not_the_last way words in grind (arith, nat_tests)
 aim_is_not_last passes words there e = absurd (cc)
 
 aim_ends_none : (passes words : ℕ) (there : Home) → is_aiming passes there ≡ true → ends_leave words there ≡ false
-aim_ends_none passes words (Leaving from at) e = aim_is_not_last passes words (Leaving from at) e
+aim_ends_none passes words (OnWay (Outward from) at) e = aim_is_not_last passes words (OnWay (Outward from) at) e
 aim_ends_none passes words there e = refl
 
 -- and looks at no word
 aim_sees_none : (passes words : ℕ) (there : Home) (live : ℕ → Bool) → 1 ≤ words → is_aiming passes there ≡ true → look_sees words there live ≡ false
-aim_sees_none passes words (Arriving to at) live some e = refl
-aim_sees_none passes words (Shifting from to at) live some e = refl
-aim_sees_none passes words (Leaving from at) live some e =
-    let w = look_word words (Leaving from at) in
-    let here = eqb-true at.steps (aims_step (Leaving from at)) (and_parts _ _ e).0 in
-    sees (nat_lt w words) (nat_eq at.steps (look_step words w)) (live w) (later words w here some)
+aim_sees_none passes words (OnWay way at) live some e =
+    let w = look_word words (OnWay way at) in
+    let here = eqb-true at.steps (aims_step (OnWay way at)) (and_parts _ _ e).0 in
+    sees (has_access words (OnWay way at) (Look w)) (nat_eq at.steps (step_of words (OnWay way at) (Look w))) (live w) (later words w here some)
   where
-    later : (words w : ℕ) → at.steps ≡ aims_step (Leaving from at) → 1 ≤ words → nat_eq at.steps (look_step words w) ≡ false
+    later : (words w : ℕ) → at.steps ≡ aims_step (OnWay way at) → 1 ≤ words → nat_eq at.steps (step_of words (OnWay way at) (Look w)) ≡ false
     later words w here some = ne_eqb _ _ (λ same. omega (arith, same, here, some))
 
     sees : (a c b : Bool) → c ≡ false → ((a && c) && b) ≡ false
@@ -100,9 +99,7 @@ aim_sees_none passes words there live some e = absurd (cc)
 
 -- the next pass is aimed where the move leads
 pub aim_leads : (passes : ℕ) (there : Home) → is_aiming passes there ≡ true → pass_reaches (aims_done there) (aimed there) ≡ new_file there
-aim_leads passes (Leaving from at) e = ap (λ b. cond b None (Some from)) (lt-ltb at.aims (at.aims + 1) (omega arith))
-aim_leads passes (Arriving to at) e = ap (λ b. cond b (Some to) None) (lt-ltb at.aims (at.aims + 1) (omega arith))
-aim_leads passes (Shifting from to at) e = ap (λ b. cond b (Some to) (Some from)) (lt-ltb at.aims (at.aims + 1) (omega arith))
+aim_leads passes (OnWay way at) e = ap (λ b. cond b (led_to way) (left way)) (lt-ltb at.aims (at.aims + 1) (omega arith))
 aim_leads passes there e = absurd (cc)
 
 -- ---- the step

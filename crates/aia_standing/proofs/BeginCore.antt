@@ -8,7 +8,8 @@ use Rattle.aia_home.specs.declared.place.Place.{Place}
 use Rattle.aia_home.specs.declared.vm.Vm.{Vm}
 use Rattle.aia_home.specs.Vms.{Vcpu, vcpu, is_vcpu_in, slot_of}
 use Rattle.aia_home.specs.Home.{at_first, rests_in_memory, is_moving}
-use Rattle.aia_home.specs.Home.Home.{Arriving, Shifting}
+use Rattle.aia_home.specs.Home.Home.{OnWay}
+use Rattle.aia_home.specs.Home.Way.{Inward, Across}
 use Rattle.aia_pool.specs.Leases.{least_free}
 use Rattle.aia_moving.specs.declared.who.Who.{Who}
 use Rattle.aia_moving.specs.declared.who.KeptNumbers.{KeptNumbers}
@@ -164,7 +165,7 @@ module _ (x y : CoreState) (who : Who) (given : Answer) (h : History) (stands : 
   same_least hart low = sym (same_free x h hart stands (in_world hart low))
 
   arrive_in : (new : Stay) (hart : ℕ) (kept : KeptNumbers) (o : Option ℕ) → Put x y who new → (record_of x (vcpu who.found.vm who.found.number)).stay ≡ stays.InMemory Parked kept → hart < x.leases.harts → least_free x.leases hart ≡ o
-      → BeginsIn o hart (λ to. record { who = who; home = Arriving to at_first; hand = record empty_hand { delivery = kept.delivery; threshold = kept.threshold } }) (stays.InMemory Parked kept) new x.leases y.leases given
+      → BeginsIn o hart (λ to. record { who = who; home = OnWay (Inward to) at_first; hand = record empty_hand { delivery = kept.delivery; threshold = kept.threshold } }) (stays.InMemory Parked kept) new x.leases y.leases given
       → Answered x y h who.found.vm who.found.number (wants.Arrive hart) given
   arrive_in new hart kept None p was low found b = refused (wants.Arrive hart) words.NoFile new (stays.InMemory Parked kept) p was b
       (arrive_refused new (stays.InMemory Parked kept) hart true None p was (hart_low hart low) (same_least hart low ∙ found))
@@ -197,7 +198,7 @@ module _ (x y : CoreState) (who : Who) (given : Answer) (h : History) (stands : 
       ∙ (λ k. cond (not (inside k && on k)) (Some (Refused words.Range)) (cond (is_moving (there k)) (Some (Refused words.Busy)) (cond (rests_in_memory (there k)) (Some (Refused words.Parked)) (cond (is_none (free k)) (Some (Refused words.NoFile)) None))))
 
   shift_in : (new : Stay) (hart : ℕ) (from : Place) (o : Option ℕ) → Put x y who new → (record_of x (vcpu who.found.vm who.found.number)).stay ≡ stays.Resident from → hart < x.leases.harts → least_free x.leases hart ≡ o
-      → BeginsIn o hart (λ to. record { who = who; home = Shifting from to at_first; hand = empty_hand }) (stays.Resident from) new x.leases y.leases given
+      → BeginsIn o hart (λ to. record { who = who; home = OnWay (Across from to) at_first; hand = empty_hand }) (stays.Resident from) new x.leases y.leases given
       → Answered x y h who.found.vm who.found.number (wants.Shift hart) given
   shift_in new hart from None p was low found b = refused (wants.Shift hart) words.NoFile new (stays.Resident from) p was b
       (shift_refused new (stays.Resident from) hart true None p was (hart_low hart low) (same_least hart low ∙ found))

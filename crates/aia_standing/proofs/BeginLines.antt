@@ -10,7 +10,8 @@ use Rattle.aia_home.specs.declared.place.Place.{Place}
 use Rattle.aia_home.specs.Vms.{Vcpu, vcpu, slot_of, notice_hart}
 use Rattle.aia_home.specs.Home.{Home, is_place, is_moving, holds, at_first, leaving, arriving, shifting}
 use Rattle.aia_home.specs.declared.rest.Rest.TheVariants.{Parked}
-use Rattle.aia_home.specs.Home.Home.{InMemory, Resident, Leaving, Arriving, Shifting}
+use Rattle.aia_home.specs.Home.Home.{InMemory, Resident, OnWay}
+use Rattle.aia_home.specs.Home.Way.{Outward, Inward, Across}
 use Rattle.aia_home.specs.BySteps.{is_leaving}
 use Rattle.aia_home.specs.Plans.{steps_done}
 use Rattle.aia_home.proofs.AllLemmas.{of_none}
@@ -95,12 +96,12 @@ or_nothing false = refl
 -- ---- a leave
 
 pub leave_begun : (x y : CoreState) (h : History) (g : Vcpu) (who : Who) (plan : Plan) (r : VcpuRecord) (from : Place) → Given x y h g who plan r → y.leases ≡ x.leases → (record_of x g).stay ≡ stays.Resident from
-    → moving_of plan ≡ record { who = who; home = Leaving from at_first; hand = record { word = 0; delivery = 0; threshold = 0; seen = false } } → CoreStands y (Began (Leaves g) ∷ h)
+    → moving_of plan ≡ record { who = who; home = OnWay (Outward from) at_first; hand = record { word = 0; delivery = 0; threshold = 0; seen = false } } → CoreStands y (Began (Leaves g) ∷ h)
 leave_begun x y h g who plan r from b leases was begins =
     let hand : Hand = record { word = 0; delivery = 0; threshold = 0; seen = false } in
     let before : home h g ≡ Resident from = home_at x h g (stays.Resident from) b.stands b.there was in
-    let after : home (Began (Leaves g) ∷ h) g ≡ Leaving from at_first = home_step (Began (Leaves g)) h g ∙ cond-true _ _ _ (is_itself g) ∙ ap leaving before in
-    let held : Holds (file_words h) (slot_of (vms_of h) g) (notice_hart (vms_of h) g) (in_force_of h g) (places_of x.world g (Leaving from at_first)) (Leaving from at_first) hand (guest_file h g) false =
+    let after : home (Began (Leaves g) ∷ h) g ≡ OnWay (Outward from) at_first = home_step (Began (Leaves g)) h g ∙ cond-true _ _ _ (is_itself g) ∙ ap leaving before in
+    let held : Holds (file_words h) (slot_of (vms_of h) g) (notice_hart (vms_of h) g) (in_force_of h g) (places_of x.world g (OnWay (Outward from) at_first)) (OnWay (Outward from) at_first) hand (guest_file h g) false =
     leave_begins (greatest_identity_of h) (file_words h) (slot_of (vms_of h) g) (notice_hart (vms_of h) g) (in_force_of h g) (places_of x.world g (Resident from)) (hand_in (record_of x g).stay) hand (guest_file h g) (a_look_saw h g) from refl
     (held_at x h g (Resident from) b.stands b.there before) in
     begun_stands x y h (Leaves g) plan r None (record {
@@ -140,15 +141,15 @@ leave_begun x y h g who plan r from b leases was begins =
 -- ---- an arrival
 
 pub arrive_begun : (x y : CoreState) (h : History) (g : Vcpu) (hart : ℕ) (who : Who) (plan : Plan) (r : VcpuRecord) (to : Place) (kept : KeptNumbers) → Given x y h g who plan r → IsFreeAt x h hart to → y.leases ≡ with_out x.leases to true
-    → (record_of x g).stay ≡ stays.InMemory Parked kept → moving_of plan ≡ record { who = who; home = Arriving to at_first; hand = record { word = 0; delivery = kept.delivery; threshold = kept.threshold; seen = false } } → CoreStands y (Began (Arrives g hart) ∷ h)
+    → (record_of x g).stay ≡ stays.InMemory Parked kept → moving_of plan ≡ record { who = who; home = OnWay (Inward to) at_first; hand = record { word = 0; delivery = kept.delivery; threshold = kept.threshold; seen = false } } → CoreStands y (Began (Arrives g hart) ∷ h)
 arrive_begun x y h g hart who plan r to kept b free leases was begins =
     let hand : Hand = record { word = 0; delivery = kept.delivery; threshold = kept.threshold; seen = false } in
     let before : home h g ≡ InMemory Parked = home_at x h g (stays.InMemory Parked kept) b.stands b.there was in
-    let after : home (Began (Arrives g hart) ∷ h) g ≡ Arriving to at_first =
+    let after : home (Began (Arrives g hart) ∷ h) g ≡ OnWay (Inward to) at_first =
     home_step (Began (Arrives g hart)) h g ∙ cond-true _ _ _ (is_itself g) ∙ ap (λ o. option_map_or (λ file. arriving (guest_place hart file) (home h g)) o (home h g)) free.found
-    ∙ ap (arriving (guest_place hart to.file)) before ∙ ap (λ t. Arriving (guest_place t to.file) at_first) (sym free.hart_of) in
-    let held : Holds (file_words h) (slot_of (vms_of h) g) (notice_hart (vms_of h) g) (in_force_of h g) (places_of x.world g (Arriving to at_first)) (Arriving to at_first) hand (guest_file h g) false =
-    arrive_begins (greatest_identity_of h) (file_words h) (slot_of (vms_of h) g) (notice_hart (vms_of h) g) (in_force_of h g) (places_of x.world g (InMemory Parked)) (hand_in (record_of x g).stay) hand (guest_file h g) (a_look_saw h g) to (places_of x.world g (Arriving to at_first)) refl
+    ∙ ap (arriving (guest_place hart to.file)) before ∙ ap (λ t. OnWay (Inward (guest_place t to.file)) at_first) (sym free.hart_of) in
+    let held : Holds (file_words h) (slot_of (vms_of h) g) (notice_hart (vms_of h) g) (in_force_of h g) (places_of x.world g (OnWay (Inward to) at_first)) (OnWay (Inward to) at_first) hand (guest_file h g) false =
+    arrive_begins (greatest_identity_of h) (file_words h) (slot_of (vms_of h) g) (notice_hart (vms_of h) g) (in_force_of h g) (places_of x.world g (InMemory Parked)) (hand_in (record_of x g).stay) hand (guest_file h g) (a_look_saw h g) to (places_of x.world g (OnWay (Inward to) at_first)) refl
     (free_is_empty x h hart to b.stands free) (ap (λ s. (hand_in s).delivery) (sym was)) (ap (λ s. (hand_in s).threshold) (sym was)) (held_at x h g (InMemory Parked) b.stands b.there before) in
     begun_stands x y h (Arrives g hart) plan r (Some to) (record {
       stands = b.stands;
@@ -187,15 +188,15 @@ arrive_begun x y h g hart who plan r to kept b free leases was begins =
 -- ---- a shift
 
 pub shift_begun : (x y : CoreState) (h : History) (g : Vcpu) (hart : ℕ) (who : Who) (plan : Plan) (r : VcpuRecord) (from to : Place) → Given x y h g who plan r → IsFreeAt x h hart to → y.leases ≡ with_out x.leases to true
-    → (record_of x g).stay ≡ stays.Resident from → moving_of plan ≡ record { who = who; home = Shifting from to at_first; hand = record { word = 0; delivery = 0; threshold = 0; seen = false } } → CoreStands y (Began (Shifts g hart) ∷ h)
+    → (record_of x g).stay ≡ stays.Resident from → moving_of plan ≡ record { who = who; home = OnWay (Across from to) at_first; hand = record { word = 0; delivery = 0; threshold = 0; seen = false } } → CoreStands y (Began (Shifts g hart) ∷ h)
 shift_begun x y h g hart who plan r from to b free leases was begins =
     let hand : Hand = record { word = 0; delivery = 0; threshold = 0; seen = false } in
     let before : home h g ≡ Resident from = home_at x h g (stays.Resident from) b.stands b.there was in
-    let after : home (Began (Shifts g hart) ∷ h) g ≡ Shifting from to at_first =
+    let after : home (Began (Shifts g hart) ∷ h) g ≡ OnWay (Across from to) at_first =
     home_step (Began (Shifts g hart)) h g ∙ cond-true _ _ _ (is_itself g) ∙ ap (λ o. option_map_or (λ file. shifting (guest_place hart file) (home h g)) o (home h g)) free.found
-    ∙ ap (shifting (guest_place hart to.file)) before ∙ ap (λ t. Shifting from (guest_place t to.file) at_first) (sym free.hart_of) in
-    let held : Holds (file_words h) (slot_of (vms_of h) g) (notice_hart (vms_of h) g) (in_force_of h g) (places_of x.world g (Shifting from to at_first)) (Shifting from to at_first) hand (guest_file h g) false =
-    shift_begins (greatest_identity_of h) (file_words h) (slot_of (vms_of h) g) (notice_hart (vms_of h) g) (in_force_of h g) (places_of x.world g (Resident from)) (hand_in (record_of x g).stay) hand (guest_file h g) (a_look_saw h g) from to (places_of x.world g (Shifting from to at_first)) refl
+    ∙ ap (shifting (guest_place hart to.file)) before ∙ ap (λ t. OnWay (Across from (guest_place t to.file)) at_first) (sym free.hart_of) in
+    let held : Holds (file_words h) (slot_of (vms_of h) g) (notice_hart (vms_of h) g) (in_force_of h g) (places_of x.world g (OnWay (Across from to) at_first)) (OnWay (Across from to) at_first) hand (guest_file h g) false =
+    shift_begins (greatest_identity_of h) (file_words h) (slot_of (vms_of h) g) (notice_hart (vms_of h) g) (in_force_of h g) (places_of x.world g (Resident from)) (hand_in (record_of x g).stay) hand (guest_file h g) (a_look_saw h g) from to (places_of x.world g (OnWay (Across from to) at_first)) refl
     (free_is_empty x h hart to b.stands free) (held_at x h g (Resident from) b.stands b.there before) in
     begun_stands x y h (Shifts g hart) plan r (Some to) (record {
       stands = b.stands;

@@ -12,7 +12,8 @@ use Rattle.aia_home.specs.Vms.{Vcpu, is_vcpu}
 use Rattle.aia_home.specs.Home.{Home, is_place, holds, ended}
 use Rattle.aia_home.specs.Plans.{is_at_last, steps_done, step_of, is_last_made}
 use Rattle.aia_home.specs.declared.rest.Rest.TheVariants.{Parked}
-use Rattle.aia_home.specs.Home.Home.{InMemory, Resident, Leaving, Arriving, Shifting}
+use Rattle.aia_home.specs.Home.Home.{InMemory, Resident, OnWay}
+use Rattle.aia_home.specs.Home.Way.{Outward, Inward, Across}
 use Rattle.aia_home.specs.BySteps.{old_file}
 use Rattle.aia_home.specs.Plans.Access.{TakePending, TakeEnables}
 use Rattle.aia_home.proofs.AllLemmas.{no_vcpu}
@@ -61,23 +62,23 @@ use Rattle.aia_standing.proofs.MoveSteps.{StepOf, unaimed_home}
 -- ---- where it ends
 
 ended_home : (o : Outcome) (there : Home) (hand : Hand) → GivesBack o there hand → home_in (stay_after o) ≡ ended there
-ended_home (Left file kept) (Leaving from at) hand g = refl
-ended_home (Arrived file) (Arriving to at) hand g = ap Resident g
-ended_home (Shifted old new) (Shifting from to at) hand g = ap Resident g.1
+ended_home (Left file kept) (OnWay (Outward from) at) hand g = refl
+ended_home (Arrived file) (OnWay (Inward to) at) hand g = ap Resident g
+ended_home (Shifted old new) (OnWay (Across from to) at) hand g = ap Resident g.1
 ended_home o there hand g = absurd g
 
 pub ended_back : (o : Outcome) (there : Home) (hand : Hand) → GivesBack o there hand → back_of o ≡ old_file there
-ended_back (Left file kept) (Leaving from at) hand g = ap Some g.0
-ended_back (Arrived file) (Arriving to at) hand g = refl
-ended_back (Shifted old new) (Shifting from to at) hand g = ap Some g.0
+ended_back (Left file kept) (OnWay (Outward from) at) hand g = ap Some g.0
+ended_back (Arrived file) (OnWay (Inward to) at) hand g = refl
+ended_back (Shifted old new) (OnWay (Across from to) at) hand g = ap Some g.0
 ended_back o there hand g = absurd g
 
 -- what it holds then, and what it held
 ended_left : (q : Place) (there : Home) → holds q there ≡ true → holds q (ended there) ≡ false → old_file there ≡ Some q
 ended_left q (Resident p) e n = absurd (false≢true (sym n ∙ e))
-ended_left q (Leaving from at) e n = ap Some (sym (same_place q from e))
-ended_left q (Arriving to at) e n = absurd (false≢true (sym n ∙ e))
-ended_left q (Shifting from to at) e n = ap Some (sym (same_place q from (or_here (is_place q from) (is_place q to) e n)))
+ended_left q (OnWay (Outward from) at) e n = ap Some (sym (same_place q from e))
+ended_left q (OnWay (Inward to) at) e n = absurd (false≢true (sym n ∙ e))
+ended_left q (OnWay (Across from to) at) e n = ap Some (sym (same_place q from (or_here (is_place q from) (is_place q to) e n)))
   where
     or_here : (a b : Bool) → (a || b) ≡ true → b ≡ false → a ≡ true
     or_here true b e n = refl
@@ -86,29 +87,29 @@ ended_left q there e n = absurd (false≢true e)
 
 -- the file that it leaves it held, and holds no more
 pub ended_held : (p : Place) (there : Home) → old_file there ≡ Some p → holds p there ≡ true
-ended_held p (Leaving from at) e = let same : from ≡ p = cc in ap (is_place p) same ∙ is_itself_place p
-ended_held p (Shifting from to at) e = let same : from ≡ p = cc in ap (λ f. is_place p f || is_place p to) same ∙ ap (λ b. b || is_place p to) (is_itself_place p)
+ended_held p (OnWay (Outward from) at) e = let same : from ≡ p = cc in ap (is_place p) same ∙ is_itself_place p
+ended_held p (OnWay (Across from to) at) e = let same : from ≡ p = cc in ap (λ f. is_place p f || is_place p to) same ∙ ap (λ b. b || is_place p to) (is_itself_place p)
 ended_held p there e = absurd (cc)
 
 ended_unheld : (p : Place) (there : Home) → AreApart there → old_file there ≡ Some p → holds p (ended there) ≡ false
 ended_unheld p (Resident q) apart e = absurd (cc)
-ended_unheld p (Arriving to at) apart e = absurd (cc)
-ended_unheld p (Shifting from to at) apart e = let same : from ≡ p = cc in ap (λ f. is_place f to) (sym same) ∙ apart
+ended_unheld p (OnWay (Inward to) at) apart e = absurd (cc)
+ended_unheld p (OnWay (Across from to) at) apart e = let same : from ≡ p = cc in ap (λ f. is_place f to) (sym same) ∙ apart
 ended_unheld p there apart e = refl
 
 -- of all others it holds what it held
 ended_same : (q : Place) (there : Home) → old_file there ≡ None → holds q (ended there) ≡ holds q there
-ended_same q (Leaving from at) e = absurd (cc)
-ended_same q (Shifting from to at) e = absurd (cc)
+ended_same q (OnWay (Outward from) at) e = absurd (cc)
+ended_same q (OnWay (Across from to) at) e = absurd (cc)
 ended_same q there e = refl
 
 ended_others : (q p : Place) (there : Home) → old_file there ≡ Some p → is_place q p ≡ false → holds q (ended there) ≡ holds q there
-ended_others q p (Leaving from at) e ne = let same : from ≡ p = cc in sym ne ∙ ap (is_place q) (sym same)
-ended_others q p (Shifting from to at) e ne = let same : from ≡ p = cc in ap (λ b. b || is_place q to) (sym ne ∙ ap (is_place q) (sym same))
+ended_others q p (OnWay (Outward from) at) e ne = let same : from ≡ p = cc in sym ne ∙ ap (is_place q) (sym same)
+ended_others q p (OnWay (Across from to) at) e ne = let same : from ≡ p = cc in ap (λ b. b || is_place q to) (sym ne ∙ ap (is_place q) (sym same))
 ended_others q p there e ne = refl
 
 ended_apart : (there : Home) → AreApart (ended there)
-ended_apart (Leaving from at) = tt
+ended_apart (OnWay (Outward from) at) = tt
 ended_apart there = tt
 
 -- ---- what is held then
@@ -134,7 +135,7 @@ change_word words v there word now file first h = record {
     enables_no w = ne_eqb (steps_done there) (step_of words there (TakeEnables w) + 1) (λ e. omega (arith, first, e))
 
 rested : (o : Outcome) (there : Home) (hand : Hand) (words slot hart : ℕ) (reach : Option Place) (v : Places) (file : InterruptFile) (saw : Bool) → GivesBack o there hand → Holds words slot hart reach v (ended there) hand file false → Holds words slot hart reach v (ended there) (hand_in (stay_after o)) file saw
-rested (Left place kept) (Leaving from at) hand words slot hart reach v file saw g h = record {
+rested (Left place kept) (OnWay (Outward from) at) hand words slot hart reach v file saw g h = record {
   sets = change_word words v (InMemory Parked) hand.word 0 file refl h.sets;
   numbers = record {
     own_delivery = h.numbers.own_delivery;
@@ -147,7 +148,7 @@ rested (Left place kept) (Leaving from at) hand words slot hart reach v file saw
   routes = h.routes;
   looks = refl;
 }
-rested (Arrived place) (Arriving to at) hand words slot hart reach v file saw g h = record {
+rested (Arrived place) (OnWay (Inward to) at) hand words slot hart reach v file saw g h = record {
   sets = change_word words v (Resident to) hand.word 0 file refl h.sets;
   numbers = record {
     own_delivery = h.numbers.own_delivery;
@@ -160,7 +161,7 @@ rested (Arrived place) (Arriving to at) hand words slot hart reach v file saw g 
   routes = h.routes;
   looks = refl;
 }
-rested (Shifted old new) (Shifting from to at) hand words slot hart reach v file saw g h = record {
+rested (Shifted old new) (OnWay (Across from to) at) hand words slot hart reach v file saw g h = record {
   sets = change_word words v (Resident to) hand.word 0 file refl h.sets;
   numbers = record {
     own_delivery = h.numbers.own_delivery;

@@ -26,7 +26,8 @@ use Rattle.aia_home.specs.declared.place.Place.{Place}
 use Rattle.aia_home.specs.Vms.{Vcpu, vcpu, is_vcpu, is_vcpu_in, vm_in}
 use Rattle.aia_home.specs.Home.{Home, is_place, holds}
 use Rattle.aia_home.specs.declared.rest.Rest.TheVariants.{Parked}
-use Rattle.aia_home.specs.Home.Home.{InMemory, Resident, Leaving}
+use Rattle.aia_home.specs.Home.Home.{InMemory, Resident, OnWay}
+use Rattle.aia_home.specs.Home.Way.{Outward}
 use Rattle.aia_home.specs.BySteps.{is_enable_taken, is_enable_put}
 use Rattle.aia_home.specs.Plans.{is_last_made}
 use Rattle.aia_home.proofs.VmLemmas.{numbered, vm_past}
@@ -88,7 +89,7 @@ pub stayer_home : home leaving_history stayer ≡ Resident stayer_file
 unfolding passes_of home least_of
 stayer_home = refl
 
-pub leaver_home : home leaving_history leaver ≡ Leaving leaver_file so_far
+pub leaver_home : home leaving_history leaver ≡ OnWay (Outward leaver_file) so_far
 unfolding passes_of home least_of
 leaver_home = refl
 
@@ -416,7 +417,7 @@ stayer_stands = record {
 -- ---- the one that leaves
 
 abbrev on_the_way : Home
-on_the_way = Leaving leaver_file so_far
+on_the_way = OnWay (Outward leaver_file) so_far
 
 abbrev leaver_view : Places
 leaver_view = record {

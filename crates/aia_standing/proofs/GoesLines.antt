@@ -5,7 +5,7 @@ use Rattle.aia_home.specs.declared.place.Place.{Place}
 use Rattle.aia_home.specs.Vms.{Vcpu, vcpu}
 use Rattle.aia_home.specs.Home.{Home, holds, is_moving, one_more}
 use Rattle.aia_home.specs.Plans.{is_at_last}
-use Rattle.aia_home.specs.Home.Home.{Leaving, Shifting}
+use Rattle.aia_home.specs.Home.Home.{OnWay}
 use Rattle.aia_places.specs.Holds.{Hand, sees}
 use Rattle.aia_places.specs.Stores.{AreApart}
 use Rattle.aia_pool.specs.Leases.{Leases, is_out}
@@ -37,15 +37,15 @@ use Rattle.aia_standing.specs.Passes.{own_passes, HasItsPasses}
 use Rattle.aia_standing.proofs.MoveSteps.{StepOf, unaimed_home}
 
 one_more_holds : (q : Place) (there : Home) → holds q (one_more there) ≡ holds q there
-one_more_holds q (Leaving from at) = refl
+one_more_holds q (OnWay way at) = refl
 one_more_holds q there = refl
 
 one_more_moves : (there : Home) → is_moving (one_more there) ≡ is_moving there
-one_more_moves (Leaving from at) = refl
+one_more_moves (OnWay way at) = refl
 one_more_moves there = refl
 
 one_more_apart : (there : Home) → AreApart there → AreApart (one_more there)
-one_more_apart (Shifting from to at) p = p
+one_more_apart (OnWay way at) p = p
 one_more_apart there p = tt
 
 -- the plan has made its next access, and has a later step to make

@@ -21,7 +21,7 @@ use Rattle.aia_home.specs.declared.place.Place.{Place}
 use Rattle.aia_home.specs.declared.vm.Vm.{Vm}
 use Rattle.aia_home.specs.Vms.{Vcpu, vcpu, is_vcpu, is_vcpu_in, slot_of, notice_hart}
 use Rattle.aia_home.specs.Home.{Home, holds, is_place, is_moving}
-use Rattle.aia_home.specs.Home.Home.{Resident, Leaving, Arriving, Shifting}
+use Rattle.aia_home.specs.Home.Home.{Resident, OnWay}
 use Rattle.aia_places.specs.Holds.{Holds}
 use Rattle.aia_places.proofs.FileLemmas.{resident, resident_replaced}
 use Rattle.aia_world.specs.World.{World}
@@ -325,9 +325,7 @@ away_stay w g (stays.Resident p) csr plan e none = let bad : ◌≡◌ {A = Opti
 away_stay w g (stays.Moving plan) csr stands e none = moving_away (moving_of plan).home stands.3
   where
     moving_away : (there : Home) → is_moving there ≡ true → serves there csr ≡ false
-    moving_away (Leaving from at) moving = refl
-    moving_away (Arriving to at) moving = refl
-    moving_away (Shifting from to at) moving = refl
+    moving_away (OnWay way at) moving = refl
     moving_away there moving = absurd (cc)
 
 pub guest_away : (x : CoreState) (vm number : ℕ) (csr : Csr) (op : Op) → is_vcpu_in x.world.vms (vcpu vm number) ≡ true → resident_at (record_of x (vcpu vm number)).stay ≡ None → (is_some (entered_at (record_of x (vcpu vm number)).stay) && is_file_csr csr) ≡ false

@@ -21,7 +21,8 @@ use Rattle.aia_home.specs.declared.place.Place.{Place}
 use Rattle.aia_home.specs.declared.vm.Vm.{Vm}
 use Rattle.aia_home.specs.Vms.{Vcpu, is_vcpu, vcpus_in, is_vcpu_in, slot_of, notice_identity, notice_hart}
 use Rattle.aia_home.specs.Home.{Home, is_place, holds}
-use Rattle.aia_home.specs.Home.Home.{Resident, Leaving, Arriving, Shifting}
+use Rattle.aia_home.specs.Home.Home.{Resident, OnWay}
+use Rattle.aia_home.specs.Home.Way.{Across}
 use Rattle.aia_home.specs.Routes.{peers_reach, MayLand, sends_notice}
 use Rattle.aia_home.proofs.RouteLemmas.{reach_lands, peers_may}
 use Rattle.aia_model.proofs.ReachLemmas.{in_force_may}
@@ -63,7 +64,7 @@ use Rattle.aia_standing.specs.HostFiles.{FileDone, host_spot, select_place}
 use Rattle.aia_standing.specs.Stands.{VcpuStands, is_held, CoreStands}
 use Rattle.aia_standing.proofs.NameLemmas.{no_guest, is_hosts, other_spot}
 use Rattle.aia_moving.specs.Touches.{SameMachine}
-use Rattle.aia_home.proofs.HomeLemmas.{same_place, is_itself_place, own_is_held, next_is_held, landing_is_held}
+use Rattle.aia_home.proofs.HomeLemmas.{same_place, is_itself_place, either_file, own_is_held, next_is_held, landing_is_held}
 use Rattle.aia_standing.proofs.VcpuLemmas.{IsQuiet, SameFor, IsHeld, MajorsRest, guest_rests, guest_done, files_alone}
 use Rattle.aia_standing.proofs.StandsLemmas.{count_after}
 use Rattle.aia_standing.proofs.EventLemmas.{Changes, as_it_was}
@@ -128,22 +129,13 @@ resident_seen w u g p own rest eo = seen_by w u g (Resident p) own (file_in w No
 pub view_stored : (w u : World) (g : Vcpu) (there : Home) (p : Place) (offset value : ℕ) → StoresIn w u (spot_of p) offset value → ((q : Place) → holds q there ≡ true → IsThere w.imsic (spot_of q)) → AreApart there → holds p there ≡ true
     → places_of u g there ≡ places_landed (Some p) there offset value (places_of w g there)
 unfolding view_with
-view_stored w u g (Resident q) p offset value s held apart here =
-    let same = same_place p q here in
-    seen_by w u g (Resident q) (landed offset value (file_in w (Some q))) (file_in w None) s.rest (subst (λ (x : Place). shown (file_at u.imsic (spot_of x)) ≡ landed offset value (shown (file_at w.imsic (spot_of x)))) same (file_landed w u p offset value s)) (ap (λ (x : World). file_in x None) s.rest)
-view_stored w u g (Leaving q at) p offset value s held apart here =
-    let same = same_place p q here in
-    seen_by w u g (Leaving q at) (landed offset value (file_in w (Some q))) (file_in w None) s.rest (subst (λ (x : Place). shown (file_at u.imsic (spot_of x)) ≡ landed offset value (shown (file_at w.imsic (spot_of x)))) same (file_landed w u p offset value s)) (ap (λ (x : World). file_in x None) s.rest)
-view_stored w u g (Arriving q at) p offset value s held apart here =
-    let same = same_place p q here in
-    seen_by w u g (Arriving q at) (landed offset value (file_in w (Some q))) (file_in w None) s.rest (subst (λ (x : Place). shown (file_at u.imsic (spot_of x)) ≡ landed offset value (shown (file_at w.imsic (spot_of x)))) same (file_landed w u p offset value s)) (ap (λ (x : World). file_in x None) s.rest)
-view_stored w u g (Shifting from to at) p offset value s held apart here = elim (cases_Bool (is_place p to)) [
+view_stored w u g (OnWay (Across from to) at) p offset value s held apart here = elim (cases_Bool (is_place p to)) [
   | inl e ↦
       let same = same_place p to e in
       let old = held from (ap (λ b. b || is_place from to) (is_itself_place from)) in
       let new = held to (or_right (is_place to from) (is_place to to) (is_itself_place to)) in
       let other : is_place from p ≡ false = ap (is_place from) same ∙ apart in
-      seen_by w u g (Shifting from to at) (file_in w (Some from)) (landed offset value (file_in w (Some to))) s.rest
+      seen_by w u g (OnWay (Across from to) at) (file_in w (Some from)) (landed offset value (file_in w (Some to))) s.rest
       (ap shown (other_file w u p from offset value s (subst (λ (x : Place). IsThere w.imsic (spot_of x)) (sym same) new) old other))
       (subst (λ (x : Place). shown (file_at u.imsic (spot_of x)) ≡ landed offset value (shown (file_at w.imsic (spot_of x)))) same (file_landed w u p offset value s))
       ∙ sym (cond-true _ _ _ e)
@@ -153,7 +145,7 @@ view_stored w u g (Shifting from to at) p offset value s held apart here = elim 
       let old = held from (ap (λ b. b || is_place from to) (is_itself_place from)) in
       let new = held to (or_right (is_place to from) (is_place to to) (is_itself_place to)) in
       let other : is_place to p ≡ false = ap (is_place to) same ∙ turned from to apart in
-      seen_by w u g (Shifting from to at) (landed offset value (file_in w (Some from))) (file_in w (Some to)) s.rest
+      seen_by w u g (OnWay (Across from to) at) (landed offset value (file_in w (Some from))) (file_in w (Some to)) s.rest
       (subst (λ (x : Place). shown (file_at u.imsic (spot_of x)) ≡ landed offset value (shown (file_at w.imsic (spot_of x)))) same (file_landed w u p offset value s))
       (ap shown (other_file w u p to offset value s (subst (λ (x : Place). IsThere w.imsic (spot_of x)) (sym same) old) new other))
       ∙ sym (cond-false _ _ _ ne)
@@ -168,7 +160,12 @@ view_stored w u g (Shifting from to at) p offset value s held apart here = elim 
       | inl t ↦ absurd (false≢true (sym e ∙ ap (is_place p) (same_place q p t) ∙ is_itself_place p))
       | inr f ↦ f
     ]
-view_stored w u g there p offset value s held apart here = absurd (false≢true here)
+view_stored w u g there p offset value s held apart here = elim (either_file p there here) [
+  | inl is ↦
+      seen_by w u g there (landed offset value (file_in w (own_file there))) (file_in w (next_file there)) s.rest
+      (subst (λ o. file_in u o ≡ landed offset value (file_in w o)) (sym is) (file_landed w u p offset value s)) (ap (λ (x : World). file_in x None) s.rest)
+  | inr none ↦ absurd (cc)
+]
 
 -- ---- it lands in the slot
 

@@ -14,7 +14,7 @@ use Rattle.aia_entry.specs.Tables.{table_of, entry_in_force}
 use Rattle.aia_home.specs.declared.place.Place.{Place}
 use Rattle.aia_home.specs.Vms.{Vcpu, is_vcpu, slot_of, notice_hart}
 use Rattle.aia_home.specs.Home.{Home, holds, rests_in_memory}
-use Rattle.aia_home.specs.Home.Home.{Resident, Leaving, Arriving, Shifting}
+use Rattle.aia_home.specs.Home.Home.{Resident, OnWay}
 use Rattle.aia_home.proofs.VmLemmas.{slot_below, same_vcpu}
 use Rattle.aia_image.proofs.WordLemmas.{shown_alone}
 use Rattle.aia_places.specs.Holds.{HasSets}
@@ -95,9 +95,7 @@ slot_has w q words kept all pending enabled above = record {
 
 holds_none : (there : Home) (p : Place) → rests_in_memory there ≡ true → holds p there ≡ false
 holds_none (Resident q) p rests = absurd (cc)
-holds_none (Leaving from at) p rests = absurd (cc)
-holds_none (Arriving to at) p rests = absurd (cc)
-holds_none (Shifting from to at) p rests = absurd (cc)
+holds_none (OnWay way at) p rests = absurd (cc)
 holds_none there p rests = refl
 
 only_stores : (w u : World) → u ≡ record w { imsic = u.imsic; notices = u.notices; memory = u.memory } → u.imsic ≡ record w.imsic { files = u.imsic.files } → OnlyStores w u

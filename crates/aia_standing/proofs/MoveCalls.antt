@@ -8,10 +8,10 @@ use Rattle.std.proofs.lemmas.Option.{slice_get_within}
 use Rattle.aia_home.specs.declared.place.Place.{Place}
 use Rattle.aia_home.specs.declared.vm.Vm.{Vm}
 use Rattle.aia_home.specs.Vms.{Vcpu, vcpu, is_vcpu_in, slot_of, notice_hart}
-use Rattle.aia_home.specs.Home.{Home, holds, is_moving, one_more}
-use Rattle.aia_home.specs.Plans.{is_at_last, Access, leave_plan, arrive_plan, shift_plan, IsNext}
-use Rattle.aia_home.specs.Home.Home.{Leaving, Arriving, Shifting}
-use Rattle.aia_home.proofs.PlanLemmas.{leave_plan-length, arrive_plan-length, shift_plan-length, next_in_plan}
+use Rattle.aia_home.specs.Home.{Home, holds, is_moving, one_more, old_end, new_end}
+use Rattle.aia_home.specs.Plans.{is_at_last, Access, IsNext, plan}
+use Rattle.aia_home.specs.Home.Home.{OnWay}
+use Rattle.aia_home.proofs.PlanLemmas.{plan-length, next_in_plan}
 use Rattle.aia_home.proofs.VmLemmas.{slot_below}
 use Rattle.aia_home.proofs.AllLemmas.{any_vcpu}
 use Rattle.aia_places.specs.Holds.{Hand}
@@ -126,22 +126,14 @@ begin_call x y want found who old new given named its world s b =
 
 -- how many steps are left
 pub left_fewer : (words : ℕ) (there : Home) (access : Access) → IsNext words there access → steps_left words (one_more there) < steps_left words there
-left_fewer words (Leaving from at) access next =
-    let low : at.steps < length (leave_plan words) = slice_get_within (leave_plan words) at.steps access (next_in_plan words (Leaving from at) access next) in
-    let long = leave_plan-length words in
-    omega (arith, low, long)
-left_fewer words (Arriving to at) access next =
-    let low : at.steps < length (arrive_plan words) = slice_get_within (arrive_plan words) at.steps access (next_in_plan words (Arriving to at) access next) in
-    let long = arrive_plan-length words in
-    omega (arith, low, long)
-left_fewer words (Shifting from to at) access next =
-    let low : at.steps < length (shift_plan words) = slice_get_within (shift_plan words) at.steps access (next_in_plan words (Shifting from to at) access next) in
-    let long = shift_plan-length words in
+left_fewer words (OnWay way at) access next =
+    let low : at.steps < length (plan (old_end way) (new_end way) words) = slice_get_within (plan (old_end way) (new_end way) words) at.steps access (next_in_plan words (OnWay way at) access next) in
+    let long = plan-length (old_end way) (new_end way) words in
     omega (arith, low, long)
 left_fewer words there access next = let no : false ≡ true = next.has in absurd (cc)
 
 aims_stay : (there : Home) → aims_done (one_more there) ≡ aims_done there
-aims_stay (Leaving from at) = refl
+aims_stay (OnWay way at) = refl
 aims_stay there = refl
 
 -- the plan that is kept can make its next step
@@ -338,13 +330,11 @@ landed_goes x landed y who plan last unaimed c a =
 -- ---- a step that aims
 
 aims_once : (there : Home) → is_moving there ≡ true → aims_done (aimed there) ≡ suc (aims_done there)
-aims_once (Leaving from at) moves = omega arith
-aims_once (Arriving to at) moves = omega arith
-aims_once (Shifting from to at) moves = omega arith
+aims_once (OnWay way at) moves = omega arith
 aims_once there moves = absurd (true≢false (sym moves))
 
 left_aimed : (words : ℕ) (there : Home) → steps_left words (aimed there) ≡ steps_left words there
-left_aimed words (Leaving from at) = refl
+left_aimed words (OnWay way at) = refl
 left_aimed words there = refl
 
 -- What a step's calls say that aims a passed source.

@@ -6,10 +6,11 @@ use Rattle.std.proofs.lemmas.Bool.Decides.{nat_tests}
 use Rattle.std.proofs.lemmas.Option.{none-some}
 use Rattle.aia_home.specs.declared.vm.Vm.{Vm}
 use Rattle.aia_home.specs.Vms.{Vcpu, vcpu, is_vcpu_in}
-use Rattle.aia_home.specs.Home.{Home, rests_in_memory, is_moving, leaving, arriving, shifting, one_more}
+use Rattle.aia_home.specs.Home.{Way, Home, old_end, new_end, rests_in_memory, is_moving, leaving, arriving, shifting, one_more}
 use Rattle.aia_home.specs.Plans.{is_at_last}
 use Rattle.aia_home.specs.declared.rest.Rest.TheVariants.{Parked}
-use Rattle.aia_home.specs.Home.Home.{InMemory, Resident, Leaving, Arriving, Shifting}
+use Rattle.aia_home.specs.Home.Home.{InMemory, Resident, OnWay}
+use Rattle.aia_home.specs.Home.Way.{Outward, Inward, Across}
 use Rattle.aia_world.specs.declared.found.Found.{Found}
 use Rattle.aia_moving.specs.Move.{}
 use Rattle.aia_model.specs.declared.line.Line.TheVariants as lines
@@ -26,7 +27,8 @@ use Rattle.aia_model.specs.Passes.{passes_of, passes_for}
 use Rattle.aia_model.specs.Event.Event.{Stepped}
 use Rattle.aia_model.specs.Aim.{aimed_by}
 use Rattle.aia_home.specs.Aims.{aims_done, aims_step, is_aiming, aimed, further, AreAimed}
-use Rattle.aia_home.specs.Plans.{steps_done, leave_steps, arrive_steps, shift_steps}
+use Rattle.aia_home.specs.Plans.{steps_done, plan_steps}
+use Rattle.aia_home.proofs.HomeLemmas.{not_the_last}
 use Rattle.aia_standing.specs.Passes.{AimsBy, StepsAim}
 use Rattle.aia_model.specs.HomeOf.{home, guest_place, free_file}
 use Rattle.aia_model.specs.Refusal.{refusal}
@@ -60,11 +62,21 @@ same_passes (suc i) g h = same_passes i g (step_taken g h) ∙ passes_stepped g 
 
 -- ---- how far a move has come
 
--- a home is on the move
+-- a way is that of the move, whose steps are then those between its ends; a home is on it
+abbrev IsItsWay : Move → Way → Type 0
+IsItsWay (Leaves g) (Outward from) = Unit {0}
+IsItsWay (Arrives g hart) (Inward to) = Unit {0}
+IsItsWay (Shifts g hart) (Across from to) = Unit {0}
+IsItsWay move way = ⊥
+
+steps_between : (move : Move) (way : Way) (words : ℕ) → IsItsWay move way → steps_of words move ≡ plan_steps (old_end way) (new_end way) words
+steps_between (Leaves g) (Outward from) words is = refl
+steps_between (Arrives g hart) (Inward to) words is = refl
+steps_between (Shifts g hart) (Across from to) words is = refl
+steps_between move way words is = absurd is
+
 abbrev IsOn : Move → Home → Type 0
-IsOn (Leaves g) (Leaving from at) = Unit {0}
-IsOn (Arrives g hart) (Arriving to at) = Unit {0}
-IsOn (Shifts g hart) (Shifting from to at) = Unit {0}
+IsOn move (OnWay way at) = IsItsWay move way
 IsOn move there = ⊥
 
 -- with so many of its steps done, those that aim among them
@@ -74,33 +86,21 @@ pub record IsAt (move : Move) (passes i : ℕ) (there : Home) : Type 0 where
   pub few : aims_done there ≤ passes
 
 last_at : (move : Move) (passes i : ℕ) (there : Home) (words : ℕ) → AreAimed passes there → IsAt move passes i there → is_at_last words there ≡ true → i + 1 ≡ steps_of words move + passes
-last_at (Leaves g) passes i (Leaving from at) words aimed is last =
-    let end : at.steps + 1 ≡ leave_steps words = eqb-true _ _ last in
-    let all = aimed.all (lt-ltb (aims_step (Leaving from at)) at.steps (omega (arith, end))) in
+last_at move passes i (OnWay way at) words aimed is last =
+    let end : at.steps + 1 ≡ plan_steps (old_end way) (new_end way) words = eqb-true _ _ last in
+    let far = not_the_last way words in
+    let all = aimed.all (lt-ltb (aims_step (OnWay way at)) at.steps (omega (arith, end, far))) in
     let most : passes ≤ at.aims = grind (arith, nat_tests) in
-    let few = is.few in let count = is.count in omega (arith, end, most, few, count)
-last_at (Arrives g hart) passes i (Arriving to at) words aimed is last =
-    let end : at.steps + 1 ≡ arrive_steps words = eqb-true _ _ last in
-    let all = aimed.all (lt-ltb (aims_step (Arriving to at)) at.steps (omega (arith, end))) in
-    let most : passes ≤ at.aims = grind (arith, nat_tests) in
-    let few = is.few in let count = is.count in omega (arith, end, most, few, count)
-last_at (Shifts g hart) passes i (Shifting from to at) words aimed is last =
-    let end : at.steps + 1 ≡ shift_steps words = eqb-true _ _ last in
-    let all = aimed.all (lt-ltb (aims_step (Shifting from to at)) at.steps (omega (arith, end))) in
-    let most : passes ≤ at.aims = grind (arith, nat_tests) in
-    let few = is.few in let count = is.count in omega (arith, end, most, few, count)
+    let few = is.few in let count = is.count in let same = steps_between move way words is.on in
+    omega (arith, end, most, few, count, same)
 last_at move passes i there words aimed is last = absurd is.on
 
 on_aimed : (move : Move) (there : Home) → IsOn move there → IsOn move (aimed there) × (steps_done (aimed there) ≡ steps_done there) × (aims_done (aimed there) ≡ suc (aims_done there))
-on_aimed (Leaves g) (Leaving from at) on = (tt, refl, omega arith)
-on_aimed (Arrives g hart) (Arriving to at) on = (tt, refl, omega arith)
-on_aimed (Shifts g hart) (Shifting from to at) on = (tt, refl, omega arith)
+on_aimed move (OnWay way at) on = (on, refl, omega arith)
 on_aimed move there on = absurd on
 
 on_more : (move : Move) (there : Home) → IsOn move there → IsOn move (one_more there) × (steps_done (one_more there) ≡ suc (steps_done there)) × (aims_done (one_more there) ≡ aims_done there)
-on_more (Leaves g) (Leaving from at) on = (tt, omega arith, refl)
-on_more (Arrives g hart) (Arriving to at) on = (tt, omega arith, refl)
-on_more (Shifts g hart) (Shifting from to at) on = (tt, omega arith, refl)
+on_more move (OnWay way at) on = (on, omega arith, refl)
 on_more move there on = absurd on
 
 next_at : (move : Move) (passes i words : ℕ) (there : Home) → IsAt move passes i there → is_at_last words there ≡ false → IsAt move passes (suc i) (further passes words there)
@@ -118,9 +118,7 @@ next_at move passes i words there is more = by_aim (is_aiming passes there) refl
         rw e (rw more (record { on = then.0; count = omega (arith, count, steps, aims); few = omega (arith, few, aims) }))
 
 moving_at : (move : Move) (there : Home) → IsOn move there → is_moving there ≡ true
-moving_at (Leaves g) (Leaving from at) e = refl
-moving_at (Arrives g hart) (Arriving to at) e = refl
-moving_at (Shifts g hart) (Shifting from to at) e = refl
+moving_at move (OnWay way at) e = refl
 moving_at move there e = absurd e
 
 -- ---- it begins where its line is not refused
@@ -145,9 +143,7 @@ pub record Accepts (h : History) (line_refusal : Option Answer) (move : Move) (g
 
 leave_begun_at : (h : History) (g : Vcpu) (there : Home) → home h g ≡ there → is_moving there ≡ false → rests_in_memory there ≡ false → IsAt (Leaves g) (passes_for h g) 0 (home (Began (Leaves g) ∷ h) g)
 leave_begun_at h g (Resident p) e still home_is = subst (IsAt (Leaves g) (passes_for h g) 0) (sym (home_step (Began (Leaves g)) h g ∙ cond-true _ _ _ (is_itself g) ∙ ap leaving e)) (record { on = tt; count = refl; few = omega arith })
-leave_begun_at h g (Leaving from at) e still home_is = absurd (true≢false still)
-leave_begun_at h g (Arriving to at) e still home_is = absurd (true≢false still)
-leave_begun_at h g (Shifting from to at) e still home_is = absurd (true≢false still)
+leave_begun_at h g (OnWay way at) e still home_is = absurd (true≢false still)
 leave_begun_at h g there e still home_is = absurd (true≢false home_is)
 
 arrive_begun_at : (h : History) (g : Vcpu) (hart : ℕ) (o : Option ℕ) → home h g ≡ InMemory Parked → free_file h (home h) hart ≡ o → is_none o ≡ false → IsAt (Arrives g hart) (passes_for h g) 0 (home (Began (Arrives g hart) ∷ h) g)
@@ -159,9 +155,7 @@ shift_begun_at : (h : History) (g : Vcpu) (hart : ℕ) (there : Home) (o : Optio
 shift_begun_at h g hart (Resident p) (Some file) e free still home_is some =
     subst (IsAt (Shifts g hart) (passes_for h g) 0) (sym (home_step (Began (Shifts g hart)) h g ∙ cond-true _ _ _ (is_itself g) ∙ ap (λ o. option_map_or (λ file. shifting (guest_place hart file) (home h g)) o (home h g)) free ∙ ap (shifting (guest_place hart file)) e)) (record { on = tt; count = refl; few = omega arith })
 shift_begun_at h g hart (Resident p) None e free still home_is some = absurd (true≢false some)
-shift_begun_at h g hart (Leaving from at) o e free still home_is some = absurd (true≢false still)
-shift_begun_at h g hart (Arriving to at) o e free still home_is some = absurd (true≢false still)
-shift_begun_at h g hart (Shifting from to at) o e free still home_is some = absurd (true≢false still)
+shift_begun_at h g hart (OnWay way at) o e free still home_is some = absurd (true≢false still)
 shift_begun_at h g hart there o e free still home_is some = absurd (true≢false home_is)
 
 module _ (h : History) (vm number : ℕ) (machine : has_machine h ≡ true) where

@@ -9,7 +9,8 @@ use Rattle.aia_imsic.specs.Imsic.{IsThere, file_at}
 use Rattle.aia_home.specs.declared.place.Place.{Place}
 use Rattle.aia_home.specs.Vms.{Vcpu, slot_of, notice_hart}
 use Rattle.aia_home.specs.Home.{Home, Progress}
-use Rattle.aia_home.specs.Home.Home.{Leaving, Arriving, Shifting}
+use Rattle.aia_home.specs.Home.Home.{OnWay}
+use Rattle.aia_home.specs.Home.Way.{Outward}
 use Rattle.aia_home.specs.BySteps.{is_leaving}
 use Rattle.aia_home.specs.Plans.{Access, IsNext, leave_step, leave_steps}
 use Rattle.aia_home.specs.Plans.Access.{Post}
@@ -34,32 +35,23 @@ use Rattle.aia_standing.proofs.EventLemmas.{as_it_was}
 not_last : (steps words : ℕ) (saw : Bool) → steps ≢ leave_step words Post → false ≡ (nat_eq (steps + 1) (leave_steps words) && saw)
 not_last steps words saw ne = sym (ap (λ b. b && saw) (ne_eqb (steps + 1) (leave_steps words) (λ e. ne (omega (arith, e)))))
 
-leave_sent : (words : ℕ) (access : Access) (from : Place) (at : Progress) (hand : Hand) (saw : Bool) → IsNext words (Leaving from at) access → hand.seen ≡ saw → sends access hand ≡ (nat_eq (at.steps + 1) (leave_steps words) && saw)
+leave_sent : (words : ℕ) (access : Access) (from : Place) (at : Progress) (hand : Hand) (saw : Bool) → IsNext words (OnWay (Outward from) at) access → hand.seen ≡ saw → sends access hand ≡ (nat_eq (at.steps + 1) (leave_steps words) && saw)
 leave_sent words access from at hand saw next seen = elim (cases_eq at.steps (leave_step words Post)) [
   | inl last ↦
-      let post : access ≡ Post = one_a_step words (Leaving from at) access Post next.has refl (sym next.step ∙ last) in
+      let post : access ≡ Post = one_a_step words (OnWay (Outward from) at) access Post next.has refl (sym next.step ∙ last) in
       ap (λ (a : Access). sends a hand) post ∙ seen ∙ sym (ap (λ b. b && saw) (eq-eqb (at.steps + 1) (leave_steps words) (omega (arith, last))))
   | inr more ↦ silent access next more ∙ not_last at.steps words saw more
 ]
   where
-    silent : (access : Access) → IsNext words (Leaving from at) access → at.steps ≢ leave_step words Post → sends access hand ≡ false
+    silent : (access : Access) → IsNext words (OnWay (Outward from) at) access → at.steps ≢ leave_step words Post → sends access hand ≡ false
     silent Post next more = absurd (more next.step)
     silent access next more = refl
 
-arrive_sent : (words : ℕ) (access : Access) (to : Place) (at : Progress) (hand : Hand) → IsNext words (Arriving to at) access → sends access hand ≡ false
-arrive_sent words Post to at hand next = let no : false ≡ true = next.has in absurd (cc)
-arrive_sent words access to at hand next = refl
-
-shift_sent : (words : ℕ) (access : Access) (from to : Place) (at : Progress) (hand : Hand) → IsNext words (Shifting from to at) access → sends access hand ≡ false
-shift_sent words Post from to at hand next = let no : false ≡ true = next.has in absurd (cc)
-shift_sent words access from to at hand next = refl
-
 -- at the end of a leave whose looks saw something
 pub sent_where : (words : ℕ) (access : Access) (there : Home) (hand : Hand) (saw : Bool) → IsNext words there access → (is_leaving there && hand.seen) ≡ (is_leaving there && saw) → sends access hand ≡ (ends_leave words there && saw)
-sent_where words access (Leaving from at) hand saw next looks = leave_sent words access from at hand saw next looks
-sent_where words access (Arriving to at) hand saw next looks = arrive_sent words access to at hand next
-sent_where words access (Shifting from to at) hand saw next looks = shift_sent words access from to at hand next
-sent_where words access there hand saw next looks = let no : false ≡ true = next.has in absurd (cc)
+sent_where words access (OnWay (Outward from) at) hand saw next looks = leave_sent words access from at hand saw next looks
+sent_where words Post there hand saw next looks = let no : false ≡ true = next.has in absurd (cc)
+sent_where words access there hand saw next looks = refl
 
 -- ---- what it is to the host
 

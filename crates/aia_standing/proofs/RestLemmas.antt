@@ -6,7 +6,7 @@ use Rattle.std.proofs.lemmas.Bool.{cond-true}
 use Rattle.aia_home.specs.Vms.{Vcpu}
 use Rattle.aia_home.specs.declared.rest.Rest.TheVariants.{Parked, Entered}
 use Rattle.aia_home.specs.Home.{Home, is_moving, is_entered, runs}
-use Rattle.aia_home.specs.Home.Home.{Leaving, Arriving, Shifting}
+use Rattle.aia_home.specs.Home.Home.{OnWay}
 use Rattle.aia_world.specs.World.{World}
 use Rattle.aia_moving.specs.declared.who.KeptNumbers.{KeptNumbers}
 use Rattle.aia_move.specs.Plan.{moving_of}
@@ -51,9 +51,7 @@ entered_as_kept w g (stays.Resident lease) p = refl
 entered_as_kept w g (stays.Moving plan) p = on_the_move (moving_of plan).home p.3
   where
     on_the_move : (there : Home) → is_moving there ≡ true → is_entered there ≡ false
-    on_the_move (Leaving from at) moving = refl
-    on_the_move (Arriving to at) moving = refl
-    on_the_move (Shifting from to at) moving = refl
+    on_the_move (OnWay way at) moving = refl
     on_the_move there moving = absurd (cc)
 
 pub runs_as_kept : (w : World) (g : Vcpu) (stay : Stay) → PlanStands w g stay → runs (home_in stay) ≡ runs_in stay
@@ -63,7 +61,5 @@ runs_as_kept w g (stays.Resident lease) p = refl
 runs_as_kept w g (stays.Moving plan) p = on_the_move (moving_of plan).home p.3
   where
     on_the_move : (there : Home) → is_moving there ≡ true → runs there ≡ false
-    on_the_move (Leaving from at) moving = refl
-    on_the_move (Arriving to at) moving = refl
-    on_the_move (Shifting from to at) moving = refl
+    on_the_move (OnWay way at) moving = refl
     on_the_move there moving = absurd (cc)

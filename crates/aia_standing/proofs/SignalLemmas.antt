@@ -16,7 +16,8 @@ use Rattle.aia_imsic.specs.Imsic.{IsThere, file_at}
 use Rattle.aia_home.specs.declared.place.Place.{Place}
 use Rattle.aia_home.specs.Vms.{Vcpu, slot_of, notice_hart, all_vcpus}
 use Rattle.aia_home.specs.Home.{Home, is_place, holds}
-use Rattle.aia_home.specs.Home.Home.{Resident, Leaving, Arriving, Shifting}
+use Rattle.aia_home.specs.Home.Home.{Resident, OnWay}
+use Rattle.aia_home.specs.Home.Way.{Outward, Across}
 use Rattle.aia_home.specs.BySteps.{own_file, next_file, delivery_in_own}
 use Rattle.aia_home.proofs.AllLemmas.{any_vcpu, some_vcpu, no_vcpu, of_none}
 use Rattle.aia_places.specs.Holds.{IsWithin}
@@ -38,7 +39,7 @@ use Rattle.aia_model.specs.Gate.{is_heard, is_signalled_at, hgeip_value}
 use Rattle.aia_model.proofs.AnswerLemmas.{hgeip_refusal}
 use Rattle.aia_standing.specs.Core.{CoreState, record_of, hand_in}
 use Rattle.aia_standing.specs.Stands.{CoreStands, CoreTakes, VcpuStands, is_held}
-use Rattle.aia_home.proofs.HomeLemmas.{same_place, some_same}
+use Rattle.aia_home.proofs.HomeLemmas.{same_place, some_same, either_file}
 use Rattle.aia_standing.proofs.EventLemmas.{hosts_line, nothing_done, accepted, refused}
 use Rattle.aia_standing.proofs.WithinLemmas.{guest_within}
 
@@ -51,8 +52,8 @@ and_first false b e = refl
 -- it holds the file
 heard_holds : (p : Place) (there : Home) → is_heard p there ≡ true → holds p there ≡ true
 heard_holds p (Resident q) e = e
-heard_holds p (Leaving from at) e = (and_parts (is_place p from) (delivery_in_own (Leaving from at)) e).0
-heard_holds p (Shifting from to at) e = ap (λ b. b || is_place p to) (and_parts (is_place p from) (delivery_in_own (Shifting from to at)) e).0
+heard_holds p (OnWay (Outward from) at) e = (and_parts (is_place p from) (delivery_in_own (OnWay (Outward from) at)) e).0
+heard_holds p (OnWay (Across from to) at) e = ap (λ b. b || is_place p to) (and_parts (is_place p from) (delivery_in_own (OnWay (Across from to) at)) e).0
 heard_holds p there e = absurd (false≢true e)
 
 unheld_unheard : (p : Place) (there : Home) → holds p there ≡ false → is_heard p there ≡ false
@@ -61,33 +62,18 @@ unheld_unheard p there none = elim (cases_Bool (is_heard p there)) [
   | inr f ↦ f
 ]
 
--- it is its own file or the other one of its shift
-either_file : (p : Place) (there : Home) → holds p there ≡ true → (own_file there ≡ Some p) ⊎ (next_file there ≡ Some p)
-either_file p (Resident q) e = inl (ap Some (sym (same_place p q e)))
-either_file p (Leaving from at) e = inl (ap Some (sym (same_place p from e)))
-either_file p (Arriving to at) e = inl (ap Some (sym (same_place p to e)))
-either_file p (Shifting from to at) e = elim (cases_Bool (is_place p from)) [
-  | inl t ↦ inl (ap Some (sym (same_place p from t)))
-  | inr f ↦ inr (ap Some (sym (same_place p to (left (is_place p from) (is_place p to) f e))))
-]
-  where
-    left : (a b : Bool) → a ≡ false → (a || b) ≡ true → b ≡ true
-    left true b f e = absurd (false≢true (sym f))
-    left false b f e = e
-either_file p there e = absurd (false≢true e)
-
 -- in its own file it is heard while eidelivery stands there
 own_heard : (p : Place) (there : Home) → own_file there ≡ Some p → is_heard p there ≡ delivery_in_own there
 own_heard p (Resident q) e = some_same q p e
-own_heard p (Leaving from at) e = ap (λ b. b && delivery_in_own (Leaving from at)) (some_same from p e)
-own_heard p (Shifting from to at) e = ap (λ b. b && delivery_in_own (Shifting from to at)) (some_same from p e)
+own_heard p (OnWay (Outward from) at) e = ap (λ b. b && delivery_in_own (OnWay (Outward from) at)) (some_same from p e)
+own_heard p (OnWay (Across from to) at) e = ap (λ b. b && delivery_in_own (OnWay (Across from to) at)) (some_same from p e)
 own_heard p there e = refl
 
 -- in the other one it is not
 next_unheard : (p : Place) (there : Home) → AreApart there → next_file there ≡ Some p → is_heard p there ≡ false
 next_unheard p (Resident q) apart e = let bad : ◌≡◌ {A = Option Place} None (Some p) = e in absurd (cc)
-next_unheard p (Leaving from at) apart e = let bad : ◌≡◌ {A = Option Place} None (Some p) = e in absurd (cc)
-next_unheard p (Shifting from to at) apart e = and_first (is_place p from) (delivery_in_own (Shifting from to at)) (elsewhere (cases_Bool (is_place p from)))
+next_unheard p (OnWay (Outward from) at) apart e = let bad : ◌≡◌ {A = Option Place} None (Some p) = e in absurd (cc)
+next_unheard p (OnWay (Across from to) at) apart e = and_first (is_place p from) (delivery_in_own (OnWay (Across from to) at)) (elsewhere (cases_Bool (is_place p from)))
   where
     elsewhere : (is_place p from ≡ true) ⊎ (is_place p from ≡ false) → is_place p from ≡ false
     elsewhere (inl t) = absurd (false≢true (sym apart ∙ ap (λ (q : Place). is_place q to) (sym (same_place p from t)) ∙ some_same to p e))

@@ -14,7 +14,8 @@ use Rattle.aia_entry.specs.Tables.{TableState}
 use Rattle.aia_home.specs.declared.place.Place.{Place}
 use Rattle.aia_home.specs.Vms.{Vcpu, vcpu}
 use Rattle.aia_home.specs.Home.{Progress}
-use Rattle.aia_home.specs.Home.Home.{Leaving}
+use Rattle.aia_home.specs.Home.Home.{OnWay}
+use Rattle.aia_home.specs.Home.Way.{Outward}
 use Rattle.aia_major.specs.Kept.{kept_at_first}
 use Rattle.aia_places.specs.Places.{leads_to, entry_word, second_word}
 use Rattle.aia_world.specs.declared.stage.Stage.{Stage}
@@ -183,7 +184,7 @@ leave_under_way = record {
     found = record { vm = 0; number = 1; slot = 1; notice = 0 };
     passes = record { items = record { source = 1; identity = 5; number = 0 } ∷ [] };
   };
-  home = Leaving leaver_file so_far;
+  home = OnWay (Outward leaver_file) so_far;
   hand = record { word = 2; delivery = 1; threshold = 0; seen = false };
 }
 

@@ -4,9 +4,10 @@ use Rattle.aia_home.specs.declared.place.Place.{Place}
 use Rattle.aia_home.specs.declared.rest.Rest.TheVariants.{Parked}
 use Rattle.aia_home.specs.Vms.{Vcpu, vcpu}
 use Rattle.aia_home.specs.Aims.{aims_done}
-use Rattle.aia_home.specs.Home.{Home, at_first, is_moving}
-use Rattle.aia_home.specs.Plans.{is_at_last, leave_steps, arrive_steps, shift_steps}
-use Rattle.aia_home.specs.Home.Home.{Leaving, Arriving, Shifting}
+use Rattle.aia_home.specs.Home.{Home, at_first, is_moving, old_end, new_end}
+use Rattle.aia_home.specs.Plans.{is_at_last, plan_steps}
+use Rattle.aia_home.specs.Home.Home.{OnWay}
+use Rattle.aia_home.specs.Home.Way.{Outward, Inward, Across}
 use Rattle.aia_places.specs.Holds.{Hand}
 use Rattle.aia_pool.specs.Leases.{Leases, IsFileThere, is_out, least_free, with_out}
 use Rattle.aia_model.specs.declared.answer.Answer.{Answer}
@@ -83,7 +84,7 @@ abbrev pub ArriveFrom : Result KeptNumbers Refusal → Who → ℕ → Stay → 
 ArriveFrom (Ok kept) who hart old new was now given =
     BeginsIn (least_free was hart) hart (λ to. record {
       who = who;
-      home = Arriving to at_first;
+      home = OnWay (Inward to) at_first;
       hand = record empty_hand { delivery = kept.delivery; threshold = kept.threshold };
     }) old new was now given
 ArriveFrom (Err word) who hart old new was now given = Refuses word old new was now given
@@ -92,7 +93,7 @@ ArriveFrom (Err word) who hart old new was now given = Refuses word old new was 
 -- hart that is there, or to shift to one; and of the leases.
 abbrev pub LeaveBegins : Who → Stay → Stay → Leases → Leases → Answer → Type 0
 LeaveBegins who (stays.Resident from) new was now given = (given ≡ Okay)
-    × IsBegun new (record { who = who; home = Leaving from at_first; hand = empty_hand })
+    × IsBegun new (record { who = who; home = OnWay (Outward from) at_first; hand = empty_hand })
     × (now ≡ was)
 LeaveBegins who (stays.InMemory rest kept) new was now given =
     Refuses refusals.Parked (stays.InMemory rest kept) new was now given
@@ -107,7 +108,7 @@ abbrev pub ShiftBegins : Who → ℕ → Stay → Stay → Leases → Leases →
 ShiftBegins who hart (stays.Resident from) new was now given =
     BeginsIn (least_free was hart) hart (λ to. record {
       who = who;
-      home = Shifting from to at_first;
+      home = OnWay (Across from to) at_first;
       hand = empty_hand;
     }) (stays.Resident from) new was now given
 ShiftBegins who hart (stays.InMemory rest kept) new was now given =
@@ -185,9 +186,7 @@ step_answer last = if last then Done else answers.Moving
 
 -- How many steps of its move are left, those that aim aside.
 abbrev pub steps_left : ℕ → Home → ℕ
-steps_left words (Leaving from at) = leave_steps words - at.steps
-steps_left words (Arriving to at) = arrive_steps words - at.steps
-steps_left words (Shifting from to at) = shift_steps words - at.steps
+steps_left words (OnWay way at) = plan_steps (old_end way) (new_end way) words - at.steps
 steps_left words there = 0
 
 -- The same with those that aim, of a virtual hart in the core.

@@ -6,7 +6,8 @@ ghost use Rattle.aia_imsic.specs.Imsic.{IsThere};
 ghost use Rattle.aia_home.specs.declared.place.Place.{Place};
 ghost use Rattle.aia_home.specs.Vms.{Vcpu, slot_of, notice_hart};
 ghost use Rattle.aia_home.specs.Home.{holds};
-ghost use Rattle.aia_home.specs.Home.Home.{Resident, Leaving};
+ghost use Rattle.aia_home.specs.Home.Home.{Resident, OnWay};
+ghost use Rattle.aia_home.specs.Home.Way.{Outward};
 ghost use Rattle.aia_home.specs.Routes.{peers_reach};
 ghost use Rattle.aia_places.specs.Places.{leads_to};
 ghost use Rattle.aia_pool.specs.Leases.{is_out};
@@ -46,7 +47,7 @@ pub fn a_core_stands_in_the_middle_of_a_leave()
     ensures stands { CoreStands leaving_core leaving_history }
     ensures whole { IsWhole leaving_core.world }
     ensures stays { home leaving_history stayer ≡ Resident stayer_file }
-    ensures leaves { home leaving_history leaver ≡ Leaving leaver_file so_far }
+    ensures leaves { home leaving_history leaver ≡ OnWay (Outward leaver_file) so_far }
     ensures passed { passes_of leaving_history ≡ the_pass ∷ [] }
     ensures lines { after_lines [] (earlier_lines ++ leave_lines) ≡ leaving_history }
 {}

@@ -15,9 +15,10 @@ use Rattle.aia_mrif.specs.Mrif.{mrif_in, pending_place, after_store}
 use Rattle.aia_mrif.specs.Words.{words_after_store}
 use Rattle.aia_home.specs.declared.place.Place.{Place}
 use Rattle.aia_home.specs.Vms.{Vcpu, slot_of}
-use Rattle.aia_home.proofs.HomeLemmas.{same_place}
+use Rattle.aia_home.proofs.HomeLemmas.{same_place, either_file}
 use Rattle.aia_home.specs.Home.{Home, is_place, holds}
-use Rattle.aia_home.specs.Home.Home.{InMemory, Resident, Leaving, Arriving, Shifting}
+use Rattle.aia_home.specs.Home.Home.{InMemory, OnWay}
+use Rattle.aia_home.specs.Home.Way.{Across}
 use Rattle.aia_home.specs.BySteps.{own_file, next_file}
 use Rattle.aia_places.specs.Stores.{places_landed, AreApart}
 use Rattle.aia_world.specs.World.{World}
@@ -59,24 +60,22 @@ module _ (w u : World) (g : Vcpu) (p : Place) (offset value : ℕ) (whole : IsWh
   pub file_store-places : (there : Home) → holds p there ≡ true → AreApart there → ((r : Place) → own_file there ≡ Some r → IsThere w.imsic (spot_of r)) → ((r : Place) → next_file there ≡ Some r → IsThere w.imsic (spot_of r))
       → places_of u g there ≡ places_landed (Some p) there offset value (places_of w g there)
   file_store-places (InMemory rest) held apart own next = absurd (cc)
-  file_store-places (Resident q) held apart own next = own-landed (Resident q) (ap Some (sym (same_place p q held))) no_next
-  file_store-places (Leaving from at) held apart own next = own-landed (Leaving from at) (ap Some (sym (same_place p from held))) no_next
-  file_store-places (Arriving to at) held apart own next = own-landed (Arriving to at) (ap Some (sym (same_place p to held))) no_next
-  file_store-places (Shifting from to at) held apart own next = elim (cases_Bool (is_place p to)) [
+  file_store-places (OnWay (Across from to) at) held apart own next = elim (cases_Bool (is_place p to)) [
     | inl second ↦
         let same : p ≡ to = same_place p to second in
         let not_from : is_place from p ≡ false = ap (λ (x : Place). is_place from x) same ∙ apart in
-        next-landed (Shifting from to at) (ap Some (sym same)) (λ r e. let is : from ≡ r = cc in one_file from r (own from refl) not_from is) ∙ sym (rw second refl)
+        next-landed (OnWay (Across from to) at) (ap Some (sym same)) (λ r e. let is : from ≡ r = cc in one_file from r (own from refl) not_from is) ∙ sym (rw second refl)
     | inr first ↦
         let same : p ≡ from = same_place p from (either (is_place p from) (is_place p to) held first) in
         let not_to : is_place to p ≡ false = other_way p to first in
-        own-landed (Shifting from to at) (ap Some (sym same)) (λ r e. let is : to ≡ r = cc in one_file to r (next to refl) not_to is) ∙ sym (rw first refl)
+        own-landed (OnWay (Across from to) at) (ap Some (sym same)) (λ r e. let is : to ≡ r = cc in one_file to r (next to refl) not_to is) ∙ sym (rw first refl)
   ]
     where
       either : (a b : Bool) → (a || b) ≡ true → b ≡ false → a ≡ true
       either true b e f = refl
       either false true e f = absurd (cc)
       either false false e f = absurd (cc)
+  file_store-places there held apart own next = elim (either_file p there held) [ inl is ↦ own-landed there is no_next | inr none ↦ absurd (cc) ]
 
   -- of every other one
   pub file_store-others : (there : Home) → ((r : Place) → own_file there ≡ Some r → IsThere w.imsic (spot_of r) × (is_place r p ≡ false)) → ((r : Place) → next_file there ≡ Some r → IsThere w.imsic (spot_of r) × (is_place r p ≡ false))

@@ -2,3 +2,4 @@ mod Onward
 mod RoutesKept
 mod WordsKept
 pub mod TieLemmas
+pub mod ToldLemmas

@@ -1,5 +1,5 @@
 -- What a step more leaves as it was, of the tests by which the rules on anybody's plan are told.
-use Rattle.std.proofs.Common.{◌≡◌, ℕ, ◌<◌, Bool, true, false, not, ◌&&◌, ◌||◌, nat_eq, [], ◌∷◌, Option, Some, None, refl, sym, arith}
+use Rattle.std.proofs.Common.{◌≡◌, ℕ, Bool, true, false, not, ◌&&◌, ◌||◌, nat_eq, [], ◌∷◌, Option, Some, None, refl, sym, arith}
 use Rattle.std.proofs.lemmas.Bool.{false≢true, eqb-true}
 use Rattle.plans_machine.specs.declared.step.Bank.{Bank}
 use Rattle.plans_machine.specs.declared.step.Step.{Step}

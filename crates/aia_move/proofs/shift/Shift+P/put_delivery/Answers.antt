@@ -1,6 +1,7 @@
 use Rattle.std.proofs.Common.{◌≡◌, refl, sym, ap, ◌∙◌, arith}
 use Rattle.std.proofs.lemmas.Bool.{eq-eqb}
-use Rattle.aia_home.specs.Home.Home.{Shifting}
+use Rattle.aia_home.specs.Home.Home.{OnWay}
+use Rattle.aia_home.specs.Home.Way.{Across}
 use Rattle.aia_home.specs.Plans.{steps_done, shift_step}
 use Rattle.aia_home.specs.Plans.Access.{PutDelivery}
 use Rattle.aia_moving.specs.Move.{Moving, width, new_spot}
@@ -11,7 +12,7 @@ use Rattle.aia_move.proofs.shift.Shift+P.put_delivery.Goals as goal
 pub returns : goal.returns
 returns g c =
     let l = c.self.inside in
-    let m = moving (Shifting l.kind.from l.kind.to) l.carrier in
+    let m = moving (OnWay (Across l.kind.from l.kind.to)) l.carrier in
     let w = c.args.fabric.now in
     let here : l.carrier.steps ≡ shift_step (width w) PutDelivery = ap (λ (x : Moving). steps_done x.home) c.self.view_is ∙ c.requires.phase in
     step_last w c.put_delivery.new.fabric m c.args.self.now PutDelivery c.self.view_is (record { has = refl; step = here })
