@@ -1,10 +1,12 @@
 #!/usr/bin/env python3
+# SPDX-License-Identifier: Apache-2.0
 """The library from Python: the answers of a script, line by line, and calls without text.
 
     library.py LIBRARY SCRIPT
 
 LIBRARY is the shared object, libaia.so, in the folder that `library` fills. A number without a type
-of ctypes goes as one of 32 bits.
+of ctypes goes as one of 32 bits. Ends with status 2 where the words are wrong, or the library or
+the script can't be opened.
 """
 
 import ctypes
@@ -52,7 +54,21 @@ class Model:
 
 
 def main():
-    library, script = sys.argv[1:]
+    if sys.argv[1:2] in (["-h"], ["--help"]):
+        print(__doc__.strip())
+        return
+    if len(sys.argv) != 3:
+        print(__doc__.strip(), file=sys.stderr)
+        sys.exit(2)
+    try:
+        answer(*sys.argv[1:])
+    except OSError as wrong:
+        print(f"library.py: {wrong}", file=sys.stderr)
+        sys.exit(2)
+
+
+def answer(library, script):
+    """Answers a script, and makes some calls."""
     with Model(library) as model, open(script, "rb") as lines:
         for line in lines:
             sys.stdout.buffer.write(model.line(line.removesuffix(b"\n")))

@@ -6,7 +6,8 @@
  * The model is PROGRAM with the word `replay`. Here the machine is a list of accesses and of what
  * each of them read, of one that claims the wrong identity; yours calls `ask` for each access as it
  * makes it. Ends with status 1 and a message at the first answer that differs, else with 0; and
- * with 2 where the words are wrong, or the model can't be run or ends before its time. */
+ * with 2 where the words are wrong, or the model can't be run, ends before its time or with another
+ * status than 0. With -h it says how it is run. */
 
 #define _POSIX_C_SOURCE 200809L
 
@@ -14,13 +15,19 @@
 #include <stdio.h>
 #include <stdlib.h>
 #include <string.h>
+#include <sys/wait.h>
 #include <unistd.h>
 
 static FILE *lines, *answers; /* to the model, and from it */
+static pid_t model;
 
 static void end(int status, const char *line, const char *what, const char *mine)
 {
     fprintf(stderr, "%s: %s%s%s\n", line, what, mine ? ", mine is " : "", mine ? mine : "");
+    if (model > 0) {
+        kill(model, SIGKILL);
+        waitpid(model, NULL, 0);
+    }
     exit(status);
 }
 
@@ -28,15 +35,14 @@ static void end(int status, const char *line, const char *what, const char *mine
 static void start(const char *program)
 {
     int to[2], from[2];
-    pid_t child;
 
     signal(SIGPIPE, SIG_IGN); /* where the model has ended the read says so */
     if (pipe(to) || pipe(from))
         end(2, program, "there are no pipes", NULL);
-    child = fork();
-    if (child < 0)
+    model = fork();
+    if (model < 0)
         end(2, program, "there are no processes", NULL);
-    if (!child) {
+    if (!model) {
         dup2(to[0], 0);
         dup2(from[1], 1);
         close(to[0]), close(to[1]), close(from[0]), close(from[1]);
@@ -62,7 +68,7 @@ static void ask(const char *line, const char *mine)
 
     fprintf(lines, "%s\n", line);
     fflush(lines);
-    if (!fgets(answer, sizeof answer, answers))
+    if (!fgets(answer, sizeof answer, answers) || !strchr(answer, '\n'))
         end(2, line, "the model has ended", NULL);
     answer[strcspn(answer, "\n")] = 0;
     if (!is_mistake(answer) && (!strcmp(mine, "-") || !strcmp(mine, answer)))
@@ -71,8 +77,20 @@ static void ask(const char *line, const char *mine)
     end(1, line, said, mine);
 }
 
+/* Closes the model's input, and waits for its end. */
+static void leave(void)
+{
+    int status;
+
+    fclose(lines);
+    if (waitpid(model, &status, 0) < 0 || status)
+        model = 0, end(2, "lockstep", "the model did not end with status 0", NULL);
+}
+
 int main(int count, char **words)
 {
+    if (count == 2 && (!strcmp(words[1], "-h") || !strcmp(words[1], "--help")))
+        return printf("lockstep PROGRAM: holds a machine against the model PROGRAM\n") < 0;
     if (count != 2)
         end(2, "lockstep", "one word is wanted, the model's program", NULL);
     start(words[1]);
@@ -83,5 +101,6 @@ int main(int count, char **words)
     ask("st 0x28000000 3", "ok");
     ask("h 0 csrrw stopei 0", "0x0000000000030003");
     ask("h 0 csrr stopei", "0x0000000000030003");
+    leave();
     return 0;
 }

@@ -1,17 +1,19 @@
 #!/usr/bin/env python3
+# SPDX-License-Identifier: Apache-2.0
 """lockstep.py [PROGRAM]: holds a machine against the model access by access, in Python.
 
 The model is PROGRAM with the word `replay`, else ../aia. Here the machine is a list of accesses and
 of what each of them read, of one that claims the wrong identity; yours calls `ask` for each access
 as it makes it. Ends with status 1 and a message at the first answer that differs, else with 0; and
-with 2 where the model can't be run, or ends before its time.
+with 2 where the words are wrong, or the model can't be run, ends before its time or with another
+status than 0.
 """
 
 import subprocess
 import sys
 from pathlib import Path
 
-PROGRAM = sys.argv[1] if len(sys.argv) > 1 else Path(__file__).resolve().parent.parent / "aia"
+PATIENCE = 3  # how long a model has to end once it answers no more, in seconds
 MISTAKES = ("bad", "nomachine", "again", "range")  # of the script, whatever the machine does
 MACHINE = (
     ("machine 1 0 63 1", "ok"),
@@ -37,22 +39,46 @@ def ask(model, line, mine="-"):
         model.stdin.flush()
     except BrokenPipeError:
         pass  # it has ended: the read says so
-    answer = model.stdout.readline().rstrip("\n")
-    if not answer:
-        end(2, f"{line}: the model ended with status {model.wait()}")
+    answer, whole, _ = model.stdout.readline().partition("\n")
+    if not whole:
+        end(2, f"{line}: the model ended with status {leave(model)}")
     if answer in MISTAKES or mine not in ("-", answer):
         end(1, f"{line}: the model says {answer}, mine is {mine}")
 
 
-def main():
+def leave(model):
+    """Closes the model's input, and gives its status; one that does not end then is killed."""
     try:
-        model = subprocess.Popen([PROGRAM, "replay"], text=True, stdin=subprocess.PIPE,
+        model.stdin.close()
+    except BrokenPipeError:
+        pass  # it has ended, and what it was not told is lost
+    try:
+        return model.wait(PATIENCE)
+    except subprocess.TimeoutExpired:
+        model.kill()
+        return model.wait()
+
+
+def main():
+    words = sys.argv[1:]
+    if words in (["-h"], ["--help"]):
+        print(__doc__.strip())
+        return
+    if len(words) > 1:
+        end(2, __doc__.strip())
+    program = words[0] if words else Path(__file__).resolve().parent.parent / "aia"
+    try:
+        model = subprocess.Popen([program, "replay"], text=True, stdin=subprocess.PIPE,
                                  stdout=subprocess.PIPE)
     except OSError as wrong:
-        end(2, f"{PROGRAM} can't be run: {wrong.strerror}")
-    with model:
+        end(2, f"{program} can't be run: {wrong.strerror}")
+    try:
         for line, mine in MACHINE:
             ask(model, line, mine)
+    finally:
+        status = leave(model)
+    if status:
+        end(2, f"the model ended with status {status}")
 
 
 if __name__ == "__main__":

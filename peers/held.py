@@ -22,6 +22,7 @@ sys.path.insert(0, str(HERE / "apart"))
 sys.path.append(str(HERE.parent / "suite"))
 
 import reading
+import words
 from answers import Known
 from refusals import Refused
 
@@ -138,12 +139,10 @@ def foreseen(script, make):
 def print_script(subjects, make, usage):
     """Prints the random script that the words of the command line name: SUBJECT, SEED, COUNT. Gives
     the exit status."""
-    words = sys.argv[1:]
-    if len(words) != 3 or words[0] not in subjects or not (
-            re.fullmatch("[0-9]{1,9}", words[1]) and re.fullmatch("[1-9][0-9]{0,4}", words[2])):
-        print(usage, file=sys.stderr)
-        return 2
-    sys.stdout.buffer.write(make(words[0], int(words[1]), int(words[2])))
+    subject, seed, count = words.given(usage, lambda given: len(given) == 3 and (
+        given[0] in subjects and re.fullmatch("[0-9]{1,9}", given[1])
+        and re.fullmatch("[1-9][0-9]{0,4}", given[2])))
+    sys.stdout.buffer.write(make(subject, int(seed), int(count)))
     return 0
 
 
@@ -175,13 +174,11 @@ def compared(peer, program, what, seeds):
 def main(peer, usage):
     """Compares a peer by the words of the command line: PROGRAM, WHAT, SCRIPTS and SEED. Gives the
     exit status."""
-    words = sys.argv[1:]
-    if len(words) != 4 or not all(re.fullmatch("[0-9]{1,9}", word) for word in words[2:]):
-        print(usage, file=sys.stderr)
-        return 2
-    scripts, seed = int(words[2]), int(words[3])
+    program, what, *numbers = words.given(usage, lambda given: len(given) == 4 and all(
+        re.fullmatch("[0-9]{1,9}", word) for word in given[2:]))
+    scripts, seed = map(int, numbers)
     try:
-        is_explained = compared(peer, words[0], words[1], range(seed, seed + scripts))
+        is_explained = compared(peer, program, what, range(seed, seed + scripts))
     except Stopped as stopped:
         print(f"{Path(sys.argv[0]).stem}: {stopped}", file=sys.stderr)
         return 2

@@ -1,12 +1,14 @@
 """A command held against the answers of the model, over the scripts of the suite and of examples.
 
 What the model answers to these stands in a file beside each. Where a machine's sizes are replaced
-the model answers anew."""
+the model answers anew, and scripts that need one of others are left out."""
 
+from collections import Counter
 from fnmatch import fnmatchcase
 from typing import NamedTuple
 
 import answers
+import classes
 import running
 from running import TOP
 
@@ -30,14 +32,26 @@ class Options(NamedTuple):
     most: int = MOST
     known: answers.Known = None
     is_strict: bool = False
+    is_standard: bool = False
+    delivery: str = ""
+    bits: int = classes.MOST_BITS
 
 
 class Tally:
-    """How many scripts were answered the same, and not, and how those ended that differ."""
+    """How many scripts were answered the same, and not, and how those ended that differ; and how
+    many were left out, by what they need."""
 
     def __init__(self):
         self.same = self.differ = self.known = self.stopped = 0
-        self.statuses = set()
+        self.statuses, self.left_out = set(), Counter()
+
+    def told_left_out(self):
+        """Says how many scripts were left out, and what they need; nothing where none was."""
+        count = sum(self.left_out.values())
+        if count:
+            needs = ", ".join(f"{what} ({number})" for what, number in self.left_out.items())
+            need = "which needs" if count == 1 else "which need"
+            yield f"{running.counted(count, 'script')} left out, {need} {needs}"
 
     def summary(self):
         known = f", {self.known} by what is known alone" if self.known else ""
@@ -46,12 +60,9 @@ class Tally:
 
 def scripts(options):
     """Lists the scripts whose names and forms of line are asked for, each with its text."""
-    found = []
-    for folder in ("crates/aia_rows/data/suite", "examples"):
-        for path in sorted((TOP / folder).glob("*.script")):
-            # The pattern is one of a shell's.
-            if fnmatchcase(path.stem, f"*{options.pattern}*"):
-                found.append((path, path.read_bytes()))
+    # The pattern is one of a shell's.
+    found = [(path, path.read_bytes()) for path in classes.scripts().values()
+             if fnmatchcase(path.stem, f"*{options.pattern}*")]
     if not found:
         running.fail(f"no script's name has {options.pattern} within it")
     if options.only:
@@ -60,6 +71,20 @@ def scripts(options):
         if not found:
             running.fail(f"no script has the forms {','.join(sorted(options.only))} alone")
     return found
+
+
+def asked(options, tally):
+    """Lists the scripts that the machine can be asked, and counts those that it can't."""
+    needs = classes.standard() if options.is_standard else {}
+    for path, script in scripts(options):
+        if not options.is_standard:
+            yield path, script
+        elif path in needs:
+            lack = needs[path].lacks(options)
+            if lack:
+                tally.left_out[lack] += 1
+            else:
+                yield path, script
 
 
 def wanted(path, script, options, model):
@@ -73,14 +98,25 @@ def wanted(path, script, options, model):
     return ran.output
 
 
+def needs_others(path, script, anew):
+    """Says whether a script needs a machine of other sizes: a line that its own takes is refused
+    anew."""
+    own = answers.answers(path.with_suffix(".out").read_bytes())
+    return any(answers.is_refused(line.text, new) and not answers.is_refused(line.text, old)
+               for line, old, new in zip(answers.lines(script), own, answers.answers(anew)))
+
+
 def held(path, script, command, options, model):
-    """Runs a command over one script; gives how it ended, and what came of it."""
+    """Runs a command over one script; gives how it ended, and what came of it, or what the script
+    needs that the machine has not."""
     if options.sizes:
         script = answers.with_sizes(script, options.sizes)
+    answer = wanted(path, script, options, model)
+    if options.sizes and needs_others(path, script, answer):
+        return None, "a machine of other sizes"
     ran = running.run(command, script, options.each, answers.most_output(script))
     running.check_started(ran, command)
-    return ran, answers.Verdict(script, wanted(path, script, options, model), ran.output,
-                                options.known, options.is_strict)
+    return ran, answers.Verdict(script, answer, ran.output, options.known, options.is_strict)
 
 
 def tell(path, ran, verdict, options):
@@ -96,8 +132,11 @@ def over_suite(command, options, workers, model=None):
     """Holds a command against the model over the scripts; prints each that differs. Gives whether
     none does."""
     tally = Tally()
-    for path, script in scripts(options):
+    for path, script in asked(options, tally):
         ran, verdict = workers.submit(held, path, script, command, options, model).result()
+        if not ran:
+            tally.left_out[verdict] += 1
+            continue
         tally.statuses.add(ran.status)
         tally.stopped += bool(ran.stopped)
         if ran.fault() or verdict.count():
@@ -109,6 +148,10 @@ def over_suite(command, options, workers, model=None):
         if tally.stopped == STOPPED:
             print(f"the command had to be stopped {STOPPED} times: the rest is left out")
             break
+    for line in tally.told_left_out():
+        print(line)
+    if not tally.same and not tally.differ:
+        running.fail("no script is left that can be asked")
     print(tally.summary())
     if tally.statuses == {2}:
         print(HINT)

@@ -1,6 +1,7 @@
 """Checks the documents, or makes anew what is made of the tree."""
 
 import sys
+import traceback
 
 import checks
 import definitions
@@ -19,4 +20,10 @@ def main():
     return 1 if found else 0
 
 
-sys.exit(main())
+try:
+    STATUS = main()
+except Exception:
+    # Nothing has drifted that could be seen: 1 would say that something had.
+    traceback.print_exc()
+    STATUS = 2
+sys.exit(STATUS)

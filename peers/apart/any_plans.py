@@ -6,14 +6,16 @@ plan is one of a hypervisor's with some edits. It is tried with one store, or on
 place, from several starts; and where the program shows a run, that run is made: one that loses
 something, or, of a plan that the rule on notices alone refuses, one that leaves the host untold.
 Prints how many accepted plans had a bad run, how many refused ones had none, and how many runs that
-were shown were good or missing, and ends with 1 if any was. A plan into memory that heeds its
-numbers may be refused by the rule on notices though no run of it leaves the host untold: none is
-shown then.
+were shown were good or missing, and ends with 1 if any was, and with 2 if the words are wrong or
+PROGRAM can't be run. A plan into memory that heeds its numbers may be refused by the rule on
+notices though no run of it leaves the host untold: none is shown then.
 """
 import random
 import re
 import subprocess
 import sys
+
+import words as command_line
 
 
 class Setting:
@@ -365,7 +367,10 @@ def verdicts(program, plans):
         text += setting.lines() + [' '.join(map(str, step)) for step in plan]
         firsts.append(line + len(setting.lines()))
         line = len(text) + 1
-    done = subprocess.run([program, 'judge'], input='\n'.join(text) + '\n', capture_output=True, text=True, check=True)
+    done = subprocess.run([program, 'judge'], input='\n'.join(text) + '\n', capture_output=True,
+                          text=True)
+    if done.returncode not in (0, 1):  # 1 where it refuses a plan
+        command_line.fail(f'{program} ended with status {done.returncode}')
     answers = []
     for answer in done.stdout.splitlines():
         if answer.startswith(' '):
@@ -374,11 +379,15 @@ def verdicts(program, plans):
             answers[-1] = (verdict, shown_of(setting, plan, firsts[len(answers) - 1], verdict, answer))
         else:
             answers.append((' '.join(answer.split()[:2]), 'none shown'))
+    if len(answers) != len(plans):
+        command_line.fail(f'{program} judges {len(answers)} of {len(plans)} plans')
     return answers
 
 
 def main():
-    program, count, rng = sys.argv[1], int(sys.argv[2]), random.Random(int(sys.argv[3]))
+    program, count, seed = command_line.given(
+        __doc__, lambda given: len(given) == 3 and command_line.are_numbers(given[1:]))
+    count, rng = int(count), random.Random(int(seed))
     seeds = [list(hypervisors(words)) for words in (1, 2)]
     tally = {}
     for begin in range(0, count, 500):
@@ -396,7 +405,7 @@ def main():
                 print(key, setting.lines(), plan)
     for key in sorted(tally):
         print(*key, tally[key])
-    sys.exit(0 if all(map(is_right, tally)) else 1)
+    return 0 if all(map(is_right, tally)) else 1
 
 
 def is_right(key):
@@ -412,4 +421,4 @@ def is_right(key):
 
 
 if __name__ == '__main__':
-    main()
+    command_line.main(main)

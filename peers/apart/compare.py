@@ -8,10 +8,10 @@ For each seed the script of it, of 300 to 400 lines or of N, is given to `PROGRA
 the model, and the answers are compared byte for byte. Of each script that differs the first
 difference is printed; at the end, how many scripts and answers there were, and of each form of line
 how many were accepted, refused (with which word), and differed. With `--plant` the model is changed
-by one rule (plants.py); `--until-told` ends with the first difference.
+by one rule (plants.py); `--until-told` ends with the first difference. Ends with status 1 where an
+answer differs, and 2 where the words are wrong or PROGRAM can't be run.
 """
 
-import argparse
 import random
 import sys
 from collections import Counter
@@ -21,6 +21,7 @@ from pathlib import Path
 import model
 import plants
 import reading
+import words
 from random_scripts import MOODS, random_script
 
 sys.path.append(str(Path(__file__).resolve().parents[2] / "suite"))
@@ -42,6 +43,12 @@ def run(program, script):
     """What the program prints for a script, within the limits, and how it ended."""
     ran = running.run([program, "replay"], script, TIME_LIMIT, OUTPUT_LIMIT)
     return ran.output, ran.fault() or None
+
+
+def check_program(program):
+    """Ends with status 2 where a program can't be started."""
+    ran = running.run([program, "replay"], b"", TIME_LIMIT, OUTPUT_LIMIT)
+    running.check_started(ran, [program])
 
 
 def answered(script):
@@ -95,19 +102,25 @@ def show(counts, differing):
               f" differ {differing[form]:5}  {refused}")
 
 
+def options_given():
+    """The options of the command line."""
+    given = words.parser(__doc__)
+    given.add_argument("program")
+    given.add_argument("first", type=int)
+    given.add_argument("last", type=int)
+    given.add_argument("--without-images", action="store_true")
+    given.add_argument("--mood", choices=MOODS)
+    given.add_argument("--lines", type=int)
+    given.add_argument("--plant", choices=plants.PLANTS, metavar="PLANT")
+    given.add_argument("--until-told", action="store_true")
+    given.add_argument("--keep", type=Path)
+    given.add_argument("--processes", type=int, default=2, choices=range(1, 65), metavar="N")
+    return given.parse_args()
+
+
 def main():
-    words = argparse.ArgumentParser()
-    words.add_argument("program")
-    words.add_argument("first", type=int)
-    words.add_argument("last", type=int)
-    words.add_argument("--without-images", action="store_true")
-    words.add_argument("--mood", choices=MOODS)
-    words.add_argument("--lines", type=int)
-    words.add_argument("--plant", choices=plants.PLANTS)
-    words.add_argument("--until-told", action="store_true")
-    words.add_argument("--keep", type=Path)
-    words.add_argument("--processes", type=int, default=2, choices=range(1, 65), metavar="N")
-    options = words.parse_args()
+    options = options_given()
+    check_program(options.program)
     if options.plant:
         plants.plant(options.plant)
     counts, differing, scripts, told = Counter(), Counter(), 0, 0
@@ -130,4 +143,4 @@ def main():
 
 
 if __name__ == "__main__":
-    sys.exit(main())
+    words.main(main)

@@ -1,9 +1,11 @@
 #!/usr/bin/env python3
-"""The four numbers of `aia gen COUNT SEED`, by the model: generated.py COUNT SEED"""
+"""The four numbers of `aia gen COUNT SEED`, by the model: generated.py COUNT SEED
 
-import sys
+Ends with status 2 where the words are wrong.
+"""
 
 import model
+import words
 
 MULTIPLIER, INCREMENT = 6364136223846793005, 1442695040888963407
 
@@ -50,4 +52,5 @@ def main(count, seed):
 
 
 if __name__ == "__main__":
-    main(*map(int, sys.argv[1:]))
+    NUMBERS = words.given(__doc__, lambda given: len(given) == 2 and words.are_numbers(given))
+    main(*map(int, NUMBERS))

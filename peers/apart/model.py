@@ -3,6 +3,8 @@
 docs/DEFINITIONS.md, with the images of parked virtual harts (`save`, `load`).
 
     model.py < script > answers
+
+It takes the word `replay` too, as the program does. Ends with status 0.
 """
 
 import sys
@@ -14,6 +16,7 @@ from majors import HVICTL, HVIPRIO1, MAJORS, is_hvictl, is_injectable
 from moves import (ARRIVING, ENTERED, LEAVING, PARKED, RESIDENT, SHIFTING, Pass, VirtualHart,
                    word_mask)
 from refusals import Refused, unless
+from words import given
 
 ROOT_DOMAIN, CHILD_DOMAIN, DOMAINS_END = 0x0c000000, 0x0c008000, 0x0c010000
 MEMORY, MEMORY_END = 0x80000000, 0x8000c000
@@ -505,4 +508,5 @@ def replay():
 
 
 if __name__ == "__main__":
+    given(__doc__, lambda words: True)
     replay()

@@ -3,12 +3,14 @@
 it over random plans: the core's own, changed a little.
 
     plans.py PROGRAM SEED COUNT
+
+Ends with status 1 where a verdict differs, and 2 where the words are wrong or PROGRAM can't be run.
 """
 
 import random
 import subprocess
-import sys
 
+import words
 from reading import LINE_BYTES, number
 
 MOST_STEPS = 512
@@ -141,23 +143,25 @@ def random_plan(draw, kind, words):
     return "\n".join(lines) + ("" if draw.random() < 0.1 else "\n")
 
 
-def main(program, seed, count):
+def main():
+    program, seed, count = words.given(
+        __doc__, lambda given: len(given) == 3 and words.are_numbers(given[1:]))
     draw, counts, differing = random.Random(f"plans {seed}"), {}, 0
     for _ in range(int(count)):
-        kind, words = draw.choice(list(RECORD_STEPS)), draw.choice(WIDTHS)
-        plan = random_plan(draw, kind, words)
-        wanted = audit(kind, words, plan)
-        found = subprocess.run([program, "audit", kind, str(words)], input=plan.encode(),
+        kind, width = draw.choice(list(RECORD_STEPS)), draw.choice(WIDTHS)
+        plan = random_plan(draw, kind, width)
+        wanted = audit(kind, width, plan)
+        found = subprocess.run([program, "audit", kind, str(width)], input=plan.encode(),
                                capture_output=True, timeout=20, check=False).stdout.decode()
         word = "bad" if wanted.startswith("bad") else wanted
         counts[word] = counts.get(word, 0) + 1
         if found != wanted + "\n":
             differing += 1
-            print(f"audit {kind} {words}: wanted {wanted}, got {found!r}, of the plan\n{plan}")
+            print(f"audit {kind} {width}: wanted {wanted}, got {found!r}, of the plan\n{plan}")
     told = ", ".join(f"{word} {counts[word]}" for word in sorted(counts))
     print(f"plans {count}, of which differ {differing}: {told}")
     return 1 if differing else 0
 
 
 if __name__ == "__main__":
-    sys.exit(main(*sys.argv[1:]))
+    words.main(main)

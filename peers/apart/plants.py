@@ -4,9 +4,11 @@
     plants.py PLANT < script > answers
 
 answers a script as the model would with that error. Each is a function that changes one rule of the
-modules of the model; its name says the rule.
+modules of the model; its name says the rule. `-h` lists them. Ends with status 2 where there is no
+PLANT, or none of that name.
 """
 
+import difflib
 import inspect
 import sys
 import textwrap
@@ -16,6 +18,7 @@ import interrupt_file
 import majors
 import model
 import moves
+import words
 from aplic import Aplic, Domain
 from interrupt_file import InterruptFile
 from majors import Majors
@@ -717,9 +720,28 @@ def load_takes_bit_0():
     in_source(Machine, "load_word", "(word or not (pending | enabled) & 1)", "True")
 
 
-if __name__ == "__main__":
-    if len(sys.argv) != 2 or sys.argv[1] not in PLANTS:
-        print(__doc__, file=sys.stderr)
-        sys.exit(2)
-    plant(sys.argv[1])
+def listed():
+    """The head comment, and each error by its name."""
+    return "\n    ".join([f"{__doc__.strip()}\n", *PLANTS])
+
+
+def check(name):
+    """Ends with status 2, and the names that there are, where an error is none of these."""
+    if name not in PLANTS:
+        near = difflib.get_close_matches(name, PLANTS, 1, 0)
+        words.fail(f"there is no plant {name}; the nearest is {near[0]}\n\n{listed()}")
+
+
+def main():
+    given = words.given(listed(), lambda given: given)
+    check(given[0])
+    # A command for the model ends with its word `replay`.
+    if given[1:] not in ([], ["replay"]):
+        words.fail(f"one plant is wanted, and not {' '.join(given)}")
+    plant(given[0])
     model.replay()
+    return 0
+
+
+if __name__ == "__main__":
+    words.main(main)

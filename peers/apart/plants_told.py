@@ -4,14 +4,15 @@
     plants_told.py FIRST_SEED LAST_SEED [--without-images] [PLANT ..]
 
 Scripts and the model's own answers are made once; each error is planted in a process of its own.
+Ends with status 2 where the words are wrong.
 """
 
-import argparse
 from multiprocessing import Process, Queue
 
 import compare
 import model
 import plants
+import words
 
 
 def told_by(script, wanted):
@@ -33,12 +34,14 @@ def try_plant(name, scripts, answers, results):
 
 
 def main():
-    words = argparse.ArgumentParser()
-    words.add_argument("first", type=int)
-    words.add_argument("last", type=int)
-    words.add_argument("--without-images", action="store_true")
-    words.add_argument("plants", nargs="*")
-    options = words.parse_args()
+    given = words.parser(__doc__)
+    given.add_argument("first", type=int)
+    given.add_argument("last", type=int)
+    given.add_argument("--without-images", action="store_true")
+    given.add_argument("plants", nargs="*")
+    options = given.parse_args()
+    for name in options.plants:
+        plants.check(name)
     options.mood = options.lines = None
     scripts = {seed: compare.script_of(seed, options)
                for seed in range(options.first, options.last + 1)}
@@ -56,4 +59,4 @@ def main():
 
 
 if __name__ == "__main__":
-    main()
+    words.main(main)

@@ -10,13 +10,13 @@ keeps guesses alone: which VMs there are, where each virtual hart may be, how ma
 has still to go. Where it saves images it asks the model what they are, so as to load them again.
 """
 
-import argparse
 import random
 import sys
 from pathlib import Path
 
 import model
 import vocabulary as say
+import words
 
 MOODS = {"moves": 20, "passes": 20, "running": 14, "majors": 10, "aplic": 20, "images": 14,
          "everything": 12}
@@ -258,14 +258,14 @@ def random_script(seed, count, without_images=False, mood=None):
 
 
 def main():
-    words = argparse.ArgumentParser()
-    words.add_argument("seed", type=int)
-    words.add_argument("count", type=int)
-    words.add_argument("--without-images", action="store_true")
-    words.add_argument("--mood", choices=MOODS)
-    words.add_argument("--into", type=Path)
-    words.add_argument("--scripts", type=int, default=1)
-    given = words.parse_args()
+    reader = words.parser(__doc__)
+    reader.add_argument("seed", type=int)
+    reader.add_argument("count", type=int)
+    reader.add_argument("--without-images", action="store_true")
+    reader.add_argument("--mood", choices=MOODS)
+    reader.add_argument("--into", type=Path)
+    reader.add_argument("--scripts", type=int, default=1)
+    given = reader.parse_args()
     for seed in range(given.seed, given.seed + given.scripts):
         script = random_script(seed, given.count, given.without_images, given.mood)
         if given.into:
@@ -276,4 +276,4 @@ def main():
 
 
 if __name__ == "__main__":
-    main()
+    words.main(main)

@@ -3,13 +3,15 @@
 at each level, every bit of the words of an entry.
 
     sweeps.py PROGRAM FIRST_SEED LAST_SEED
+
+Ends with status 1 where an answer differs, and 2 where the words are wrong or PROGRAM can't be run.
 """
 
 import random
-import sys
 
 import compare
 import model
+import words
 
 
 def registers(draw):
@@ -62,7 +64,10 @@ def entries(draw):
     return lines
 
 
-def main(program, first, last):
+def main():
+    program, first, last = words.given(
+        __doc__, lambda given: len(given) == 3 and words.are_numbers(given[1:]))
+    compare.check_program(program)
     answers = told = 0
     for seed in range(int(first), int(last) + 1):
         for sweep in (registers, selects, entries):
@@ -78,4 +83,4 @@ def main(program, first, last):
 
 
 if __name__ == "__main__":
-    sys.exit(main(*sys.argv[1:]))
+    words.main(main)

@@ -1,0 +1,51 @@
+"""The words of a command line, and how a program of this folder ends: with status 2 where they are
+wrong, or where it can't look."""
+
+import argparse
+import subprocess
+import sys
+from pathlib import Path
+
+
+def fail(message):
+    """Ends with status 2 and a message."""
+    print(f"{Path(sys.argv[0]).name}: {message}", file=sys.stderr)
+    sys.exit(2)
+
+
+def given(doc, fits):
+    """Gives the words where they fit. Else it prints the head comment and ends: with status 0 where
+    that is asked for, with 2 where the words are wrong."""
+    words = sys.argv[1:]
+    if words[:1] in (["-h"], ["--help"]):
+        print(doc.strip())
+        sys.exit(0)
+    if not fits(words):
+        print(doc.strip(), file=sys.stderr)
+        sys.exit(2)
+    return words
+
+
+def are_numbers(words):
+    """Says whether words are numbers in decimal."""
+    return all(word.isascii() and word.isdigit() and len(word) <= 20 for word in words)
+
+
+def parser(doc):
+    """Gives a reader of options, whose help is the head comment."""
+    return argparse.ArgumentParser(description=doc,
+                                   formatter_class=argparse.RawDescriptionHelpFormatter)
+
+
+def main(tool):
+    """Runs a program, a function that gives its exit status, and ends with that; with 2 where a
+    command can't be run, or a file not be read or written."""
+    try:
+        status = tool()
+        sys.stdout.flush()
+    except BrokenPipeError:
+        sys.stdout = None
+        status = 2
+    except (OSError, subprocess.SubprocessError) as wrong:
+        fail(wrong)
+    sys.exit(status)

@@ -1,0 +1,191 @@
+"""Tries how the tools end, as suite/tools does: each function takes its Trial. Help is printed with
+status 0; 0 says that all is the same, 1 that something differs, 2 that a tool could not look."""
+
+import os
+import shutil
+import stat
+
+import answers
+from running import TOP
+
+FOLDERS = ("suite", "peers", "examples", "bench", "docs/make")
+APART = TOP / "peers/apart"
+NO_PROGRAM = "/nosuch/program"
+# What no tool runs where it is asked for help.
+BUILDERS = ("rt", "cc", "c++", "gcc", "rustc", "valgrind", "qemu-riscv64", "qemu-system-riscv64",
+            "riscv64-linux-gnu-gcc")
+# Programs that end before their time, or answer wrongly, by their names: lines of a shell.
+ENDING = {
+    "true": ("exec true", 2), "false": ("exec false", 2), "cat": ("exec head -n 1", 1),
+    "one": ("read -r line; echo ok", 2), "half": ("printf ok; exit 3", 2),
+    "silent": ("exec >&-; exec sleep 30", 2), "deaf": ("exec <&-; sleep 1", 2),
+    "killed": ("kill -9 $$", 2)}
+
+
+def executables():
+    """Lists the scripts of the tools: files that may be run and begin with a line that says how."""
+    for folder in FOLDERS:
+        for path in sorted((TOP / folder).rglob("*")):
+            if path.is_file() and path.stat().st_mode & stat.S_IXUSR and "out" not in path.parts:
+                with path.open("rb") as file:
+                    if file.read(2) == b"#!":
+                        yield path
+
+
+def program(trial, name, lines):
+    """Writes a program of some lines of a shell."""
+    path = trial.file(name, f"#!/bin/bash\n{lines}\n")
+    path.chmod(0o755)
+    return path
+
+
+def planted(trial, plant):
+    """Writes a program that answers as the model does with an error in it."""
+    return program(trial, plant, f'exec "{APART}/plants.py" {plant}')
+
+
+def helps(trial):
+    """Each script prints its own help, with status 0, and builds or runs nothing."""
+    folder = trial.folder / "builders"
+    folder.mkdir()
+    noted = trial.folder / "noted"
+    for name in (*BUILDERS, "program"):
+        path = folder / name
+        path.write_text(f'#!/bin/sh\necho "$0" >> "{noted}"\nexit 1\n', encoding="ascii")
+        path.chmod(0o755)
+    found = list(executables())
+    trial.sees(len(found) > 40, f"there are {len(found)} scripts alone")
+    path = f"PATH={folder}:{os.environ['PATH']}"
+    for script in found:
+        for word in ("-h", "--help"):
+            ran = trial.run("env", path, f"PROGRAM={folder}/program", script, word, seconds=20)
+            said = answers.shown(ran.output)
+            trial.sees(ran.status == 0 and not ran.errors and len(said) > 80,
+                       f"{script.relative_to(TOP)} {word} ends with {ran.status}: {ran.errors}")
+            trial.sees("set -" not in said and "#!" not in said and "import " not in said,
+                       f"{script.relative_to(TOP)} {word} prints more than its head comment")
+    trial.sees(not noted.exists(), "help is asked for, and something is run")
+
+
+def refused_words():
+    """Lists words that are wrong, by the tool."""
+    for name in ("between-steps", "majors-table", "make", "documents", "step-numbers", "isolation",
+                 "from-memory", "migrations", "no-sense", "want-of-memory", "repeats"):
+        yield TOP / "suite" / name, ["--x"], ["a", "b", "c"]
+    for name in ("isolation", "from-memory", "migrations", "no-sense"):
+        yield TOP / "suite" / name, ["0"], ["x"], ["1", "x"]
+    for name in ("any_plans.py", "generated.py", "plans.py", "sweeps.py", "compare.py",
+                 "plants_told.py", "random_scripts.py", "plants.py", "run"):
+        yield APART / name, ["--x"], ["a", "x", "y"]
+    yield APART / "plants.py", [], ["a_priority_of_0_is_kep"], ["gfault_comes_before_away", "x"]
+    yield APART / "plants_told.py", ["1", "2", "nosuch"]
+    for peer in ("qemu", "kvm"):
+        yield TOP / "peers" / peer / "build", [], ["/nosuch"]
+        yield TOP / "peers" / peer / "scripts.py", [], ["x", "1", "1"], ["moves", "x", "1"]
+        yield TOP / "peers" / peer / f"compare_{peer}.py", [], ["a", "b", "c", "d"]
+        yield TOP / "peers" / peer / "run", ["a", "x"], ["a", "1", "1", "1"]
+    yield TOP / "peers/qemu/bridge.py", [], ["/nosuch"], [APART / "model.py", "--x"]
+    yield TOP / "peers/replay_known.py", [], ["x", "y", "z"], ["kvm", NO_PROGRAM, "x"]
+    yield TOP / "peers/hold", [], ["x", "y", "1", "--"]
+    for name in ("check", "plans/check", "hypervisors/check", "check-library"):
+        yield TOP / "examples" / name, ["--x"], ["a", "b"]
+    yield TOP / "examples/migrate", [], ["0"], ["a", "b"]
+    yield TOP / "examples/library.py", [], ["a"], [NO_PROGRAM, "x"]
+    yield TOP / "examples/lockstep.py", ["a", "b"], [NO_PROGRAM]
+    yield TOP / "examples/fixed-machine.py", ["nosuch"]
+    yield TOP / "bench/run", ["x"], ["0"], ["1", "2"]
+    yield TOP / "bench/scripts", [], ["--x"], ["/nosuch"], ["/", "nosuch"]
+    yield TOP / "bench/plot", ["--x"], ["a", "b"]
+
+
+def words_are_refused(trial):
+    """Wrong words, and files that are not there: status 2, and a message on standard error."""
+    for tool, *cases in refused_words():
+        for words in cases:
+            ran = trial.run("env", f"PROGRAM={trial.program}", tool, *words, seconds=30)
+            trial.sees(ran.status == 2 and ran.errors and not ran.output,
+                       f"{tool.relative_to(TOP)} {words} ends with {ran.status}:"
+                       f" {ran.errors[:80]!r}{ran.output[:40]!r}")
+    said = trial.run(APART / "plants.py", "a_priority_of_0_is_kep").errors
+    trial.sees("the nearest is a_priority_of_0_is_kept\n" in said, "plants.py says no nearest name")
+    said = answers.shown(trial.run(APART / "plants.py", "-h").output)
+    trial.sees("\n    a_priority_of_0_is_kept\n" in said, "plants.py -h lists no plants")
+
+
+def could_not_look(trial):
+    """No program, or one that can't be run, no compiler, no place to write: status 2."""
+    here = TOP / "examples"
+    own = [TOP / "suite" / name for name in ("isolation", "from-memory", "migrations", "no-sense",
+                                             "check")]
+    own += [here / "check", here / "plans/check"]
+    cases = [["env", f"PROGRAM={no}", tool] for tool in own for no in (NO_PROGRAM, TOP / "VERSION")]
+    cases += [["env", f"PROGRAM={shutil.which('false')}", TOP / "suite/isolation", "1"]]
+    cases += [[here / "hypervisors/check", NO_PROGRAM], [APART / "run", NO_PROGRAM],
+              [TOP / "peers/qemu/run", NO_PROGRAM], [TOP / "peers/kvm/run", NO_PROGRAM],
+              [TOP / "suite/want-of-memory", NO_PROGRAM],
+              ["env", "CC=/nosuch/cc", TOP / "suite/want-of-memory", trial.program],
+              [here / "check-library", trial.folder]]
+    cases += [[TOP / "suite" / name, "/proc/nosuch"] for name in ("make", "majors-table",
+                                                                  "between-steps")]
+    for name in ("compare.py", "sweeps.py", "plans.py", "any_plans.py"):
+        cases.append([APART / name, NO_PROGRAM, "1", "1"])
+    cases.append([APART / "any_plans.py", shutil.which("true"), "1", "1"])
+    for words in cases:
+        ran = trial.run(*words)
+        trial.sees(ran.status == 2 and ran.errors and "Traceback" not in ran.errors,
+                   f"{' '.join(map(str, words))} ends with {ran.status}: {ran.errors[-80:]!r}")
+
+
+def same_and_different(trial):
+    """The tools that hold a program against something end with 0 where it is right, and with 1
+    where it has an error."""
+    suite, here, right = TOP / "suite", TOP / "examples", trial.program
+    all_bad = program(trial, "all_bad", "exec sed 's/.*/bad/'")
+    claims = planted(trial, "a_claim_from_memory_clears_the_word")
+    joins = planted(trial, "load_of_an_image_leaves_the_select_number")
+    cuts = planted(trial, "an_odd_select_number_reads_0")
+    lets = planted(trial, "a_threshold_lets_itself_through")
+    plans = program(trial, "plans", "cat > /dev/null; echo accepted")
+    for tool, wrong, *words in (
+            (suite / "from-memory", claims, 32),
+            (suite / "migrations", joins, 32), (suite / "no-sense", all_bad, 2000),
+            (here / "check", lets), (here / "plans/check", plans),
+            (suite / "check", lets, "-k", "claim")):
+        for one, status in ((right, 0), (wrong, 1)):
+            given = [one, "replay"] if tool.name == "check" and words else []
+            ran = trial.run("env", f"PROGRAM={one}", tool, *words, *given)
+            trial.sees(ran.status == status, f"{tool.name} over {one.name if status else one} ends"
+                       f" with {ran.status}: {ran.errors[-80:]!r}")
+    for leak, status in ((0, 0), (1, 1)):
+        trial.sees(trial.run(suite / "isolation", 3, leak).status == status,
+                   f"isolation with the leak {leak}")
+    plant = ("--plant", "a_claim_clears_a_level_source")
+    for words, status in ((["1", "4"], 0), (["1", "40", *plant], 1)):
+        ran = trial.run(APART / "compare.py", right, *words)
+        trial.sees(ran.status == status, f"compare.py {words} ends with {ran.status}")
+    for one, status in ((right, 0), (cuts, 1)):
+        trial.sees(trial.run(APART / "sweeps.py", one, 1, 1).status == status, "sweeps.py")
+    for one, status in ((right, 0), (plans, 1)):
+        trial.sees(trial.run(APART / "plans.py", one, 1, 20).status == status, "plans.py")
+    trial.sees(trial.run(here / "hypervisors/check", plans).status == 1, "hypervisors/check")
+    trial.prints(0, ["no number of a step stands outside the plans\n"], suite / "step-numbers")
+
+
+def locksteps(trial):
+    """examples/lockstep.py, and lockstep.c where there is a compiler, with programs that end before
+    their time, or close their output: status 2 and a message, and never a traceback."""
+    tools = [[TOP / "examples/lockstep.py"]]
+    if shutil.which("cc"):
+        made = trial.folder / "lockstep"
+        trial.run("cc", "-std=c11", "-o", made, TOP / "examples/lockstep.c")
+        tools.append([made])
+    for name, (lines, status) in ENDING.items():
+        ends = program(trial, f"ends-{name}", lines)
+        for tool in tools:
+            for _ in range(20 if name == "true" else 2):
+                ran = trial.run(*tool, ends, seconds=20)
+                trial.sees(ran.status == status and len(ran.errors.splitlines()) == 1,
+                           f"{tool[0].name} {name} ends with {ran.status}: {ran.errors[:80]!r}")
+
+
+PARTS = (helps, words_are_refused, could_not_look, same_and_different, locksteps)
