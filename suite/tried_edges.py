@@ -118,6 +118,7 @@ def could_not_look(trial):
     own = [TOP / "suite" / name for name in ("isolation", "from-memory", "migrations", "no-sense",
                                              "check")]
     own += [here / "check", here / "plans/check"]
+    own.append(TOP / "suite/tools")
     cases = [["env", f"PROGRAM={no}", tool] for tool in own for no in (NO_PROGRAM, TOP / "VERSION")]
     cases += [["env", f"PROGRAM={shutil.which('false')}", TOP / "suite/isolation", "1"]]
     cases += [[here / "hypervisors/check", NO_PROGRAM], [APART / "run", NO_PROGRAM],
