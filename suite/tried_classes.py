@@ -16,6 +16,7 @@ import generated
 FIXED = TOP / "examples/fixed-machine.py"
 COMPARE = TOP / "suite/compare"
 SIZES = (2, 7, 255, 96)
+FORMS = {"machine", "st", "ld", "wire", "m", "h", "pins"}
 # Choices that go with no other of their kind, and what the machine has then.
 APART = {
     "priorities_of_three_bits": classes.Needs(SIZES, "", 3),
@@ -44,6 +45,8 @@ def classes_of_scripts(trial):
     for kind, names in found.items():
         trial.sees(f"| `{kind}` | {len(names)} |" in text,
                    f"suite/README.md does not say that {len(names)} scripts are {kind}")
+    trial.sees(f"`{len(asked_of(ALIKE))} scripts same, 0 differ`" in text,
+               "suite/README.md says another count of scripts for the machine of fixed sizes")
     table = text.partition("\n## What rests on a choice\n")[2].partition("\n## ")[0]
     named = set(re.findall("`([^`]+)`", " ".join(re.findall(r"(?m)^\| (`[^|]*) \|", table))))
     for name in sorted(named ^ found["profile"]):
@@ -65,10 +68,12 @@ def wrong_tables(trial):
 
 
 def standard_scripts(trial):
-    """No answer of a standard script is a refusal, on its own machine and on the least that it
-    needs, which is no larger than its own."""
+    """A standard script has lines of a few forms, and no answer that is a refusal, on its own
+    machine and on the least that it needs, which is no larger than its own."""
     for path, needs in classes.standard().items():
         script = path.read_bytes()
+        forms = {answers.form(line.text) for line in answers.lines(script)}
+        trial.sees(forms <= FORMS, f"{path.stem} has the forms {forms}")
         least = answers.with_sizes(script, needs.sizes)
         own = re.search(rb"(?m)^machine (.*)$", script)[1].split()
         trial.sees(all(need <= int(size) for need, size in zip(needs.sizes, own)),

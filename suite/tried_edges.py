@@ -67,7 +67,7 @@ def helps(trial):
     trial.sees(not noted.exists(), "help is asked for, and something is run")
 
 
-def refused_words():
+def refused_words(trial):
     """Lists words that are wrong, by the tool."""
     for name in ("between-steps", "majors-table", "make", "documents", "step-numbers", "isolation",
                  "from-memory", "migrations", "no-sense", "want-of-memory", "repeats"):
@@ -94,13 +94,13 @@ def refused_words():
     yield TOP / "examples/lockstep.py", ["a", "b"], [NO_PROGRAM]
     yield TOP / "examples/fixed-machine.py", ["nosuch"]
     yield TOP / "bench/run", ["x"], ["0"], ["1", "2"]
-    yield TOP / "bench/scripts", [], ["--x"], ["/nosuch"], ["/", "nosuch"]
+    yield TOP / "bench/scripts", [], ["--x"], ["/nosuch"], [trial.folder, "nosuch"]
     yield TOP / "bench/plot", ["--x"], ["a", "b"]
 
 
 def words_are_refused(trial):
     """Wrong words, and files that are not there: status 2, and a message on standard error."""
-    for tool, *cases in refused_words():
+    for tool, *cases in refused_words(trial):
         for words in cases:
             ran = trial.run("env", f"PROGRAM={trial.program}", tool, *words, seconds=30)
             trial.sees(ran.status == 2 and ran.errors and not ran.output,
@@ -118,6 +118,7 @@ def could_not_look(trial):
     own = [TOP / "suite" / name for name in ("isolation", "from-memory", "migrations", "no-sense",
                                              "check")]
     own += [here / "check", here / "plans/check"]
+    own.append(TOP / "suite/tools")
     cases = [["env", f"PROGRAM={no}", tool] for tool in own for no in (NO_PROGRAM, TOP / "VERSION")]
     cases += [["env", f"PROGRAM={shutil.which('false')}", TOP / "suite/isolation", "1"]]
     cases += [[here / "hypervisors/check", NO_PROGRAM], [APART / "run", NO_PROGRAM],

@@ -1,5 +1,5 @@
-"""Choices that the standard leaves open, made otherwise than the model makes them. A machine with any
-of them, or with all, is right; docs/DECISIONS.md has each.
+"""Choices that the standard leaves open, made otherwise than the model makes them. A machine with
+any of them, or with all, is right; docs/DECISIONS.md has each.
 
 Each is a function that changes one rule of the machine of fixed.py, for good in this process; its
 name says the rule.
