@@ -21,6 +21,8 @@ PIECE, LONGEST = 100_000, 300
 # How many differences are printed.
 MOST = 10
 AUDIT_WIDTH = 4
+# The statuses with which `judge` has read its plans: all accepted, one refused, bad, none at all.
+JUDGED = (0, 1, 7, 8)
 NUMBERS = (0, 1, 2, 3, 5, 8, 63, 64, 255, 1023, 4096, 0x28000000, 0x28000004, 0x2800C000,
            (1 << 32) - 1, 1 << 32, (1 << 63) + 10, (1 << 64) - 1)
 ODD_NUMBERS = (b"18446744073709551616", b"18446744073709551620", b"0x10000000000000000",
@@ -165,11 +167,11 @@ class Tally:
                 " lint and the program differ")
 
 
-def ran(workers, command, text, most):
-    """Gives what a command answers; ends the tool where it fails."""
+def ran(workers, command, text, most, statuses=(0,)):
+    """Gives what a command answers; ends the tool where it ends with another status than these."""
     one = workers.submit(running.run, command, text, LONGEST, most).result()
     running.check_started(one, command)
-    if one.fault():
+    if one.stopped or one.status not in statuses:
         running.fail(f"{' '.join(command)}: {one.fault()}")
     return answers.answers(one.output)
 
@@ -233,7 +235,7 @@ def compare_judged(workers, program, draw, count, tally):
             elif fault and not was_bad:
                 wanted[-1] = (number, f"bad line {number}")
         said = [one for one in ran(workers, [program, "judge"], b"\n".join(texts) + b"\n",
-                                   1 << 24) if not one.startswith("  run: ")]
+                                   1 << 24, JUDGED) if not one.startswith("  run: ")]
         tally.see(b"(plans)", len(wanted), len(said))
         for (number, mine), its in zip(wanted, said):
             tally.see(texts[number - 1], mine, its if its.startswith("bad ") else None)
@@ -252,7 +254,7 @@ def program_of(workers, language):
         return os.environ["PLANS"]
     words = [str(TOP / "plans"), "judge"]
     built = workers.submit(running.run, words, b"", running.BUILDING, 1 << 20, True).result()
-    if built.fault():
+    if built.stopped or built.status not in JUDGED:
         running.fail(f"./plans can't be built: {built.fault()}")
     return str(TOP / "crates/plans/out/plans")
 
