@@ -3,6 +3,7 @@
 use plans_judge::{Kind, Rule, Spot, Step, Terms, Verdict, judge};
 use plans_run::{losing_run, untold_run};
 use plans_text::{Line, Outcome, Reading, answers, parse_line};
+use std::alloc::{AllocError, Global};
 use std::test::Fail;
 
 /// A plan of one word and one producer with a route that keeps all rules.
@@ -165,33 +166,38 @@ fn a_plan_that_forgets_its_words_is_refused_in_the_end(rt: HostRuntime) -> Resul
     Ok(())
 }
 
-/// Tells whether that comes of the plans of a file.
-fn comes(rt: &HostRuntime, file: &[u8], outcome: Outcome) -> Result<(), Fail> {
-    let found = answers(rt.alloc(), file)?;
-    assert!(rt; found.outcome == outcome);
+/// What comes of the plans of a file.
+fn outcome_of(alloc: Global, file: &[u8]) -> Result<Outcome, AllocError> {
+    let found = answers(alloc, file)?;
+    Ok(found.outcome)
+}
+
+#[test]
+fn no_plan_and_a_plan_have_their_outcomes(rt: HostRuntime) -> Result<(), Fail> {
+    let empty = outcome_of(rt.alloc(), b"")?;
+    assert!(rt; empty == Outcome::NoPlan);
+    let comments = outcome_of(rt.alloc(), b"# nothing\n\n")?;
+    assert!(rt; comments == Outcome::NoPlan);
+    let good = outcome_of(rt.alloc(), GOOD)?;
+    assert!(rt; good == Outcome::Accepted);
+    let unfenced = outcome_of(rt.alloc(), UNFENCED)?;
+    assert!(rt; unfenced == Outcome::Refused);
+    let nonsense = outcome_of(rt.alloc(), b"nonsense")?;
+    assert!(rt; nonsense == Outcome::BadLine);
     Ok(())
 }
 
 #[test]
-fn the_worst_comes_of_plans(rt: HostRuntime) -> Result<(), Fail> {
-    comes(&rt, b"", Outcome::NoPlan)?;
-    comes(&rt, b"# nothing\n\n", Outcome::NoPlan)?;
-    comes(&rt, GOOD, Outcome::Accepted)?;
-    comes(&rt, UNFENCED, Outcome::Refused)?;
-    comes(&rt, b"plan", Outcome::Refused)?;
-    comes(&rt, b"nonsense", Outcome::BadLine)?;
-    Ok(())
-}
-
-#[test]
-fn it_comes_of_any_of_many(rt: HostRuntime) -> Result<(), Fail> {
+fn of_many_plans_the_worst_counts(rt: HostRuntime) -> Result<(), Fail> {
     let mut file = Vec::new(rt.alloc());
     file.extend_from_slice(UNFENCED)?;
     file.extend_from_slice(b"plan\n")?;
     file.extend_from_slice(GOOD)?;
-    comes(&rt, &file, Outcome::Refused)?;
+    let refused = outcome_of(rt.alloc(), &file)?;
+    assert!(rt; refused == Outcome::Refused);
     file.extend_from_slice(b"plan\nnonsense\nplan\n")?;
     file.extend_from_slice(GOOD)?;
-    comes(&rt, &file, Outcome::BadLine)?;
+    let bad = outcome_of(rt.alloc(), &file)?;
+    assert!(rt; bad == Outcome::BadLine);
     Ok(())
 }
