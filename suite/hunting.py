@@ -27,6 +27,8 @@ SELDOM = 4
 SURE = 0.95
 # How many scripts a process tries before it tells, at first and at most.
 FIRST_UNIT, MOST_UNIT = 4, 256
+# After how many seconds it is said again how far a shrinking is.
+EVERY = 10
 CHANGES = "the command's answers change from run to run"
 
 
@@ -109,6 +111,15 @@ class Hunt:
         if found.ran.fault():
             yield answers.printable(found.ran.fault())
 
+    def uneven(self, script):
+        """Says how many answers to a whole script are missing or spare, if any are."""
+        found = self.differs(script)
+        if not found or found.kind == "answer":
+            return []
+        verdict = answers.Verdict(self.whole(script), found.wanted, found.ran.output, self.known)
+        return [answers.printable(f"of its {len(verdict.model)} answers: {line}")
+                for line in verdict.uneven()]
+
     def search(self, seeds, lines, draw):
         """Gives the first of these numbers whose script differs, None where none does."""
         return next((seed for seed in seeds
@@ -126,7 +137,25 @@ class Left(NamedTuple):
     shrinking: int
 
 
-def left_of(hunt, script, is_machine_fixed, tell):
+class Progress:
+    """What is told of a shrinking while it goes on: how far it is, and what is left so far, which
+    stands in a file, so that it is there where the tool is stopped."""
+
+    def __init__(self, hunt, into):
+        self.hunt, self.into = hunt, into
+        self.last = time.monotonic()
+
+    def tell(self, shrinker):
+        """Says how far a shrinking is, now and then, and writes what is left."""
+        if self.into:
+            Path(self.into).write_bytes(self.hunt.whole(shrinker.seen_script()))
+        if time.monotonic() - self.last >= EVERY:
+            self.last = time.monotonic()
+            print(f"hunt: shrinking: {running.counted(len(shrinker.texts), 'line')} left, after"
+                  f" {running.counted(shrinker.runs, 'run')}", file=sys.stderr, flush=True)
+
+
+def left_of(hunt, script, is_machine_fixed, tell, progress):
     """Runs a script that differed once some more, and shrinks it unless the difference comes too
     seldom. Says where it does not come each time."""
     found, seen, runs = hunt.again(script, FEW)
@@ -139,7 +168,7 @@ def left_of(hunt, script, is_machine_fixed, tell):
         return Left(script, None, seen, runs, 0)
     unseen = 1 - seen / runs
     shrinker = Shrinker(script, hunt.differs, is_machine_fixed,
-                        math.ceil(math.log(1 - SURE, unseen)) if unseen else 1)
+                        math.ceil(math.log(1 - SURE, unseen)) if unseen else 1, progress.tell)
     shrunk = (shrinker.script, shrinker.seen_script) if shrinker.shrink() else ()
     # What was cut off unseen may be wanted after all.
     for lines in (one() for one in shrunk):

@@ -67,9 +67,11 @@ def fail(message):
     sys.exit(2)
 
 
-def usage():
-    """Ends the tool with status 2 and its head comment."""
+def usage(reason=""):
+    """Ends the tool with status 2, its head comment and, last, what is wrong with the words."""
     print(sys.modules["__main__"].__doc__.strip(), file=sys.stderr)
+    if reason:
+        print(f"\n{Path(sys.argv[0]).name}: {reason}", file=sys.stderr)
     sys.exit(2)
 
 
@@ -87,8 +89,7 @@ def words(short, *long):
     try:
         options, rest = getopt.getopt(given, short + "h", [*long, "help"])
     except getopt.GetoptError as wrong:
-        print(f"{Path(sys.argv[0]).name}: {wrong}", file=sys.stderr)
-        usage()
+        usage(str(wrong))
     if {"-h", "--help"} & dict(options).keys():
         tell_help()
     read = len(given) - len(rest)
@@ -263,9 +264,13 @@ def tried(workers, command, seconds):
 def model_command(workers):
     """Gives the command of the model: that of the variable PROGRAM, or the program of this
     repository, which is built first where it has to be."""
-    if os.environ.get("PROGRAM"):
-        return [os.environ["PROGRAM"], "replay"]
+    program = os.environ.get("PROGRAM")
+    if program:
+        # One of this repository may be named from its top, wherever the tool is called.
+        is_ours = not os.path.exists(program) and (TOP / program).is_file()
+        return [str(TOP / program) if is_ours else program, "replay"]
     built = workers.submit(run, [str(TOP / "aia"), "replay"], b"", BUILDING, 1 << 20, True).result()
     if built.fault():
-        fail(f"./aia can't be built: {built.fault()}")
+        fail(f"./aia can't be built: {built.fault()}; with PROGRAM=peers/apart/model.py an"
+             " independent model answers in its place, in Python, not proved")
     return [str(TOP / "crates/aia/out/aia"), "replay"]

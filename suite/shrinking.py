@@ -27,10 +27,11 @@ class Shrinker:
     that the model answered as a machine would is not made one by which the script is wrong: that
     another machine takes it says nothing. What stands behind the first difference is cut off
     without a run, unless the first time shows that it is wanted; so `seen` keeps the lines of the
-    last run that differed."""
+    last run that differed. `tell` is called with the shrinker each time that lines are taken."""
 
-    def __init__(self, script, try_, is_machine_fixed=False, times=1):
+    def __init__(self, script, try_, is_machine_fixed=False, times=1, tell=None):
         self.try_, self.is_machine_fixed, self.times = try_, is_machine_fixed, times
+        self.tell = tell or (lambda _: None)
         self.runs, self.deadline = 0, time.monotonic() + LONGEST
         self.allowed, self.kind, self.cuts = answers.MISTAKES, None, True
         self.texts = [text for text in answers.reading.texts(script)
@@ -69,6 +70,7 @@ class Shrinker:
             return False
         self.seen, self.texts = texts, texts[:found.at + 1] if self.cuts else texts
         self.allowed = {found.model} & self.allowed
+        self.tell(self)
         return True
 
     def begin(self):

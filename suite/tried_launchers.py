@@ -25,7 +25,7 @@ RIGHT = {"aia": ("replay",), "plans": ("judge",), "library": ("library-folder",)
 WRONG = (
     ("aia", (), "a word is wanted"),
     ("aia", ("replai",), "there is no command 'replai'"),
-    ("aia", ("--what",), "there is no command '--what'"),
+    ("aia", ("--verison",), "there is no option '--verison': there are --help and --version"),
     ("aia", ("VERSION",), "'VERSION' is a file: have it read from standard input"),
     ("aia", ("replay", "VERSION"), "'VERSION' is a file: have it read from standard input"),
     ("aia", ("replay", "x"), "replay has no word behind it, and not 'x'"),
@@ -41,7 +41,7 @@ WRONG = (
     ("plans", ("judge", "VERSION"), "'VERSION' is a file: have it read from standard input"),
     ("library", (), "one folder is wanted, and 0 words given"),
     ("library", ("a", "b"), "one folder is wanted, and 2 words given"),
-    ("library", ("-x",), "a folder is wanted, and not '-x'"),
+    ("library", ("-x",), "there is no option '-x'"),
 )
 # Words of which command lines are made at random.
 WORDS = ("replay", "gen", "audit", "leave", "arrive", "shift", "0", "1", "3", "32", "33", "+5",
@@ -166,10 +166,14 @@ def launchers_without_toolchain(trial):
     for launcher, (_, _, status) in BUILT.items():
         ran = tree.run(launcher, *RIGHT[launcher], path=tree.bare)
         trial.sees(ran.status == status and not ran.output and len(ran.errors.splitlines()) == 1
-                   and "rt" in ran.errors and "released package" in ran.errors,
+                   and ran.errors.startswith(f"{launcher}: rt, the toolchain") and
+                   "; without it" in ran.errors,
                    f"{launcher} without rt ends with {ran.status}: {ran.errors}")
-    ran = tree.run("aia", "replay", path=tree.bare)
-    trial.sees("peers/apart/model.py" in ran.errors, f"aia without rt says {ran.errors}")
+    for words, said in ((("replay",), "peers/apart/model.py < SCRIPT"),
+                        (("gen", "7", "8"), "peers/apart/generated.py 7 8"),
+                        (("audit", "leave", "1"), "nothing here judges a plan")):
+        ran = tree.run("aia", *words, path=tree.bare)
+        trial.sees(said in ran.errors, f"aia {words} without rt says {ran.errors}")
     tree.put("aia", "echo here")
     ran = tree.run("aia", "replay", path=tree.bare)
     trial.sees(ran.output == b"here\n" and not ran.status, "aia is built, and wants rt")

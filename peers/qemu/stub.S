@@ -1,3 +1,4 @@
+/* SPDX-License-Identifier: Apache-2.0 */
 # What each hart of the machine under test runs: it waits for a list of CSR instructions, does each
 # of them at the level that the list says, and stores what it read and whether it trapped.
 #

@@ -1,3 +1,4 @@
+/* SPDX-License-Identifier: Apache-2.0 */
 /* Reads the lines of a script that KVM can answer, and prints KVM's answers.
 
    The harts' supervisor files are the software files of a VM whose interrupts KVM emulates whole,

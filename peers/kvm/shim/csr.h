@@ -1,3 +1,4 @@
+/* SPDX-License-Identifier: Apache-2.0 */
 /* asm/csr.h of the kernel, with instructions on CSRs that reach the simulated CPU. */
 #ifndef PEER_CSR_H
 #define PEER_CSR_H

@@ -1,3 +1,4 @@
+/* SPDX-License-Identifier: Apache-2.0 */
 /* What the files of KVM take from the kernel, for one thread in user space. Every header of the
    kernel that is not taken from its package is this one. */
 #ifndef PEER_KERNEL_H

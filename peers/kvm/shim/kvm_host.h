@@ -1,3 +1,4 @@
+/* SPDX-License-Identifier: Apache-2.0 */
 /* Of VMs and virtual CPUs what the files of KVM look at. */
 #ifndef PEER_KVM_HOST_H
 #define PEER_KVM_HOST_H

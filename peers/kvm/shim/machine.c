@@ -1,3 +1,4 @@
+/* SPDX-License-Identifier: Apache-2.0 */
 /* The machine around KVM: CPUs with CSRs and guest files, and the second stage of translation. */
 #include <machine.h>
 

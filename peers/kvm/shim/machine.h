@@ -1,3 +1,4 @@
+/* SPDX-License-Identifier: Apache-2.0 */
 /* The simulated machine and the rest of KVM, as the bridge sees them. */
 #ifndef PEER_MACHINE_H
 #define PEER_MACHINE_H

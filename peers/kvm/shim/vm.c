@@ -1,3 +1,4 @@
+/* SPDX-License-Identifier: Apache-2.0 */
 /* The rest of KVM: places of devices, interrupts of a virtual CPU, and the making of a VM as user
    space does it. */
 #include <machine.h>
