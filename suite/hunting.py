@@ -111,9 +111,8 @@ class Hunt:
         if found.ran.fault():
             yield answers.printable(found.ran.fault())
 
-    def uneven(self, script):
+    def uneven(self, script, found):
         """Says how many answers to a whole script are missing or spare, if any are."""
-        found = self.differs(script)
         if not found or found.kind == "answer":
             return []
         verdict = answers.Verdict(self.whole(script), found.wanted, found.ran.output, self.known)
@@ -159,6 +158,8 @@ def left_of(hunt, script, is_machine_fixed, tell, progress):
     """Runs a script that differed once some more, and shrinks it unless the difference comes too
     seldom. Says where it does not come each time."""
     found, seen, runs = hunt.again(script, FEW)
+    for line in hunt.uneven(script, found):
+        tell(line)
     is_steady = seen == runs
     if not is_steady:
         _, more, more_runs = hunt.again(script, MANY - runs)
