@@ -4,16 +4,23 @@
 # status where nothing could be built, has functions `usage` and `manual` that print these, and
 # sources this.
 
+unwritten='the output could not be written to its end'
+
 # Says something on standard error, as the launcher.
 say() { printf '%s: %s\n' "$name" "$*" >&2; }
 
 # Answers a request for help or for the version, and ends; `manual` prints the help.
 answer_requests() { # WORDS..
+  local answer
   case "${1-}" in
-    -h | --help | help) manual ;;
-    --version) printf '%s %s\n' "$name" "$(< "$top/VERSION")" ;;
+    -h | --help | help) answer=$(manual) ;;
+    --version) answer="$name $(< "$top/VERSION")" ;;
     *) return 0 ;;
   esac
+  { printf '%s\n' "$answer"; } 2> /dev/null || {
+    say "$unwritten"
+    exit 4
+  }
   exit 0
 }
 
@@ -163,9 +170,10 @@ run_program() { # PROGRAM WORDS..
   done
   case "$status" in
     3) say 'the input could not be read to its end' ;;
-    4) say 'the output could not be written to its end' ;;
+    4) say "$unwritten" ;;
     5) say 'there was not enough memory' ;;
     6) say 'the input has more than 16,777,216 bytes' ;;
+    8) say 'there is no plan in the input' ;;
   esac
   exit "$status"
 }

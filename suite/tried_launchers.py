@@ -49,7 +49,7 @@ WORDS = ("replay", "gen", "audit", "leave", "arrive", "shift", "0", "1", "3", "3
          "1 1")
 SENTENCES = {3: "the input could not be read to its end",
              4: "the output could not be written to its end", 5: "there was not enough memory",
-             6: "the input has more than 16,777,216 bytes"}
+             6: "the input has more than 16,777,216 bytes", 8: "there is no plan in the input"}
 
 
 class Tree:
@@ -121,6 +121,9 @@ def launchers_speak(trial):
         trial.sees(ran.status == 2 and not ran.output and said in ran.errors
                    and f"usage: {launcher} " in ran.errors,
                    f"{launcher} {words} ends with {ran.status}: {ran.errors}")
+    ran = trial.run("bash", "-c", f"'{tree.folder}/plans' --help > /dev/full")
+    trial.sees(ran.status == 4 and ran.errors == f"plans: {SENTENCES[4]}",
+               f"plans --help > /dev/full ends with {ran.status}: {ran.errors}")
     trial.sees(not tree.has_built(), "a launcher builds before it has looked at its words")
 
 
