@@ -116,10 +116,10 @@ build() { # CRATE INPUT COMMAND..
   crates_of "$crate" > "$list"
   build_begun=$SECONDS
   : > "$log"
-  # A group of its own, so that all that rt starts ends with it.
-  setsid env -C "$top/crates/$crate" "$@" < "$input" > "$log" 2>&1 &
+  # It stays in this group, so that it ends where that is ended; rt ends what it has started.
+  env -C "$top/crates/$crate" "$@" < "$input" > "$log" 2>&1 &
   worker=$!
-  trap 'kill -TERM -- "-$worker"; rm -f "$list"; exit 130' INT TERM HUP
+  trap 'kill -TERM "$worker"; rm -f "$list"; exit 130' INT TERM HUP
   watch_build "$worker" "$log" "$list"
   wait "$worker"
   status=$?

@@ -11,11 +11,12 @@ import time
 from pathlib import Path
 
 from running import TOP
+from tried_hunts import is_alive
 
 # What the launchers need of a tree, and of a path without the toolchain.
 FILES = ("aia", "plans", "library", "VERSION", "crates.txt", "include/aia.h", "suite/launcher.sh",
          "suite/stale", "examples/hypervisors/core-leave.plan")
-COMMANDS = ("bash", "sh", "env", "dirname", "readlink", "find", "mktemp", "awk", "setsid", "tail",
+COMMANDS = ("bash", "sh", "env", "dirname", "readlink", "find", "mktemp", "awk", "tail",
             "nproc", "mkdir", "rm", "touch", "sleep", "cat", "chmod", "ar", "cc")
 # Of each launcher the crate that it builds, what that makes, and its status where it can't.
 BUILT = {"aia": ("aia", "aia", 1), "plans": ("plans", "plans", 126),
@@ -219,24 +220,42 @@ def launchers_say_statuses(trial):
                        f"{launcher} of status {status} ends with {ran.status}: {ran.errors!r}")
 
 
-def launchers_end(trial):
-    """A launcher that is told to end, which ends its program."""
-    tree = Tree(trial, "end")
-    tree.put("aia", "echo $$ > \"$0.pid\"\nexec sleep 1000")
-    pid = tree.folder / "crates/aia/out/aia.pid"
-    for each in (signal.SIGTERM, signal.SIGINT, signal.SIGHUP):
-        pid.unlink(missing_ok=True)
-        tool = subprocess.Popen([str(tree.folder / "aia"), "replay"], stdin=subprocess.PIPE,
-                                stdout=subprocess.DEVNULL)
-        for _ in range(100):
-            if pid.exists() and pid.read_text(encoding="ascii").endswith("\n"):
-                break
-            time.sleep(0.05)
+def ended(tree, each, pid):
+    """Starts ./aia replay in a tree, tells it to end once a process has said its number, and gives
+    its status and whether that process is still there."""
+    pid.unlink(missing_ok=True)
+    tool = subprocess.Popen(
+        [str(tree.folder / "aia"), "replay"], stdin=subprocess.PIPE, stdout=subprocess.DEVNULL,
+        stderr=subprocess.DEVNULL, start_new_session=True,
+        env={**os.environ, "PATH": f"{tree.path}:{tree.bare}"})
+    for _ in range(100):
+        if pid.exists() and pid.read_text(encoding="ascii").endswith("\n"):
+            break
+        time.sleep(0.05)
+    if each == signal.SIGKILL:
+        os.killpg(tool.pid, each)
+    else:
         tool.send_signal(each)
-        status = tool.wait(20)
-        tool.stdin.close()
-        ended = not Path(f"/proc/{int(pid.read_text(encoding='ascii'))}").exists()
-        trial.sees(ended and status > 128, f"aia told {each.name} ends with {status}")
+    status = tool.wait(20)
+    tool.stdin.close()
+    time.sleep(0.1)
+    return status, is_alive(int(pid.read_text(encoding="ascii")))
+
+
+def launchers_end(trial):
+    """A launcher that is told to end, which ends its program, or the build of it."""
+    tree = Tree(trial, "end")
+    tree.path.joinpath("rt").write_text(f"#!/bin/sh\necho $$ > {tree.folder}/rt.pid\n"
+                                        "exec sleep 1000\n", encoding="ascii")
+    tree.path.joinpath("rt").chmod(0o755)
+    for each in (signal.SIGTERM, signal.SIGINT, signal.SIGHUP, signal.SIGKILL):
+        status, is_there = ended(tree, each, tree.folder / "rt.pid")
+        trial.sees(not is_there and status,
+                   f"aia that builds, told {each.name}, ends with {status}")
+    tree.put("aia", "echo $$ > \"$0.pid\"\nexec sleep 1000")
+    for each in (signal.SIGTERM, signal.SIGINT, signal.SIGHUP, signal.SIGKILL):
+        status, is_there = ended(tree, each, tree.folder / "crates/aia/out/aia.pid")
+        trial.sees(not is_there and status, f"aia told {each.name} ends with {status}")
 
 
 PARTS = (launchers_speak, versions_agree, files_are_licensed, launchers_refuse_as_programs,
