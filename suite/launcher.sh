@@ -1,8 +1,8 @@
 # shellcheck shell=bash disable=SC2154
 
-# What ./aia, ./plans and ./library share. Each sets `name`, its own, `top`, and `unbuilt`, the
-# status where nothing could be built, has functions `usage` and `manual` that print these, and
-# sources this.
+# What ./aia, ./plans and ./library share. Each sets `name`, its own, `top`, `made`, what it builds,
+# and `unbuilt`, the status where nothing could be built; it has functions `usage` and `manual` that
+# print these, and sources this.
 
 unwritten='the output could not be written to its end'
 
@@ -137,17 +137,17 @@ build() { # CRATE INPUT COMMAND..
 begin_build() { # WHAT MINUTES WITH_RT WITHOUT_RT
   local processors
   command -v rt > /dev/null || {
-    say "rt, the toolchain that proves and builds its program, is not on the path; $4"
+    say "rt, the toolchain that proves and builds $made, is not on the path; $4"
     exit "$unbuilt"
   }
   processors=$(nproc 2> /dev/null || echo 1)
   [ "$processors" -le 4 ] || processors=4
   if [ -f "$1" ]; then
     say "sources have changed since it was built: what they touch is proved again, which takes at" \
-      "most $2 minutes of processor time. $3"
+      "most $2 minutes of processor time.${3:+ $3}"
   else
-    say "first its program is proved and built, once: some $2 minutes of processor time, which" \
-      "take about $((($2 + processors - 1) / processors)) here. $3"
+    say "first $made is proved and built, once: some $2 minutes of processor time, which take" \
+      "about $((($2 + processors - 1) / processors)) here.${3:+ $3}"
   fi
 }
 
