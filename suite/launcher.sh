@@ -132,8 +132,9 @@ build() { # CRATE INPUT COMMAND..
   }
 }
 
-# Sees that rt is there, and says before a first build how long it takes, by the minutes of
-# processor time that it took on a server's processor of 2.5 GHz. Ends where there is none.
+# Sees that rt is there, and says before a first build how long it takes, in minutes of processor
+# time on a server's processor of 2.5 GHz: of plans as measured, of the others as reckoned from the
+# time of the gate. Ends where there is none.
 begin_build() { # WHAT MINUTES WITH_RT WITHOUT_RT
   local processors
   command -v rt > /dev/null || {
