@@ -6,7 +6,7 @@ use Rattle.aia_home.specs.Home.{End, Home, old_end, new_end, is_moving}
 use Rattle.aia_home.specs.Home.Home.{OnWay}
 use Rattle.aia_home.specs.Home.End.{File, Memory}
 use Rattle.aia_home.specs.Plans.{word_steps, plan_step, is_last_made, steps_done, pending_step, enables_step}
-use Rattle.aia_home.specs.Plans.Access.{WriteEntry, TakePending, TakeEnables}
+use Rattle.aia_home.specs.declared.access.Access.TheVariants.{WriteEntry, TakePending, TakeEnables}
 use Rattle.aia_home.specs.Phases.{phase_begins, has_come}
 use Rattle.aia_home.specs.Phases.Phase.{ClosingPhase, DrainPhase, EnablePhase, LookPhase, LastPhase}
 use Rattle.aia_home.specs.BySteps.{new_file, is_drained, is_enable_taken, is_enable_put}

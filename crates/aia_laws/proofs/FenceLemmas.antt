@@ -6,7 +6,7 @@ use Rattle.aia_home.specs.Home.{Home, is_moving, rests_in_memory, leaving, arriv
 use Rattle.aia_home.specs.declared.rest.Rest.TheVariants.{Parked}
 use Rattle.aia_home.specs.Home.Home.{InMemory, Resident, OnWay}
 use Rattle.aia_home.specs.Plans.{leave_step, arrive_step, shift_step, plan_step, plan_steps}
-use Rattle.aia_home.specs.Plans.Access.{Fence}
+use Rattle.aia_home.specs.declared.access.Access.TheVariants.{Fence}
 use Rattle.aia_home.specs.Aims.{aims_step, is_aiming, further}
 use Rattle.aia_home.specs.Routes.{is_at_fence}
 use Rattle.aia_model.specs.HomeOf.{guest_place}

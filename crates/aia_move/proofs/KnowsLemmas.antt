@@ -42,7 +42,8 @@ use Rattle.aia_moving.specs.Move.{Moving, mover, width, MoveFits}
 use Rattle.aia_move.specs.Plan.{moving_of}
 use Rattle.aia_moving.specs.Touches.{SameMachine}
 use Rattle.aia_move.specs.Knows.{Knows}
-use Rattle.aia_move.proofs.MachineLemmas.{fits_still, phase_still}
+use Rattle.aia_moving.proofs.StepLemmas.{fits_still}
+use Rattle.aia_move.proofs.MachineLemmas.{phase_still}
 use Rattle.aia_moving.proofs.MadeView.{few_words}
 use Rattle.aia_move.proofs.MoveKept.{file_in-size}
 use Rattle.aia_regs.specs.declared.address_map.TheConstants.{PAGE}

@@ -1,3 +1,4 @@
+pub mod AccessLemmas
 pub mod PhaseLemmas
 pub mod MoveKept
 pub mod MachineLemmas

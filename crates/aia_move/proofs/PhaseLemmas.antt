@@ -1,6 +1,5 @@
 -- The phases of a plan: where its steps aim passed sources, and what they leave; which phase comes
--- after a step; what a step makes, and one in place, by the phase that the plan is in; what the
--- accesses that carry the sets need of a carrier.
+-- after a step; what a step makes, and one in place, by the phase that the plan is in.
 use Rattle.std.proofs.Common.{◌≡◌, ◌≢◌, ℕ, ◌+◌, ◌<◌, ◌≤◌, Bool, true, false, ◌&&◌, if◌then◌else◌, nat_lt, refl, sym, ap, ◌∙◌, subst, arith, Option, Some, None, ◌-◌, ◌/◌}
 use Rattle.std.specs.Prelude.{is_none}
 use Rattle.std.proofs.lemmas.Bool.{eq-eqb, ne_eqb}
@@ -9,10 +8,11 @@ use Rattle.aia_regs.specs.declared.limits.TheConstants.{FILE_WORDS}
 use Rattle.aia_home.specs.Home.{End, is_file, old_end, new_end, Home, Progress, is_moving, one_more}
 use Rattle.aia_home.specs.Home.Home.{OnWay}
 use Rattle.aia_home.specs.Home.End.{File, Memory}
-use Rattle.aia_home.specs.Plans.{Access, steps_done, is_last_made, leave_steps}
-use Rattle.aia_home.specs.Plans.Access.{TakePending, TakeEnables}
+use Rattle.aia_home.specs.Plans.{steps_done, is_last_made, is_at_last}
+use Rattle.aia_home.specs.declared.access.Access.{Access}
+use Rattle.aia_home.specs.declared.access.Access.TheVariants.{TakePending, TakeEnables}
 use Rattle.aia_home.specs.Phases.{Phase, following, phase_begins, begins, after_shared}
-use Rattle.aia_home.specs.Phases.Phase.{FirstPhase, ClosingPhase, DrainPhase, EnablePhase, LookPhase, LastPhase}
+use Rattle.aia_home.specs.Phases.Phase.{FirstPhase, ClosingPhase, DrainPhase, EnablePhase, LookPhase, LastPhase, AllDone}
 use Rattle.aia_home.specs.BySteps.{own_file, next_file}
 use Rattle.aia_home.specs.Aims.{aims_done, aims_step, is_aiming, aimed}
 use Rattle.aia_home.specs.Routes.{is_at_fence}
@@ -21,17 +21,15 @@ use Rattle.aia_moving.specs.declared.turn.Closed.{Closed}
 use Rattle.aia_moving.specs.declared.turn.Closed.TheVariants as closed
 use Rattle.aia_moving.specs.Move.{Moving, width, MoveFits}
 use Rattle.aia_moving.specs.Targets.{aims, pass_count, has_unaimed, one_aimed, aim_if}
-use Rattle.aia_moving.specs.Carrier.{CarrierState, progress_of, moving, one_aim_done}
-use Rattle.aia_moving.specs.Turns.{IsIn, IsAtAims, IsMove, GoesOn, AimsOn, MatchClosed}
+use Rattle.aia_moving.specs.Turns.{IsIn, IsAtAims, GoesOn, AimsOn, MatchClosed}
 use Rattle.aia_moving.specs.Landings.{OnceLanded}
 use Rattle.aia_home.proofs.PhaseLemmas.{looks_begin, sets_first}
 use Rattle.aia_moving.proofs.PhaseSteps.{Middle, middle, begins_on, past_fence}
 use Rattle.aia_moving.proofs.LandingLemmas.{none_lands}
-use Rattle.aia_moving.proofs.StepLemmas.{it_moves, steps_are}
 use Rattle.aia_move.specs.declared.plan.Plan.{Plan}
 use Rattle.aia_move.specs.declared.plan.Plan.TheVariants.{LeaveDrain}
 use Rattle.aia_move.specs.declared.plan.Next.{Next}
-use Rattle.aia_move.specs.Plan.{moving_of, is_in_aim, IsInDrain, NextStepIsOf, IsInPhase, IsLastOf, phase_of, StepsTo, Advances, StepsByPhase, InPlaceByPhase, EndsPhaseOrAims, StepsInPlace}
+use Rattle.aia_move.specs.Plan.{moving_of, is_in_aim, IsInDrain, NextStepIsOf, IsInPhase, IsLastOf, phase_of, StepsTo, Advances, StepsByPhase, InPlaceByPhase, EndsPhaseOrAims, StepsInPlace, GoesOnIn}
 
 -- ---- when a step aims
 
@@ -110,10 +108,8 @@ aim_fits w m fits = record {
   no_enabled_zero = λ e. fits.no_enabled_zero (sym (aimed_carried (width w) m.home _) ∙ e);
 }
 
-pub move_aims : (there : Progress → Home) → IsMove there → (w : World) (l now : CarrierState) (s : Moving) → moving there l ≡ s → MoveFits w s → now ≡ one_aim_done l → AimsOn w s (moving there now)
-move_aims there is w l now s seen fits done =
-    let moved : moving there now ≡ one_aimed s = ap (λ x. moving there x) done ∙ (λ k. record (moving there l) { home = is.aimed (progress_of l) k }) ∙ ap one_aimed seen in
-    record { moved = moved; fits = subst (λ x. MoveFits w x) (sym moved) (aim_fits w s fits) }
+pub move_aims : (w : World) (s t : Moving) → MoveFits w s → t ≡ one_aimed s → AimsOn w s t
+move_aims w s t fits moved = record { moved = moved; fits = subst (λ x. MoveFits w x) (sym moved) (aim_fits w s fits) }
 
 -- ---- from the fence of the G-stage record on
 
@@ -183,11 +179,6 @@ is_after phase words m moves follows some at =
     let begun = after_begins words m.home moves some in
     subst (λ p. IsIn p words m) (sym follows) (omega (arith, at, begun.0), omega (arith, at, begun.1))
 
--- ---- whether sources are left to aim, as the carrier tells it
-
-pub unaimed : (there : Progress → Home) → IsMove there → (l : CarrierState) (s t : Moving) (more : Bool) → moving there l ≡ s → t ≡ s → nat_lt l.aims (pass_count l.who) ≡ more → has_unaimed t ≡ more
-unaimed there is l s t more seen same known = ap has_unaimed (same ∙ sym seen) ∙ ap (λ n. nat_lt n (pass_count l.who)) (is.aims (progress_of l)) ∙ known
-
 -- ---- past the first phase
 
 -- no store in flight lands there (AllDone has no steps)
@@ -214,6 +205,37 @@ module _ (w u : World) where
   pub steps_to : (plan : Plan) (next : Next) → IsInPhase (width w) plan → StepsByPhase (phase_of plan) w (moving_of plan) u next
       → StepsTo (aim_if (is_in_aim plan) (moving_of plan)) w (moving_of plan) u next
   steps_to plan next = step_to (phase_of plan) (moving_of plan) next
+
+-- of a step that goes on, by its phase
+module _ (w u : World) where
+  pub goes_on_in : (phase : Phase) (m t : Moving) → NextStepIsOf (Some phase) (width w) m → OnceLanded w m (λ landed. GoesOn landed m u t) → GoesOnIn phase w m u t
+  goes_on_in FirstPhase m t is once = once
+  goes_on_in phase m t is once = subst (λ landed. GoesOn landed m u t) (once.first.other (no_fence phase (width w) m (λ e. cc) is)) once.then
+
+  -- it stays in the phase but after the last of its steps
+  pub stays_in : (phase : Phase) (m t : Moving) → NextStepIsOf (Some phase) (width w) m → GoesOnIn phase w m u t → steps_done m.home + 1 < begins (width w) m.home (following phase) → NextStepIsOf (Some phase) (width u) t
+  stays_in FirstPhase m t is once more =
+      let wide : width once.landed ≡ width w = ap (λ n. (n + 1) / 64) once.first.same.n in
+      still_in FirstPhase once.landed u m t (subst (λ n. IsIn FirstPhase n m) (sym wide) is) once.then (subst (λ n. steps_done m.home + 1 < begins n m.home ClosingPhase) (sym wide) more)
+  stays_in DrainPhase m t is goes more = still_drains w u m t is.phase goes more
+  stays_in phase m t is goes more = still_in phase w u m t is goes more
+
+pub last_of : (phase : Phase) (words : ℕ) (m : Moving) → NextStepIsOf (Some phase) words m → begins words m.home (following phase) ≤ steps_done m.home + 1 → IsLastOf phase words m
+last_of DrainPhase words m is low = omega (arith, is.phase.1, low)
+last_of phase words m is low = omega (arith, is.1, low)
+
+-- no phase ends after the plan
+pub within_plan : (phase : Phase) (words : ℕ) (there : Home) → begins words there (following phase) ≤ begins words there AllDone
+within_plan phase words (OnWay way at) = by_end phase (old_end way) (new_end way)
+  where
+    by_end : (phase : Phase) (from to : End) → phase_begins from to words (following phase) ≤ phase_begins from to words AllDone
+    by_end FirstPhase from to = omega (arith, sets_first to words)
+    by_end ClosingPhase from to = omega (arith, sets_first to words)
+    by_end DrainPhase from to = omega (arith, sets_first to words)
+    by_end EnablePhase from to = omega (arith, looks_begin from to words, sets_first to words)
+    by_end LookPhase from to = omega arith
+    by_end phase from to = omega arith
+within_plan phase words there = omega arith
 
 -- ---- a step in place
 
@@ -250,48 +272,8 @@ module _ (w u : World) (plan later : Plan) (words : ℕ) (value : words ≡ widt
   pub steps_in_place : (done : Bool) → InPlaceByPhase (phase_of plan) done w m u t → StepsInPlace done w plan u later
   steps_in_place done = by_phase (phase_of plan) refl done
 
--- ---- the sets are carried
+-- ---- the last step
 
-pending_zero : (words : ℕ) (there : Home) → is_moving there ≡ true → steps_done there ≡ begins words there DrainPhase + 1 → is_last_made words there (TakePending 0) ≡ true
-pending_zero words (OnWay way at) moves e = eq-eqb _ _ e
-pending_zero words there moves e = absurd (cc)
-
-enables_zero : (words : ℕ) (there : Home) → is_moving there ≡ true → steps_done there ≡ begins words there EnablePhase + 1 → is_last_made words there (TakeEnables 0) ≡ true
-enables_zero words (OnWay way at) moves e = eq-eqb _ _ e
-enables_zero words there moves e = absurd (cc)
-
--- the next access carries a word of a set, in the phase that began with step `start`
-pub record Carries (words start : ℕ) (l : CarrierState) : Type 0 where
-  pub first : start ≤ l.steps
-  pub word : (l.steps - start) / 2 < words
-  pub no_zero : l.steps ≡ start + 1 → has_bit l.hand.word 0 ≡ false
-  pub more : l.steps < leave_steps FILE_WORDS
-
-module _ (there : Progress → Home) (is : IsMove there) (w : World) (l : CarrierState) (s : Moving) (seen : moving there l ≡ s) (fits : MoveFits w s) (narrow : width w ≤ FILE_WORDS) (start : ℕ) where
-  moves : is_moving s.home ≡ true
-  moves = it_moves there is l s seen
-
-  mid : Middle (width w) s.home
-  mid = middle (width w) s.home moves
-
-  steps : l.steps ≡ steps_done s.home
-  steps = steps_are there is l s seen
-
-  unset : has_bit s.hand.word 0 ≡ false → has_bit l.hand.word 0 ≡ false
-  unset zero = subst (λ (x : Moving). has_bit x.hand.word 0 ≡ false) (sym seen) zero
-
-  pub carries_pending : start ≡ begins (width w) s.home DrainPhase → IsIn DrainPhase (width w) s → Carries (width w) start l
-  carries_pending begun phase = record {
-    first = omega (arith, steps, begun, phase.0);
-    word = omega (arith, steps, begun, phase.0, phase.1, mid.drains);
-    no_zero = λ e. unset (fits.no_pending_zero (pending_zero (width w) s.home moves (omega (arith, e, steps, begun))));
-    more = omega (arith, steps, narrow, phase.1, mid.enable, mid.ends, mid.few);
-  }
-
-  pub carries_enables : start ≡ begins (width w) s.home EnablePhase → IsIn EnablePhase (width w) s → Carries (width w) start l
-  carries_enables begun phase = record {
-    first = omega (arith, steps, begun, phase.0);
-    word = omega (arith, steps, begun, phase.0, phase.1, mid.ends);
-    no_zero = λ e. unset (fits.no_enabled_zero (enables_zero (width w) s.home moves (omega (arith, e, steps, begun))));
-    more = omega (arith, steps, narrow, phase.1, mid.few);
-  }
+pub at_last : (words : ℕ) (there : Home) → steps_done there + 1 ≡ begins words there AllDone → is_at_last words there ≡ true
+at_last words (OnWay way at) e = eq-eqb _ _ e
+at_last words there e = absurd (omega (arith, e))

@@ -111,6 +111,12 @@ StepsByPhase (Some phase) w m u next = Advances w m u next
 
 -- ---- a step in place: the plan stays in its phase, so it is changed where it lies
 
+-- A step of this phase is done, and the next one can be. Stores in flight land before one step
+-- alone, the fence of the entry, which is of the first phase.
+abbrev pub GoesOnIn : Phase → World → Moving → World → Moving → Type 0
+GoesOnIn FirstPhase w m u t = OnceLanded w m (λ landed. GoesOn landed m u t)
+GoesOnIn phase w m u t = GoesOn w m u t
+
 -- The next step of a move is the last one of this phase, in files of so many words.
 abbrev pub IsLastOf : Phase → ℕ → Moving → Type 0
 IsLastOf phase words m = steps_done m.home + 1 ≡ begins words m.home (following phase)
@@ -118,19 +124,12 @@ IsLastOf phase words m = steps_done m.home + 1 ≡ begins words m.home (followin
 -- Whether a step was made in place. If so, one step is done and the next can be; if not, nothing is
 -- changed, and the next step is the last of the phase.
 abbrev pub GoesInPlace : Phase → Bool → World → Moving → World → Moving → Type 0
-GoesInPlace phase true w m u t = GoesOn w m u t
+GoesInPlace phase true w m u t = GoesOnIn phase w m u t
 GoesInPlace phase false w m u t = (u ≡ w) × (t ≡ m) × IsLastOf phase (width w) m
 
--- The same of the first phase, where stores in flight may land before the step.
-abbrev pub FirstGoesInPlace : Bool → World → Moving → World → Moving → Type 0
-FirstGoesInPlace true w m u t = OnceLanded w m (λ landed. GoesOn landed m u t)
-FirstGoesInPlace false w m u t = GoesInPlace FirstPhase false w m u t
-
--- Whether a step was made in place, by the phase of the next step; None: it aims, and is not made
--- in place.
+-- The same by the phase of the next step; None: it aims, and is not made in place.
 abbrev pub InPlaceByPhase : Option Phase → Bool → World → Moving → World → Moving → Type 0
 InPlaceByPhase None made w m u t = (made ≡ false) × (u ≡ w) × (t ≡ m)
-InPlaceByPhase (Some FirstPhase) made w m u t = FirstGoesInPlace made w m u t
 InPlaceByPhase (Some phase) made w m u t = GoesInPlace phase made w m u t
 
 -- The next step of a move is the last one of this phase; where there is none, it aims a passed

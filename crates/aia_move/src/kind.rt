@@ -1,55 +1,55 @@
-ghost use Rattle.std.specs.Prelude.{◌≡◌, ℕ, ◌≤◌, option_map, refl};
+ghost use Rattle.std.specs.Prelude.{◌≡◌, option_map, refl};
 ghost use Rattle.std.specs.Borrow.{Bor};
 ghost use Rattle.aia_home.specs.declared.place.Place.{Place};
-ghost use Rattle.aia_home.specs.Home.{Home, Progress};
+ghost use Rattle.aia_home.specs.Home.{Way, Progress, left, led_to};
 ghost use Rattle.aia_home.specs.Home.Home.{OnWay};
 ghost use Rattle.aia_home.specs.Home.Way.{Outward, Inward, Across};
-ghost use Rattle.aia_home.specs.Phases.{Phase, following, leave_begins, begins, after_shared};
-ghost use Rattle.aia_home.specs.Phases.Phase.{FirstPhase, LookPhase, LastPhase};
-ghost use Rattle.aia_home.specs.BySteps.{new_file};
+ghost use Rattle.aia_home.specs.Phases.{Phase, after_shared};
+ghost use Rattle.aia_home.specs.Phases.Phase.{LookPhase, LastPhase};
 ghost use Rattle.aia_world.specs.Changes.{spot_of};
-ghost use Rattle.aia_moving.specs.Move.{old_by, new_by};
-ghost use Rattle.aia_moving.specs.Turns.{IsMove};
+ghost use Rattle.aia_moving.specs.Turns.{GivesBack};
 
-use crate::phase::{Last, Look};
-use aia_fabric::At;
+use crate::hand::Hand;
+use crate::moves::Move;
+use crate::phase::{AccessPhase, Last, Look};
+use crate::{KeptNumbers, Outcome};
 use aia_imsic::Spot;
 use aia_pool::FileLease;
 
-/// A kind of move: what it leaves, where it leads, and what sets its plan apart in the phases that
-/// all plans share.
+/// A virtual hart that leaves its guest file: its interrupts go to its slot of memory. A step is
+/// one access, or one aim in the phase of aims, and says which phase comes next.
+pub type Leave<P> = Move<ToMemory, P>;
+
+/// A virtual hart that arrives in a guest file: its interrupts go there from its slot of memory. A
+/// step is one access, or one aim in the phase of aims, and says which phase comes next.
+pub type Arrive<P> = Move<ToFile, P>;
+
+/// A virtual hart that shifts from one guest file to another: its interrupts go there with it. A
+/// step is one access, or one aim in the phase of aims, and says which phase comes next.
+pub type Shift<P> = Move<ToOtherFile, P>;
+
+/// A kind of move: what it leaves, and where it leads.
 pub trait Kind: Drop {
-    ghost home: { Self → Progress → Home };
+    ghost way: { Self → Way };
 
     ghost after: { Phase };
 
     /// The phase after `Enable`.
-    type After;
+    type After: AccessPhase;
 
-    /// Tells how many steps come before the phase after `First`, no more than in a leave.
-    fn first_steps(&self) -> u32
-        ensures few { result ≤ leave_begins 0 (following FirstPhase) }
-        ensures value { (words : ℕ) (at : Progress)
-            → result ≡ begins words (home self.now at) (following FirstPhase) };
-
-    /// Gives the place that the move leaves, where `slot` is the slot of the one who is moved.
-    fn old_place(&self, slot: At) -> At
-        ensures { (at : Progress) (q : ℕ) → slot ≡ At.Slot q
-            → result ≡ old_by (home self.now at) q };
-
-    /// Gives the place to which the move leads, where `slot` is the slot of the one who is moved.
-    fn new_place(&self, slot: At) -> At
-        ensures { (at : Progress) (q : ℕ) → slot ≡ At.Slot q
-            → result ≡ new_by (home self.now at) q };
+    /// Gives the guest file that the move leaves; `None`: it leaves memory.
+    fn old_file(&self) -> Option<&FileLease>
+        ensures { option_map (λ (lease : Bor Place). lease.now) result ≡ left (way self.now) };
 
     /// Gives the guest file to which the move leads; `None`: it leads to memory.
     fn new_file(&self) -> Option<&FileLease>
-        ensures { (at : Progress) → option_map (λ (lease : Bor Place). lease.now) result
-            ≡ new_file (home self.now at) };
+        ensures { option_map (λ (lease : Bor Place). lease.now) result ≡ led_to (way self.now) };
 
-    ghost is_move: { (k : Self) → IsMove (home k) };
+    /// Gives back the files, and what is kept of one that was left for memory.
+    fn end(self, hand: Hand) -> Outcome
+        ensures { (at : Progress) → GivesBack result (OnWay (way self) at) hand };
 
-    ghost follows: { (k : Self) (at : Progress) → after ≡ after_shared (home k at) };
+    ghost follows: { (k : Self) (at : Progress) → after ≡ after_shared (OnWay (way k) at) };
 }
 
 /// From a guest file to memory: a leave.
@@ -60,35 +60,29 @@ pub struct ToMemory {
 }
 
 impl Kind for ToMemory {
-    ghost home = { λ k at. OnWay (Outward k.file) at };
+    ghost way = { λ k. Outward k.file };
 
     ghost after = { LookPhase };
 
     type After = Look;
 
-    fn first_steps(&self) -> u32 {
-        4
-    }
-
-    fn old_place(&self, _slot: At) -> At {
-        At::File(spot(&self.file))
-    }
-
-    fn new_place(&self, slot: At) -> At {
-        slot
+    fn old_file(&self) -> Option<&FileLease> {
+        Some(&self.file)
     }
 
     fn new_file(&self) -> Option<&FileLease> {
         None
     }
 
-    ghost is_move = { λ k. record {
-      moves = λ at. refl;
-      steps = λ at. refl;
-      aims = λ at. refl;
-      more = λ at. refl;
-      aimed = λ at. refl;
-    } };
+    fn end(self, hand: Hand) -> Outcome {
+        Outcome::Left(
+            self.file,
+            KeptNumbers {
+                delivery: hand.delivery,
+                threshold: hand.threshold,
+            },
+        )
+    }
 
     ghost follows = { λ k at. refl };
 }
@@ -101,35 +95,23 @@ pub struct ToFile {
 }
 
 impl Kind for ToFile {
-    ghost home = { λ k at. OnWay (Inward k.file) at };
+    ghost way = { λ k. Inward k.file };
 
     ghost after = { LastPhase };
 
     type After = Last;
 
-    fn first_steps(&self) -> u32 {
-        2
-    }
-
-    fn old_place(&self, slot: At) -> At {
-        slot
-    }
-
-    fn new_place(&self, _slot: At) -> At {
-        At::File(spot(&self.file))
+    fn old_file(&self) -> Option<&FileLease> {
+        None
     }
 
     fn new_file(&self) -> Option<&FileLease> {
         Some(&self.file)
     }
 
-    ghost is_move = { λ k. record {
-      moves = λ at. refl;
-      steps = λ at. refl;
-      aims = λ at. refl;
-      more = λ at. refl;
-      aimed = λ at. refl;
-    } };
+    fn end(self, _hand: Hand) -> Outcome {
+        Outcome::Arrived(self.file)
+    }
 
     ghost follows = { λ k at. refl };
 }
@@ -144,35 +126,23 @@ pub struct ToOtherFile {
 }
 
 impl Kind for ToOtherFile {
-    ghost home = { λ k at. OnWay (Across k.from k.to) at };
+    ghost way = { λ k. Across k.from k.to };
 
     ghost after = { LastPhase };
 
     type After = Last;
 
-    fn first_steps(&self) -> u32 {
-        3
-    }
-
-    fn old_place(&self, _slot: At) -> At {
-        At::File(spot(&self.from))
-    }
-
-    fn new_place(&self, _slot: At) -> At {
-        At::File(spot(&self.to))
+    fn old_file(&self) -> Option<&FileLease> {
+        Some(&self.from)
     }
 
     fn new_file(&self) -> Option<&FileLease> {
         Some(&self.to)
     }
 
-    ghost is_move = { λ k. record {
-      moves = λ at. refl;
-      steps = λ at. refl;
-      aims = λ at. refl;
-      more = λ at. refl;
-      aimed = λ at. refl;
-    } };
+    fn end(self, _hand: Hand) -> Outcome {
+        Outcome::Shifted(self.from, self.to)
+    }
 
     ghost follows = { λ k at. refl };
 }

@@ -2,22 +2,18 @@
 //! in one, or shifts to another one. Profile: all plans.
 #![tactic(auto)]
 
-mod arrive;
-mod carrier;
+mod hand;
 mod kind;
 pub mod laws;
-mod leave;
 mod moves;
 pub mod phase;
 mod plan;
-mod shift;
 mod targets;
 pub mod words;
 
+pub use aia_home::Access;
 pub use aia_moving::{Closed, KeptNumbers, Outcome, Pass, Turn, Who};
-pub use arrive::Arrive;
-pub use kind::spot;
-pub use leave::Leave;
+pub use hand::Hand;
+pub use kind::{Arrive, Leave, Shift, spot};
 pub use plan::{Next, Plan};
-pub use shift::Shift;
 pub use targets::Targets;

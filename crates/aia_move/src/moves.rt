@@ -1,19 +1,23 @@
-ghost use Rattle.std.specs.Prelude.{◌≡◌, ℕ, ◌≤◌, true, false};
-ghost use Rattle.aia_regs.specs.declared.limits.TheConstants.{FILE_WORDS};
-ghost use Rattle.aia_home.specs.Home.{is_moving};
+ghost use Rattle.std.specs.Prelude.{◌≡◌, ℕ, ◌+◌, ◌<◌, ◌≤◌, true, false, Some, ⊤};
+ghost use Rattle.aia_home.specs.Home.{Way, Progress, old_end, new_end, end_if, at_first};
+ghost use Rattle.aia_home.specs.Home.Home.{OnWay};
 ghost use Rattle.aia_home.specs.Plans.{steps_done};
-ghost use Rattle.aia_home.specs.Phases.{following, leave_begins, begins};
-ghost use Rattle.aia_home.specs.Phases.Phase.{FirstPhase, ClosingPhase, DrainPhase, EnablePhase};
-ghost use Rattle.aia_moving.specs.Move.{MoveFits, old_at, new_at, width};
+ghost use Rattle.aia_home.specs.Phases.{begins, following};
+ghost use Rattle.aia_home.specs.Phases.Phase.{FirstPhase, ClosingPhase, DrainPhase, EnablePhase, LookPhase, LastPhase, AllDone};
+ghost use Rattle.aia_moving.specs.Move.{MoveFits, width};
 ghost use Rattle.aia_moving.specs.Targets.{ArePasses, aim_of, has_unaimed};
-ghost use Rattle.aia_moving.specs.Turns.{IsIn, IsAtAims, GoesOn, AimsOn, MatchTurn, MatchClosed};
-ghost use Rattle.aia_move.specs.Plan.{IsInDrain, GoesInPlace};
+ghost use Rattle.aia_moving.specs.Accesses.{ExecutesNext};
+ghost use Rattle.aia_moving.specs.Landings.{OnceLanded};
+ghost use Rattle.aia_moving.specs.Turns.{IsIn, IsAtAims, GoesOn, AimsOn, EndsAs, MatchTurn, MatchClosed};
+ghost use Rattle.aia_move.specs.Plan.{IsInDrain, NextStepIsOf, GoesOnIn, GoesInPlace, IsLastOf};
 
-use crate::carrier::Carrier;
+use crate::hand::Hand;
 use crate::kind::Kind;
-use crate::phase::{Aim, Closing, Drain, Enable};
-use crate::{Closed, Targets, Turn};
-use aia_fabric::{At, Fabric};
+use crate::phase::{AccessPhase, Aim, Closing, Drain, Enable, First, Last, Look};
+use crate::{Closed, Outcome, Targets, Turn, Who};
+use aia_fabric::Fabric;
+use aia_home::access_at;
+use aia_regs::limits::FIRST_PASS_IDENTITY;
 use std::marker::{Model, PhantomData};
 
 /// A virtual hart that is moved, by a plan of a kind, in one of its phases. A step is one access,
@@ -21,20 +25,83 @@ use std::marker::{Model, PhantomData};
 #[derive(Drop)]
 pub struct Move<K: Kind, P> {
     /// What it leaves, and where it leads.
-    pub(crate) kind: K,
-    /// What it has with it.
-    pub(crate) carrier: Carrier,
+    kind: K,
+    /// Who is moved.
+    who: Who,
+    /// How many of its steps are done, those that aim aside.
+    done: u32,
+    /// How many passed sources are aimed.
+    aims: usize,
+    /// What it carries.
+    hand: Hand,
     /// The phase.
-    pub(crate) phase: PhantomData<P>,
+    phase: PhantomData<P>,
 }
 
 impl<K: Kind, P> Model for Move<K, P> {
+    ghost use Rattle.aia_home.specs.Home.Home.{OnWay};
     ghost use Rattle.aia_moving.specs.Move.{Moving};
-    ghost use Rattle.aia_moving.specs.Carrier.{moving};
 
     ghost Value = { Moving };
 
-    ghost view = { λ l. moving (K.home l.kind) l.carrier };
+    ghost view = { λ l. record {
+      who = l.who;
+      home = OnWay (K.way l.kind) (record { steps = l.done; aims = l.aims });
+      hand = l.hand;
+    } };
+}
+
+impl<K: Kind> Move<K, First> {
+    /// Begins, with what the hypervisor kept: no step is done.
+    pub(crate) fn new(kind: K, who: Who, hand: Hand) -> Move<K, First>
+        ensures { result ≡ record {
+          who = who;
+          home = OnWay (K.way kind) at_first;
+          hand = hand;
+        } }
+    {
+        Move {
+            kind,
+            who,
+            done: 0,
+            aims: 0,
+            hand,
+            phase: PhantomData,
+        }
+    }
+
+    /// Takes eidelivery of the file that is left, where one is; writes the entry, word 1 first
+    /// where the move leads to memory, so that it leads to the new place; and puts it in force,
+    /// once all stores in flight of the VM have landed, so that none comes to the old place later.
+    /// Why here: the file is silent before anything moves; word 1 says where notices go before word
+    /// 0 leads to the slot, and has said so from the VM's making on; and the entry is in force
+    /// before the first word is taken, so that no store of a device comes after its word.
+    pub fn step(mut self, fabric: &mut Fabric) -> Turn<Self, Move<K, Closing>>
+        requires fits { MoveFits fabric.old self }
+        requires phase { IsIn FirstPhase (width fabric.old) self }
+        ensures goes { OnceLanded fabric.old self (λ landed. MatchTurn result
+            (GoesOn landed self fabric.new) (GoesOn landed self fabric.new)) }
+        ensures phase { MatchTurn result (IsIn FirstPhase (width fabric.new))
+            (IsIn ClosingPhase (width fabric.new)) }
+    {
+        if self.step_in_place(fabric) {
+            Turn::Stay(self)
+        } else {
+            Turn::On(self.step_on(fabric))
+        }
+    }
+
+    /// Makes the last such step.
+    pub(crate) fn step_on(mut self, fabric: &mut Fabric) -> Move<K, Closing>
+        requires fits { MoveFits fabric.old self }
+        requires phase { IsIn FirstPhase (width fabric.old) self }
+        requires last { IsLastOf FirstPhase (width fabric.old) self }
+        ensures goes { OnceLanded fabric.old self (λ landed. GoesOn landed self fabric.new result) }
+        ensures phase { IsIn ClosingPhase (width fabric.new) result }
+    {
+        self.advance(fabric);
+        self.into_phase()
+    }
 }
 
 impl<K: Kind> Move<K, Closing> {
@@ -51,29 +118,25 @@ impl<K: Kind> Move<K, Closing> {
         ensures phase { MatchTurn result (IsIn ClosingPhase (width fabric.new))
             (λ next. MatchClosed next IsAtAims (IsInDrain (width fabric.new))) }
     {
-        let _words = fabric.words();
         if self.step_in_place(fabric) {
             Turn::Stay(self)
         } else {
-            self.close(fabric);
-            Turn::On(self.closed())
+            Turn::On(self.step_on(fabric))
         }
     }
 
-    /// Makes such a step in place, where it is not the last one of the phase, and tells whether it
-    /// made one.
-    pub(crate) fn step_in_place(&mut self, fabric: &mut Fabric) -> bool
-        requires fits { MoveFits fabric.old self.old }
-        requires phase { IsIn ClosingPhase (width fabric.old) self.old }
-        ensures goes { GoesInPlace ClosingPhase result fabric.old self.old fabric.new self.new }
-        ensures phase { IsIn ClosingPhase (width fabric.new) self.new }
+    /// Makes the last such step.
+    pub(crate) fn step_on(mut self, fabric: &mut Fabric) -> Closed<Move<K, Aim>, Move<K, Drain>>
+        requires fits { MoveFits fabric.old self }
+        requires phase { IsIn ClosingPhase (width fabric.old) self }
+        requires last { IsLastOf ClosingPhase (width fabric.old) self }
+        ensures goes { MatchClosed result (GoesOn fabric.old self fabric.new)
+            (GoesOn fabric.old self fabric.new) }
+        ensures phase { MatchClosed result IsAtAims (IsInDrain (width fabric.new)) }
     {
         let _words = fabric.words();
-        let stays = self.done() == self.before_closing();
-        if stays {
-            self.close(fabric);
-        }
-        stays
+        self.advance(fabric);
+        self.closed()
     }
 }
 
@@ -102,6 +165,28 @@ impl<K: Kind> Move<K, Aim> {
             Closed::Aimed(state) => Turn::On(state),
         }
     }
+
+    /// Aims the next passed source.
+    fn aim<T: Targets>(&mut self, fabric: &Fabric, targets: &mut T)
+        requires fits { MoveFits fabric.now self.old }
+        requires phase { IsAtAims self.old }
+        requires harts { fabric.now.imsic.harts ≡ (T.map targets.old).harts }
+        requires passes { ArePasses self.old.who }
+        ensures aims { T.aimed targets.old (aim_of self.old).source (aim_of self.old).target
+            targets.new }
+        ensures goes { AimsOn fabric.now self.old self.new }
+    {
+        let _words = fabric.words();
+        let pass = self.who.passes[self.aims];
+        match self.kind.new_file() {
+            Some(file) => targets.aim(pass.source, file.hart(), file.file(), pass.identity),
+            None => {
+                let identity = FIRST_PASS_IDENTITY + pass.number;
+                targets.aim(pass.source, self.who.found.notice, 0, identity);
+            }
+        }
+        self.aims += 1;
+    }
 }
 
 impl<K: Kind> Move<K, Drain> {
@@ -118,26 +203,20 @@ impl<K: Kind> Move<K, Drain> {
         if self.step_in_place(fabric) {
             Turn::Stay(self)
         } else {
-            self.carry_pending(fabric);
-            Turn::On(self.into_phase())
+            Turn::On(self.step_on(fabric))
         }
     }
 
-    /// Makes such a step in place, where it is not the last one of the phase, and tells whether it
-    /// made one.
-    pub(crate) fn step_in_place(&mut self, fabric: &mut Fabric) -> bool
-        requires fits { MoveFits fabric.old self.old }
-        requires phase { IsInDrain (width fabric.old) self.old }
-        ensures goes { GoesInPlace DrainPhase result fabric.old self.old fabric.new self.new }
-        ensures phase { IsInDrain (width fabric.new) self.new }
+    /// Makes the last such step.
+    pub(crate) fn step_on(mut self, fabric: &mut Fabric) -> Move<K, Enable>
+        requires fits { MoveFits fabric.old self }
+        requires phase { IsInDrain (width fabric.old) self }
+        requires last { IsLastOf DrainPhase (width fabric.old) self }
+        ensures goes { GoesOn fabric.old self fabric.new result }
+        ensures phase { IsIn EnablePhase (width fabric.new) result }
     {
-        let words = fabric.words();
-        let end = self.end_of_drain(words);
-        let stays = self.done() + 1 < end;
-        if stays {
-            self.carry_pending(fabric);
-        }
-        stays
+        self.advance(fabric);
+        self.into_phase()
     }
 }
 
@@ -156,170 +235,157 @@ impl<K: Kind> Move<K, Enable> {
         if self.step_in_place(fabric) {
             Turn::Stay(self)
         } else {
-            self.carry_enables(fabric);
-            Turn::On(self.into_after())
+            Turn::On(self.step_on(fabric))
         }
     }
 
-    /// Makes such a step in place, where it is not the last one of the phase, and tells whether it
-    /// made one.
-    pub(crate) fn step_in_place(&mut self, fabric: &mut Fabric) -> bool
-        requires fits { MoveFits fabric.old self.old }
-        requires phase { IsIn EnablePhase (width fabric.old) self.old }
-        ensures goes { GoesInPlace EnablePhase result fabric.old self.old fabric.new self.new }
-        ensures phase { IsIn EnablePhase (width fabric.new) self.new }
+    /// Makes the last such step.
+    pub(crate) fn step_on(mut self, fabric: &mut Fabric) -> Move<K, K::After>
+        requires fits { MoveFits fabric.old self }
+        requires phase { IsIn EnablePhase (width fabric.old) self }
+        requires last { IsLastOf EnablePhase (width fabric.old) self }
+        ensures goes { GoesOn fabric.old self fabric.new result }
+        ensures phase { IsIn K.after (width fabric.new) result }
     {
-        let words = fabric.words();
-        let end = self.end_of_shared(words);
-        let stays = self.done() + 1 < end;
-        if stays {
-            self.carry_enables(fabric);
-        }
-        stays
+        let _words = fabric.words();
+        self.advance(fabric);
+        self.into_after()
     }
 }
 
-/// Where the phases that all plans share begin, and where the last of them ends, by how many steps
-/// come before; `words` is how many words each set of a file has.
-#[tactic(auto, using(aia_moving::proofs::PhaseSteps::middle))]
-impl<K: Kind, P> Move<K, P> {
-    /// Tells how many steps come before the phase after `First`, no more than in a leave.
-    pub(crate) fn first_steps(&self) -> u32
-        ensures few { result ≤ leave_begins 0 (following FirstPhase) }
-        ensures moves { is_moving self.now.home ≡ true }
-        ensures value { (words : ℕ) → result ≡ begins words self.now.home (following FirstPhase) }
+impl<K: Kind> Move<K, Look> {
+    /// Looks at a word of both sets of the slot. Why here: each word is watched, so that a look
+    /// misses only what the host is told of; it finds what had come before.
+    pub fn step(mut self, fabric: &mut Fabric) -> Turn<Self, Move<K, Last>>
+        requires fits { MoveFits fabric.old self }
+        requires phase { IsIn LookPhase (width fabric.old) self }
+        ensures goes { MatchTurn result (GoesOn fabric.old self fabric.new)
+            (GoesOn fabric.old self fabric.new) }
+        ensures phase { MatchTurn result (IsIn LookPhase (width fabric.new))
+            (IsIn LastPhase (width fabric.new)) }
     {
-        self.kind.first_steps()
+        if self.step_in_place(fabric) {
+            Turn::Stay(self)
+        } else {
+            Turn::On(self.step_on(fabric))
+        }
     }
 
-    /// Tells how many steps come before `Closing`, no more than in a leave.
-    fn before_closing(&self) -> u32
-        ensures few { result ≤ leave_begins 0 ClosingPhase }
-        ensures moves { is_moving self.now.home ≡ true }
-        ensures value { (words : ℕ) → result ≡ begins words self.now.home ClosingPhase }
+    /// Makes the last such step.
+    pub(crate) fn step_on(mut self, fabric: &mut Fabric) -> Move<K, Last>
+        requires fits { MoveFits fabric.old self }
+        requires phase { IsIn LookPhase (width fabric.old) self }
+        requires last { IsLastOf LookPhase (width fabric.old) self }
+        ensures goes { GoesOn fabric.old self fabric.new result }
+        ensures phase { IsIn LastPhase (width fabric.new) result }
     {
-        self.first_steps()
+        self.advance(fabric);
+        self.into_phase()
+    }
+}
+
+impl<K: Kind> Move<K, Last> {
+    /// Takes eithreshold of the file that is left, where one is. Then puts eithreshold and
+    /// eidelivery in the file to which the move leads, or sends the notice where a look saw
+    /// something. Why here: the file may signal only once it has both sets and the threshold; and
+    /// all looks are done, so that one notice stands for what they saw.
+    pub fn step(mut self, fabric: &mut Fabric) -> Turn<Self, Outcome>
+        requires fits { MoveFits fabric.old self }
+        requires phase { IsIn LastPhase (width fabric.old) self }
+        ensures goes { MatchTurn result (GoesOn fabric.old self fabric.new)
+            (EndsAs fabric.old self fabric.new) }
+        ensures phase { MatchTurn result
+            (IsIn LastPhase (width fabric.new)) (λ o. ⊤) }
+    {
+        if self.step_in_place(fabric) {
+            Turn::Stay(self)
+        } else {
+            Turn::On(self.step_on(fabric))
+        }
     }
 
-    /// Tells how many steps come before `Drain`, no more than in a leave.
-    fn before_drain(&self) -> u32
-        ensures few { result ≤ leave_begins 0 DrainPhase }
-        ensures moves { is_moving self.now.home ≡ true }
-        ensures value { (words : ℕ) → result ≡ begins words self.now.home DrainPhase }
+    /// Makes the last such step, with which the move ends.
+    pub(crate) fn step_on(mut self, fabric: &mut Fabric) -> Outcome
+        requires fits { MoveFits fabric.old self }
+        requires last { IsLastOf LastPhase (width fabric.old) self }
+        ensures { EndsAs fabric.old self fabric.new result }
     {
-        self.before_closing() + 2
-    }
-
-    /// Tells how many steps come before the phase after `Drain`, no more than in a leave.
-    fn end_of_drain(&self, words: u32) -> u32
-        requires { words ≤ FILE_WORDS }
-        ensures few { result ≤ leave_begins words (following DrainPhase) }
-        ensures moves { is_moving self.now.home ≡ true }
-        ensures value { result ≡ begins words self.now.home (following DrainPhase) }
-    {
-        self.before_drain() + 2 * words
-    }
-
-    /// Tells how many steps come before `Enable`, no more than in a leave.
-    fn before_enable(&self, words: u32) -> u32
-        requires { words ≤ FILE_WORDS }
-        ensures few { result ≤ leave_begins words EnablePhase }
-        ensures moves { is_moving self.now.home ≡ true }
-        ensures value { result ≡ begins words self.now.home EnablePhase }
-    {
-        self.end_of_drain(words)
-    }
-
-    /// Tells how many steps come before the phase after those that all plans share.
-    pub(crate) fn end_of_shared(&self, words: u32) -> u32
-        requires { words ≤ FILE_WORDS }
-        ensures { result ≡ begins words self.now.home (following EnablePhase) }
-    {
-        self.before_enable(words) + 2 * words
+        let _words = fabric.words();
+        self.access(fabric);
+        self.kind.end(self.hand)
     }
 }
 
 /// What the phases share.
-impl<K: Kind, P> Move<K, P> {
-    /// Makes the next access of the phase of the G-stage record.
-    fn close(&mut self, fabric: &mut Fabric)
+impl<K: Kind, P: AccessPhase> Move<K, P> {
+    /// Makes the next step in place, where it is not the last one of its phase, and tells whether
+    /// it made one.
+    pub(crate) fn step_in_place(&mut self, fabric: &mut Fabric) -> bool
         requires fits { MoveFits fabric.old self.old }
-        requires phase { IsIn ClosingPhase (width fabric.old) self.old }
-        ensures { GoesOn fabric.old self.old fabric.new self.new }
-    {
-        let _words = fabric.words();
-        let first = self.before_closing();
-        self.carrier.close(fabric, first, self.kind.new_file());
-    }
-
-    /// Aims the next passed source.
-    fn aim<T: Targets>(&mut self, fabric: &Fabric, targets: &mut T)
-        requires fits { MoveFits fabric.now self.old }
-        requires phase { IsAtAims self.old }
-        requires harts { fabric.now.imsic.harts ≡ (T.map targets.old).harts }
-        requires passes { ArePasses self.old.who }
-        ensures aims { T.aimed targets.old (aim_of self.old).source (aim_of self.old).target
-            targets.new }
-        ensures goes { AimsOn fabric.now self.old self.new }
-    {
-        let _words = fabric.words();
-        self.carrier.aim(targets, self.kind.new_file());
-    }
-
-    /// Makes the next access of the phase of the pending set.
-    fn carry_pending(&mut self, fabric: &mut Fabric)
-        requires fits { MoveFits fabric.old self.old }
-        requires phase { IsIn DrainPhase (width fabric.old) self.old }
-        ensures { GoesOn fabric.old self.old fabric.new self.new }
-    {
-        let _words = fabric.words();
-        let first = self.before_drain();
-        let from = self.old_place();
-        let to = self.new_place();
-        self.carrier.carry_pending(fabric, first, from, to);
-    }
-
-    /// Makes the next access of the phase of the enabled set.
-    fn carry_enables(&mut self, fabric: &mut Fabric)
-        requires fits { MoveFits fabric.old self.old }
-        requires phase { IsIn EnablePhase (width fabric.old) self.old }
-        ensures { GoesOn fabric.old self.old fabric.new self.new }
+        requires phase { NextStepIsOf (Some P.phase) (width fabric.old) self.old }
+        ensures goes { GoesInPlace P.phase result fabric.old self.old fabric.new self.new }
+        ensures phase { NextStepIsOf (Some P.phase) (width fabric.new) self.new }
     {
         let words = fabric.words();
-        let first = self.before_enable(words);
-        let from = self.old_place();
-        let to = self.new_place();
-        self.carrier.carry_enables(fabric, first, from, to);
+        let end = P::end(self.leaves_file(), self.leads_to_file(), words);
+        let stays = self.done + 1 < end;
+        if stays {
+            self.advance(fabric);
+        }
+        stays
     }
 
-    /// Tells how many of its steps are done.
-    fn done(&self) -> u32
-        ensures { result ≡ steps_done self.now.home }
+    /// Makes the next access of the plan, which is not the last one.
+    fn advance(&mut self, fabric: &mut Fabric)
+        requires fits { MoveFits fabric.old self.old }
+        requires phase { NextStepIsOf (Some P.phase) (width fabric.old) self.old }
+        requires more { steps_done self.old.home + 1 < begins (width fabric.old) self.old.home AllDone }
+        ensures { GoesOnIn P.phase fabric.old self.old fabric.new self.new }
     {
-        self.carrier.done()
+        let _words = fabric.words();
+        self.access(fabric);
+        self.done += 1;
+    }
+}
+
+impl<K: Kind, P> Move<K, P> {
+    /// Makes the next access of the plan, and counts it not yet.
+    fn access(&mut self, fabric: &mut Fabric)
+        requires fits { MoveFits fabric.old self.old }
+        requires more { steps_done self.old.home < begins (width fabric.old) self.old.home AllDone }
+        ensures { ExecutesNext fabric.old self.old fabric.new self.new }
+    {
+        let words = fabric.words();
+        let access = access_at(self.leaves_file(), self.leads_to_file(), words, self.done);
+        let old = self.kind.old_file();
+        let new = self.kind.new_file();
+        self.hand.make(fabric, &self.who, old, new, access);
     }
 
-    /// Gives the place that the move leaves.
-    fn old_place(&self) -> At
-        ensures { result ≡ old_at self.now }
+    /// Tells whether the move leaves a guest file.
+    fn leaves_file(&self) -> bool
+        ensures { (way : Way) (at : Progress) → self.now.home ≡ OnWay way at → end_if result ≡ old_end way }
     {
-        self.kind.old_place(self.carrier.slot())
+        self.kind.old_file().is_some()
     }
 
-    /// Gives the place to which the move leads.
-    fn new_place(&self) -> At
-        ensures { result ≡ new_at self.now }
+    /// Tells whether it leads to a guest file.
+    fn leads_to_file(&self) -> bool
+        ensures { (way : Way) (at : Progress) → self.now.home ≡ OnWay way at → end_if result ≡ new_end way }
     {
-        self.kind.new_place(self.carrier.slot())
+        self.kind.new_file().is_some()
     }
 
     /// Comes to another phase, with all that it has.
-    pub(crate) fn into_phase<Q>(self) -> Move<K, Q>
+    fn into_phase<Q>(self) -> Move<K, Q>
         ensures { result ≡ self }
     {
         Move {
             kind: self.kind,
-            carrier: self.carrier,
+            who: self.who,
+            done: self.done,
+            aims: self.aims,
+            hand: self.hand,
             phase: PhantomData,
         }
     }
@@ -333,7 +399,10 @@ impl<K: Kind, P> Move<K, P> {
     {
         Move {
             kind: self.kind,
-            carrier: self.carrier,
+            who: self.who,
+            done: self.done,
+            aims: self.aims,
+            hand: self.hand,
             phase: PhantomData,
         }
     }
@@ -343,7 +412,7 @@ impl<K: Kind, P> Move<K, P> {
         ensures { MatchClosed result (λ t. (t ≡ self) × (has_unaimed t ≡ true))
             (λ t. (t ≡ self) × (has_unaimed t ≡ false)) }
     {
-        if self.carrier.has_unaimed() {
+        if self.aims < self.who.passes.len() {
             Closed::Aim(self.into_phase())
         } else {
             Closed::Aimed(self.into_phase())

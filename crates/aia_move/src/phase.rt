@@ -1,10 +1,46 @@
+ghost use Rattle.std.specs.Prelude.{◌≡◌, ◌≤◌};
+ghost use Rattle.aia_regs.specs.declared.limits.TheConstants.{FILE_WORDS};
+ghost use Rattle.aia_home.specs.Home.{end_if};
+ghost use Rattle.aia_home.specs.Phases.{Phase, following, phase_begins};
+ghost use Rattle.aia_home.specs.Phases.Phase.{FirstPhase, ClosingPhase, DrainPhase, EnablePhase, LookPhase, LastPhase};
+
+use aia_home::before_entry;
+
+/// A phase whose steps are accesses.
+pub trait AccessPhase {
+    ghost phase: { Phase };
+
+    /// Tells how many steps come before the phase that follows, by whether a move leaves a guest
+    /// file and leads to one, in files of `words` words.
+    fn end(leaves_file: bool, leads_to_file: bool, words: u32) -> u32
+        requires { words ≤ FILE_WORDS }
+        ensures { result ≡ phase_begins (end_if leaves_file) (end_if leads_to_file) words
+            (following phase) };
+}
+
 /// The phase up to the fence of the entry, and with it.
 #[derive(Drop)]
 pub struct First;
 
+impl AccessPhase for First {
+    ghost phase = { FirstPhase };
+
+    fn end(leaves_file: bool, leads_to_file: bool, _words: u32) -> u32 {
+        before_entry(leaves_file, leads_to_file) + 2
+    }
+}
+
 /// The phase of the G-stage record: it is written, and put in force.
 #[derive(Drop)]
 pub struct Closing;
+
+impl AccessPhase for Closing {
+    ghost phase = { ClosingPhase };
+
+    fn end(leaves_file: bool, leads_to_file: bool, _words: u32) -> u32 {
+        before_entry(leaves_file, leads_to_file) + 4
+    }
+}
 
 /// The phase of aims: each passed source is aimed at the new place.
 #[derive(Drop)]
@@ -14,14 +50,49 @@ pub struct Aim;
 #[derive(Drop)]
 pub struct Drain;
 
+impl AccessPhase for Drain {
+    ghost phase = { DrainPhase };
+
+    fn end(leaves_file: bool, leads_to_file: bool, words: u32) -> u32 {
+        Closing::end(leaves_file, leads_to_file, words) + 2 * words
+    }
+}
+
 /// The phase of the enabled set: each word is taken, and put.
 #[derive(Drop)]
 pub struct Enable;
+
+impl AccessPhase for Enable {
+    ghost phase = { EnablePhase };
+
+    fn end(leaves_file: bool, leads_to_file: bool, words: u32) -> u32 {
+        Drain::end(leaves_file, leads_to_file, words) + 2 * words
+    }
+}
 
 /// The phase of the looks, of a leave alone: each word of both sets is read in memory.
 #[derive(Drop)]
 pub struct Look;
 
+impl AccessPhase for Look {
+    ghost phase = { LookPhase };
+
+    fn end(leaves_file: bool, leads_to_file: bool, words: u32) -> u32 {
+        let looks = if leads_to_file { 0 } else { words };
+        Enable::end(leaves_file, leads_to_file, words) + looks
+    }
+}
+
 /// The last phase: the numbers that are left, and the notice of a leave.
 #[derive(Drop)]
 pub struct Last;
+
+impl AccessPhase for Last {
+    ghost phase = { LastPhase };
+
+    fn end(leaves_file: bool, leads_to_file: bool, words: u32) -> u32 {
+        let taken = u32::from(leaves_file);
+        let last = if leads_to_file { 2 } else { 1 };
+        Look::end(leaves_file, leads_to_file, words) + taken + last
+    }
+}

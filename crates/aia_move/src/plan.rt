@@ -9,10 +9,12 @@ ghost use Rattle.aia_world.specs.Changes.{spot_of};
 ghost use Rattle.aia_moving.specs.Move.{IsWho, MoveFits, width};
 ghost use Rattle.aia_moving.specs.Targets.{ArePasses, AimsAs, aim_if, next_aim};
 ghost use Rattle.aia_moving.specs.Turns.{LeavesEmpty};
-ghost use Rattle.aia_move.specs.Plan.{moving_of, phase_of, is_in_aim, IsInPhase, MatchNext, StepsTo, StepsByPhase, StepsInPlace, InPlaceByPhase};
+ghost use Rattle.aia_move.specs.Plan.{moving_of, phase_of, is_in_aim, IsInPhase, EndsPhaseOrAims, MatchNext, StepsTo, StepsByPhase, StepsInPlace, InPlaceByPhase};
 
+use crate::kind::{ToFile, ToMemory, ToOtherFile};
+use crate::moves::Move;
 use crate::phase::{Aim, Closing, Drain, Enable, First, Last, Look};
-use crate::{Arrive, Closed, KeptNumbers, Leave, Outcome, Shift, Targets, Turn, Who};
+use crate::{Arrive, Closed, Hand, KeptNumbers, Leave, Outcome, Shift, Targets, Turn, Who};
 use aia_fabric::Fabric;
 use aia_pool::FileLease;
 
@@ -49,34 +51,13 @@ pub enum Next {
     Finished(Outcome),
 }
 
-/// The plan after a step of one phase: the plan stays there, or goes on to the next.
-macro_rules! again {
-    ($turn:expr, $stay:ident, $on:ident) => {
-        match $turn {
-            Turn::Stay(state) => Next::Again(Plan::$stay(state)),
-            Turn::On(state) => Next::Again(Plan::$on(state)),
-        }
-    };
-}
-
-/// The plan after a step of the phase of the G-stage record: the plan stays there, goes on to the
+/// The plan after the last step of the phase of the G-stage record, or an aim: it comes to the
 /// aims, or past them.
-macro_rules! close {
-    ($turn:expr, $stay:ident, $aim:ident, $past:ident) => {
-        match $turn {
-            Turn::Stay(state) => Next::Again(Plan::$stay(state)),
-            Turn::On(Closed::Aim(state)) => Next::Again(Plan::$aim(state)),
-            Turn::On(Closed::Aimed(state)) => Next::Again(Plan::$past(state)),
-        }
-    };
-}
-
-/// What a step of the last phase makes: the plan stays there, or the move is at its end.
-macro_rules! finish {
-    ($turn:expr, $stay:ident) => {
-        match $turn {
-            Turn::Stay(state) => Next::Again(Plan::$stay(state)),
-            Turn::On(outcome) => Next::Finished(outcome),
+macro_rules! past {
+    ($closed:expr, $aim:ident, $past:ident) => {
+        match $closed {
+            Closed::Aim(state) => Next::Again(Plan::$aim(state)),
+            Closed::Aimed(state) => Next::Again(Plan::$past(state)),
         }
     };
 }
@@ -95,7 +76,7 @@ impl Plan {
         ensures fits { (w : World) → IsWho w who → IsThere w.imsic (spot_of file)
             → MoveFits w (moving_of result) }
     {
-        Plan::LeaveFirst(Leave::new(file, who))
+        Plan::LeaveFirst(Move::new(ToMemory { file }, who, Hand::default()))
     }
 
     /// Begins to move a virtual hart from memory to a guest file, with the numbers that were kept.
@@ -116,7 +97,13 @@ impl Plan {
         ensures fits { (w : World) → IsWho w who → IsThere w.imsic (spot_of file)
             → MoveFits w (moving_of result) }
     {
-        Plan::ArriveFirst(Arrive::new(file, who, kept))
+        let hand = Hand {
+            word: 0,
+            delivery: kept.delivery,
+            threshold: kept.threshold,
+            seen: false,
+        };
+        Plan::ArriveFirst(Move::new(ToFile { file }, who, hand))
     }
 
     /// Begins to move a virtual hart from guest file `old` to guest file `new`. Its steps can be
@@ -132,7 +119,8 @@ impl Plan {
         ensures fits { (w : World) → IsWho w who → IsThere w.imsic (spot_of old)
             → IsThere w.imsic (spot_of new) → MoveFits w (moving_of result) }
     {
-        Plan::ShiftFirst(Shift::new(old, new, who))
+        let kind = ToOtherFile { from: old, to: new };
+        Plan::ShiftFirst(Move::new(kind, who, Hand::default()))
     }
 
     /// Makes the next step of the plan: its next access, or, after the fence of the G-stage record
@@ -140,7 +128,7 @@ impl Plan {
     /// leaves the fabric as it is. Before the access of the entry's fence all stores in flight of
     /// the VM land, the oldest first. `Finished` exactly at the last access: the guest file that
     /// the move leaves, where it leaves one, is then empty.
-    pub fn step<T: Targets>(self, fabric: &mut Fabric, targets: &mut T) -> Next
+    pub fn step<T: Targets>(mut self, fabric: &mut Fabric, targets: &mut T) -> Next
         requires fits { MoveFits fabric.old (moving_of self) }
         requires phase { IsInPhase (width fabric.old) self }
         requires harts { fabric.old.imsic.harts ≡ (T.map targets.old).harts }
@@ -153,8 +141,31 @@ impl Plan {
         ensures empty { AreApart (moving_of self).home → MatchNext result (λ p. ⊤)
             (λ o. LeavesEmpty fabric.old (moving_of self) fabric.new) }
     {
+        if self.step_in_place(fabric) {
+            Next::Again(self)
+        } else {
+            self.step_on(fabric, targets)
+        }
+    }
+
+    /// Makes the next step of the plan, where [`Plan::step_in_place`] made none: it is an aim, or
+    /// the last access of its phase. It makes what [`Plan::step`] would.
+    pub fn step_on<T: Targets>(self, fabric: &mut Fabric, targets: &mut T) -> Next
+        requires fits { MoveFits fabric.old (moving_of self) }
+        requires phase { IsInPhase (width fabric.old) self }
+        requires last { EndsPhaseOrAims (phase_of self) (width fabric.old) (moving_of self) }
+        requires harts { fabric.old.imsic.harts ≡ (T.map targets.old).harts }
+        requires passes { ArePasses (moving_of self).who }
+        ensures goes { StepsTo (next_aim (moving_of self)) fabric.old (moving_of self) fabric.new
+            result }
+        ensures aims { AimsAs T.aimed (next_aim (moving_of self)) targets.old targets.new }
+        ensures fits { MatchNext result (λ p. MoveFits fabric.new (moving_of p)) (λ o. ⊤) }
+        ensures phase { MatchNext result (λ p. IsInPhase (width fabric.new) p) (λ o. ⊤) }
+        ensures empty { AreApart (moving_of self).home → MatchNext result (λ p. ⊤)
+            (λ o. LeavesEmpty fabric.old (moving_of self) fabric.new) }
+    {
         let _words = fabric.words();
-        self.step_by_phase(fabric, targets)
+        self.step_on_by_phase(fabric, targets)
     }
 
     /// Makes the next step of the plan in place, where it is an access after which the plan is in
@@ -169,10 +180,11 @@ impl Plan {
         self.step_in_place_by_phase(fabric)
     }
 
-    /// Makes the next step of the plan, by the phase that it is in.
-    fn step_by_phase<T: Targets>(self, fabric: &mut Fabric, targets: &mut T) -> Next
+    /// Makes such a step, by the phase that the plan is in.
+    fn step_on_by_phase<T: Targets>(self, fabric: &mut Fabric, targets: &mut T) -> Next
         requires fits { MoveFits fabric.old (moving_of self) }
         requires phase { IsInPhase (width fabric.old) self }
+        requires last { EndsPhaseOrAims (phase_of self) (width fabric.old) (moving_of self) }
         requires harts { fabric.old.imsic.harts ≡ (T.map targets.old).harts }
         requires passes { ArePasses (moving_of self).who }
         ensures goes { StepsByPhase (phase_of self) fabric.old (moving_of self) fabric.new result }
@@ -182,31 +194,34 @@ impl Plan {
         ensures phase { MatchNext result (λ p. IsInPhase (width fabric.new) p) (λ o. ⊤) }
     {
         match self {
-            Plan::LeaveFirst(state) => again!(state.step(fabric), LeaveFirst, LeaveClosing),
-            Plan::LeaveClosing(state) => {
-                close!(state.step(fabric), LeaveClosing, LeaveAim, LeaveDrain)
-            }
-            Plan::LeaveAim(state) => again!(state.step(fabric, targets), LeaveAim, LeaveDrain),
-            Plan::LeaveDrain(state) => again!(state.step(fabric), LeaveDrain, LeaveEnable),
-            Plan::LeaveEnable(state) => again!(state.step(fabric), LeaveEnable, LeaveLook),
-            Plan::LeaveLook(state) => again!(state.step(fabric), LeaveLook, LeaveLast),
-            Plan::LeaveLast(state) => finish!(state.step(fabric), LeaveLast),
-            Plan::ArriveFirst(state) => again!(state.step(fabric), ArriveFirst, ArriveClosing),
-            Plan::ArriveClosing(state) => {
-                close!(state.step(fabric), ArriveClosing, ArriveAim, ArriveDrain)
-            }
-            Plan::ArriveAim(state) => again!(state.step(fabric, targets), ArriveAim, ArriveDrain),
-            Plan::ArriveDrain(state) => again!(state.step(fabric), ArriveDrain, ArriveEnable),
-            Plan::ArriveEnable(state) => again!(state.step(fabric), ArriveEnable, ArriveLast),
-            Plan::ArriveLast(state) => finish!(state.step(fabric), ArriveLast),
-            Plan::ShiftFirst(state) => again!(state.step(fabric), ShiftFirst, ShiftClosing),
-            Plan::ShiftClosing(state) => {
-                close!(state.step(fabric), ShiftClosing, ShiftAim, ShiftDrain)
-            }
-            Plan::ShiftAim(state) => again!(state.step(fabric, targets), ShiftAim, ShiftDrain),
-            Plan::ShiftDrain(state) => again!(state.step(fabric), ShiftDrain, ShiftEnable),
-            Plan::ShiftEnable(state) => again!(state.step(fabric), ShiftEnable, ShiftLast),
-            Plan::ShiftLast(state) => finish!(state.step(fabric), ShiftLast),
+            Plan::LeaveFirst(state) => Next::Again(Plan::LeaveClosing(state.step_on(fabric))),
+            Plan::LeaveClosing(state) => past!(state.step_on(fabric), LeaveAim, LeaveDrain),
+            Plan::LeaveAim(state) => match state.step(fabric, targets) {
+                Turn::Stay(state) => Next::Again(Plan::LeaveAim(state)),
+                Turn::On(state) => Next::Again(Plan::LeaveDrain(state)),
+            },
+            Plan::LeaveDrain(state) => Next::Again(Plan::LeaveEnable(state.step_on(fabric))),
+            Plan::LeaveEnable(state) => Next::Again(Plan::LeaveLook(state.step_on(fabric))),
+            Plan::LeaveLook(state) => Next::Again(Plan::LeaveLast(state.step_on(fabric))),
+            Plan::LeaveLast(state) => Next::Finished(state.step_on(fabric)),
+            Plan::ArriveFirst(state) => Next::Again(Plan::ArriveClosing(state.step_on(fabric))),
+            Plan::ArriveClosing(state) => past!(state.step_on(fabric), ArriveAim, ArriveDrain),
+            Plan::ArriveAim(state) => match state.step(fabric, targets) {
+                Turn::Stay(state) => Next::Again(Plan::ArriveAim(state)),
+                Turn::On(state) => Next::Again(Plan::ArriveDrain(state)),
+            },
+            Plan::ArriveDrain(state) => Next::Again(Plan::ArriveEnable(state.step_on(fabric))),
+            Plan::ArriveEnable(state) => Next::Again(Plan::ArriveLast(state.step_on(fabric))),
+            Plan::ArriveLast(state) => Next::Finished(state.step_on(fabric)),
+            Plan::ShiftFirst(state) => Next::Again(Plan::ShiftClosing(state.step_on(fabric))),
+            Plan::ShiftClosing(state) => past!(state.step_on(fabric), ShiftAim, ShiftDrain),
+            Plan::ShiftAim(state) => match state.step(fabric, targets) {
+                Turn::Stay(state) => Next::Again(Plan::ShiftAim(state)),
+                Turn::On(state) => Next::Again(Plan::ShiftDrain(state)),
+            },
+            Plan::ShiftDrain(state) => Next::Again(Plan::ShiftEnable(state.step_on(fabric))),
+            Plan::ShiftEnable(state) => Next::Again(Plan::ShiftLast(state.step_on(fabric))),
+            Plan::ShiftLast(state) => Next::Finished(state.step_on(fabric)),
         }
     }
 

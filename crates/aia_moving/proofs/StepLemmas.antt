@@ -1,29 +1,35 @@
 -- A step of a move: what its access leaves, and that the next step can be made.
-use Rattle.std.proofs.Common.{◌≡◌, ℕ, ◌+◌, ◌*◌, ◌/◌, ◌<◌, ◌≤◌, Bool, true, false, refl, sym, ap, ◌∙◌, subst, arith}
-use Rattle.std.proofs.lemmas.Bool.{ne_eqb}
-use Rattle.aia_home.proofs.HomeLemmas.{not_the_last}
-use Rattle.aia_home.proofs.PhaseLemmas.{carried_pending, carried_enables}
+use Rattle.std.proofs.Common.{◌≡◌, ℕ, ◌+◌, ◌*◌, ◌/◌, ◌<◌, ◌≤◌, Bool, true, false, List, refl, sym, ap, ◌∙◌, subst, arith}
+use Rattle.std.proofs.lemmas.Bool.{lt-ltb, ne_eqb}
 use Rattle.aia_word.specs.Sets.{has_bit}
 use Rattle.aia_regs.specs.declared.file_registers.FileReg.{FileReg}
 use Rattle.aia_imsic.specs.declared.spot.Spot.{Spot}
 use Rattle.aia_imsic.specs.Imsic.{ImsicState, IsThere}
 use Rattle.aia_home.specs.declared.place.Place.{Place}
-use Rattle.aia_home.specs.Home.{Home, Progress, is_moving, one_more, one_further}
-use Rattle.aia_home.specs.Plans.{is_at_last, Access, steps_done, has_access, step_of, IsNext, first_take, pending_step, enables_step}
+use Rattle.aia_home.specs.declared.vm.Vm.{Vm}
+use Rattle.aia_home.specs.Vms.{is_vcpu_in, slot_of, notice_hart}
+use Rattle.aia_home.specs.Home.{End, End as ends, Home, new_end, one_more}
+use Rattle.aia_home.specs.Plans.{is_at_last, is_last_made, steps_done, has_access, step_of, IsNext, first_take, pending_step, enables_step}
+use Rattle.aia_home.specs.declared.access.Access.{Access}
 use Rattle.aia_home.specs.Home.Home.{OnWay}
-use Rattle.aia_home.specs.Plans.Access.{TakeDelivery, PutDelivery, WriteNotice, WriteEntry, Fence, Map, GFence, TakePending, PutPending, TakeEnables, PutEnables, Look, TakeThreshold, PutThreshold, Post}
-use Rattle.aia_home.specs.Aims.{aims_done}
+use Rattle.aia_home.specs.declared.access.Access.TheVariants.{TakeDelivery, PutDelivery, WriteNotice, WriteEntry, Fence, Map, GFence, TakePending, PutPending, TakeEnables, PutEnables, Look, TakeThreshold, PutThreshold, Post}
+use Rattle.aia_home.specs.Phases.{begins}
+use Rattle.aia_home.specs.Phases.Phase.{AllDone}
 use Rattle.aia_home.specs.BySteps.{own_file, next_file}
-use Rattle.aia_home.proofs.PlanLemmas.{next_in_plan}
+use Rattle.aia_home.proofs.PlanLemmas.{next_in_plan, one_a_step, last_access, last_is}
+use Rattle.aia_home.proofs.PhaseLemmas.{carried_pending, carried_enables}
+use Rattle.aia_home.proofs.RouteLemmas.{is_fence, fence_is_next}
 use Rattle.aia_places.specs.Holds.{Hand}
 use Rattle.aia_world.specs.declared.at.At.{At}
 use Rattle.aia_world.specs.declared.at.At.TheVariants.{File, Slot}
 use Rattle.aia_world.specs.World.{World}
 use Rattle.aia_world.specs.Changes.{PutsRegister, spot_of, with_pending, with_enable}
-use Rattle.aia_moving.specs.Move.{Moving, width, old_at, new_at, PostsIf, Makes, hand_after, MoveFits, Ends}
-use Rattle.aia_moving.specs.Carrier.{CarrierState, carrier_of, progress_of, moving, one_done, Does}
-use Rattle.aia_moving.specs.Turns.{IsMove, GoesOn}
+use Rattle.aia_moving.specs.Move.{Moving, mover, width, old_at, new_at, PostsIf, Makes, hand_after, MoveFits, Ends}
+use Rattle.aia_moving.specs.Accesses.{TakesNoZero, Executes, ExecutesNext}
+use Rattle.aia_moving.specs.Turns.{GoesOn}
 use Rattle.aia_moving.specs.Touches.{SameMachine}
+use Rattle.aia_moving.specs.Landings.{OnceLanded}
+use Rattle.aia_moving.proofs.LandingLemmas.{all_first, none_lands}
 
 -- ---- what an access leaves
 
@@ -82,8 +88,8 @@ same_move : (words : ℕ) (there : Home) (access : Access) → has_access words 
 same_move words (OnWay way at) access has = record { steps = refl; own = refl; next = refl; first = refl; second = refl; order = omega arith }
 same_move words there access has = absurd (cc)
 
--- a word 0 that the next access takes has no identity 0
-pub record TakesNoZero (w : World) (m t : Moving) : Type 0 where
+-- a word 0 that is carried then has no identity 0
+record HaveNoZero (w : World) (m t : Moving) : Type 0 where
   pub pending : steps_done m.home ≡ pending_step m.home 0 → has_bit t.hand.word 0 ≡ false
   pub enabled : steps_done m.home ≡ enables_step (width w) m.home 0 → has_bit t.hand.word 0 ≡ false
 
@@ -91,7 +97,7 @@ pub file_stays : (w u : World) (p : Place) → SameMachine w u → IsThere w.ims
 file_stays w u p kept is = (omega (arith, is.0, kept.harts), is.1, omega (arith, is.2, kept.guests))
 
 one_step : (w u : World) (m t : Moving) (access : Access) → MoveFits w m → IsNext (width w) m.home access → Makes access m w u
-    → t ≡ record m { home = one_more m.home; hand = hand_after access m w } → is_at_last (width w) m.home ≡ false → TakesNoZero w m t → GoesOn w m u t
+    → t ≡ record m { home = one_more m.home; hand = hand_after access m w } → is_at_last (width w) m.home ≡ false → HaveNoZero w m t → GoesOn w m u t
 one_step w u m t access fits next made is more zero = record {
   goes = record {
     step = record { access = access; is_next = next; in_table = next_in_plan (width w) m.home access next; makes = made; carries = ap (λ (x : Moving). x.hand) is };
@@ -136,56 +142,90 @@ one_step w u m t access fits next made is more zero = record {
     second : step_of (width u) t.home (TakeEnables 0) ≡ step_of (width w) m.home (TakeEnables 0)
     second = ap (λ n. step_of n t.home (TakeEnables 0)) wide ∙ ap (λ h. step_of (width w) h (TakeEnables 0)) home ∙ same.second
 
--- ---- a step of a state m, which is seen as s
+-- ---- what a move needs, in another world of the same machine
 
-pub seen_so : (w u : World) (m s t : Moving) (access : Access) → m ≡ s → MoveFits w s → IsNext (width w) m.home access → Makes access m w u
-    → t ≡ record m { home = one_more m.home; hand = hand_after access m w } → is_at_last (width w) m.home ≡ false → TakesNoZero w m t → GoesOn w s u t
-seen_so w u m s t access seen fits next made is more zero =
-    subst (λ x. GoesOn w x u t) seen (one_step w u m t access (subst (λ x. MoveFits w x) (sym seen) fits) next made is more zero)
+pub fits_still : (w u : World) (m : Moving) → SameMachine w u → MoveFits w m → MoveFits u m
+fits_still w u m same fits = record {
+  there = subst (λ (vs : List Vm). is_vcpu_in vs (mover m) ≡ true) (sym same.vms) fits.there;
+  slot = fits.slot ∙ ap (λ vs. slot_of vs (mover m)) (sym same.vms);
+  notice = fits.notice ∙ ap (λ vs. notice_hart vs (mover m)) (sym same.vms);
+  own = λ p e. file_stays w u p same (fits.own p e);
+  next = λ p e. file_stays w u p same (fits.next p e);
+  no_pending_zero = λ e. fits.no_pending_zero (sym (ap (λ n. is_last_made ((n + 1) / 64) m.home (TakePending 0)) same.n) ∙ e);
+  no_enabled_zero = λ e. fits.no_enabled_zero (sym (ap (λ n. is_last_made ((n + 1) / 64) m.home (TakeEnables 0)) same.n) ∙ e);
+}
 
--- not the last one
-pub not_last : (words : ℕ) (there : Home) → steps_done there < enables_step words there words → is_at_last words there ≡ false
-not_last words (OnWay way at) low = let more = not_the_last way words in ne_eqb _ _ (λ e. omega (arith, e, low, more))
-not_last words there low = refl
+-- ---- the next access is made
 
--- the state with a carrier
-pub loaded : (m : Moving) (there : Progress → Home) (now : CarrierState) (hand : Hand) → there (one_further (record { steps = steps_done m.home; aims = aims_done m.home })) ≡ one_more m.home → now ≡ one_done (carrier_of m) hand
-    → moving there now ≡ record m { home = one_more m.home; hand = hand }
-loaded m there now hand next is = ap (λ (l : CarrierState). moving there l) is ∙ ap (λ (h : Home). record m { home = h; hand = hand }) next
+-- a word 0 that it takes has no identity 0
+takes_pending : (words : ℕ) (there : Home) (access : Access) (word : ℕ) → 1 ≤ words → IsNext words there access → TakesNoZero access word → steps_done there ≡ pending_step there 0 → has_bit word 0 ≡ false
+takes_pending words (OnWay way at) access word some next none e =
+    let is : access ≡ TakePending 0 = one_a_step words (OnWay way at) access (TakePending 0) next.has (lt-ltb 0 words some) (sym next.step ∙ e ∙ omega arith) in
+    subst (λ a. TakesNoZero a word) is none refl
+takes_pending words there access word some next none e = let no : false ≡ true = next.has in absurd (cc)
 
--- before any word is carried, and after all are
-pub step_before : (w u : World) (m s : Moving) (there : Progress → Home) (now : CarrierState) (access : Access) → m ≡ s → MoveFits w s → there (one_further (record { steps = steps_done m.home; aims = aims_done m.home })) ≡ one_more m.home
-    → IsNext (width w) m.home access → Does access m w u now → steps_done m.home < first_take m.home → GoesOn w s u (moving there now)
-step_before w u m s there now access seen fits more next does low =
-    let same = same_move (width w) m.home access next.has in
-    seen_so w u m s (moving there now) access seen fits next does.makes (loaded m there now _ more does.carrier) (not_last (width w) m.home (omega (arith, low, same.order))) (record { pending = λ e. absurd (omega (arith, e, low)); enabled = λ e. absurd (omega (arith, e, low, same.order)) })
+takes_enables : (words : ℕ) (there : Home) (access : Access) (word : ℕ) → 1 ≤ words → IsNext words there access → TakesNoZero access word → steps_done there ≡ enables_step words there 0 → has_bit word 0 ≡ false
+takes_enables words (OnWay way at) access word some next none e =
+    let is : access ≡ TakeEnables 0 = one_a_step words (OnWay way at) access (TakeEnables 0) next.has (lt-ltb 0 words some) (sym next.step ∙ e ∙ omega arith) in
+    subst (λ a. TakesNoZero a word) is none refl
+takes_enables words there access word some next none e = let no : false ≡ true = next.has in absurd (cc)
 
-pub step_after : (w u : World) (m s : Moving) (there : Progress → Home) (now : CarrierState) (access : Access) → m ≡ s → MoveFits w s → there (one_further (record { steps = steps_done m.home; aims = aims_done m.home })) ≡ one_more m.home
-    → IsNext (width w) m.home access → Does access m w u now → is_at_last (width w) m.home ≡ false → 1 ≤ width w → enables_step (width w) m.home (width w) ≤ steps_done m.home → GoesOn w s u (moving there now)
-step_after w u m s there now access seen fits more next does unfinished some past =
-    let same = same_move (width w) m.home access next.has in
-    seen_so w u m s (moving there now) access seen fits next does.makes (loaded m there now _ more does.carrier) unfinished (record { pending = λ e. absurd (omega (arith, e, past, some, same.order)); enabled = λ e. absurd (omega (arith, e, past, some)) })
+unfinished : (words : ℕ) (there : Home) → steps_done there + 1 < begins words there AllDone → is_at_last words there ≡ false
+unfinished words (OnWay way at) more = ne_eqb _ _ (λ e. omega (arith, e, more))
+unfinished words there more = refl
 
--- the last step
-pub step_last : (w u : World) (m s : Moving) (access : Access) → m ≡ s → IsNext (width w) m.home access → Makes access m w u → hand_after access m w ≡ m.hand → is_at_last (width w) m.home ≡ true
-    → Ends w s u s.hand
-step_last w u m s access seen next made same last =
-    subst (λ (x : Moving). Ends w x u x.hand) seen (record {
-      step = record { access = access; is_next = next; in_table = next_in_plan (width w) m.home access next; makes = made; carries = sym same };
-      last = last;
-    })
+module _ (w u : World) (m x t : Moving) (fits : MoveFits w m) (some : 1 ≤ width w) (next : ExecutesNext w m u x) (more : steps_done m.home + 1 < begins (width w) m.home AllDone) (one : t ≡ record x { home = one_more x.home }) where
+  carries_on : (hand : Hand) → x.hand ≡ hand → t ≡ record m { home = one_more m.home; hand = hand }
+  carries_on hand e = one ∙ (λ k. record { who = next.same_who k; home = one_more (next.same_home k); hand = e k })
 
--- ---- a move by its home at each progress
+  hand_is : t.hand ≡ x.hand
+  hand_is = ap (λ (y : Moving). y.hand) one
 
-module _ (there : Progress → Home) (is : IsMove there) where
-  pub carrier_is : (l : CarrierState) → carrier_of (moving there l) ≡ l
-  carrier_is l = λ k. record l { steps = is.steps (progress_of l) k; aims = is.aims (progress_of l) k }
+  none_zero : (landed : World) → width landed ≡ width w → (access : Access) → IsNext (width w) m.home access → TakesNoZero access x.hand.word → HaveNoZero landed m t
+  none_zero landed wide access is none = record {
+    pending = λ e. subst (λ (h : Hand). has_bit h.word 0 ≡ false) (sym hand_is) (takes_pending (width w) m.home access x.hand.word some is none e);
+    enabled = λ e. subst (λ (h : Hand). has_bit h.word 0 ≡ false) (sym hand_is) (takes_enables (width w) m.home access x.hand.word some is none (e ∙ ap (λ n. enables_step n m.home 0) wide));
+  }
 
-  pub it_moves : (l : CarrierState) (s : Moving) → moving there l ≡ s → is_moving s.home ≡ true
-  it_moves l s seen = subst (λ (x : Moving). is_moving x.home ≡ true) seen (is.moves (progress_of l))
+  at_the_fence : IsNext (width w) m.home Fence → Executes Fence m w u x.hand → OnceLanded w m (λ landed. GoesOn landed m u t)
+  at_the_fence is made =
+      let fences = made.makes in
+      let first = all_first w u m fences (sym (fence_is_next (width w) m.home Fence is)) in
+      let wide : width fences.landed ≡ width w = ap (λ n. (n + 1) / 64) first.same.n in
+      record {
+        landed = fences.landed;
+        first = first;
+        then = one_step fences.landed u m t Fence (fits_still w fences.landed m first.same fits) (subst (λ n. IsNext n m.home Fence) (sym wide) is) fences.fenced (carries_on m.hand made.carries)
+            (subst (λ n. is_at_last n m.home ≡ false) (sym wide) (unfinished (width w) m.home more)) (none_zero fences.landed wide Fence is made.no_zero);
+      }
 
-  pub steps_are : (l : CarrierState) (s : Moving) → moving there l ≡ s → l.steps ≡ steps_done s.home
-  steps_are l s seen = sym (is.steps (progress_of l)) ∙ ap (λ (x : Moving). steps_done x.home) seen
+  elsewhere : (access : Access) → IsNext (width w) m.home access → is_fence access ≡ false → Makes access m w u → x.hand ≡ hand_after access m w → TakesNoZero access x.hand.word → OnceLanded w m (λ landed. GoesOn landed m u t)
+  elsewhere access is other makes carries none =
+      none_lands w m (λ landed. GoesOn landed m u t) (sym (fence_is_next (width w) m.home access is) ∙ other)
+      (one_step w u m t access fits is makes (carries_on (hand_after access m w) carries) (unfinished (width w) m.home more) (none_zero w refl access is none))
 
-  pub goes_on : (l : CarrierState) → there (one_further (record { steps = steps_done (moving there l).home; aims = aims_done (moving there l).home })) ≡ one_more (moving there l).home
-  goes_on l = (λ k. there (one_further (record { steps = is.steps (progress_of l) k; aims = is.aims (progress_of l) k }))) ∙ is.more (progress_of l)
+  by_access : (access : Access) → IsNext (width w) m.home access → Executes access m w u x.hand → OnceLanded w m (λ landed. GoesOn landed m u t)
+  by_access Fence is made = at_the_fence is made
+  by_access access is made = elsewhere access is refl made.makes made.carries made.no_zero
+
+  -- and it is not the last one
+  pub executed_on : OnceLanded w m (λ landed. GoesOn landed m u t)
+  executed_on = by_access next.access next.is_next next.executes
+
+-- it is the last one, with which nothing more is taken
+module _ (w u : World) (m x : Moving) (next : ExecutesNext w m u x) (last : is_at_last (width w) m.home ≡ true) where
+  ends_by : (to : End) (access : Access) → IsNext (width w) m.home access → Executes access m w u x.hand → access ≡ last_access to → Ends w m u m.hand × (x.hand ≡ m.hand)
+  ends_by to access is made e = by_end to (subst (λ a. IsNext (width w) m.home a) e is) (subst (λ a. Executes a m w u x.hand) e made)
+    where
+      by_end : (to : End) → IsNext (width w) m.home (last_access to) → Executes (last_access to) m w u x.hand → Ends w m u m.hand × (x.hand ≡ m.hand)
+      by_end ends.File is made = (record { step = record { access = PutDelivery; is_next = is; in_table = next_in_plan (width w) m.home PutDelivery is; makes = made.makes; carries = refl }; last = last }, made.carries)
+      by_end ends.Memory is made = (record { step = record { access = Post; is_next = is; in_table = next_in_plan (width w) m.home Post is; makes = made.makes; carries = refl }; last = last }, made.carries)
+
+  by_home : (there : Home) → m.home ≡ there → Ends w m u m.hand × (x.hand ≡ m.hand)
+  by_home (OnWay way at) e =
+      ends_by (new_end way) next.access next.is_next next.executes
+      (last_is (width w) way at next.access (subst (λ h. IsNext (width w) h next.access) e next.is_next) (subst (λ h. is_at_last (width w) h ≡ true) e last))
+  by_home there e = let no : is_at_last (width w) there ≡ true = subst (λ h. is_at_last (width w) h ≡ true) e last in absurd (cc)
+
+  pub executed_last : Ends w m u m.hand × (x.hand ≡ m.hand)
+  executed_last = by_home m.home refl

@@ -10,8 +10,8 @@ use Rattle.aia_home.specs.Home.{End, Home, old_end, new_end}
 use Rattle.aia_home.specs.Home.Home.{OnWay}
 use Rattle.aia_home.specs.Home.End.{File, Memory}
 use Rattle.aia_home.specs.BySteps.{new_file}
-use Rattle.aia_home.specs.Plans.{Access}
-use Rattle.aia_home.specs.Plans.Access.{TakeDelivery, PutDelivery, WriteNotice, WriteEntry, Fence, Map, GFence, TakePending, PutPending, TakeEnables, PutEnables, Look, TakeThreshold, PutThreshold, Post}
+use Rattle.aia_home.specs.declared.access.Access.{Access}
+use Rattle.aia_home.specs.declared.access.Access.TheVariants.{TakeDelivery, PutDelivery, WriteNotice, WriteEntry, Fence, Map, GFence, TakePending, PutPending, TakeEnables, PutEnables, Look, TakeThreshold, PutThreshold, Post}
 use Rattle.aia_places.specs.Places.{Places, TwoSets, old_place, new_place, entry_word, second_word}
 use Rattle.aia_places.specs.Holds.{Hand, meets}
 

@@ -22,7 +22,8 @@ use Rattle.aia_places.specs.Places.{Places}
 use Rattle.aia_places.specs.Holds.{Hand, Holds}
 use Rattle.aia_move.specs.Plan.{moving_of}
 use Rattle.aia_moving.specs.Touches.{SameMachine}
-use Rattle.aia_move.proofs.MachineLemmas.{fits_still, phase_still}
+use Rattle.aia_moving.proofs.StepLemmas.{fits_still}
+use Rattle.aia_move.proofs.MachineLemmas.{phase_still}
 use Rattle.aia_standing.specs.declared.vcpu.Stay.{Stay}
 use Rattle.aia_standing.specs.declared.vcpu.Stay.TheVariants as stays
 use Rattle.aia_places.specs.Stores.{AreApart}

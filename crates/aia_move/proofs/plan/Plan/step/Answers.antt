@@ -1,27 +1,16 @@
-use Rattle.std.proofs.Common.{sym, subst, arith}
-use Rattle.aia_moving.specs.Move.{width}
-use Rattle.aia_moving.specs.Targets.{AimsAs, aim_if}
-use Rattle.aia_move.specs.Plan.{moving_of, is_in_aim, StepsTo}
-use Rattle.aia_move.proofs.MoveKept.{gives_empty}
-use Rattle.aia_move.proofs.PhaseLemmas.{phase_aims, steps_to}
+use Rattle.std.proofs.Common.{subst}
+use Rattle.std.specs.Prelude.{⊤}
+use Rattle.aia_places.specs.Stores.{AreApart}
+use Rattle.aia_world.specs.World.{World}
+use Rattle.aia_moving.specs.Turns.{LeavesEmpty}
+use Rattle.aia_move.specs.declared.plan.Plan.{Plan}
+use Rattle.aia_move.specs.Plan.{moving_of, MatchNext}
 use Rattle.aia_move.proofs.plan.Plan.step.Goals as goal
 
-pub returns-clause-goes : goal.returns-clause-goes
-returns-clause-goes g c =
-    let w = c.args.fabric.now in
-    let m = moving_of c.args.self in
-    let aims = phase_aims (width w) c.args.self (omega (arith, c.words-words.ensures.value, c.words-words.ensures.some)) c.requires.phase in
-    subst (λ b. StepsTo (aim_if b m) w m c.step_by_phase.new.fabric c.step_by_phase.result) (sym aims) (steps_to w c.step_by_phase.new.fabric c.args.self c.step_by_phase.result c.requires.phase c.step_by_phase.ensures.goes)
-
-pub returns-clause-aims : goal.returns-clause-aims
-returns-clause-aims g c =
-    let w = c.args.fabric.now in
-    let m = moving_of c.args.self in
-    let aims = phase_aims (width w) c.args.self (omega (arith, c.words-words.ensures.value, c.words-words.ensures.some)) c.requires.phase in
-    subst (λ b. AimsAs g.T.Targets.aimed (aim_if b m) c.args.targets.now c.step_by_phase.new.targets) (sym aims) c.step_by_phase.ensures.aims
-
-pub returns-clause-empty : goal.returns-clause-empty
-returns-clause-empty g c =
-    let m = moving_of c.args.self in
-    λ apart. gives_empty (aim_if (is_in_aim c.args.self) m) c.args.fabric.now _ m c.step_by_phase.result c.words-words.ensures.whole c.requires.fits apart
-    (steps_to c.args.fabric.now c.step_by_phase.new.fabric c.args.self c.step_by_phase.result c.requires.phase c.step_by_phase.ensures.goes)
+pub returns-else-step_in_place-clause-empty : goal.returns-else-step_in_place-clause-empty
+returns-else-step_in_place-clause-empty g c =
+    let none = c.if-step_in_place.ensures in
+    let step = c.step_on in
+    let later = c.step_in_place.new.self in
+    subst (λ (plan : Plan). AreApart (moving_of plan).home → MatchNext step.result (λ p. ⊤) (λ o. LeavesEmpty c.args.fabric.now (moving_of plan) step.new.fabric)) none.1
+    (subst (λ (w : World). AreApart (moving_of later).home → MatchNext step.result (λ p. ⊤) (λ o. LeavesEmpty w (moving_of later) step.new.fabric)) none.0 step.ensures.empty)

@@ -1,0 +1,36 @@
+use Rattle.std.proofs.Common.{sym, ap, subst}
+use Rattle.aia_home.specs.Home.{Progress}
+use Rattle.aia_home.specs.Plans.{IsNext}
+use Rattle.aia_moving.specs.Move.{Moving, width}
+use Rattle.aia_moving.specs.Accesses.{WordFits, Executes}
+use Rattle.aia_move.proofs.AccessLemmas.{word_fits, at_is_next}
+use Rattle.aia_move.proofs.moves.Move.access.Goals as goal
+
+pub make-requires-clause-word : goal.make-requires-clause-word
+make-requires-clause-word g c =
+    let l = c.self.inside in
+    let w = c.args.fabric.now in
+    let s = c.args.self.now in
+    let way = g.K.Kind.way l.kind in
+    let access = c.access_at-access.result in
+    let at : Progress = record { steps = l.done; aims = l.aims } in
+    let here = ap (λ (x : Moving). x.home) c.self.view_is in
+    let next = at_is_next way at s.home c.leaves_file.result c.leads_to_file.result c.words-words.result (width w) here (c.leaves_file.ensures way at (sym here)) (c.leads_to_file.ensures way at (sym here)) c.words-words.ensures.value access c.access_at-access.ensures in
+    subst (λ (x : Moving). WordFits access (width w) x.hand.word) (sym c.self.view_is) (word_fits w s access c.requires.fits next)
+
+pub returns : goal.returns
+returns g c =
+    let l = c.self.inside in
+    let w = c.args.fabric.now in
+    let s = c.args.self.now in
+    let way = g.K.Kind.way l.kind in
+    let access = c.access_at-access.result in
+    let at : Progress = record { steps = l.done; aims = l.aims } in
+    let here = ap (λ (x : Moving). x.home) c.self.view_is in
+    record {
+      access = access;
+      is_next = at_is_next way at s.home c.leaves_file.result c.leads_to_file.result c.words-words.result (width w) here (c.leaves_file.ensures way at (sym here)) (c.leads_to_file.ensures way at (sym here)) c.words-words.ensures.value access c.access_at-access.ensures;
+      executes = subst (λ (x : Moving). Executes access x w c.make.new.fabric c.make.new.self) c.self.view_is (c.make.ensures way at (sym c.old_file-old.ensures) (sym c.new_file-new.ensures));
+      same_home = here;
+      same_who = ap (λ (x : Moving). x.who) c.self.view_is;
+    }
