@@ -16,7 +16,7 @@ ghost use Rattle.aia_standing.specs.Core.{no_kept, no_record, record_of, home_in
 ghost use Rattle.aia_standing.specs.Passes.{own_passes, AimsBy};
 ghost use Rattle.aia_standing.specs.Stands.{CoreStands, CoreTakes, answer_by};
 ghost use Rattle.aia_world.specs.Found.{IsFound};
-ghost use Rattle.aia_standing.specs.Moves.{UnlessRefused, WholeAims, step_answer, MakesOne, WantBegins, LeaveBegins, ArriveBegins, ShiftBegins, MoveBegins, MoveGoes, StaysInPlace, MoveInPlace, stay_after, back_of, with_back, IsOutThere, stay_then, back_then, is_finished};
+ghost use Rattle.aia_standing.specs.Moves.{UnlessRefused, WholeAims, step_answer, MakesOne, WantBegins, LeaveBegins, ArriveBegins, ShiftBegins, MoveBegins, MoveGoes, StaysInPlace, MoveInPlace, EndsItsPhase, stay_after, back_of, with_back, IsOutThere, stay_then, back_then, is_finished};
 
 use crate::hypervisor_core::Core;
 use crate::passes::Passes;
@@ -157,11 +157,13 @@ impl Core {
         made
     }
 
-    /// Makes such a step with the plan out of its record, where it may come to another phase.
+    /// Makes such a step with the plan out of its record, where none is made in place: it comes to
+    /// another phase, or aims.
     fn step_out<T: Targets>(&mut self, found: Found, targets: &mut T) -> bool
         requires found { IsFound self.old.world found }
         requires moving { is_moving (home_in (record_of self.old (vcpu found.vm found.number)).stay)
             ≡ true }
+        requires last { EndsItsPhase self.old (vcpu found.vm found.number) }
         requires harts { self.old.world.imsic.harts ≡ (T.map targets.old).harts }
         ensures goes { MoveGoes self.old self.new (vcpu found.vm found.number) result }
         ensures aims { (h : History) → CoreStands self.old h
@@ -175,7 +177,7 @@ impl Core {
         let Stay::Moving(plan) = swap_stay(&mut self.vcpus, found.slot, nowhere()) else {
             unreachable!()
         };
-        let next = plan.step(&mut self.fabric, targets);
+        let next = plan.step_on(&mut self.fabric, targets);
         let _whole = self.fabric.words();
         let (new, last) = after_step(next, &mut self.pool);
         swap_stay(&mut self.vcpus, found.slot, new);

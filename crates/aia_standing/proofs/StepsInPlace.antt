@@ -89,7 +89,13 @@ module _ (x y : CoreState) (who : Found) (new : Stay) (plan : Plan) (was : stays
   by_plan false c =
       let made = made_of false c in
       let same : (y.world ≡ x.world) × (made.0 ≡ plan) × EndsPhaseOrAims (phase_of plan) (width x.world) (moving_of plan) = made.2 in
-      same_core x y same.0 c.leases (c.back ∙ ap (λ s. set x.vcpus who.slot (at_stay (get_or x.vcpus who.slot no_record) s)) (made.1 ∙ ap (λ (p : Plan). stays.Moving p) same.1) ∙ same_records) c.selects c.passes
+      (
+        same_core x y same.0 c.leases (c.back ∙ ap (λ s. set x.vcpus who.slot (at_stay (get_or x.vcpus who.slot no_record) s)) (made.1 ∙ ap (λ (p : Plan). stays.Moving p) same.1) ∙ same_records) c.selects c.passes,
+        λ p is.
+            let own : stays.Moving plan ≡ stays.Moving p = was ∙ ap (λ q. (get_or x.vcpus q no_record).stay) c.is_who.slot ∙ is in
+            let one : plan ≡ p = cc in
+            subst (λ (z : Plan). EndsPhaseOrAims (phase_of z) (width x.world) (moving_of z)) one same.2,
+      )
 
 pub made_in_place : (x y : CoreState) (who : Found) (new : Stay) (made : Bool) → InPlaceCalls x y who new made → MoveInPlace x y (vcpu who.vm who.number) made
 made_in_place x y who new made c =
@@ -100,13 +106,13 @@ made_in_place x y who new made c =
 pub in_place_stands : (x y : CoreState) (who : Found) (made : Bool) → MoveInPlace x y (vcpu who.vm who.number) made → StandsForSome x → IsFound x.world who
     → is_moving (home_in (record_of x (vcpu who.vm who.number)).stay) ≡ true → StandsForSome y
 in_place_stands x y who true makes some is moving = goes_still x y who false makes.0 some is moving
-in_place_stands x y who false makes some is moving = subst (λ (z : CoreState). StandsForSome z) (sym makes) some
+in_place_stands x y who false makes some is moving = subst (λ (z : CoreState). StandsForSome z) (sym makes.0) some
 
 -- it is there still, with the same harts
 pub in_place_who : (x y : CoreState) (who : Found) (made : Bool) → MoveInPlace x y (vcpu who.vm who.number) made → StandsForSome x → IsFound x.world who → IsFound y.world who
 in_place_who x y who true makes some is = who_still x y who false makes.0 some is
-in_place_who x y who false makes some is = subst (λ (z : CoreState). IsFound z.world who) (sym makes) is
+in_place_who x y who false makes some is = subst (λ (z : CoreState). IsFound z.world who) (sym makes.0) is
 
 pub in_place_harts : (x y : CoreState) (g : Vcpu) (made : Bool) → MoveInPlace x y g made → StandsForSome x → y.world.imsic.harts ≡ x.world.imsic.harts
 in_place_harts x y g true makes some = harts_still x y g false makes.0 some
-in_place_harts x y g false makes some = ap (λ (z : CoreState). z.world.imsic.harts) makes
+in_place_harts x y g false makes some = ap (λ (z : CoreState). z.world.imsic.harts) makes.0

@@ -40,7 +40,7 @@ use Rattle.aia_moving.specs.Move.{Moving, mover, width, MakesNext}
 use Rattle.aia_world.specs.World.{World}
 use Rattle.aia_model.specs.GuestFile.{guest_file}
 use Rattle.aia_model.specs.Notice.{a_look_saw}
-use Rattle.aia_move.specs.Plan.{moving_of, IsInPhase, StepsInPlace}
+use Rattle.aia_move.specs.Plan.{moving_of, IsInPhase, StepsInPlace, phase_of, EndsPhaseOrAims}
 use Rattle.aia_move.specs.Knows.{Knows}
 use Rattle.aia_model.specs.declared.want.Want.{Want}
 use Rattle.aia_model.specs.declared.want.Want.TheVariants as wants
@@ -241,9 +241,15 @@ pub record MoveGoes (old new : CoreState) (g : Vcpu) (last : Bool) : Type 0 wher
   pub makes : (plan : Plan) → (record_of old g).stay ≡ stays.Moving plan
       → MakesOne old.world (moving_of plan) new.world
 
+-- The next step of the plan of a virtual hart that is being moved is the last one of its phase, or
+-- aims.
+abbrev pub EndsItsPhase : CoreState → Vcpu → Type 0
+EndsItsPhase c g = (plan : Plan) → (record_of c g).stay ≡ stays.Moving plan
+    → EndsPhaseOrAims (phase_of plan) (width c.world) (moving_of plan)
+
 -- Where a step of a move was made in place, it was an access, aimed nothing, and was not the move's
--- last; else nothing is changed.
+-- last; else nothing is changed, and its next step ends its phase, or aims.
 abbrev pub MoveInPlace : CoreState → CoreState → Vcpu → Bool → Type 0
 MoveInPlace old new g true = MoveGoes old new g false
     × ((h : History) → CoreStands old h → aimed_by h (Stepped g) ≡ None)
-MoveInPlace old new g false = new ≡ old
+MoveInPlace old new g false = (new ≡ old) × EndsItsPhase old g

@@ -10,7 +10,7 @@ use Rattle.aia_model.specs.Event.{greatest_identity_of}
 use Rattle.aia_model.specs.Vms.{has_vcpu}
 use Rattle.aia_standing.specs.Core.{CoreState, no_record, record_of, home_in}
 use Rattle.aia_world.specs.Found.{IsFound}
-use Rattle.aia_standing.specs.Moves.{MoveGoes, is_finished}
+use Rattle.aia_standing.specs.Moves.{MoveGoes, EndsItsPhase, is_finished}
 use Rattle.aia_standing.proofs.BeginCore.{at_stay}
 use Rattle.aia_file.proofs.SizeLemmas.{few_identities}
 use Rattle.aia_standing.proofs.OwnPasses.{are_passes, aims_so}
@@ -19,16 +19,22 @@ use Rattle.aia_hyp.proofs.hypervisor_core.Core.step_out.Given.{Over}
 use Rattle.aia_hyp.proofs.hypervisor_core.Core.step_out.Goals.{After-swap_stay-2}
 use Rattle.aia_hyp.proofs.hypervisor_core.Core.step_out.Goals as goal
 
-pub step-next-requires-clause-fits : goal.step-next-requires-clause-fits
-step-next-requires-clause-fits g c =
+pub step_on-next-requires-clause-fits : goal.step_on-next-requires-clause-fits
+step_on-next-requires-clause-fits g c =
     (plan_known (record { world = c.self.inside.fabric; leases = c.self.inside.pool; vcpus = c.self.inside.vcpus.items; selects = c.self.inside.selects; passes = c.self.inside.passes }) c.args.found c.in-Moving.plan c.self.invariant.0 (subst (λ (x : CoreState). IsFound x.world c.args.found) (sym c.self.view_is) c.requires.found) (sym c.in-Moving.is ∙ c.swap_stay.ensures.before)).0
 
-pub step-next-requires-clause-phase : goal.step-next-requires-clause-phase
-step-next-requires-clause-phase g c =
+pub step_on-next-requires-clause-phase : goal.step_on-next-requires-clause-phase
+step_on-next-requires-clause-phase g c =
     (plan_known (record { world = c.self.inside.fabric; leases = c.self.inside.pool; vcpus = c.self.inside.vcpus.items; selects = c.self.inside.selects; passes = c.self.inside.passes }) c.args.found c.in-Moving.plan c.self.invariant.0 (subst (λ (x : CoreState). IsFound x.world c.args.found) (sym c.self.view_is) c.requires.found) (sym c.in-Moving.is ∙ c.swap_stay.ensures.before)).1
 
-pub step-next-requires-clause-passes : goal.step-next-requires-clause-passes
-step-next-requires-clause-passes g c =
+pub step_on-next-requires-clause-last : goal.step_on-next-requires-clause-last
+step_on-next-requires-clause-last g c =
+    let found = subst (λ (x : CoreState). IsFound x.world c.args.found) (sym c.self.view_is) c.requires.found in
+    let last = subst (λ (x : CoreState). EndsItsPhase x (vcpu c.args.found.vm c.args.found.number)) (sym c.self.view_is) c.requires.last in
+    last c.in-Moving.plan (sym (sym c.in-Moving.is ∙ c.swap_stay.ensures.before ∙ ap (λ q. (get_or c.self.inside.vcpus.items q no_record).stay) found.slot))
+
+pub step_on-next-requires-clause-passes : goal.step_on-next-requires-clause-passes
+step_on-next-requires-clause-passes g c =
     let some = c.self.invariant.0 in
     let found = subst (λ (x : CoreState). IsFound x.world c.args.found) (sym c.self.view_is) c.requires.found in
     let there : has_vcpu some.past (vcpu c.args.found.vm c.args.found.number) ≡ true = subst (λ (vs : List Vm). is_vcpu_in vs (vcpu c.args.found.vm c.args.found.number) ≡ true) some.stands.vms found.there in
@@ -39,10 +45,10 @@ step-next-requires-clause-passes g c =
 
 pub after_step-new-requires : goal.after_step-new-requires
 after_step-new-requires g c =
-    back_known (record { world = c.self.inside.fabric; leases = c.self.inside.pool; vcpus = c.self.inside.vcpus.items; selects = c.self.inside.selects; passes = c.self.inside.passes }) c.step-next.new.fabric c.args.found c.in-Moving.plan c.step-next.result c.self.invariant.0 (subst (λ (x : CoreState). IsFound x.world c.args.found) (sym c.self.view_is) c.requires.found)
-    (sym c.in-Moving.is ∙ c.swap_stay.ensures.before) c.step-next.ensures.goes
+    back_known (record { world = c.self.inside.fabric; leases = c.self.inside.pool; vcpus = c.self.inside.vcpus.items; selects = c.self.inside.selects; passes = c.self.inside.passes }) c.step_on-next.new.fabric c.args.found c.in-Moving.plan c.step_on-next.result c.self.invariant.0 (subst (λ (x : CoreState). IsFound x.world c.args.found) (sym c.self.view_is) c.requires.found)
+    (sym c.in-Moving.is ∙ c.swap_stay.ensures.before) c.step_on-next.ensures.goes
 
-calls : (g : Over) (c : After-swap_stay-2 g) → StepCalls (record { world = c.self.inside.fabric; leases = c.self.inside.pool; vcpus = c.self.inside.vcpus.items; selects = c.self.inside.selects; passes = c.self.inside.passes }) (record { world = c.step-next.new.fabric; leases = c.after_step-new.new.pool; vcpus = c.swap_stay-2.new.vcpus.items; selects = c.self.inside.selects; passes = c.self.inside.passes }) c.args.found c.in-Moving.plan c.step-next.result
+calls : (g : Over) (c : After-swap_stay-2 g) → StepCalls (record { world = c.self.inside.fabric; leases = c.self.inside.pool; vcpus = c.self.inside.vcpus.items; selects = c.self.inside.selects; passes = c.self.inside.passes }) (record { world = c.step_on-next.new.fabric; leases = c.after_step-new.new.pool; vcpus = c.swap_stay-2.new.vcpus.items; selects = c.self.inside.selects; passes = c.self.inside.passes }) c.args.found c.in-Moving.plan c.step_on-next.result
 calls g c = record {
   is_who = subst (λ (x : CoreState). IsFound x.world c.args.found) (sym c.self.view_is) c.requires.found;
   some = c.self.invariant.0;
@@ -57,13 +63,13 @@ calls g c = record {
   whole_then = c.words-whole-2.ensures.whole;
   one = let some = c.words-whole.ensures.some in let value = c.words-whole.ensures.value in omega (arith, some, value);
   leases = c.after_step-new.ensures.back;
-  goes = c.step-next.ensures.goes;
-  fits = c.step-next.ensures.fits;
-  phase = c.step-next.ensures.phase;
+  goes = c.step_on-next.ensures.goes;
+  fits = c.step_on-next.ensures.fits;
+  phase = c.step_on-next.ensures.phase;
 }
 
-goes : (g : Over) (c : After-swap_stay-2 g) → MoveGoes (record { world = c.self.inside.fabric; leases = c.self.inside.pool; vcpus = c.self.inside.vcpus.items; selects = c.self.inside.selects; passes = c.self.inside.passes }) (record { world = c.step-next.new.fabric; leases = c.after_step-new.new.pool; vcpus = c.swap_stay-2.new.vcpus.items; selects = c.self.inside.selects; passes = c.self.inside.passes }) (vcpu c.args.found.vm c.args.found.number) (is_finished c.step-next.result)
-goes g c = step_called _ _ c.args.found c.in-Moving.plan c.step-next.result (calls g c)
+goes : (g : Over) (c : After-swap_stay-2 g) → MoveGoes (record { world = c.self.inside.fabric; leases = c.self.inside.pool; vcpus = c.self.inside.vcpus.items; selects = c.self.inside.selects; passes = c.self.inside.passes }) (record { world = c.step_on-next.new.fabric; leases = c.after_step-new.new.pool; vcpus = c.swap_stay-2.new.vcpus.items; selects = c.self.inside.selects; passes = c.self.inside.passes }) (vcpu c.args.found.vm c.args.found.number) (is_finished c.step_on-next.result)
+goes g c = step_called _ _ c.args.found c.in-Moving.plan c.step_on-next.result (calls g c)
 
 pub invariant_of-self : goal.invariant_of-self
 invariant_of-self g c = (
@@ -81,7 +87,7 @@ returns-clause-aims g c = rw (← c.self.view_is) (λ h stands.
     let there : has_vcpu h (vcpu c.args.found.vm c.args.found.number) ≡ true = subst (λ (vs : List Vm). is_vcpu_in vs (vcpu c.args.found.vm c.args.found.number) ≡ true) stands.vms found.there in
     aims_so (record { world = c.self.inside.fabric; leases = c.self.inside.pool; vcpus = c.self.inside.vcpus.items; selects = c.self.inside.selects; passes = c.self.inside.passes }) h (vcpu c.args.found.vm c.args.found.number) c.in-Moving.plan stands there
     (sym (sym c.in-Moving.is ∙ c.swap_stay.ensures.before ∙ ap (λ q. (get_or c.self.inside.vcpus.items q no_record).stay) found.slot))
-    g.T.Targets.aimed c.args.targets.now c.step-next.new.targets c.step-next.ensures.aims)
+    g.T.Targets.aimed c.args.targets.now c.step_on-next.new.targets c.step_on-next.ensures.aims)
 
 pub returns-clause-found : goal.returns-clause-found
 returns-clause-found g c = who_still _ _ c.args.found _ (goes g c) c.self.invariant.0 (subst (λ (x : CoreState). IsFound x.world c.args.found) (sym c.self.view_is) c.requires.found)
@@ -89,4 +95,4 @@ returns-clause-found g c = who_still _ _ c.args.found _ (goes g c) c.self.invari
 pub returns-clause-harts : goal.returns-clause-harts
 returns-clause-harts g c =
     harts_still _ _ (vcpu c.args.found.vm c.args.found.number) _ (goes g c) c.self.invariant.0 ∙ subst (λ (x : CoreState). x.world.imsic.harts ≡ (g.T.Targets.map c.args.targets.now).harts) (sym c.self.view_is) c.requires.harts
-    ∙ sym (told_harts g.T.Targets.aimed g.T.Targets.map g.met.T.Targets.aims_one (next_aim (moving_of c.in-Moving.plan)) c.args.targets.now c.step-next.new.targets c.step-next.ensures.aims)
+    ∙ sym (told_harts g.T.Targets.aimed g.T.Targets.map g.met.T.Targets.aims_one (next_aim (moving_of c.in-Moving.plan)) c.args.targets.now c.step_on-next.new.targets c.step_on-next.ensures.aims)
