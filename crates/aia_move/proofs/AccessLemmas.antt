@@ -1,12 +1,13 @@
 -- What the next access of a move needs: a file, a word, who is there.
 use Rattle.std.proofs.Common.{◌≡◌, ℕ, ◌+◌, ◌<◌, Bool, true, false, Option, Some, None, refl, sym, ap, ◌∙◌, subst, arith}
-use Rattle.std.specs.Prelude.{IsSome, is_some, option_map}
+use Rattle.std.specs.Prelude.{IsSome, option_map}
 use Rattle.std.proofs.lemmas.Bool.{ltb-true, eq-eqb, false≢true}
 use Rattle.aia_word.specs.Sets.{has_bit}
 use Rattle.aia_home.specs.declared.place.Place.{Place}
 use Rattle.aia_home.specs.declared.access.Access.{Access}
 use Rattle.aia_home.specs.declared.access.Access.TheVariants.{TakeDelivery, PutDelivery, TakePending, PutPending, TakeEnables, PutEnables, Look, TakeThreshold, PutThreshold}
-use Rattle.aia_home.specs.Home.{Way, Progress, Home, old_end, new_end, end_at, end_if}
+use Rattle.aia_home.specs.declared.end.End.{End}
+use Rattle.aia_home.specs.Home.{Way, Progress, Home, old_end, new_end}
 use Rattle.aia_home.specs.Home.Home.{OnWay}
 use Rattle.aia_home.specs.Home.Way.{Outward, Inward, Across}
 use Rattle.aia_home.specs.Plans.{IsAt, IsNext, plan_has, plan_step, steps_done, is_last_made}
@@ -63,24 +64,16 @@ leases_have place words there access old new next is_old is_new = by_access acce
     by_access PutThreshold is = some new (new_file there) place is_new is
     by_access access is = tt
 
--- an end of a move, by whether its file is there
-pub end_is : {A : Type 0} (place : A → Place) (file : Option A) → end_if (is_some file) ≡ end_at (option_map place file)
-end_is place (Some a) = refl
-end_is place None = refl
-
 -- the access that the walk gives is the next one; a phase begins where it counts to
-module _ (way : Way) (at : Progress) (there : Home) (from to : Bool) (words wide : ℕ) (here : OnWay way at ≡ there) (leaves : end_if from ≡ old_end way) (leads : end_if to ≡ new_end way) (value : words ≡ wide) where
-  pub at_is_next : (access : Access) → IsAt (end_if from) (end_if to) words at.steps access → IsNext wide there access
+module _ (way : Way) (at : Progress) (there : Home) (from to : End) (words wide : ℕ) (here : OnWay way at ≡ there) (leaves : from ≡ old_end way) (leads : to ≡ new_end way) (value : words ≡ wide) where
+  pub at_is_next : (access : Access) → IsAt from to words at.steps access → IsNext wide there access
   at_is_next access is = subst (λ h. IsNext wide h access) here (record {
     has = same ∙ is.has;
     step = is.step ∙ (λ k. plan_step (leaves k) (leads k) (value k) access);
   })
     where
-      same : plan_has (old_end way) (new_end way) wide access ≡ plan_has (end_if from) (end_if to) words access
+      same : plan_has (old_end way) (new_end way) wide access ≡ plan_has from to words access
       same = sym (λ k. plan_has (leaves k) (leads k) (value k) access)
 
-  pub begins_at : (phase : Phase) → phase_begins (end_if from) (end_if to) words phase ≡ begins wide there phase
+  pub begins_at : (phase : Phase) → phase_begins from to words phase ≡ begins wide there phase
   begins_at phase = (λ k. phase_begins (leaves k) (leads k) (value k) phase) ∙ ap (λ h. begins wide h phase) here
-
-  pub steps_are : at.steps ≡ steps_done there
-  steps_are = ap steps_done here

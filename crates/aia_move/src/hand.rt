@@ -7,14 +7,17 @@ ghost use Rattle.aia_imsic.specs.Imsic.{IsThere, file_at};
 ghost use Rattle.aia_home.specs.declared.place.Place.{Place};
 ghost use Rattle.aia_home.specs.Home.{Way, Progress, left, led_to};
 ghost use Rattle.aia_places.specs.Places.{entry_word, second_word};
+ghost use Rattle.aia_places.specs.Holds.{meets};
 ghost use Rattle.aia_world.specs.Changes.{PutsRegister, spot_of, with_entry_word};
 ghost use Rattle.aia_moving.specs.Move.{IsWho, place_at, spot_in, width};
 ghost use Rattle.aia_moving.specs.Accesses.{Executes, HasFile, WordFits, moved};
 
 use crate::kind::spot;
-use crate::{Access, Who, words};
+use crate::{Access, Who};
+use aia_entry::{basic, mrif};
 use aia_fabric::{At, Fabric};
 use aia_pool::FileLease;
+use aia_regs::address_map::{PAGE, guest_page, slot_address, supervisor_page};
 use aia_regs::{FileReg, Op};
 use std::marker::Model;
 
@@ -99,7 +102,7 @@ impl Hand {
             }
             Access::Look(k) => {
                 let (pending, enabled) = fabric.look(slot, k as usize);
-                self.seen = self.seen || words::meets(pending, enabled);
+                self.seen = self.seen || meets(pending, enabled);
             }
             Access::Post => {
                 if self.seen {
@@ -148,6 +151,8 @@ fn put(fabric: &mut Fabric, file: Option<&FileLease>, reg: FileReg, value: u64)
 }
 
 /// Writes word 1 of the entry: where notices go.
+///
+/// AIA 1.0, IOMMU Support for MSIs to Virtual Machines, "MSI page tables".
 #[tactic(auto, using(aia_moving::proofs::WhoLemmas::small_who))]
 fn write_notice(fabric: &mut Fabric, who: &Who)
     requires { IsWho fabric.old who.now }
@@ -155,11 +160,14 @@ fn write_notice(fabric: &mut Fabric, who: &Who)
         (second_word who.now.found.slot who.now.found.notice) }
 {
     let _words = fabric.words();
-    let word = words::second_word(who.found.slot, who.found.notice);
-    fabric.put_word(who.found, 1, word);
+    let slot = who.found.slot;
+    let page = supervisor_page(who.found.notice) / PAGE;
+    fabric.put_word(who.found, 1, mrif(slot_address(slot), page, slot + 1).1);
 }
 
 /// Writes word 0 of the entry: it leads to a guest file that is there, `None`: to the slot.
+///
+/// AIA 1.0, IOMMU Support for MSIs to Virtual Machines, "MSI page tables".
 #[tactic(auto, using(aia_moving::proofs::WhoLemmas::small_who, aia_moving::proofs::WhoLemmas::small_file))]
 fn write_entry(fabric: &mut Fabric, who: &Who, to: Option<&FileLease>)
     requires who { IsWho fabric.old who.now }
@@ -169,7 +177,16 @@ fn write_entry(fabric: &mut Fabric, who: &Who, to: Option<&FileLease>)
         (option_map (λ (lease : Bor Place). lease.now) to.entry)) }
 {
     let _words = fabric.words();
-    let file = to.map(|lease| lease.place());
-    let word = words::entry_word(who.found.slot, file);
+    let word = match to {
+        Some(file) => basic(guest_page(file.hart(), file.file()) / PAGE),
+        None => mrif(slot_address(who.found.slot), 0, 0).0,
+    };
     fabric.put_word(who.found, 0, word);
+}
+
+/// Tells whether two words have a one in common.
+fn meets(p: u64, e: u64) -> bool
+    ensures { result ≡ meets p e }
+{
+    p & e != 0
 }

@@ -1,7 +1,7 @@
 ghost use Rattle.std.specs.Prelude.{◌≡◌, option_map, refl};
 ghost use Rattle.std.specs.Borrow.{Bor};
 ghost use Rattle.aia_home.specs.declared.place.Place.{Place};
-ghost use Rattle.aia_home.specs.Home.{Way, Progress, left, led_to};
+ghost use Rattle.aia_home.specs.Home.{Way, Progress, end_at, left, led_to};
 ghost use Rattle.aia_home.specs.Home.Home.{OnWay};
 ghost use Rattle.aia_home.specs.Home.Way.{Outward, Inward, Across};
 ghost use Rattle.aia_home.specs.Phases.{Phase, after_shared};
@@ -13,6 +13,7 @@ use crate::hand::Hand;
 use crate::moves::Move;
 use crate::phase::{AccessPhase, Last, Look};
 use crate::{KeptNumbers, Outcome};
+use aia_home::End;
 use aia_imsic::Spot;
 use aia_pool::FileLease;
 
@@ -145,6 +146,16 @@ impl Kind for ToOtherFile {
     }
 
     ghost follows = { λ k at. refl };
+}
+
+/// Tells what the end of a move is at which this guest file is, or none.
+pub(crate) fn end_of(file: Option<&FileLease>) -> End
+    ensures { result ≡ end_at (option_map (λ (lease : Bor Place). lease.now) file.entry) }
+{
+    match file {
+        Some(_) => End::File,
+        None => End::Memory,
+    }
 }
 
 /// Gives where the guest file of a lease lies.

@@ -9,7 +9,6 @@ mod moves;
 pub mod phase;
 mod plan;
 mod targets;
-pub mod words;
 
 pub use aia_home::Access;
 pub use aia_moving::{Closed, KeptNumbers, Outcome, Pass, Turn, Who};

@@ -1,5 +1,5 @@
 ghost use Rattle.std.specs.Prelude.{◌≡◌, ℕ, ◌+◌, ◌<◌, ◌≤◌, true, false, Some, ⊤};
-ghost use Rattle.aia_home.specs.Home.{Way, Progress, old_end, new_end, end_if, at_first};
+ghost use Rattle.aia_home.specs.Home.{at_first};
 ghost use Rattle.aia_home.specs.Home.Home.{OnWay};
 ghost use Rattle.aia_home.specs.Plans.{steps_done};
 ghost use Rattle.aia_home.specs.Phases.{begins, following};
@@ -12,7 +12,7 @@ ghost use Rattle.aia_moving.specs.Turns.{IsIn, IsAtAims, GoesOn, AimsOn, EndsAs,
 ghost use Rattle.aia_move.specs.Plan.{IsInDrain, NextStepIsOf, GoesOnIn, GoesInPlace, IsLastOf};
 
 use crate::hand::Hand;
-use crate::kind::Kind;
+use crate::kind::{Kind, end_of};
 use crate::phase::{AccessPhase, Aim, Closing, Drain, Enable, First, Last, Look};
 use crate::{Closed, Outcome, Targets, Turn, Who};
 use aia_fabric::Fabric;
@@ -249,7 +249,7 @@ impl<K: Kind> Move<K, Enable> {
     {
         let _words = fabric.words();
         self.advance(fabric);
-        self.into_after()
+        self.into_phase()
     }
 }
 
@@ -327,8 +327,9 @@ impl<K: Kind, P: AccessPhase> Move<K, P> {
         ensures phase { NextStepIsOf (Some P.phase) (width fabric.new) self.new }
     {
         let words = fabric.words();
-        let end = P::end(self.leaves_file(), self.leads_to_file(), words);
-        let stays = self.done + 1 < end;
+        let from = end_of(self.kind.old_file());
+        let to = end_of(self.kind.new_file());
+        let stays = self.done + 1 < P::end(from, to, words);
         if stays {
             self.advance(fabric);
         }
@@ -356,44 +357,17 @@ impl<K: Kind, P> Move<K, P> {
         ensures { ExecutesNext fabric.old self.old fabric.new self.new }
     {
         let words = fabric.words();
-        let access = access_at(self.leaves_file(), self.leads_to_file(), words, self.done);
         let old = self.kind.old_file();
         let new = self.kind.new_file();
+        let access = access_at(end_of(old), end_of(new), words, self.done);
         self.hand.make(fabric, &self.who, old, new, access);
     }
 
-    /// Tells whether the move leaves a guest file.
-    fn leaves_file(&self) -> bool
-        ensures { (way : Way) (at : Progress) → self.now.home ≡ OnWay way at → end_if result ≡ old_end way }
-    {
-        self.kind.old_file().is_some()
-    }
-
-    /// Tells whether it leads to a guest file.
-    fn leads_to_file(&self) -> bool
-        ensures { (way : Way) (at : Progress) → self.now.home ≡ OnWay way at → end_if result ≡ new_end way }
-    {
-        self.kind.new_file().is_some()
-    }
-
-    /// Comes to another phase, with all that it has.
+    /// Comes to another phase, with all that it has; where that is the one after those that all
+    /// plans share, as it begins.
     fn into_phase<Q>(self) -> Move<K, Q>
-        ensures { result ≡ self }
-    {
-        Move {
-            kind: self.kind,
-            who: self.who,
-            done: self.done,
-            aims: self.aims,
-            hand: self.hand,
-            phase: PhantomData,
-        }
-    }
-
-    /// Comes to the phase after those that all plans share, as it begins.
-    fn into_after(self) -> Move<K, K::After>
         ensures same { result ≡ self }
-        ensures phase { (words : ℕ) → 1 ≤ words
+        ensures after { (words : ℕ) → 1 ≤ words
             → steps_done self.home ≡ begins words self.home (following EnablePhase)
             → IsIn K.after words result }
     {

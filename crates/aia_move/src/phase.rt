@@ -1,21 +1,18 @@
 ghost use Rattle.std.specs.Prelude.{◌≡◌, ◌≤◌};
 ghost use Rattle.aia_regs.specs.declared.limits.TheConstants.{FILE_WORDS};
-ghost use Rattle.aia_home.specs.Home.{end_if};
 ghost use Rattle.aia_home.specs.Phases.{Phase, following, phase_begins};
 ghost use Rattle.aia_home.specs.Phases.Phase.{FirstPhase, ClosingPhase, DrainPhase, EnablePhase, LookPhase, LastPhase};
 
-use aia_home::before_entry;
+use aia_home::{End, before_entry};
 
 /// A phase whose steps are accesses.
 pub trait AccessPhase {
     ghost phase: { Phase };
 
-    /// Tells how many steps come before the phase that follows, by whether a move leaves a guest
-    /// file and leads to one, in files of `words` words.
-    fn end(leaves_file: bool, leads_to_file: bool, words: u32) -> u32
+    /// Tells how many steps come before the phase that follows, in files of `words` words.
+    fn end(from: End, to: End, words: u32) -> u32
         requires { words ≤ FILE_WORDS }
-        ensures { result ≡ phase_begins (end_if leaves_file) (end_if leads_to_file) words
-            (following phase) };
+        ensures { result ≡ phase_begins from to words (following phase) };
 }
 
 /// The phase up to the fence of the entry, and with it.
@@ -25,8 +22,8 @@ pub struct First;
 impl AccessPhase for First {
     ghost phase = { FirstPhase };
 
-    fn end(leaves_file: bool, leads_to_file: bool, _words: u32) -> u32 {
-        before_entry(leaves_file, leads_to_file) + 2
+    fn end(from: End, to: End, _words: u32) -> u32 {
+        before_entry(from, to) + 2
     }
 }
 
@@ -37,8 +34,8 @@ pub struct Closing;
 impl AccessPhase for Closing {
     ghost phase = { ClosingPhase };
 
-    fn end(leaves_file: bool, leads_to_file: bool, _words: u32) -> u32 {
-        before_entry(leaves_file, leads_to_file) + 4
+    fn end(from: End, to: End, _words: u32) -> u32 {
+        before_entry(from, to) + 4
     }
 }
 
@@ -53,8 +50,8 @@ pub struct Drain;
 impl AccessPhase for Drain {
     ghost phase = { DrainPhase };
 
-    fn end(leaves_file: bool, leads_to_file: bool, words: u32) -> u32 {
-        Closing::end(leaves_file, leads_to_file, words) + 2 * words
+    fn end(from: End, to: End, words: u32) -> u32 {
+        Closing::end(from, to, words) + 2 * words
     }
 }
 
@@ -65,8 +62,8 @@ pub struct Enable;
 impl AccessPhase for Enable {
     ghost phase = { EnablePhase };
 
-    fn end(leaves_file: bool, leads_to_file: bool, words: u32) -> u32 {
-        Drain::end(leaves_file, leads_to_file, words) + 2 * words
+    fn end(from: End, to: End, words: u32) -> u32 {
+        Drain::end(from, to, words) + 2 * words
     }
 }
 
@@ -77,9 +74,12 @@ pub struct Look;
 impl AccessPhase for Look {
     ghost phase = { LookPhase };
 
-    fn end(leaves_file: bool, leads_to_file: bool, words: u32) -> u32 {
-        let looks = if leads_to_file { 0 } else { words };
-        Enable::end(leaves_file, leads_to_file, words) + looks
+    fn end(from: End, to: End, words: u32) -> u32 {
+        let looks = match to {
+            End::File => 0,
+            End::Memory => words,
+        };
+        Enable::end(from, to, words) + looks
     }
 }
 
@@ -90,9 +90,12 @@ pub struct Last;
 impl AccessPhase for Last {
     ghost phase = { LastPhase };
 
-    fn end(leaves_file: bool, leads_to_file: bool, words: u32) -> u32 {
-        let taken = u32::from(leaves_file);
-        let last = if leads_to_file { 2 } else { 1 };
-        Look::end(leaves_file, leads_to_file, words) + taken + last
+    fn end(from: End, to: End, words: u32) -> u32 {
+        let numbers = match (from, to) {
+            (End::File, End::File) => 3,
+            (End::File, End::Memory) | (End::Memory, End::File) => 2,
+            (End::Memory, End::Memory) => 1,
+        };
+        Look::end(from, to, words) + numbers
     }
 }

@@ -8,7 +8,9 @@ use Rattle.aia_imsic.specs.Imsic.{ImsicState, IsThere}
 use Rattle.aia_home.specs.declared.place.Place.{Place}
 use Rattle.aia_home.specs.declared.vm.Vm.{Vm}
 use Rattle.aia_home.specs.Vms.{is_vcpu_in, slot_of, notice_hart}
-use Rattle.aia_home.specs.Home.{End, End as ends, Home, new_end, one_more}
+use Rattle.aia_home.specs.declared.end.End.{End}
+use Rattle.aia_home.specs.declared.end.End.TheVariants as ends
+use Rattle.aia_home.specs.Home.{Home, new_end, one_more}
 use Rattle.aia_home.specs.Plans.{is_at_last, is_last_made, steps_done, has_access, step_of, IsNext, first_take, pending_step, enables_step}
 use Rattle.aia_home.specs.declared.access.Access.{Access}
 use Rattle.aia_home.specs.Home.Home.{OnWay}

@@ -1,7 +1,8 @@
 -- The plan of a move of this project's core, told as anybody's plan. Profile.
 use Rattle.std.specs.Prelude.{ℕ, true, false, not, List, [], ◌∷◌, ◌++◌}
-use Rattle.aia_home.specs.Home.{End, is_file}
-use Rattle.aia_home.specs.Home.End.{File, Memory}
+use Rattle.aia_home.specs.declared.end.End.{End}
+use Rattle.aia_home.specs.Home.{is_file}
+use Rattle.aia_home.specs.declared.end.End.TheVariants.{File, Memory}
 use Rattle.aia_home.specs.Plans.{plan}
 use Rattle.aia_home.specs.declared.access.Access.{Access}
 use Rattle.aia_home.specs.declared.access.Access.TheVariants as accesses

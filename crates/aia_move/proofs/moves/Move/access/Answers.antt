@@ -1,5 +1,5 @@
-use Rattle.std.proofs.Common.{sym, ap, subst}
-use Rattle.aia_home.specs.Home.{Progress}
+use Rattle.std.proofs.Common.{sym, ap, ◌∙◌, subst}
+use Rattle.aia_home.specs.Home.{Progress, end_at}
 use Rattle.aia_home.specs.Plans.{IsNext}
 use Rattle.aia_moving.specs.Move.{Moving, width}
 use Rattle.aia_moving.specs.Accesses.{WordFits, Executes}
@@ -15,7 +15,7 @@ make-requires-clause-word g c =
     let access = c.access_at-access.result in
     let at : Progress = record { steps = l.done; aims = l.aims } in
     let here = ap (λ (x : Moving). x.home) c.self.view_is in
-    let next = at_is_next way at s.home c.leaves_file.result c.leads_to_file.result c.words-words.result (width w) here (c.leaves_file.ensures way at (sym here)) (c.leads_to_file.ensures way at (sym here)) c.words-words.ensures.value access c.access_at-access.ensures in
+    let next = at_is_next way at s.home c.end_of.result c.end_of-2.result c.words-words.result (width w) here (c.end_of.ensures ∙ ap end_at c.old_file-old.ensures) (c.end_of-2.ensures ∙ ap end_at c.new_file-new.ensures) c.words-words.ensures.value access c.access_at-access.ensures in
     subst (λ (x : Moving). WordFits access (width w) x.hand.word) (sym c.self.view_is) (word_fits w s access c.requires.fits next)
 
 pub returns : goal.returns
@@ -29,7 +29,7 @@ returns g c =
     let here = ap (λ (x : Moving). x.home) c.self.view_is in
     record {
       access = access;
-      is_next = at_is_next way at s.home c.leaves_file.result c.leads_to_file.result c.words-words.result (width w) here (c.leaves_file.ensures way at (sym here)) (c.leads_to_file.ensures way at (sym here)) c.words-words.ensures.value access c.access_at-access.ensures;
+      is_next = at_is_next way at s.home c.end_of.result c.end_of-2.result c.words-words.result (width w) here (c.end_of.ensures ∙ ap end_at c.old_file-old.ensures) (c.end_of-2.ensures ∙ ap end_at c.new_file-new.ensures) c.words-words.ensures.value access c.access_at-access.ensures;
       executes = subst (λ (x : Moving). Executes access x w c.make.new.fabric c.make.new.self) c.self.view_is (c.make.ensures way at (sym c.old_file-old.ensures) (sym c.new_file-new.ensures));
       same_home = here;
       same_who = ap (λ (x : Moving). x.who) c.self.view_is;

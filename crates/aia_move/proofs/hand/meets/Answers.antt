@@ -1,5 +1,5 @@
 use Rattle.aia_places.proofs.LookLemmas.{meets-and}
-use Rattle.aia_move.proofs.words.meets.Goals as goal
+use Rattle.aia_move.proofs.hand.meets.Goals as goal
 
 pub returns : goal.returns
 returns c = meets-and c.args.p c.args.e c.ranges.p.fits

@@ -4,10 +4,10 @@ use Rattle.aia_home.specs.Phases.{after_shared}
 use Rattle.aia_moving.specs.Move.{Moving}
 use Rattle.aia_moving.specs.Turns.{IsIn}
 use Rattle.aia_move.proofs.PhaseLemmas.{is_after}
-use Rattle.aia_move.proofs.moves.Move.into_after.Goals as goal
+use Rattle.aia_move.proofs.moves.Move.into_phase.Goals as goal
 
-pub returns-clause-phase : goal.returns-clause-phase
-returns-clause-phase g c words some begun =
+pub returns-clause-after : goal.returns-clause-after
+returns-clause-after g c words some begun =
     let l = c.self.inside in
     let at : Progress = record { steps = l.done; aims = l.aims } in
     subst (λ x. IsIn g.K.Kind.after words x) (sym c.self.view_is)
