@@ -1,6 +1,6 @@
 ghost use Rattle.std.specs.Prelude.{◌≡◌, ◌+◌, ◌*◌, ◌<◌, ◌≤◌};
 ghost use Rattle.aia_regs.specs.declared.limits.TheConstants.{FILE_WORDS};
-ghost use Rattle.aia_home.specs.Plans.{one_at_file, one_at_memory, before_entry, plan_steps, IsAt};
+ghost use Rattle.aia_home.specs.Plans.{one_at_file, one_at_memory, before_entry, word_steps, plan_steps, IsAt};
 
 use crate::{Access, End};
 
@@ -44,6 +44,32 @@ pub fn before_entry(from: End, to: End) -> u32
         (End::File, End::File) | (End::Memory, End::Memory) => 1,
         (End::Memory, End::File) => 0,
     }
+}
+
+/// Tells how many accesses a plan makes of both sets, word by word: it takes and puts each, and in
+/// memory it looks at it. Profile: all plans.
+pub fn word_steps(to: End, words: u32) -> u32
+    requires { words ≤ FILE_WORDS }
+    ensures value { result ≡ word_steps to words }
+    ensures few { result ≤ 5 * words }
+{
+    match to {
+        End::File => 4 * words,
+        End::Memory => 5 * words,
+    }
+}
+
+/// Tells how many accesses a plan makes in all. Profile: all plans.
+pub fn plan_steps(from: End, to: End, words: u32) -> u32
+    requires { words ≤ FILE_WORDS }
+    ensures { result ≡ plan_steps from to words }
+{
+    let numbers = match (from, to) {
+        (End::File, End::File) => 3,
+        (End::File, End::Memory) | (End::Memory, End::File) => 2,
+        (End::Memory, End::Memory) => 1,
+    };
+    before_entry(from, to) + 4 + word_steps(to, words) + numbers
 }
 
 /// Gives the access, of those that come before the words.

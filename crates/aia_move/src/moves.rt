@@ -159,24 +159,6 @@ impl<K: Kind> Move<K, Aim> {
         ensures phase { MatchTurn result IsAtAims (IsInDrain (width fabric.now)) }
     {
         let _words = fabric.words();
-        self.aim(fabric, targets);
-        match self.closed() {
-            Closed::Aim(state) => Turn::Stay(state),
-            Closed::Aimed(state) => Turn::On(state),
-        }
-    }
-
-    /// Aims the next passed source.
-    fn aim<T: Targets>(&mut self, fabric: &Fabric, targets: &mut T)
-        requires fits { MoveFits fabric.now self.old }
-        requires phase { IsAtAims self.old }
-        requires harts { fabric.now.imsic.harts ≡ (T.map targets.old).harts }
-        requires passes { ArePasses self.old.who }
-        ensures aims { T.aimed targets.old (aim_of self.old).source (aim_of self.old).target
-            targets.new }
-        ensures goes { AimsOn fabric.now self.old self.new }
-    {
-        let _words = fabric.words();
         let pass = self.who.passes[self.aims];
         match self.kind.new_file() {
             Some(file) => targets.aim(pass.source, file.hart(), file.file(), pass.identity),
@@ -186,6 +168,10 @@ impl<K: Kind> Move<K, Aim> {
             }
         }
         self.aims += 1;
+        match self.closed() {
+            Closed::Aim(state) => Turn::Stay(state),
+            Closed::Aimed(state) => Turn::On(state),
+        }
     }
 }
 

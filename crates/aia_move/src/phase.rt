@@ -3,7 +3,7 @@ ghost use Rattle.aia_regs.specs.declared.limits.TheConstants.{FILE_WORDS};
 ghost use Rattle.aia_home.specs.Phases.{Phase, following, phase_begins};
 ghost use Rattle.aia_home.specs.Phases.Phase.{FirstPhase, ClosingPhase, DrainPhase, EnablePhase, LookPhase, LastPhase};
 
-use aia_home::{End, before_entry};
+use aia_home::{End, before_entry, plan_steps, word_steps};
 
 /// A phase whose steps are accesses.
 pub trait AccessPhase {
@@ -75,11 +75,7 @@ impl AccessPhase for Look {
     ghost phase = { LookPhase };
 
     fn end(from: End, to: End, words: u32) -> u32 {
-        let looks = match to {
-            End::File => 0,
-            End::Memory => words,
-        };
-        Enable::end(from, to, words) + looks
+        Closing::end(from, to, words) + word_steps(to, words)
     }
 }
 
@@ -91,11 +87,6 @@ impl AccessPhase for Last {
     ghost phase = { LastPhase };
 
     fn end(from: End, to: End, words: u32) -> u32 {
-        let numbers = match (from, to) {
-            (End::File, End::File) => 3,
-            (End::File, End::Memory) | (End::Memory, End::File) => 2,
-            (End::Memory, End::Memory) => 1,
-        };
-        Look::end(from, to, words) + numbers
+        plan_steps(from, to, words)
     }
 }
