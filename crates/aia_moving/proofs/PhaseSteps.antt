@@ -4,9 +4,10 @@ use Rattle.std.proofs.lemmas.Bool.{cases_eq, lt-ltb, eq-eqb, ne_eqb}
 use Rattle.aia_word.specs.Sets.{has_bit}
 use Rattle.aia_home.specs.Home.{Home, Progress, old_end, new_end, is_moving, one_more}
 use Rattle.aia_home.specs.Home.Home.{InMemory, Resident, OnWay}
+use Rattle.aia_home.specs.Home.End.{File, Memory}
 use Rattle.aia_home.specs.Plans.{IsNext, step_of, steps_done, first_take, pending_step, enables_step}
 use Rattle.aia_home.specs.Plans.Access.{Map, GFence, TakePending, PutPending, TakeEnables, PutEnables}
-use Rattle.aia_home.specs.Phases.{Phase, following, leave_begins, begins}
+use Rattle.aia_home.specs.Phases.{Phase, following, phase_begins, begins}
 use Rattle.aia_home.specs.Phases.Phase.{FirstPhase, ClosingPhase, DrainPhase, EnablePhase}
 use Rattle.aia_home.specs.Routes.{is_at_fence}
 use Rattle.aia_home.proofs.PhaseLemmas.{looks_begin, few_before}
@@ -26,7 +27,7 @@ pub record Middle (words : ℕ) (there : Home) : Type 0 where
   pub drains : begins words there (following DrainPhase) ≡ begins words there DrainPhase + 2 * words
   pub enable : begins words there (following DrainPhase) ≤ begins words there EnablePhase
   pub ends : begins words there (following EnablePhase) ≡ begins words there EnablePhase + 2 * words
-  pub few : begins words there (following EnablePhase) ≤ leave_begins words (following EnablePhase)
+  pub few : begins words there (following EnablePhase) ≤ phase_begins File Memory words (following EnablePhase)
   pub take : first_take there ≡ begins words there DrainPhase
   pub take_enables : step_of words there (TakeEnables 0) ≡ begins words there EnablePhase
 
