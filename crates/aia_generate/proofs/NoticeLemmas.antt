@@ -8,7 +8,7 @@ use Rattle.std.specs.List.{remove, filter, list_any, range_with_len}
 use Rattle.std.specs.Prelude.{flat_map}
 use Rattle.aia_word.proofs.LeastLemmas.{least_of_is}
 use Rattle.aia_home.specs.Vms.{Vcpu, vcpu, is_vcpu}
-use Rattle.aia_home.specs.Home.End.{File, Memory}
+use Rattle.aia_home.specs.declared.end.End.TheVariants.{File, Memory}
 use Rattle.aia_home.specs.Plans.{plan_steps}
 use Rattle.std.specs.Option.{option_map_or}
 use Rattle.aia_model.specs.declared.line.Line.{Line}

@@ -4,7 +4,7 @@ ghost use Rattle.std.specs.Prelude.{◌≡◌, ◌+◌, None, Some};
 ghost use Rattle.aia_home.specs.Aims.{host_identity, target_of};
 ghost use Rattle.aia_home.specs.Home.Home.{OnWay};
 ghost use Rattle.aia_home.specs.Home.Way.{Outward};
-ghost use Rattle.aia_home.specs.Plans.Access.{GFence};
+ghost use Rattle.aia_home.specs.declared.access.Access.TheVariants.{GFence};
 ghost use Rattle.aia_home.specs.Plans.{leave_step};
 ghost use Rattle.aia_home.specs.Vms.{vcpu};
 ghost use Rattle.aia_model.specs.declared.domain_name.DomainName.TheVariants.{Child};

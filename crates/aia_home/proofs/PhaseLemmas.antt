@@ -2,11 +2,12 @@
 use Rattle.std.proofs.Common.{◌≡◌, ℕ, ◌+◌, ◌*◌, ◌<◌, ◌≤◌, true, false, Option, refl, sym, ◌∙◌, inl, inr, arith}
 use Rattle.std.proofs.lemmas.Bool.Decides.{nat_tests}
 use Rattle.aia_home.specs.declared.place.Place.{Place}
-use Rattle.aia_home.specs.Home.{End, Home, old_end, new_end, is_moving}
+use Rattle.aia_home.specs.declared.end.End.{End}
+use Rattle.aia_home.specs.Home.{Home, old_end, new_end, is_moving}
 use Rattle.aia_home.specs.Home.Home.{OnWay}
-use Rattle.aia_home.specs.Home.End.{File, Memory}
+use Rattle.aia_home.specs.declared.end.End.TheVariants.{File, Memory}
 use Rattle.aia_home.specs.Plans.{word_steps, plan_step, is_last_made, steps_done, pending_step, enables_step}
-use Rattle.aia_home.specs.Plans.Access.{WriteEntry, TakePending, TakeEnables}
+use Rattle.aia_home.specs.declared.access.Access.TheVariants.{WriteEntry, TakePending, TakeEnables}
 use Rattle.aia_home.specs.Phases.{phase_begins, has_come}
 use Rattle.aia_home.specs.Phases.Phase.{ClosingPhase, DrainPhase, EnablePhase, LookPhase, LastPhase}
 use Rattle.aia_home.specs.BySteps.{new_file, is_drained, is_enable_taken, is_enable_put}

@@ -4,7 +4,7 @@ use Rattle.std.proofs.lemmas.Bool.{eq-eqb, ne_eqb, and_left}
 use Rattle.aia_home.specs.Home.{Home, old_end, new_end}
 use Rattle.aia_home.specs.Home.Home.{OnWay}
 use Rattle.aia_home.specs.Plans.{plan_step, plan_steps}
-use Rattle.aia_home.specs.Plans.Access.{Fence}
+use Rattle.aia_home.specs.declared.access.Access.TheVariants.{Fence}
 use Rattle.aia_home.specs.Aims.{aims_step, is_aiming, further}
 use Rattle.aia_home.specs.Routes.{is_at_fence}
 

@@ -6,11 +6,13 @@ use Rattle.std.specs.Prelude.{is_none}
 use Rattle.std.proofs.lemmas.Bool.{eq-eqb, ne_eqb}
 use Rattle.aia_word.specs.Sets.{has_bit}
 use Rattle.aia_regs.specs.declared.limits.TheConstants.{FILE_WORDS}
-use Rattle.aia_home.specs.Home.{End, is_file, old_end, new_end, Home, Progress, is_moving, one_more}
+use Rattle.aia_home.specs.declared.end.End.{End}
+use Rattle.aia_home.specs.Home.{is_file, old_end, new_end, Home, Progress, is_moving, one_more}
 use Rattle.aia_home.specs.Home.Home.{OnWay}
-use Rattle.aia_home.specs.Home.End.{File, Memory}
-use Rattle.aia_home.specs.Plans.{Access, steps_done, is_last_made, leave_steps}
-use Rattle.aia_home.specs.Plans.Access.{TakePending, TakeEnables}
+use Rattle.aia_home.specs.declared.end.End.TheVariants.{File, Memory}
+use Rattle.aia_home.specs.Plans.{steps_done, is_last_made, leave_steps}
+use Rattle.aia_home.specs.declared.access.Access.{Access}
+use Rattle.aia_home.specs.declared.access.Access.TheVariants.{TakePending, TakeEnables}
 use Rattle.aia_home.specs.Phases.{Phase, following, phase_begins, begins, after_shared}
 use Rattle.aia_home.specs.Phases.Phase.{FirstPhase, ClosingPhase, DrainPhase, EnablePhase, LookPhase, LastPhase}
 use Rattle.aia_home.specs.BySteps.{own_file, next_file}

@@ -3,7 +3,7 @@ ghost use Rattle.aia_home.specs.Home.{at_first};
 ghost use Rattle.aia_home.specs.Home.Home.{OnWay};
 ghost use Rattle.aia_home.specs.Home.Way.{Inward};
 ghost use Rattle.aia_home.specs.Plans.{arrive_step, steps_done};
-ghost use Rattle.aia_home.specs.Plans.Access.{PutThreshold, PutDelivery};
+ghost use Rattle.aia_home.specs.declared.access.Access.TheVariants.{PutThreshold, PutDelivery};
 ghost use Rattle.aia_home.specs.Phases.Phase.{FirstPhase, ClosingPhase, LastPhase};
 ghost use Rattle.aia_moving.specs.Move.{MoveFits, Ends, new_spot, width};
 ghost use Rattle.aia_moving.specs.Landings.{OnceLanded};

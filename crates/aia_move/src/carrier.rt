@@ -6,7 +6,7 @@ ghost use Rattle.aia_imsic.specs.Imsic.{IsThere};
 ghost use Rattle.aia_home.specs.declared.place.Place.{Place};
 ghost use Rattle.aia_home.specs.Plans.{leave_steps};
 ghost use Rattle.aia_home.specs.BySteps.{new_file};
-ghost use Rattle.aia_home.specs.Plans.Access.{TakeDelivery, PutDelivery, WriteNotice, WriteEntry, Fence, Map, GFence, TakePending, PutPending, TakeEnables, PutEnables, Look, TakeThreshold, PutThreshold};
+ghost use Rattle.aia_home.specs.declared.access.Access.TheVariants.{TakeDelivery, PutDelivery, WriteNotice, WriteEntry, Fence, Map, GFence, TakePending, PutPending, TakeEnables, PutEnables, Look, TakeThreshold, PutThreshold};
 ghost use Rattle.aia_world.specs.Flights.{Fences};
 ghost use Rattle.aia_world.specs.Changes.{IsPlaceThere, spot_of, words_at};
 ghost use Rattle.aia_moving.specs.Move.{Moving, IsWho, Makes, PostsIf, old_at, new_at, old_spot, new_spot, width};

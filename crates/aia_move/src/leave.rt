@@ -3,7 +3,7 @@ ghost use Rattle.aia_home.specs.Home.{at_first};
 ghost use Rattle.aia_home.specs.Home.Home.{OnWay};
 ghost use Rattle.aia_home.specs.Home.Way.{Outward};
 ghost use Rattle.aia_home.specs.Plans.{leave_step, steps_done};
-ghost use Rattle.aia_home.specs.Plans.Access.{TakeThreshold, Post};
+ghost use Rattle.aia_home.specs.declared.access.Access.TheVariants.{TakeThreshold, Post};
 ghost use Rattle.aia_home.specs.Phases.Phase.{FirstPhase, ClosingPhase, LookPhase, LastPhase};
 ghost use Rattle.aia_home.specs.BySteps.{is_leaving};
 ghost use Rattle.aia_moving.specs.Move.{MoveFits, Ends, old_spot, width};

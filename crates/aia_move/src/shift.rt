@@ -3,7 +3,7 @@ ghost use Rattle.aia_home.specs.Home.{at_first};
 ghost use Rattle.aia_home.specs.Home.Home.{OnWay};
 ghost use Rattle.aia_home.specs.Home.Way.{Across};
 ghost use Rattle.aia_home.specs.Plans.{shift_step, steps_done};
-ghost use Rattle.aia_home.specs.Plans.Access.{TakeThreshold, PutDelivery};
+ghost use Rattle.aia_home.specs.declared.access.Access.TheVariants.{TakeThreshold, PutDelivery};
 ghost use Rattle.aia_home.specs.Phases.Phase.{FirstPhase, ClosingPhase, LastPhase};
 ghost use Rattle.aia_moving.specs.Move.{MoveFits, Ends, old_spot, new_spot, width};
 ghost use Rattle.aia_moving.specs.Landings.{OnceLanded};

@@ -4,9 +4,9 @@ use Rattle.std.proofs.lemmas.Bool.{cases_eq, lt-ltb, eq-eqb, ne_eqb}
 use Rattle.aia_word.specs.Sets.{has_bit}
 use Rattle.aia_home.specs.Home.{Home, Progress, old_end, new_end, is_moving, one_more}
 use Rattle.aia_home.specs.Home.Home.{InMemory, Resident, OnWay}
-use Rattle.aia_home.specs.Home.End.{File, Memory}
+use Rattle.aia_home.specs.declared.end.End.TheVariants.{File, Memory}
 use Rattle.aia_home.specs.Plans.{IsNext, step_of, steps_done, first_take, pending_step, enables_step}
-use Rattle.aia_home.specs.Plans.Access.{Map, GFence, TakePending, PutPending, TakeEnables, PutEnables}
+use Rattle.aia_home.specs.declared.access.Access.TheVariants.{Map, GFence, TakePending, PutPending, TakeEnables, PutEnables}
 use Rattle.aia_home.specs.Phases.{Phase, following, phase_begins, begins}
 use Rattle.aia_home.specs.Phases.Phase.{FirstPhase, ClosingPhase, DrainPhase, EnablePhase}
 use Rattle.aia_home.specs.Routes.{is_at_fence}

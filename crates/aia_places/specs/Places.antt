@@ -8,9 +8,10 @@ use Rattle.aia_entry.specs.declared.entry.Entry.{Entry}
 use Rattle.aia_entry.specs.declared.entry.Entry.TheVariants as entries
 use Rattle.aia_entry.specs.Format.{basic_word, mrif_word, notice_word}
 use Rattle.aia_home.specs.declared.place.Place.{Place}
-use Rattle.aia_home.specs.Home.{End, Home, old_end, new_end}
+use Rattle.aia_home.specs.declared.end.End.{End}
+use Rattle.aia_home.specs.Home.{Home, old_end, new_end}
 use Rattle.aia_home.specs.Home.Home.{Resident, OnWay}
-use Rattle.aia_home.specs.Home.End.{File, Memory}
+use Rattle.aia_home.specs.declared.end.End.TheVariants.{File, Memory}
 use Rattle.aia_home.specs.BySteps.{own_file, next_file}
 use Rattle.aia_regs.specs.declared.limits.TheConstants.{HARTS, GUEST_FILES}
 

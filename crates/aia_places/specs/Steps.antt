@@ -6,12 +6,13 @@ use Rattle.aia_regs.specs.declared.access.Op.TheVariants as ops
 use Rattle.aia_regs.specs.declared.file_registers.FileReg.TheVariants.{Delivery, Threshold}
 use Rattle.aia_file.specs.InterruptFile.{InterruptFile, accessed, empty_file}
 use Rattle.aia_entry.specs.Format.{decoded}
-use Rattle.aia_home.specs.Home.{End, Home, old_end, new_end}
+use Rattle.aia_home.specs.declared.end.End.{End}
+use Rattle.aia_home.specs.Home.{Home, old_end, new_end}
 use Rattle.aia_home.specs.Home.Home.{OnWay}
-use Rattle.aia_home.specs.Home.End.{File, Memory}
+use Rattle.aia_home.specs.declared.end.End.TheVariants.{File, Memory}
 use Rattle.aia_home.specs.BySteps.{new_file}
-use Rattle.aia_home.specs.Plans.{Access}
-use Rattle.aia_home.specs.Plans.Access.{TakeDelivery, PutDelivery, WriteNotice, WriteEntry, Fence, Map, GFence, TakePending, PutPending, TakeEnables, PutEnables, Look, TakeThreshold, PutThreshold, Post}
+use Rattle.aia_home.specs.declared.access.Access.{Access}
+use Rattle.aia_home.specs.declared.access.Access.TheVariants.{TakeDelivery, PutDelivery, WriteNotice, WriteEntry, Fence, Map, GFence, TakePending, PutPending, TakeEnables, PutEnables, Look, TakeThreshold, PutThreshold, Post}
 use Rattle.aia_places.specs.Places.{Places, TwoSets, old_place, new_place, entry_word, second_word}
 use Rattle.aia_places.specs.Holds.{Hand, meets}
 

@@ -10,7 +10,7 @@ use Rattle.aia_home.specs.Home.{Home, left, led_to, holds, is_moving}
 use Rattle.aia_home.specs.Home.Home.{OnWay}
 use Rattle.aia_home.specs.Home.Way.{Outward}
 use Rattle.aia_home.specs.Plans.{has_access, step_of, is_at_last, stepped}
-use Rattle.aia_home.specs.Plans.Access.{Look}
+use Rattle.aia_home.specs.declared.access.Access.TheVariants.{Look}
 use Rattle.aia_home.specs.BySteps.{new_file, look_sees, look_word}
 use Rattle.aia_home.specs.Aims.{aims_done, aims_step, is_aiming, aimed, pass_reaches}
 use Rattle.aia_home.proofs.HomeLemmas.{not_the_last}

@@ -15,7 +15,7 @@ use Rattle.aia_home.specs.declared.rest.Rest.TheVariants.{Parked}
 use Rattle.aia_home.specs.Home.Home.{InMemory, Resident, OnWay}
 use Rattle.aia_home.specs.Home.Way.{Outward, Inward, Across}
 use Rattle.aia_home.specs.BySteps.{old_file}
-use Rattle.aia_home.specs.Plans.Access.{TakePending, TakeEnables}
+use Rattle.aia_home.specs.declared.access.Access.TheVariants.{TakePending, TakeEnables}
 use Rattle.aia_home.proofs.AllLemmas.{no_vcpu}
 use Rattle.aia_places.specs.Places.{Places, old_place, new_place}
 use Rattle.aia_places.specs.Holds.{Hand, HoldsSets, Holds, IsEmpty}

@@ -1,5 +1,5 @@
 -- The core of the example stands for its history.
-use Rattle.aia_home.specs.Plans.Access.{TakePending, TakeEnables}
+use Rattle.aia_home.specs.declared.access.Access.TheVariants.{TakePending, TakeEnables}
 use Rattle.std.proofs.Common.{◌≡◌, ℕ, zero, suc, ◌+◌, ◌-◌, ◌/◌, ◌%◌, ◌^◌, ◌<◌, ◌≤◌, Bool, true, false, cond, not, ◌&&◌, ◌||◌, nat_eq, nat_lt, nat_le, get_or, length, replicate, ◌∷◌, [], ◌++◌, Option, Some, None, ◌⊎◌, inl, inr, refl, sym, ap, subst, ◌∙◌, arith}
 use Rattle.std.specs.Prelude.{min}
 use Rattle.std.proofs.Math.ListN.{get_or-append}

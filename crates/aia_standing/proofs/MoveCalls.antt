@@ -9,7 +9,8 @@ use Rattle.aia_home.specs.declared.place.Place.{Place}
 use Rattle.aia_home.specs.declared.vm.Vm.{Vm}
 use Rattle.aia_home.specs.Vms.{Vcpu, vcpu, is_vcpu_in, slot_of, notice_hart}
 use Rattle.aia_home.specs.Home.{Home, holds, is_moving, one_more, old_end, new_end}
-use Rattle.aia_home.specs.Plans.{is_at_last, Access, IsNext, plan}
+use Rattle.aia_home.specs.Plans.{is_at_last, IsNext, plan}
+use Rattle.aia_home.specs.declared.access.Access.{Access}
 use Rattle.aia_home.specs.Home.Home.{OnWay}
 use Rattle.aia_home.proofs.PlanLemmas.{plan-length, next_in_plan}
 use Rattle.aia_home.proofs.VmLemmas.{slot_below}

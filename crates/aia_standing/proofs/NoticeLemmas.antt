@@ -12,8 +12,9 @@ use Rattle.aia_home.specs.Home.{Home, Progress}
 use Rattle.aia_home.specs.Home.Home.{OnWay}
 use Rattle.aia_home.specs.Home.Way.{Outward}
 use Rattle.aia_home.specs.BySteps.{is_leaving}
-use Rattle.aia_home.specs.Plans.{Access, IsNext, leave_step, leave_steps}
-use Rattle.aia_home.specs.Plans.Access.{Post}
+use Rattle.aia_home.specs.Plans.{IsNext, leave_step, leave_steps}
+use Rattle.aia_home.specs.declared.access.Access.{Access}
+use Rattle.aia_home.specs.declared.access.Access.TheVariants.{Post}
 use Rattle.aia_home.proofs.PlanLemmas.{one_a_step}
 use Rattle.aia_places.specs.Holds.{Hand}
 use Rattle.aia_world.specs.World.{World}

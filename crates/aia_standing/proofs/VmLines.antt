@@ -1,5 +1,5 @@
 -- What the making of a VM leaves, and what it is answered.
-use Rattle.aia_home.specs.Plans.Access.{TakePending, TakeEnables}
+use Rattle.aia_home.specs.declared.access.Access.TheVariants.{TakePending, TakeEnables}
 use Rattle.aia_world.specs.declared.flying.Flying.{Flying}
 use Rattle.aia_model.specs.Flight.{flight}
 use Rattle.aia_model.specs.ReachOf.{in_force_of}

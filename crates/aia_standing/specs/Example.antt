@@ -1,7 +1,7 @@
 -- A history in which one virtual hart is resident in a guest file and another one, to which a wired
 -- source is passed, is leaving its own; and the core that stands for it.
 use Rattle.std.specs.Prelude.{ℕ, ◌+◌, ◌-◌, ◌*◌, length, true, false, List, [], ◌∷◌, ◌++◌, replicate, Some, None, zero, suc}
-use Rattle.aia_home.specs.Plans.Access.{PutPending}
+use Rattle.aia_home.specs.declared.access.Access.TheVariants.{PutPending}
 use Rattle.aia_home.specs.Plans.{leave_step}
 use Rattle.aia_regs.specs.declared.limits.TheConstants.{HARTS, VCPUS, ENTRIES, WORDS_OF_SLOTS, MEMORY_WORDS}
 use Rattle.aia_regs.specs.declared.access.Csr.{Csr}

@@ -1,8 +1,8 @@
 -- The plans of homes, told in the words of anybody's plans.
 use Rattle.std.proofs.Common.{◌≡◌, ℕ, zero, suc, List, [], ◌∷◌, ◌++◌, refl, sym, ap, ◌∙◌, append_assoc}
-use Rattle.aia_home.specs.Home.End.{File, Memory}
-use Rattle.aia_home.specs.Plans.{Access}
-use Rattle.aia_home.specs.Plans.{Access as accesses}
+use Rattle.aia_home.specs.declared.end.End.TheVariants.{File, Memory}
+use Rattle.aia_home.specs.declared.access.Access.{Access}
+use Rattle.aia_home.specs.declared.access.Access.TheVariants as accesses
 use Rattle.aia_home.specs.Plans as home
 use Rattle.plans_machine.specs.declared.step.Bank.TheVariants.{Pending, Enabled}
 use Rattle.plans_machine.specs.declared.step.Number.TheVariants.{Delivery}

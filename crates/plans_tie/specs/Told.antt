@@ -1,9 +1,11 @@
 -- The plan of a move of this project's core, told as anybody's plan. Profile.
 use Rattle.std.specs.Prelude.{ℕ, true, false, not, List, [], ◌∷◌, ◌++◌}
-use Rattle.aia_home.specs.Home.{End, is_file}
-use Rattle.aia_home.specs.Home.End.{File, Memory}
-use Rattle.aia_home.specs.Plans.{Access, plan}
-use Rattle.aia_home.specs.Plans.{Access as accesses}
+use Rattle.aia_home.specs.declared.end.End.{End}
+use Rattle.aia_home.specs.Home.{is_file}
+use Rattle.aia_home.specs.declared.end.End.TheVariants.{File, Memory}
+use Rattle.aia_home.specs.Plans.{plan}
+use Rattle.aia_home.specs.declared.access.Access.{Access}
+use Rattle.aia_home.specs.declared.access.Access.TheVariants as accesses
 use Rattle.plans_machine.specs.declared.step.Bank.TheVariants.{Pending, Enabled}
 use Rattle.plans_machine.specs.declared.step.Number.TheVariants.{Threshold, Delivery}
 use Rattle.plans_machine.specs.declared.setting.Spot.{Spot}

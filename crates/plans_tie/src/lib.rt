@@ -4,7 +4,7 @@
 
 ghost use Rattle.std.specs.Prelude.{◌≡◌, ℕ, true, None};
 ghost use Rattle.std.specs.List.{All};
-ghost use Rattle.aia_home.specs.Home.End.{File, Memory};
+ghost use Rattle.aia_home.specs.declared.end.End.TheVariants.{File, Memory};
 ghost use Rattle.aia_plan.specs.Plan.{Plan, IsInside};
 ghost use Rattle.aia_plan.specs.Rule.{failing};
 ghost use Rattle.plans_machine.specs.Plans.{core_arrive, core_leave, core_shift, to_arrive, to_leave, to_shift};

@@ -2,7 +2,7 @@ use Rattle.std.proofs.Common.{◌≡◌, true, Some, refl, sym, ap, ◌∙◌, s
 use Rattle.aia_home.specs.Home.Home.{OnWay}
 use Rattle.aia_home.specs.Home.Way.{Inward}
 use Rattle.aia_home.specs.Plans.{steps_done, arrive_step}
-use Rattle.aia_home.specs.Plans.Access.{WriteEntry, Fence}
+use Rattle.aia_home.specs.declared.access.Access.TheVariants.{WriteEntry, Fence}
 use Rattle.aia_moving.specs.Move.{Moving, width}
 use Rattle.aia_home.specs.Phases.Phase.{FirstPhase}
 use Rattle.aia_moving.specs.Turns.{IsIn}

@@ -3,7 +3,7 @@ use Rattle.std.proofs.lemmas.Bool.{eq-eqb}
 use Rattle.aia_home.specs.Home.Home.{OnWay}
 use Rattle.aia_home.specs.Home.Way.{Inward}
 use Rattle.aia_home.specs.Plans.{steps_done, arrive_step}
-use Rattle.aia_home.specs.Plans.Access.{PutDelivery}
+use Rattle.aia_home.specs.declared.access.Access.TheVariants.{PutDelivery}
 use Rattle.aia_moving.specs.Move.{Moving, width, new_spot}
 use Rattle.aia_moving.specs.Carrier.{moving}
 use Rattle.aia_moving.proofs.StepLemmas.{step_last}

@@ -2,7 +2,7 @@ use Rattle.std.proofs.Common.{◌≡◌, true, refl, sym, ap, ◌∙◌, subst, 
 use Rattle.aia_home.specs.Home.Home.{OnWay}
 use Rattle.aia_home.specs.Home.Way.{Outward}
 use Rattle.aia_home.specs.Plans.{steps_done, leave_step}
-use Rattle.aia_home.specs.Plans.Access.{TakeDelivery, WriteNotice, WriteEntry, Fence}
+use Rattle.aia_home.specs.declared.access.Access.TheVariants.{TakeDelivery, WriteNotice, WriteEntry, Fence}
 use Rattle.aia_moving.specs.Move.{Moving, old_spot, width}
 use Rattle.aia_home.specs.Phases.Phase.{FirstPhase}
 use Rattle.aia_moving.specs.Turns.{IsIn}

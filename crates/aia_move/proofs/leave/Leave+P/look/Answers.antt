@@ -3,7 +3,7 @@ use Rattle.std.proofs.lemmas.Bool.{lt-ltb, ne_eqb}
 use Rattle.aia_home.specs.Home.Home.{OnWay}
 use Rattle.aia_home.specs.Home.Way.{Outward}
 use Rattle.aia_home.specs.Plans.{steps_done, leave_step}
-use Rattle.aia_home.specs.Plans.Access.{Look, TakeThreshold}
+use Rattle.aia_home.specs.declared.access.Access.TheVariants.{Look, TakeThreshold}
 use Rattle.aia_moving.specs.Move.{Moving, width}
 use Rattle.aia_home.specs.Phases.{following, begins}
 use Rattle.aia_home.specs.Phases.Phase.{EnablePhase, LookPhase}

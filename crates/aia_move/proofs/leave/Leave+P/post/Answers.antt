@@ -3,7 +3,7 @@ use Rattle.std.proofs.lemmas.Bool.{eq-eqb}
 use Rattle.aia_home.specs.Home.Home.{OnWay}
 use Rattle.aia_home.specs.Home.Way.{Outward}
 use Rattle.aia_home.specs.Plans.{steps_done, leave_step}
-use Rattle.aia_home.specs.Plans.Access.{Post}
+use Rattle.aia_home.specs.declared.access.Access.TheVariants.{Post}
 use Rattle.aia_moving.specs.Move.{Moving, width}
 use Rattle.aia_moving.specs.Carrier.{moving}
 use Rattle.aia_moving.proofs.StepLemmas.{step_last}

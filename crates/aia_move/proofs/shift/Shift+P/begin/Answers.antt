@@ -2,7 +2,7 @@ use Rattle.std.proofs.Common.{◌≡◌, true, Some, refl, sym, ap, ◌∙◌, s
 use Rattle.aia_home.specs.Home.Home.{OnWay}
 use Rattle.aia_home.specs.Home.Way.{Across}
 use Rattle.aia_home.specs.Plans.{steps_done, shift_step}
-use Rattle.aia_home.specs.Plans.Access.{TakeDelivery, WriteEntry, Fence}
+use Rattle.aia_home.specs.declared.access.Access.TheVariants.{TakeDelivery, WriteEntry, Fence}
 use Rattle.aia_moving.specs.Move.{Moving, old_spot, width}
 use Rattle.aia_home.specs.Phases.Phase.{FirstPhase}
 use Rattle.aia_moving.specs.Turns.{IsIn}

@@ -3,7 +3,7 @@ use Rattle.std.proofs.lemmas.Bool.{ne_eqb}
 use Rattle.aia_home.specs.Home.Home.{OnWay}
 use Rattle.aia_home.specs.Home.Way.{Across}
 use Rattle.aia_home.specs.Plans.{steps_done, shift_step}
-use Rattle.aia_home.specs.Plans.Access.{TakeThreshold, PutThreshold}
+use Rattle.aia_home.specs.declared.access.Access.TheVariants.{TakeThreshold, PutThreshold}
 use Rattle.aia_home.specs.Phases.{following, begins}
 use Rattle.aia_home.specs.Phases.Phase.{EnablePhase}
 use Rattle.aia_moving.specs.Move.{Moving, width, old_spot, new_spot}
