@@ -8,17 +8,17 @@ use Rattle.std.specs.List.{remove, filter, list_any, range_with_len}
 use Rattle.std.specs.Prelude.{flat_map}
 use Rattle.aia_word.proofs.LeastLemmas.{least_of_is}
 use Rattle.aia_home.specs.Vms.{Vcpu, vcpu, is_vcpu}
-use Rattle.aia_home.specs.Plans.{leave_steps, arrive_steps, shift_steps}
+use Rattle.aia_home.specs.declared.end.End.TheVariants.{File, Memory}
+use Rattle.aia_home.specs.Plans.{plan_steps}
 use Rattle.std.specs.Option.{option_map_or}
 use Rattle.aia_model.specs.declared.line.Line.{Line}
 use Rattle.aia_model.specs.declared.line.Line.TheVariants.{Machine, Wire, Load, Store, Send, Step}
 use Rattle.aia_model.specs.declared.line.Line.TheVariants as lines
-use Rattle.aia_model.specs.declared.want.Want.TheVariants as wants
 use Rattle.aia_model.specs.declared.msi.Msi.{Msi}
 use Rattle.aia_model.specs.declared.answer.Answer.{Answer}
 use Rattle.aia_model.specs.declared.answer.Answer.TheVariants.{NoMachine, Again, Refused}
 use Rattle.aia_model.specs.declared.refusal.Refusal.TheVariants.{Range, Full}
-use Rattle.aia_model.specs.Move.{Move, mover, LineDeed, line_deed}
+use Rattle.aia_model.specs.Move.{Move, mover, wanted_move, LineDeed, line_deed}
 use Rattle.aia_model.specs.Move.Move.{Arrives, Leaves, Shifts}
 use Rattle.aia_model.specs.Move.LineDeed.{NoMove, Whole, Begins, Steps, Lands}
 use Rattle.aia_model.specs.Event.{Event, History, machine_of, has_machine, greatest_identity_of, file_words, MachineSize}
@@ -75,9 +75,7 @@ moved-small count g move h small = same_small (steps_taken count g (Began move �
 line-small : (h : History) (line : Line) → refusal h line ≡ None → IsSmall h → IsSmall (line_taken h line)
 line-small h (Machine harts guests n sources) good small =
     size-small harts guests n sources (size_accepted (has_machine h) (is_machine_size harts guests n sources) (sym (machine_refusal h harts guests n sources) ∙ good))
-line-small h (lines.Move vm number (wants.Arrive hart)) good small = moved-small (arrive_steps (file_words h) + passes_for h (vcpu vm number)) (vcpu vm number) (Arrives (vcpu vm number) hart) h small
-line-small h (lines.Move vm number wants.Leave) good small = moved-small (leave_steps (file_words h) + passes_for h (vcpu vm number)) (vcpu vm number) (Leaves (vcpu vm number)) h small
-line-small h (lines.Move vm number (wants.Shift hart)) good small = moved-small (shift_steps (file_words h) + passes_for h (vcpu vm number)) (vcpu vm number) (Shifts (vcpu vm number) hart) h small
+line-small h (lines.Move vm number want) good small = let move = wanted_move (vcpu vm number) want in moved-small (steps_of (file_words h) move + passes_for h (mover move)) (mover move) move h small
 line-small h (Step vm number) good small = same_small (step_taken (vcpu vm number) h) h (same_first (vcpu vm number) h).1 small
 line-small h line good small = small
 
@@ -354,7 +352,7 @@ steps-send (suc count) g h =
 
 -- no move has more than a leave of the greatest files
 abbrev most_steps : ℕ
-most_steps = leave_steps FILE_WORDS
+most_steps = plan_steps File Memory FILE_WORDS
 
 few_steps : (words : ℕ) (move : Move) → words ≤ FILE_WORDS → steps_of words move ≤ most_steps
 few_steps words (Arrives g hart) small = omega arith

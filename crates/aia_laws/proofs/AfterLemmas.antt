@@ -1,6 +1,5 @@
 -- What a line makes of a virtual hart: a move changes nothing there, nor does an MSI that is
 -- delivered, and any other accepted line does what its one event does.
-use Rattle.aia_model.specs.Move.Move.{Arrives, Leaves, Shifts}
 use Rattle.aia_home.specs.Routes.{is_at_fence}
 use Rattle.aia_regs.specs.BitUpdate.BitUpdate.{Ask, Nothing}
 use Rattle.aia_regs.specs.Request.{requested}
@@ -22,7 +21,8 @@ use Rattle.aia_model.specs.declared.line.Line.TheVariants as lines
 use Rattle.aia_model.specs.declared.want.Want.TheVariants as wants
 use Rattle.aia_model.specs.declared.answer.Answer.{Answer}
 use Rattle.aia_model.specs.declared.msi.Msi.{Msi}
-use Rattle.aia_model.specs.Move.{Move, mover, LineDeed, line_deed}
+use Rattle.aia_model.specs.Move.{Move, mover, wanted_move, LineDeed, line_deed}
+use Rattle.aia_model.proofs.BeginLemmas.{moves_its_own}
 use Rattle.aia_model.specs.Move.LineDeed.{NoMove, Whole, Begins, Steps, Lands}
 use Rattle.aia_model.specs.Event.{Event, History, has_machine, file_words}
 use Rattle.aia_model.specs.Event.Event.{Accepted, Began, Stepped, Delivered, Landed, Relayed}
@@ -238,9 +238,7 @@ move_same h line (Steps x) g moves all = one_step_same x h g all
 move_same h line (Lands vm k) g moves all = one_same vm k h g all
 
 silent_deed : (h : History) (line : Line) (g : Vcpu) → speaks_to h line g ≡ false → still_deed h (line_deed line) g
-silent_deed h (lines.Move vm number (wants.Arrive hart)) g e = still h vm g e
-silent_deed h (lines.Move vm number wants.Leave) g e = still h vm g e
-silent_deed h (lines.Move vm number (wants.Shift hart)) g e = still h vm g e
+silent_deed h (lines.Move vm number want) g e = subst (λ (x : Vcpu). Still h x.vm g) (sym (moves_its_own (vcpu vm number) want)) (still h vm g e)
 silent_deed h (Step vm number) g e = λ fence. still h vm g (sym (ap (λ b. b && flies_to h vm g) fence) ∙ e)
 silent_deed h (Land vm k) g e = e
 silent_deed h line g e = tt
@@ -294,13 +292,9 @@ moved_same h line g moves quiet = let still = none_forwarded h line g (moves_sen
 
 -- an accepted line that does no steps of a move is one event
 one_event : (h : History) (line : Line) → does_steps (line_deed line) ≡ false → (line_taken h line ≡ event_of line ∷ h) ⊎ ((move : Move) × (line_taken h line ≡ Began move ∷ h) × ((g : Vcpu) → guest_deed g h (event_of line) ≡ Rests))
-one_event h (lines.Move vm number (wants.Arrive hart)) e = absurd (cc)
-one_event h (lines.Move vm number wants.Leave) e = absurd (cc)
-one_event h (lines.Move vm number (wants.Shift hart)) e = absurd (cc)
+one_event h (lines.Move vm number want) e = absurd (cc)
 one_event h (Step vm number) e = absurd (cc)
-one_event h (lines.Begin vm number (wants.Arrive hart)) e = inr (Arrives (vcpu vm number) hart, refl, λ g. refl)
-one_event h (lines.Begin vm number wants.Leave) e = inr (Leaves (vcpu vm number), refl, λ g. refl)
-one_event h (lines.Begin vm number (wants.Shift hart)) e = inr (Shifts (vcpu vm number) hart, refl, λ g. refl)
+one_event h (lines.Begin vm number want) e = inr (wanted_move (vcpu vm number) want, refl, λ g. refl)
 one_event h line e = inl refl
 
 select_by_step : (g : Vcpu) (event : Event) (h : History) → guest_select (event ∷ h) g ≡ select_after (guest_deed g h event) (guest_select h g)

@@ -1,37 +1,35 @@
 -- Histories whose every event may happen: that of each script is one.
 use Rattle.std.proofs.Common.{◌≡◌, ℕ, zero, suc, ◌+◌, ◌-◌, ◌<◌, ◌≤◌, Bool, true, false, ◌&&◌, if◌then◌else◌, nat_eq, nat_lt, is_none, is_some, length, List, [], ◌∷◌, Option, Some, None, inl, inr, refl, sym, ap, subst, ◌∙◌, arith}
-use Rattle.std.specs.Option.{option_map_or}
-use Rattle.std.proofs.lemmas.Bool.{cases_Bool, cases_eq, cases_lt, not-false, eqb-true, eq-eqb, ltb-true, ltb-false, lt-ltb, and_parts, and_from, cond-true, false≢true}
+use Rattle.std.proofs.lemmas.Bool.{cases_Bool, cases_eq, cases_lt, not-false, eqb-true, eq-eqb, ltb-true, ltb-false, lt-ltb, and_parts, and_from, false≢true}
 use Rattle.aia_home.specs.Vms.{Vcpu, vcpu}
-use Rattle.aia_home.specs.Home.{Home, is_moving, rests_in_memory, leaving, arriving, shifting, led_to, at_rest, old_end, new_end}
-use Rattle.aia_home.specs.Plans.{leave_steps, arrive_steps, shift_steps, plan_steps}
+use Rattle.aia_home.specs.Home.{Home, is_moving, led_to, at_rest, old_end, new_end}
+use Rattle.aia_home.specs.Plans.{plan_steps}
 use Rattle.aia_home.specs.Aims.{aims_step, AreAimed, further}
-use Rattle.aia_home.specs.declared.rest.Rest.TheVariants.{Parked}
 use Rattle.aia_home.specs.Home.Home.{InMemory, Resident, OnWay}
 use Rattle.aia_model.specs.declared.line.Line.{Line}
 use Rattle.aia_model.specs.declared.line.Line.TheVariants.{Machine, Step, Send, Land}
 use Rattle.aia_model.specs.declared.line.Line.TheVariants as lines
-use Rattle.aia_model.specs.declared.want.Want.TheVariants as wants
+use Rattle.aia_model.specs.declared.want.Want.{Want}
 use Rattle.aia_model.specs.declared.answer.Answer.{Answer}
 use Rattle.aia_model.specs.declared.msi.Msi.{Msi}
 use Rattle.aia_model.specs.declared.parsed.Parsed.{Parsed}
 use Rattle.aia_model.specs.declared.parsed.Parsed.TheVariants as parsed
-use Rattle.aia_model.specs.Move.Move.{Arrives, Leaves, Shifts}
+use Rattle.aia_model.specs.Move.{Move, mover, wanted_move}
 use Rattle.aia_model.specs.Event.{History, has_machine, file_words}
 use Rattle.aia_model.specs.Event.Event.{Accepted, Began, Stepped, Delivered, Landed, Relayed}
 use Rattle.aia_model.specs.Vms.{has_vcpu}
 use Rattle.aia_model.specs.Passes.{passes_of, passed_by, passes_for}
-use Rattle.aia_model.specs.HomeOf.{home, free_file, guest_place}
+use Rattle.aia_model.specs.HomeOf.{home}
 use Rattle.aia_model.specs.Aim.{pass_reach}
 use Rattle.aia_model.specs.PassesStand.{AreForwards}
 use Rattle.aia_model.specs.Refusal.{refusal}
 use Rattle.aia_model.specs.Sent.{msis_sent_by}
-use Rattle.aia_model.specs.Answer.{after, history_after, line_taken, whole_move, delivered, step_taken, steps_taken, oldest_landed, landed_first, given_on, msi_taken}
+use Rattle.aia_model.specs.Answer.{after, history_after, line_taken, whole_move, steps_of, delivered, step_taken, steps_taken, oldest_landed, landed_first, given_on, msi_taken}
 use Rattle.aia_model.specs.Reading.{reading}
 use Rattle.aia_model.specs.Text.{texts_of}
 use Rattle.aia_model.specs.Script.{after_text, after_texts, history_of}
 use Rattle.aia_model.proofs.AnswerLemmas.{after_by}
-use Rattle.aia_model.proofs.MoveLemmas.{is_itself, home_step}
+use Rattle.aia_model.proofs.BeginLemmas.{may_begin, IsBegun, begun, moves_its_own}
 use Rattle.aia_home.specs.Vms.{is_vcpu_in}
 use Rattle.aia_home.specs.BySteps.{new_file}
 use Rattle.aia_home.specs.declared.place.Place.{Place}
@@ -44,7 +42,7 @@ use Rattle.aia_model.proofs.FlightLemmas.{all_at, none_flies, flights_on, none_f
 use Rattle.aia_model.proofs.PassesStandLemmas.{all_aimed_in}
 use Rattle.aia_model.proofs.SentLemmas.{line_forwards, forwards_then, forwards_given, number_found}
 use Rattle.aia_model.specs.Histories.{MayHappen, IsHistory}
-use Rattle.aia_model.proofs.RefusalLemmas.{machine_stands, arrive_allowed, leave_allowed, shift_allowed, step_allowed, land_allowed, send_allowed}
+use Rattle.aia_model.proofs.RefusalLemmas.{machine_stands, step_allowed, land_allowed, send_allowed}
 
 -- ---- a whole move: all its steps may happen
 
@@ -123,54 +121,23 @@ steps_happen (suc count) g h there left good =
     let one = one_less (passes_for h g) (file_words h) count (home h g) (all_aimed_in h good g) left in
     steps_happen count g (step_taken g h) (there_still g g h there) (ap (λ n. steps_left n (file_words (landed_first g h)) (home (step_taken g h) g)) (passes_stepped g g h) ∙ ap (λ w. steps_left (passes_for h g) w (home (step_taken g h) g)) (words_first g h) ∙ ap (steps_left (passes_for h g) (file_words h)) (home_stepped g h) ∙ one.1) (step_happens g h there one.0 good)
 
-leave_left : (passes words : ℕ) (there : Home) → is_moving there ≡ false → rests_in_memory there ≡ false → steps_left passes words (leaving there) ≡ leave_steps words + passes
-leave_left passes words (Resident p) idle kept = omega arith
-leave_left passes words there idle kept = absurd (cc)
+move_left : (passes words : ℕ) (move : Move) (there : Home) → IsBegun move there → steps_left passes words there ≡ steps_of words move + passes
+move_left passes words move there its = ap (steps_left passes words) its.at_home ∙ omega (arith, its.steps words)
 
-arrive_left : (passes words hart : ℕ) (file : Option ℕ) (there : Home) → there ≡ InMemory Parked → is_none file ≡ false
-    → steps_left passes words (option_map_or (λ f. arriving (guest_place hart f) there) file there) ≡ arrive_steps words + passes
-arrive_left passes words hart None there parked free = absurd (cc)
-arrive_left passes words hart (Some f) there parked free = rw parked (omega arith)
-
-shift_left : (passes words hart : ℕ) (file : Option ℕ) (there : Home) → is_moving there ≡ false → rests_in_memory there ≡ false → is_none file ≡ false
-    → steps_left passes words (option_map_or (λ f. shifting (guest_place hart f) there) file there) ≡ shift_steps words + passes
-shift_left passes words hart None there idle kept free = absurd (cc)
-shift_left passes words hart (Some f) (Resident p) idle kept free = omega arith
-shift_left passes words hart (Some f) there idle kept free = absurd (cc)
-
-arrive_happens : (h : History) (g : Vcpu) (hart : ℕ) → refusal h (lines.Move g.vm g.number (wants.Arrive hart)) ≡ None → IsHistory h → IsHistory (whole_move h (Arrives g hart))
+move_happens : (h : History) (vm number : ℕ) (want : Want) → refusal h (lines.Move vm number want) ≡ None → IsHistory h → IsHistory (whole_move h (wanted_move (vcpu vm number) want))
 unfolding passes_of
-arrive_happens h g hart e good =
-    let may = arrive_allowed h g.vm g.number hart e in
-    steps_happen (arrive_steps (file_words h) + passes_for h g) g (Began (Arrives g hart) ∷ h) may.0
-    (ap (steps_left (passes_for h g) (file_words h)) (home_step (Began (Arrives g hart)) h g ∙ cond-true _ _ _ (is_itself g)) ∙ arrive_left (passes_for h g) (file_words h) hart (free_file h (home h) hart) (home h g) may.2 may.3)
-    ((may.0, may.1, may.4), good)
-
-leave_happens : (h : History) (g : Vcpu) → refusal h (lines.Move g.vm g.number wants.Leave) ≡ None → IsHistory h → IsHistory (whole_move h (Leaves g))
-unfolding passes_of
-leave_happens h g e good =
-    let may = leave_allowed h g.vm g.number e in
-    steps_happen (leave_steps (file_words h) + passes_for h g) g (Began (Leaves g) ∷ h) may.0
-    (ap (steps_left (passes_for h g) (file_words h)) (home_step (Began (Leaves g)) h g ∙ cond-true _ _ _ (is_itself g)) ∙ leave_left (passes_for h g) (file_words h) (home h g) may.1 may.2)
-    ((may.0, may.1, refl), good)
-
-shift_happens : (h : History) (g : Vcpu) (hart : ℕ) → refusal h (lines.Move g.vm g.number (wants.Shift hart)) ≡ None → IsHistory h → IsHistory (whole_move h (Shifts g hart))
-unfolding passes_of
-shift_happens h g hart e good =
-    let may = shift_allowed h g.vm g.number hart e in
-    steps_happen (shift_steps (file_words h) + passes_for h g) g (Began (Shifts g hart) ∷ h) may.0
-    (ap (steps_left (passes_for h g) (file_words h)) (home_step (Began (Shifts g hart)) h g ∙ cond-true _ _ _ (is_itself g)) ∙ shift_left (passes_for h g) (file_words h) hart (free_file h (home h) hart) (home h g) may.1 may.2 may.3)
-    ((may.0, may.1, may.4), good)
+move_happens h vm number want e good =
+    let move = wanted_move (vcpu vm number) want in
+    let may = may_begin h vm number want e in
+    steps_happen (steps_of (file_words h) move + passes_for h (mover move)) (mover move) (Began move ∷ h) may.0
+    (ap (λ g. steps_left (passes_for h (mover move)) (file_words h) (home (Began move ∷ h) g)) (moves_its_own (vcpu vm number) want) ∙ move_left (passes_for h (mover move)) (file_words h) move (home (Began move ∷ h) (vcpu vm number)) (begun h vm number want e))
+    (may, good)
 
 -- ---- what a script does is such a history
 
 pub line_happens : (h : History) (line : Line) → refusal h line ≡ None → IsHistory h → IsHistory (line_taken h line)
-line_happens h (lines.Move vm number (wants.Arrive hart)) e good = arrive_happens h (vcpu vm number) hart e good
-line_happens h (lines.Move vm number wants.Leave) e good = leave_happens h (vcpu vm number) e good
-line_happens h (lines.Move vm number (wants.Shift hart)) e good = shift_happens h (vcpu vm number) hart e good
-line_happens h (lines.Begin vm number (wants.Arrive hart)) e good = let may = arrive_allowed h vm number hart e in ((may.0, may.1, may.4), good)
-line_happens h (lines.Begin vm number wants.Leave) e good = let may = leave_allowed h vm number e in ((may.0, may.1, refl), good)
-line_happens h (lines.Begin vm number (wants.Shift hart)) e good = let may = shift_allowed h vm number hart e in ((may.0, may.1, may.4), good)
+line_happens h (lines.Move vm number want) e good = move_happens h vm number want e good
+line_happens h (lines.Begin vm number want) e good = (may_begin h vm number want e, good)
 line_happens h (Step vm number) e good = let may = step_allowed h vm number e in step_happens (vcpu vm number) h may.0 may.1 good
 line_happens h (Land vm k) e good = (land_allowed h vm k e, good)
 line_happens h line e good = (e, good)
@@ -185,9 +152,9 @@ stands_stepped (suc count) g h stands = stands_stepped count g (step_taken g h) 
 -- after an accepted line a machine stands
 pub stands_then : (h : History) (line : Line) → refusal h line ≡ None → has_machine (line_taken h line) ≡ true
 stands_then h (Machine harts guests n sources) e = refl
-stands_then h (lines.Move vm number (wants.Arrive hart)) e = stands_stepped (arrive_steps (file_words h) + passes_for h (vcpu vm number)) (vcpu vm number) _ (not-false _ (machine_stands h (lines.Move vm number (wants.Arrive hart)) e))
-stands_then h (lines.Move vm number wants.Leave) e = stands_stepped (leave_steps (file_words h) + passes_for h (vcpu vm number)) (vcpu vm number) _ (not-false _ (machine_stands h (lines.Move vm number wants.Leave) e))
-stands_then h (lines.Move vm number (wants.Shift hart)) e = stands_stepped (shift_steps (file_words h) + passes_for h (vcpu vm number)) (vcpu vm number) _ (not-false _ (machine_stands h (lines.Move vm number (wants.Shift hart)) e))
+stands_then h (lines.Move vm number want) e =
+    let move = wanted_move (vcpu vm number) want in
+    stands_stepped (steps_of (file_words h) move + passes_for h (mover move)) (mover move) _ (not-false _ (machine_stands h (lines.Move vm number want) e))
 stands_then h (Step vm number) e = stands_first (vcpu vm number) h (not-false _ (machine_stands h (Step vm number) e))
 stands_then h line e = not-false _ (machine_stands h line e)
 

@@ -1,5 +1,5 @@
 -- Each access of a move, but the last one, keeps what the places hold, whatever its way.
-use Rattle.std.proofs.Common.{◌≡◌, ◌⊎◌, Option, ℕ, ◌+◌, ◌*◌, ◌/◌, ◌<◌, ◌≤◌, Bool, true, false, ◌&&◌, ◌||◌, if◌then◌else◌, nat_eq, nat_lt, Some, inl, inr, refl, sym, ap, ◌∙◌, subst, arith}
+use Rattle.std.proofs.Common.{◌≡◌, ◌⊎◌, Option, ℕ, ◌+◌, ◌*◌, ◌/◌, ◌<◌, ◌≤◌, Bool, true, false, ◌&&◌, ◌||◌, if◌then◌else◌, nat_eq, nat_lt, inl, inr, refl, sym, ap, ◌∙◌, subst, arith}
 use Rattle.std.proofs.lemmas.Bool.{ltb-true, and_right, false≢true}
 use Rattle.std.proofs.lemmas.Bool.Decides.{nat_tests}
 use Rattle.aia_regs.specs.declared.access.Op.TheVariants as ops
@@ -14,7 +14,7 @@ use Rattle.aia_home.specs.declared.access.Access.{Access}
 use Rattle.aia_home.specs.declared.access.Access.TheVariants.{TakeDelivery, PutDelivery, WriteNotice, WriteEntry, Fence, Map, GFence, TakePending, PutPending, TakeEnables, PutEnables, Look, TakeThreshold, PutThreshold, Post}
 use Rattle.aia_home.proofs.PhaseLemmas.{sets_first}
 use Rattle.aia_home.proofs.RouteLemmas.{reach_on, reach_fenced, reach_after}
-use Rattle.aia_places.specs.Places.{Places, TwoSets, of_file, of_slot, old_place, new_place, spare_place, IsInMap, FilesFit}
+use Rattle.aia_places.specs.Places.{Places, TwoSets, of_file, of_slot, old_place, new_place, spare_place, FilesFit}
 use Rattle.aia_places.specs.Holds.{IsWithin, Hand, HoldsSets, HoldsNumbers, Holds, sees, meets}
 use Rattle.aia_home.specs.BySteps.{is_leaving}
 use Rattle.aia_home.specs.Routes.{entry_names, stage_names, peers_reach}
@@ -22,6 +22,7 @@ use Rattle.aia_places.specs.Steps.{with_old, with_new, places_after, CarriedAfte
 use Rattle.aia_places.proofs.SetSteps.{HoldsAt, before-holds, after-holds, take_pending-holds, put_pending-holds, take_enables-holds, put_enables-holds}
 use Rattle.aia_places.proofs.StayLemmas.{of_sets, to_sets, SameNumbers, SameKept, same_kept, other_word, NumbersStay, numbers_stay, SameRoutes, RoutesStay, routes_stay, seen_stays, unseen-before, unseen-after, elsewhere}
 use Rattle.aia_places.proofs.StepLemmas.{take_delivery-numbers, take_threshold-numbers, put_own_threshold-numbers, put_next_threshold-numbers, write_entry-routes, fence-routes, map-routes, gfence-routes}
+use Rattle.aia_places.proofs.EntryLemmas.{new_fits}
 use Rattle.aia_places.proofs.LookLemmas.{look_meets}
 use Rattle.aia_regs.specs.declared.limits.TheConstants.{HARTS, SLOTS}
 
@@ -116,11 +117,6 @@ early way at low = record { entry = grind (arith, nat_tests); fence = grind (ari
 late : (way : Way) (at : Progress) → plan_step (old_end way) (new_end way) 0 GFence < at.steps → IsOther way at
 late way at high = record { entry = grind (arith, nat_tests); fence = grind (arith, nat_tests); map = grind (arith, nat_tests); gfence = grind (arith, nat_tests) }
 
-new_fits : (way : Way) (at : Progress) → FilesFit (OnWay way at) → (f : Place) → led_to way ≡ Some f → IsInMap f
-new_fits (Outward from) at fits f e = absurd (cc)
-new_fits (Inward to) at fits f e = fits.own f e
-new_fits (Across from to) at fits f e = fits.next f e
-
 looks_still : (words : ℕ) (way : Way) (at : Progress) (file : InterruptFile) (had has saw : Bool) → has ≡ had
     → (at.steps < plan_step (old_end way) (new_end way) words (Look 0)) ⊎ (plan_step (old_end way) (new_end way) words TakeThreshold ≤ at.steps)
     → (is_leaving (OnWay way at) && had) ≡ (is_leaving (OnWay way at) && saw) → (is_leaving (OnWay way (one_further at)) && has) ≡ (is_leaving (OnWay way (one_further at)) && (saw || sees words (OnWay way at) file))
@@ -181,15 +177,13 @@ module _ (words q hart : ℕ) (reach : Option Place) (way : Way) (at : Progress)
       → HoldsSets words u later now.word file → Holds words q hart reach v there hand file saw → Holds words q hart reach u later now file (saw || sees words there file)
   carries u numbers routes kept seen past below sets h = record {
     sets = sets;
-    numbers = numbers_stay words v u there later hand now file (moving-numbers words way at (omega arith) (under way below)) numbers kept h.numbers;
+    numbers = numbers_stay words v u there later hand now file (moving-numbers words way at (omega arith) (under below)) numbers kept h.numbers;
     routes = routes_stay q hart reach v u there later (moving-routes way at (late way at (omega arith))) routes h.routes;
     looks = looks_still words way at file hand.seen now.seen saw seen (inl below) h.looks;
   }
     where
-      under : (way : Way) → at.steps < plan_step (old_end way) (new_end way) words (Look 0) → at.steps < plan_step (old_end way) (new_end way) words TakeThreshold
-      under (Outward from) l = omega (arith, l)
-      under (Inward to) l = omega (arith, l)
-      under (Across from to) l = omega (arith, l)
+      under : at.steps < plan_step (old_end way) (new_end way) words (Look 0) → at.steps < plan_step (old_end way) (new_end way) words TakeThreshold
+      under l = omega (arith, l, sets_first (new_end way) words)
 
   -- the routes at each of the steps that write or fence one
   stage_on : nat_eq at.steps (plan_step (old_end way) (new_end way) 0 Map) ≡ false → stage_names later ≡ stage_names there
