@@ -1,5 +1,5 @@
 -- What a move has made that has come to a phase.
-use Rattle.std.proofs.Common.{◌≡◌, ℕ, ◌+◌, ◌*◌, ◌<◌, ◌≤◌, true, false, Option, refl, sym, ◌∙◌, inl, inr, arith}
+use Rattle.std.proofs.Common.{◌≡◌, ℕ, ◌+◌, ◌*◌, ◌<◌, ◌≤◌, true, false, Option, sym, ◌∙◌, inl, inr, arith}
 use Rattle.std.proofs.lemmas.Bool.Decides.{nat_tests}
 use Rattle.aia_home.specs.declared.place.Place.{Place}
 use Rattle.aia_home.specs.declared.end.End.{End}
@@ -7,7 +7,7 @@ use Rattle.aia_home.specs.Home.{Home, old_end, new_end, is_moving}
 use Rattle.aia_home.specs.Home.Home.{OnWay}
 use Rattle.aia_home.specs.declared.end.End.TheVariants.{File, Memory}
 use Rattle.aia_home.specs.Plans.{word_steps, plan_step, is_last_made, steps_done, pending_step, enables_step}
-use Rattle.aia_home.specs.declared.access.Access.TheVariants.{WriteEntry, TakePending, TakeEnables}
+use Rattle.aia_home.specs.declared.access.Access.TheVariants.{TakePending, TakeEnables}
 use Rattle.aia_home.specs.Phases.{phase_begins, has_come}
 use Rattle.aia_home.specs.Phases.Phase.{ClosingPhase, DrainPhase, EnablePhase, LookPhase, LastPhase}
 use Rattle.aia_home.specs.BySteps.{new_file, is_drained, is_enable_taken, is_enable_put}
@@ -44,13 +44,6 @@ enable_drained words w there moves low come = absurd (cc)
 pub looks_begin : (from to : End) (words : ℕ) → phase_begins from to words LookPhase ≡ plan_step from to words (TakeEnables 0) + 2 * words
 looks_begin from File words = omega arith
 looks_begin from Memory words = omega arith
-
--- no move has more before its entry is written than a leave
-pub few_before : (from to : End) → plan_step from to 0 WriteEntry ≤ plan_step File Memory 0 WriteEntry
-few_before File File = omega arith
-few_before File Memory = omega arith
-few_before Memory File = omega arith
-few_before Memory Memory = omega arith
 
 pub sets_first : (to : End) (words : ℕ) → 4 * words ≤ word_steps to words
 sets_first File words = omega arith

@@ -1,5 +1,5 @@
 -- What the next access of a move needs: a file, a word, who is there.
-use Rattle.std.proofs.Common.{◌≡◌, ℕ, ◌+◌, ◌<◌, Bool, true, false, Option, Some, None, refl, sym, ap, ◌∙◌, subst, arith}
+use Rattle.std.proofs.Common.{◌≡◌, ℕ, true, false, Option, Some, None, refl, sym, ap, ◌∙◌, subst, arith}
 use Rattle.std.specs.Prelude.{IsSome, option_map}
 use Rattle.std.proofs.lemmas.Bool.{ltb-true, eq-eqb, false≢true}
 use Rattle.aia_word.specs.Sets.{has_bit}
@@ -10,7 +10,7 @@ use Rattle.aia_home.specs.declared.end.End.{End}
 use Rattle.aia_home.specs.Home.{Way, Progress, Home, old_end, new_end}
 use Rattle.aia_home.specs.Home.Home.{OnWay}
 use Rattle.aia_home.specs.Home.Way.{Outward, Inward, Across}
-use Rattle.aia_home.specs.Plans.{IsAt, IsNext, plan_has, plan_step, steps_done, is_last_made}
+use Rattle.aia_home.specs.Plans.{IsAt, IsNext, plan_has, plan_step, is_last_made}
 use Rattle.aia_home.specs.Phases.{Phase, phase_begins, begins}
 use Rattle.aia_home.specs.BySteps.{old_file, new_file}
 use Rattle.aia_world.specs.World.{World}
@@ -75,5 +75,5 @@ module _ (way : Way) (at : Progress) (there : Home) (from to : End) (words wide 
       same : plan_has (old_end way) (new_end way) wide access ≡ plan_has from to words access
       same = sym (λ k. plan_has (leaves k) (leads k) (value k) access)
 
-  pub begins_at : (phase : Phase) → phase_begins from to words phase ≡ begins wide there phase
-  begins_at phase = (λ k. phase_begins (leaves k) (leads k) (value k) phase) ∙ ap (λ h. begins wide h phase) here
+  pub begins_at : (phase : Phase) (end : ℕ) → end ≡ phase_begins from to words phase → end ≡ begins wide there phase
+  begins_at phase end is = is ∙ (λ k. phase_begins (leaves k) (leads k) (value k) phase) ∙ ap (λ h. begins wide h phase) here

@@ -1,17 +1,14 @@
 -- The phases of a plan: where its steps aim passed sources, and what they leave; which phase comes
 -- after a step; what a step makes, and one in place, by the phase that the plan is in.
-use Rattle.std.proofs.Common.{◌≡◌, ◌≢◌, ℕ, ◌+◌, ◌<◌, ◌≤◌, Bool, true, false, ◌&&◌, if◌then◌else◌, nat_lt, refl, sym, ap, ◌∙◌, subst, arith, Option, Some, None, ◌-◌, ◌/◌}
+use Rattle.std.proofs.Common.{◌≡◌, ◌≢◌, ℕ, ◌+◌, ◌<◌, ◌≤◌, Bool, true, false, ◌&&◌, if◌then◌else◌, nat_lt, refl, sym, ap, ◌∙◌, subst, arith, Option, Some, None, ◌/◌}
 use Rattle.std.specs.Prelude.{is_none}
 use Rattle.std.proofs.lemmas.Bool.{eq-eqb, ne_eqb}
-use Rattle.aia_word.specs.Sets.{has_bit}
-use Rattle.aia_regs.specs.declared.limits.TheConstants.{FILE_WORDS}
 use Rattle.aia_home.specs.declared.end.End.{End}
-use Rattle.aia_home.specs.Home.{is_file, old_end, new_end, Home, Progress, is_moving, one_more}
+use Rattle.aia_home.specs.Home.{is_file, old_end, new_end, Home, is_moving, one_more}
 use Rattle.aia_home.specs.Home.Home.{OnWay}
 use Rattle.aia_home.specs.declared.end.End.TheVariants.{File, Memory}
 use Rattle.aia_home.specs.Plans.{steps_done, is_last_made, is_at_last}
 use Rattle.aia_home.specs.declared.access.Access.{Access}
-use Rattle.aia_home.specs.declared.access.Access.TheVariants.{TakePending, TakeEnables}
 use Rattle.aia_home.specs.Phases.{Phase, following, phase_begins, begins, after_shared}
 use Rattle.aia_home.specs.Phases.Phase.{FirstPhase, ClosingPhase, DrainPhase, EnablePhase, LookPhase, LastPhase, AllDone}
 use Rattle.aia_home.specs.BySteps.{own_file, next_file}
@@ -21,11 +18,11 @@ use Rattle.aia_world.specs.World.{World}
 use Rattle.aia_moving.specs.declared.turn.Closed.{Closed}
 use Rattle.aia_moving.specs.declared.turn.Closed.TheVariants as closed
 use Rattle.aia_moving.specs.Move.{Moving, width, MoveFits}
-use Rattle.aia_moving.specs.Targets.{aims, pass_count, has_unaimed, one_aimed, aim_if}
+use Rattle.aia_moving.specs.Targets.{aims, has_unaimed, one_aimed, aim_if}
 use Rattle.aia_moving.specs.Turns.{IsIn, IsAtAims, GoesOn, AimsOn, MatchClosed}
 use Rattle.aia_moving.specs.Landings.{OnceLanded}
 use Rattle.aia_home.proofs.PhaseLemmas.{looks_begin, sets_first}
-use Rattle.aia_moving.proofs.PhaseSteps.{Middle, middle, begins_on, past_fence}
+use Rattle.aia_moving.proofs.PhaseSteps.{middle, begins_on, past_fence}
 use Rattle.aia_moving.proofs.LandingLemmas.{none_lands}
 use Rattle.aia_move.specs.declared.plan.Plan.{Plan}
 use Rattle.aia_move.specs.declared.plan.Plan.TheVariants.{LeaveDrain}

@@ -65,7 +65,7 @@ macro_rules! past {
 impl Plan {
     /// Begins to move a virtual hart from a guest file to memory. Its steps can be made where the
     /// virtual hart and the file are there.
-    #[tactic(auto, using(aia_moving::proofs::WhoLemmas::leave_fits))]
+    #[tactic(auto, using(aia_moving::proofs::WhoLemmas::begins_fit))]
     pub fn leave(file: FileLease, who: Who) -> Plan
         ensures begins { moving_of result ≡ record {
           who = who;
@@ -81,7 +81,7 @@ impl Plan {
 
     /// Begins to move a virtual hart from memory to a guest file, with the numbers that were kept.
     /// Its steps can be made where the virtual hart and the file are there.
-    #[tactic(auto, using(aia_moving::proofs::WhoLemmas::arrive_fits))]
+    #[tactic(auto, using(aia_moving::proofs::WhoLemmas::begins_fit))]
     pub fn arrive(file: FileLease, who: Who, kept: KeptNumbers) -> Plan
         ensures begins { moving_of result ≡ record {
           who = who;
@@ -108,7 +108,7 @@ impl Plan {
 
     /// Begins to move a virtual hart from guest file `old` to guest file `new`. Its steps can be
     /// made where the virtual hart and both files are there.
-    #[tactic(auto, using(aia_moving::proofs::WhoLemmas::shift_fits))]
+    #[tactic(auto, using(aia_moving::proofs::WhoLemmas::begins_fit))]
     pub fn shift(old: FileLease, new: FileLease, who: Who) -> Plan
         ensures begins { moving_of result ≡ record {
           who = who;

@@ -5,30 +5,28 @@ use Rattle.aia_home.specs.Home.{Home, old_end, new_end, is_moving, one_more}
 use Rattle.aia_home.specs.Home.Home.{OnWay}
 use Rattle.aia_home.specs.Plans.{step_of, steps_done, first_take}
 use Rattle.aia_home.specs.declared.access.Access.TheVariants.{TakeEnables}
-use Rattle.aia_home.specs.Phases.{Phase, following, leave_begins, begins}
+use Rattle.aia_home.specs.Phases.{Phase, following, begins}
 use Rattle.aia_home.specs.Phases.Phase.{FirstPhase, ClosingPhase, DrainPhase, EnablePhase}
 use Rattle.aia_home.specs.Routes.{is_at_fence}
-use Rattle.aia_home.proofs.PhaseLemmas.{looks_begin, few_before}
+use Rattle.aia_home.proofs.PhaseLemmas.{looks_begin}
 
 -- ---- where they begin and end
 
--- how far from its beginning each of them ends, and that the next begins no earlier; the last ends
--- in a leave no earlier than in another move; two begin with the first take of a set
+-- how far from its beginning each of them ends, and that the next begins no earlier; two begin with the first
+-- take of a set
 pub record Middle (words : ℕ) (there : Home) : Type 0 where
   pub closes : begins words there (following ClosingPhase) ≡ begins words there ClosingPhase + 2
   pub drain : begins words there (following ClosingPhase) ≤ begins words there DrainPhase
   pub drains : begins words there (following DrainPhase) ≡ begins words there DrainPhase + 2 * words
   pub enable : begins words there (following DrainPhase) ≤ begins words there EnablePhase
   pub ends : begins words there (following EnablePhase) ≡ begins words there EnablePhase + 2 * words
-  pub few : begins words there (following EnablePhase) ≤ leave_begins words (following EnablePhase)
   pub take : first_take there ≡ begins words there DrainPhase
   pub take_enables : step_of words there (TakeEnables 0) ≡ begins words there EnablePhase
 
 pub middle : (words : ℕ) (there : Home) → is_moving there ≡ true → Middle words there
 middle words (OnWay way at) moves =
     let looks = looks_begin (old_end way) (new_end way) words in
-    let few = few_before (old_end way) (new_end way) in
-    record { closes = omega arith; drain = omega arith; drains = omega arith; enable = omega arith; ends = omega (arith, looks); few = omega (arith, looks, few); take = refl; take_enables = refl }
+    record { closes = omega arith; drain = omega arith; drains = omega arith; enable = omega arith; ends = omega (arith, looks); take = refl; take_enables = refl }
 middle words there moves = absurd (cc)
 
 -- a step changes no beginning

@@ -1,5 +1,5 @@
 -- A virtual hart that is found is within the limits of a machine.
-use Rattle.std.proofs.Common.{◌≡◌, ◌<◌, arith}
+use Rattle.std.proofs.Common.{◌<◌, arith}
 use Rattle.aia_regs.specs.declared.limits.TheConstants.{VCPUS}
 use Rattle.aia_home.specs.Vms.{vcpu, vcpus_in}
 use Rattle.aia_home.proofs.VmLemmas.{slot_below}

@@ -1,6 +1,5 @@
 use Rattle.std.proofs.Common.{sym, ap, ◌∙◌, subst}
 use Rattle.aia_home.specs.Home.{Progress, end_at}
-use Rattle.aia_home.specs.Plans.{IsNext}
 use Rattle.aia_moving.specs.Move.{Moving, width}
 use Rattle.aia_moving.specs.Accesses.{WordFits, Executes}
 use Rattle.aia_move.proofs.AccessLemmas.{word_fits, at_is_next}

@@ -1,4 +1,4 @@
-use Rattle.std.proofs.Common.{refl, sym, ap, ◌∙◌, subst}
+use Rattle.std.proofs.Common.{sym, ap, ◌∙◌, subst}
 use Rattle.aia_home.specs.Home.{Progress, is_moving}
 use Rattle.aia_home.specs.Phases.{after_shared}
 use Rattle.aia_moving.specs.Move.{Moving}

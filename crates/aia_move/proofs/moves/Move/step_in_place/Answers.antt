@@ -1,4 +1,4 @@
-use Rattle.std.proofs.Common.{◌≡◌, ◌+◌, ◌<◌, ◌≤◌, refl, sym, ap, ◌∙◌, subst, arith}
+use Rattle.std.proofs.Common.{◌≡◌, refl, sym, ap, ◌∙◌, subst, arith}
 use Rattle.std.proofs.lemmas.Bool.{le-ltb}
 use Rattle.aia_home.specs.Home.{Progress, end_at}
 use Rattle.aia_home.specs.Plans.{steps_done}
@@ -17,7 +17,7 @@ advance-requires-clause-more g c =
     let way = g.K.Kind.way l.kind in
     let at : Progress = record { steps = l.done; aims = l.aims } in
     let here = ap (λ (x : Moving). x.home) c.self.view_is in
-    let end : c.end.result ≡ begins (width c.args.fabric.now) s.home (following phase) = c.end.ensures ∙ begins_at way at s.home c.end_of-from.result c.end_of-to.result c.words-words.result (width c.args.fabric.now) here (c.end_of-from.ensures ∙ ap end_at c.old_file.ensures) (c.end_of-to.ensures ∙ ap end_at c.new_file.ensures) c.words-words.ensures.value (following phase) in
+    let end : c.end.result ≡ begins (width c.args.fabric.now) s.home (following phase) = begins_at way at s.home c.end_of-from.result c.end_of-to.result c.words-words.result (width c.args.fabric.now) here (c.end_of-from.ensures ∙ ap end_at c.old_file.ensures) (c.end_of-to.ensures ∙ ap end_at c.new_file.ensures) c.words-words.ensures.value (following phase) c.end.result c.end.ensures in
     omega (arith, c.if-stays.true, end, ap steps_done here, within_plan phase (width c.args.fabric.now) s.home)
 
 pub returns-then-stays-clause-phase : goal.returns-then-stays-clause-phase
@@ -28,7 +28,7 @@ returns-then-stays-clause-phase g c =
     let way = g.K.Kind.way l.kind in
     let at : Progress = record { steps = l.done; aims = l.aims } in
     let here = ap (λ (x : Moving). x.home) c.self.view_is in
-    let end : c.end.result ≡ begins (width c.args.fabric.now) s.home (following phase) = c.end.ensures ∙ begins_at way at s.home c.end_of-from.result c.end_of-to.result c.words-words.result (width c.args.fabric.now) here (c.end_of-from.ensures ∙ ap end_at c.old_file.ensures) (c.end_of-to.ensures ∙ ap end_at c.new_file.ensures) c.words-words.ensures.value (following phase) in
+    let end : c.end.result ≡ begins (width c.args.fabric.now) s.home (following phase) = begins_at way at s.home c.end_of-from.result c.end_of-to.result c.words-words.result (width c.args.fabric.now) here (c.end_of-from.ensures ∙ ap end_at c.old_file.ensures) (c.end_of-to.ensures ∙ ap end_at c.new_file.ensures) c.words-words.ensures.value (following phase) c.end.result c.end.ensures in
     stays_in c.args.fabric.now c.advance.new.fabric phase s c.advance.new.self c.requires.phase c.advance.ensures (omega (arith, c.if-stays.true, end, ap steps_done here))
 
 pub returns-else-stays-clause-goes : goal.returns-else-stays-clause-goes
@@ -40,5 +40,5 @@ returns-else-stays-clause-goes g c =
     let way = g.K.Kind.way l.kind in
     let at : Progress = record { steps = l.done; aims = l.aims } in
     let here = ap (λ (x : Moving). x.home) c.self.view_is in
-    let end : c.end.result ≡ begins (width c.args.fabric.now) s.home (following phase) = c.end.ensures ∙ begins_at way at s.home c.end_of-from.result c.end_of-to.result c.words-words.result (width w) here (c.end_of-from.ensures ∙ ap end_at c.old_file.ensures) (c.end_of-to.ensures ∙ ap end_at c.new_file.ensures) c.words-words.ensures.value (following phase) in
+    let end : c.end.result ≡ begins (width c.args.fabric.now) s.home (following phase) = begins_at way at s.home c.end_of-from.result c.end_of-to.result c.words-words.result (width w) here (c.end_of-from.ensures ∙ ap end_at c.old_file.ensures) (c.end_of-to.ensures ∙ ap end_at c.new_file.ensures) c.words-words.ensures.value (following phase) c.end.result c.end.ensures in
     subst (λ made. GoesInPlace phase made w s w s) (sym (le-ltb _ _ c.if-stays.false)) (refl, refl, last_of phase (width w) s c.requires.phase (omega (arith, c.if-stays.false, end, ap steps_done here)))
