@@ -10,8 +10,9 @@ use Rattle.aia_home.specs.Plans.{IsNext}
 use Rattle.aia_places.specs.Holds.{Hand}
 use Rattle.aia_world.specs.World.{World}
 use Rattle.aia_world.specs.Flights.{Fences}
+use Rattle.aia_world.specs.Changes.{pending_words, enable_words}
 use Rattle.aia_moving.specs.declared.who.Who.{Who}
-use Rattle.aia_moving.specs.Move.{Moving, width, Makes, hand_after}
+use Rattle.aia_moving.specs.Move.{Moving, width, old_at, Makes, hand_after}
 
 -- ---- what it needs
 
@@ -53,10 +54,17 @@ TakesNoZero (TakePending k) word = NoZero k word
 TakesNoZero (TakeEnables k) word = NoZero k word
 TakesNoZero access word = ⊤
 
+-- The word that is taken is one of its old place's.
+abbrev pub TakesWithin : Access → Moving → World → Type 0
+TakesWithin (TakePending k) m w = k < pending_words w (old_at m)
+TakesWithin (TakeEnables k) m w = k < enable_words w (old_at m)
+TakesWithin access m w = ⊤
+
 -- A move makes an access, and so much is carried then.
 pub record Executes (access : Access) (m : Moving) (w u : World) (hand : Hand) : Type 0 where
   pub makes : MakesLanding access m w u
   pub carries : hand ≡ hand_after access m w
+  pub within : TakesWithin access m w
   pub no_zero : TakesNoZero access hand.word
 
 -- The next access of a move is made, and so much is carried then; the step is not counted yet.

@@ -1,4 +1,5 @@
 pub mod Places
+pub mod StepMade
 pub mod SetSteps
 pub mod PlaceSteps
 pub mod Carried

@@ -9,7 +9,6 @@ use Rattle.aia_file.specs.FileState.{shown}
 use Rattle.aia_imsic.specs.Imsic.{file_at}
 use Rattle.aia_imsic.proofs.PlaceLemmas.{kept_elsewhere}
 use Rattle.aia_mrif.specs.Mrif.{pending_place, enable_place}
-use Rattle.aia_home.specs.declared.place.Place.{Place}
 use Rattle.aia_home.specs.Vms.{Vcpu}
 use Rattle.aia_places.specs.Places.{of_file, of_slot}
 use Rattle.aia_places.specs.Steps.{Shows, replaced_by}
