@@ -4,7 +4,8 @@ use Rattle.aia_plan.specs.declared.step.Kind.{Kind}
 use Rattle.aia_plan.specs.declared.step.Kind.TheVariants as kinds
 use Rattle.aia_plan.specs.declared.step.Step.{Step}
 use Rattle.aia_plan.specs.declared.step.Step.TheVariants as steps
-use Rattle.aia_home.specs.Plans.{leave_plan, arrive_plan, shift_plan}
+use Rattle.aia_home.specs.declared.end.End.TheVariants.{File, Memory}
+use Rattle.aia_home.specs.Plans.{plan}
 use Rattle.aia_home.specs.declared.access.Access.{Access}
 use Rattle.aia_home.specs.declared.access.Access.TheVariants.{TakeDelivery, PutDelivery, WriteNotice, WriteEntry, Fence, Map, GFence, TakePending, PutPending, TakeEnables, PutEnables, Look, TakeThreshold, PutThreshold, Post}
 
@@ -30,6 +31,6 @@ access_of steps.Wake = PutDelivery
 
 -- The accesses that the core makes for a move of each kind, of files of so many words, in order.
 abbrev pub core_accesses : Kind → ℕ → List Access
-core_accesses kinds.Leave words = leave_plan words
-core_accesses kinds.Arrive words = arrive_plan words
-core_accesses kinds.Shift words = shift_plan words
+core_accesses kinds.Leave words = plan File Memory words
+core_accesses kinds.Arrive words = plan Memory File words
+core_accesses kinds.Shift words = plan File File words

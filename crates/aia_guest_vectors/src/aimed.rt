@@ -2,10 +2,11 @@
 
 ghost use Rattle.std.specs.Prelude.{◌≡◌, ◌+◌, None, Some};
 ghost use Rattle.aia_home.specs.Aims.{host_identity, target_of};
+ghost use Rattle.aia_home.specs.declared.end.End.TheVariants.{File, Memory};
 ghost use Rattle.aia_home.specs.Home.Home.{OnWay};
 ghost use Rattle.aia_home.specs.Home.Way.{Outward};
 ghost use Rattle.aia_home.specs.declared.access.Access.TheVariants.{GFence};
-ghost use Rattle.aia_home.specs.Plans.{leave_step};
+ghost use Rattle.aia_home.specs.Plans.{plan_step};
 ghost use Rattle.aia_home.specs.Vms.{vcpu};
 ghost use Rattle.aia_model.specs.declared.domain_name.DomainName.TheVariants.{Child};
 ghost use Rattle.aia_model.specs.Aim.{pass_reach};
@@ -52,7 +53,8 @@ pub fn a_script_stops_between_two_aims()
     ensures happens { IsHistory (history_of (script_of STOPPED_BETWEEN_AIMS)) }
     ensures stand { AllPassesStand (history_of (script_of STOPPED_BETWEEN_AIMS)) }
     ensures leaves { home (history_of (script_of STOPPED_BETWEEN_AIMS)) (vcpu 0 0)
-        ≡ OnWay (Outward (guest_place 0 1)) (record { steps = leave_step 1 GFence + 1; aims = 1 }) }
+        ≡ OnWay (Outward (guest_place 0 1))
+        (record { steps = plan_step File Memory 1 GFence + 1; aims = 1 }) }
     ensures first_leads { pass_reach (history_of (script_of STOPPED_BETWEEN_AIMS)) 0 ≡ None }
     ensures first_target { target (acts_of (history_of (script_of STOPPED_BETWEEN_AIMS))) Child 1
         ≡ target_of 0 0 (host_identity 0) }

@@ -10,9 +10,10 @@ use Rattle.aia_home.specs.declared.place.Place.{Place}
 use Rattle.aia_home.specs.Vms.{Vcpu, slot_of, notice_hart}
 use Rattle.aia_home.specs.Home.{Home, Progress}
 use Rattle.aia_home.specs.Home.Home.{OnWay}
+use Rattle.aia_home.specs.declared.end.End.TheVariants.{File, Memory}
 use Rattle.aia_home.specs.Home.Way.{Outward}
 use Rattle.aia_home.specs.BySteps.{is_leaving}
-use Rattle.aia_home.specs.Plans.{IsNext, leave_step, leave_steps}
+use Rattle.aia_home.specs.Plans.{IsNext, plan_step, plan_steps}
 use Rattle.aia_home.specs.declared.access.Access.{Access}
 use Rattle.aia_home.specs.declared.access.Access.TheVariants.{Post}
 use Rattle.aia_home.proofs.PlanLemmas.{one_a_step}
@@ -33,18 +34,18 @@ use Rattle.aia_standing.proofs.EventLemmas.{as_it_was}
 
 -- ---- when it is sent
 
-not_last : (steps words : ℕ) (saw : Bool) → steps ≢ leave_step words Post → false ≡ (nat_eq (steps + 1) (leave_steps words) && saw)
-not_last steps words saw ne = sym (ap (λ b. b && saw) (ne_eqb (steps + 1) (leave_steps words) (λ e. ne (omega (arith, e)))))
+not_last : (steps words : ℕ) (saw : Bool) → steps ≢ plan_step File Memory words Post → false ≡ (nat_eq (steps + 1) (plan_steps File Memory words) && saw)
+not_last steps words saw ne = sym (ap (λ b. b && saw) (ne_eqb (steps + 1) (plan_steps File Memory words) (λ e. ne (omega (arith, e)))))
 
-leave_sent : (words : ℕ) (access : Access) (from : Place) (at : Progress) (hand : Hand) (saw : Bool) → IsNext words (OnWay (Outward from) at) access → hand.seen ≡ saw → sends access hand ≡ (nat_eq (at.steps + 1) (leave_steps words) && saw)
-leave_sent words access from at hand saw next seen = elim (cases_eq at.steps (leave_step words Post)) [
+leave_sent : (words : ℕ) (access : Access) (from : Place) (at : Progress) (hand : Hand) (saw : Bool) → IsNext words (OnWay (Outward from) at) access → hand.seen ≡ saw → sends access hand ≡ (nat_eq (at.steps + 1) (plan_steps File Memory words) && saw)
+leave_sent words access from at hand saw next seen = elim (cases_eq at.steps (plan_step File Memory words Post)) [
   | inl last ↦
       let post : access ≡ Post = one_a_step words (OnWay (Outward from) at) access Post next.has refl (sym next.step ∙ last) in
-      ap (λ (a : Access). sends a hand) post ∙ seen ∙ sym (ap (λ b. b && saw) (eq-eqb (at.steps + 1) (leave_steps words) (omega (arith, last))))
+      ap (λ (a : Access). sends a hand) post ∙ seen ∙ sym (ap (λ b. b && saw) (eq-eqb (at.steps + 1) (plan_steps File Memory words) (omega (arith, last))))
   | inr more ↦ silent access next more ∙ not_last at.steps words saw more
 ]
   where
-    silent : (access : Access) → IsNext words (OnWay (Outward from) at) access → at.steps ≢ leave_step words Post → sends access hand ≡ false
+    silent : (access : Access) → IsNext words (OnWay (Outward from) at) access → at.steps ≢ plan_step File Memory words Post → sends access hand ≡ false
     silent Post next more = absurd (more next.step)
     silent access next more = refl
 

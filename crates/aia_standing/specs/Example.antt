@@ -2,7 +2,7 @@
 -- source is passed, is leaving its own; and the core that stands for it.
 use Rattle.std.specs.Prelude.{ℕ, ◌+◌, ◌-◌, ◌*◌, length, true, false, List, [], ◌∷◌, ◌++◌, replicate, Some, None, zero, suc}
 use Rattle.aia_home.specs.declared.access.Access.TheVariants.{PutPending}
-use Rattle.aia_home.specs.Plans.{leave_step}
+use Rattle.aia_home.specs.Plans.{plan_step}
 use Rattle.aia_regs.specs.declared.limits.TheConstants.{HARTS, VCPUS, ENTRIES, WORDS_OF_SLOTS, MEMORY_WORDS}
 use Rattle.aia_regs.specs.declared.access.Csr.{Csr}
 use Rattle.aia_regs.specs.declared.access.Csr.TheVariants.{Select, Reg}
@@ -15,6 +15,7 @@ use Rattle.aia_home.specs.declared.place.Place.{Place}
 use Rattle.aia_home.specs.Vms.{Vcpu, vcpu}
 use Rattle.aia_home.specs.Home.{Progress}
 use Rattle.aia_home.specs.Home.Home.{OnWay}
+use Rattle.aia_home.specs.declared.end.End.TheVariants.{File, Memory}
 use Rattle.aia_home.specs.Home.Way.{Outward}
 use Rattle.aia_major.specs.Kept.{kept_at_first}
 use Rattle.aia_places.specs.Places.{leads_to, entry_word, second_word}
@@ -101,7 +102,7 @@ before_leaving = Accepted (lines.Ipi 0 0 1 1)
 -- is taken, all routes lead to the slot, the source is aimed at its notice hart, and that word is
 -- taken.
 abbrev pub so_far : Progress
-so_far = record { steps = leave_step 1 (PutPending 0); aims = 1 }
+so_far = record { steps = plan_step File Memory 1 (PutPending 0); aims = 1 }
 
 abbrev pub steps_so_far : ℕ
 steps_so_far = so_far.steps + so_far.aims
