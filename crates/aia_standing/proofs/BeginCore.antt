@@ -1,5 +1,5 @@
 -- A call begins a move that is wanted, or refuses it, as its line is.
-use Rattle.std.proofs.Common.{◌≡◌, ℕ, ◌<◌, ◌≤◌, Bool, true, false, ◌&&◌, not, cond, List, is_none, Option, Some, None, unwrap_or, inl, inr, refl, sym, ap, subst, ◌∙◌, arith}
+use Rattle.std.proofs.Common.{◌≡◌, ℕ, ◌<◌, ◌≤◌, Bool, true, false, ◌&&◌, not, cond, List, ◌∷◌, is_none, Option, Some, None, unwrap_or, inl, inr, refl, sym, ap, subst, ◌∙◌, arith}
 use Rattle.std.proofs.Math.ListN.{set}
 use Rattle.std.proofs.lemmas.Bool.{cases_lt, cond-true, lt-ltb, le-ltb}
 use Rattle.std.proofs.lemmas.List.{set-get_or}
@@ -10,11 +10,11 @@ use Rattle.aia_home.specs.Vms.{Vcpu, vcpu, is_vcpu_in, slot_of}
 use Rattle.aia_home.specs.Home.{at_first, rests_in_memory, is_moving}
 use Rattle.aia_home.specs.Home.Home.{OnWay}
 use Rattle.aia_home.specs.Home.Way.{Inward, Across}
-use Rattle.aia_pool.specs.Leases.{least_free}
+use Rattle.aia_pool.specs.Leases.{least_free, with_out}
 use Rattle.aia_moving.specs.declared.who.Who.{Who}
 use Rattle.aia_moving.specs.declared.who.KeptNumbers.{KeptNumbers}
 use Rattle.aia_move.specs.declared.plan.Plan.{Plan}
-use Rattle.aia_moving.specs.Move.{IsWho}
+use Rattle.aia_moving.specs.Move.{Moving, IsWho}
 use Rattle.aia_move.specs.Plan.{moving_of, IsInPhase}
 use Rattle.aia_model.specs.declared.answer.Answer.{Answer}
 use Rattle.aia_model.specs.declared.answer.Answer.TheVariants.{Okay, Refused}
@@ -22,13 +22,15 @@ use Rattle.aia_model.specs.declared.refusal.Refusal.{Refusal}
 use Rattle.aia_model.specs.declared.refusal.Refusal.TheVariants as words
 use Rattle.aia_model.specs.declared.line.Line.TheVariants as lines
 use Rattle.aia_model.specs.Event.{History, has_machine, has_hart, harts_of}
+use Rattle.aia_model.specs.Event.Event.{Began}
 use Rattle.aia_model.specs.Histories.{IsHistory}
 use Rattle.aia_model.specs.Vms.{has_vcpu}
 use Rattle.aia_model.specs.HomeOf.{home, guest_place, free_file}
 use Rattle.aia_model.specs.Refusal.{refusal}
 use Rattle.aia_model.specs.Answer.{accepted_answer}
 use Rattle.aia_model.proofs.AnswerLemmas.{answered, arrive_refusal, leave_refusal, shift_refusal}
-use Rattle.aia_model.proofs.RefusalLemmas.{unless_parked, leave_allowed, arrive_allowed, shift_allowed}
+use Rattle.aia_model.proofs.RefusalLemmas.{unless_parked}
+use Rattle.aia_model.proofs.BeginLemmas.{may_begin}
 use Rattle.aia_standing.specs.Passes.{own_passes}
 use Rattle.aia_model.specs.declared.want.Want.{Want}
 use Rattle.aia_model.specs.declared.want.Want.TheVariants as wants
@@ -43,7 +45,7 @@ use Rattle.std.specs.Prelude.{Result, Ok, Err}
 use Rattle.aia_home.specs.declared.rest.Rest.TheVariants.{Parked}
 use Rattle.aia_standing.proofs.RestLemmas.{parked_is, word_is}
 use Rattle.aia_standing.proofs.DeviceLemmas.{same_core}
-use Rattle.aia_standing.proofs.LeaseLemmas.{same_free, free_there}
+use Rattle.aia_standing.proofs.LeaseLemmas.{IsFreeAt, same_free, free_there}
 use Rattle.aia_standing.proofs.BeginLines.{Given, home_at, leave_begun, arrive_begun, shift_begun}
 
 -- ---- by the refusal
@@ -54,9 +56,7 @@ Answered x y h vm number want given =
     (r : Option Answer) × (refusal h (lines.Move vm number want) ≡ r) × (given ≡ unwrap_or r Okay) × CoreStands y (move_begun r h (wanted_move (vcpu vm number) want)) × ((word : Answer) → r ≡ Some word → y ≡ x)
 
 okay : (h : History) (vm number : ℕ) (want : Want) → accepted_answer h (lines.Move vm number want) ≡ Okay
-okay h vm number wants.Leave = refl
-okay h vm number (wants.Arrive hart) = refl
-okay h vm number (wants.Shift hart) = refl
+okay h vm number want = refl
 
 pub move_answered : (x y : CoreState) (vm number : ℕ) (want : Want) (given : Answer) → ((h : History) → CoreStands x h → Answered x y h vm number want given) → MoveBegins x y vm number want given
 move_answered x y vm number want given by = record {
@@ -164,25 +164,33 @@ module _ (x y : CoreState) (who : Who) (given : Answer) (h : History) (stands : 
   same_least : (hart : ℕ) → hart < x.leases.harts → free_file h (home h) hart ≡ least_free x.leases hart
   same_least hart low = sym (same_free x h hart stands (in_world hart low))
 
-  arrive_in : (new : Stay) (hart : ℕ) (kept : KeptNumbers) (o : Option ℕ) → Put x y who new → (record_of x (vcpu who.found.vm who.found.number)).stay ≡ stays.InMemory Parked kept → hart < x.leases.harts → least_free x.leases hart ≡ o
-      → BeginsIn o hart (λ to. record { who = who; home = OnWay (Inward to) at_first; hand = record empty_hand { delivery = kept.delivery; threshold = kept.threshold } }) (stays.InMemory Parked kept) new x.leases y.leases given
-      → Answered x y h who.found.vm who.found.number (wants.Arrive hart) given
-  arrive_in new hart kept None p was low found b = refused (wants.Arrive hart) words.NoFile new (stays.InMemory Parked kept) p was b
-      (arrive_refused new (stays.InMemory Parked kept) hart true None p was (hart_low hart low) (same_least hart low ∙ found))
-  arrive_in (stays.Moving plan) hart kept (Some file) p was low found b = (
+  -- it takes a guest file of a hart, where one is free, and is refused where none is
+  taken_in : (want : Want) (new old : Stay) (hart : ℕ) (moving : Place → Moving) (o : Option ℕ) → Put x y who new → (record_of x (vcpu who.found.vm who.found.number)).stay ≡ old → hart < x.leases.harts → least_free x.leases hart ≡ o
+      → refusal h (lines.Move who.found.vm who.found.number want) ≡ cond (is_none o) (Some (Refused words.NoFile)) None
+      → ((plan : Plan) (to : Place) → Given x y h (vcpu who.found.vm who.found.number) who plan (at_stay (record_of x (vcpu who.found.vm who.found.number)) (stays.Moving plan)) → IsFreeAt x h hart to → y.leases ≡ with_out x.leases to true → moving_of plan ≡ moving to
+        → CoreStands y (Began (wanted_move (vcpu who.found.vm who.found.number) want) ∷ h))
+      → BeginsIn o hart moving old new x.leases y.leases given → Answered x y h who.found.vm who.found.number want given
+  taken_in want new old hart moving None p was low found is begun b = refused want words.NoFile new old p was b is
+  taken_in want (stays.Moving plan) old hart moving (Some file) p was low found is begun b = (
     None,
-    arrive_refused (stays.Moving plan) (stays.InMemory Parked kept) hart true (Some file) p was (hart_low hart low) (same_least hart low ∙ found),
+    is,
     b.0,
-    arrive_begun x y h g hart who plan (at_stay (record_of x g) (stays.Moving plan)) (guest_place hart file) kept (planned plan p b.1.1) (free_there x h hart (guest_place hart file) stands (in_world hart low) found refl) b.2 was b.1.0,
+    begun plan (guest_place hart file) (planned plan p b.1.1) (free_there x h hart (guest_place hart file) stands (in_world hart low) found refl) b.2 b.1.0,
     λ word e. absurd (none-some word e),
   )
-  arrive_in new hart kept (Some file) p was low found b = absurd b.1
+  taken_in want new old hart moving (Some file) p was low found is begun b = absurd b.1
+
+  arrive_in : (new : Stay) (hart : ℕ) (kept : KeptNumbers) → Put x y who new → (record_of x (vcpu who.found.vm who.found.number)).stay ≡ stays.InMemory Parked kept → hart < x.leases.harts
+      → ArriveFrom (Ok kept) who hart (stays.InMemory Parked kept) new x.leases y.leases given → Answered x y h who.found.vm who.found.number (wants.Arrive hart) given
+  arrive_in new hart kept p was low b = taken_in (wants.Arrive hart) new (stays.InMemory Parked kept) hart (λ to. record { who = who; home = OnWay (Inward to) at_first; hand = record empty_hand { delivery = kept.delivery; threshold = kept.threshold } }) (least_free x.leases hart) p was low refl
+      (arrive_refused new (stays.InMemory Parked kept) hart true (least_free x.leases hart) p was (hart_low hart low) (same_least hart low))
+      (λ plan to put free leases begins. arrive_begun x y h g hart who plan (at_stay (record_of x g) (stays.Moving plan)) to kept put free leases was begins) b
 
   arrive_answered : (new old : Stay) (hart : ℕ) → Put x y who new → (record_of x (vcpu who.found.vm who.found.number)).stay ≡ old → hart < x.leases.harts → ArriveBegins who hart old new x.leases y.leases given → Answered x y h who.found.vm who.found.number (wants.Arrive hart) given
   arrive_answered new old hart p was low b = by (parked_at old) refl b
     where
       by : (r : Result KeptNumbers Refusal) → parked_at old ≡ r → ArriveFrom r who hart old new x.leases y.leases given → Answered x y h who.found.vm who.found.number (wants.Arrive hart) given
-      by (Ok kept) is b = let same = parked_is old kept is in arrive_in new hart kept (least_free x.leases hart) p (was ∙ same) low refl (subst (λ s. ArriveFrom (Ok kept) who hart s new x.leases y.leases given) same b)
+      by (Ok kept) is b = let same = parked_is old kept is in arrive_in new hart kept p (was ∙ same) low (subst (λ s. ArriveFrom (Ok kept) who hart s new x.leases y.leases given) same b)
       by (Err word) is b = refused (wants.Arrive hart) word new old p was b
           (arrive_refused new old hart true (free_file h (home h) hart) p was (hart_low hart low) refl
           ∙ word_is x.world g old word (cond (is_none (free_file h (home h) hart)) (Some (Refused words.NoFile)) None) (subst (PlanStands x.world g) was (stands.vcpus g (is_there new p)).plan) is)
@@ -197,22 +205,10 @@ module _ (x y : CoreState) (who : Who) (given : Answer) (h : History) (stands : 
       shift_refusal h who.found.vm who.found.number hart stands.there
       ∙ (λ k. cond (not (inside k && on k)) (Some (Refused words.Range)) (cond (is_moving (there k)) (Some (Refused words.Busy)) (cond (rests_in_memory (there k)) (Some (Refused words.Parked)) (cond (is_none (free k)) (Some (Refused words.NoFile)) None))))
 
-  shift_in : (new : Stay) (hart : ℕ) (from : Place) (o : Option ℕ) → Put x y who new → (record_of x (vcpu who.found.vm who.found.number)).stay ≡ stays.Resident from → hart < x.leases.harts → least_free x.leases hart ≡ o
-      → BeginsIn o hart (λ to. record { who = who; home = OnWay (Across from to) at_first; hand = empty_hand }) (stays.Resident from) new x.leases y.leases given
-      → Answered x y h who.found.vm who.found.number (wants.Shift hart) given
-  shift_in new hart from None p was low found b = refused (wants.Shift hart) words.NoFile new (stays.Resident from) p was b
-      (shift_refused new (stays.Resident from) hart true None p was (hart_low hart low) (same_least hart low ∙ found))
-  shift_in (stays.Moving plan) hart from (Some file) p was low found b = (
-    None,
-    shift_refused (stays.Moving plan) (stays.Resident from) hart true (Some file) p was (hart_low hart low) (same_least hart low ∙ found),
-    b.0,
-    shift_begun x y h g hart who plan (at_stay (record_of x g) (stays.Moving plan)) from (guest_place hart file) (planned plan p b.1.1) (free_there x h hart (guest_place hart file) stands (in_world hart low) found refl) b.2 was b.1.0,
-    λ word e. absurd (none-some word e),
-  )
-  shift_in new hart from (Some file) p was low found b = absurd b.1
-
   shift_answered : (new old : Stay) (hart : ℕ) → Put x y who new → (record_of x (vcpu who.found.vm who.found.number)).stay ≡ old → hart < x.leases.harts → ShiftBegins who hart old new x.leases y.leases given → Answered x y h who.found.vm who.found.number (wants.Shift hart) given
-  shift_answered new (stays.Resident from) hart p was low b = shift_in new hart from (least_free x.leases hart) p was low refl b
+  shift_answered new (stays.Resident from) hart p was low b = taken_in (wants.Shift hart) new (stays.Resident from) hart (λ to. record { who = who; home = OnWay (Across from to) at_first; hand = empty_hand }) (least_free x.leases hart) p was low refl
+      (shift_refused new (stays.Resident from) hart true (least_free x.leases hart) p was (hart_low hart low) (same_least hart low))
+      (λ plan to put free leases begins. shift_begun x y h g hart who plan (at_stay (record_of x g) (stays.Moving plan)) from to put free leases was begins) b
   shift_answered new (stays.InMemory rest kept) hart p was low b = refused (wants.Shift hart) words.Parked new (stays.InMemory rest kept) p was b
       (shift_refused new (stays.InMemory rest kept) hart true (free_file h (home h) hart) p was (hart_low hart low) refl)
   shift_answered new (stays.Moving plan) hart p was low b = refused (wants.Shift hart) words.Busy new (stays.Moving plan) p was b
@@ -254,9 +250,7 @@ no_move x vm number want none = move_answered x x vm number want (Refused words.
 
 -- it stands for some history still
 begun_happens : (word : Option Answer) (h : History) (vm number : ℕ) (want : Want) → refusal h (lines.Move vm number want) ≡ word → IsHistory h → IsHistory (move_begun word h (wanted_move (vcpu vm number) want))
-begun_happens None h vm number wants.Leave e good = let may = leave_allowed h vm number e in ((may.0, may.1, refl), good)
-begun_happens None h vm number (wants.Arrive hart) e good = let may = arrive_allowed h vm number hart e in ((may.0, may.1, may.4), good)
-begun_happens None h vm number (wants.Shift hart) e good = let may = shift_allowed h vm number hart e in ((may.0, may.1, may.4), good)
+begun_happens None h vm number want e good = (may_begin h vm number want e, good)
 begun_happens (Some word) h vm number want e good = good
 
 pub begins_still : (x y : CoreState) (vm number : ℕ) (want : Want) (given : Answer) → MoveBegins x y vm number want given → StandsForSome x → StandsForSome y

@@ -1,5 +1,5 @@
 -- Each of the three moves begins, in a core that stands for a history.
-use Rattle.std.proofs.Common.{◌≡◌, ℕ, Bool, true, false, ◌&&◌, ◌||◌, ◌∷◌, Some, None, inl, inr, refl, sym, ap, subst, ◌∙◌}
+use Rattle.std.proofs.Common.{◌≡◌, ℕ, Bool, true, false, ◌&&◌, ◌||◌, ◌∷◌, Option, Some, None, inl, inr, refl, sym, ap, subst, ◌∙◌}
 use Rattle.std.proofs.Math.ListN.{set}
 use Rattle.std.specs.Option.{option_map_or}
 use Rattle.std.proofs.lemmas.Bool.{cases_Bool, cond-true, false≢true}
@@ -8,7 +8,7 @@ use Rattle.aia_file.specs.FileState.{shown}
 use Rattle.aia_imsic.specs.Imsic.{file_at}
 use Rattle.aia_home.specs.declared.place.Place.{Place}
 use Rattle.aia_home.specs.Vms.{Vcpu, vcpu, slot_of, notice_hart}
-use Rattle.aia_home.specs.Home.{Home, is_place, is_moving, holds, at_first, leaving, arriving, shifting}
+use Rattle.aia_home.specs.Home.{Way, Home, is_place, is_moving, holds, at_first, leaving, arriving, shifting}
 use Rattle.aia_home.specs.declared.rest.Rest.TheVariants.{Parked}
 use Rattle.aia_home.specs.Home.Home.{InMemory, Resident, OnWay}
 use Rattle.aia_home.specs.Home.Way.{Outward, Inward, Across}
@@ -16,7 +16,7 @@ use Rattle.aia_home.specs.BySteps.{is_leaving}
 use Rattle.aia_home.specs.Plans.{steps_done}
 use Rattle.aia_home.proofs.AllLemmas.{of_none}
 use Rattle.aia_places.specs.Holds.{Hand, Holds, IsEmpty}
-use Rattle.aia_places.specs.Stores.{AreApart}
+use Rattle.aia_places.specs.Stores.{HasApart, AreApart}
 use Rattle.aia_places.proofs.MoveEnds.{leave_begins, shift_begins, arrive_begins}
 use Rattle.aia_pool.specs.Leases.{with_out}
 use Rattle.aia_world.specs.Changes.{spot_of, places_of}
@@ -25,6 +25,7 @@ use Rattle.aia_moving.specs.declared.who.KeptNumbers.{KeptNumbers}
 use Rattle.aia_move.specs.declared.plan.Plan.{Plan}
 use Rattle.aia_moving.specs.Move.{Moving, width, IsWho}
 use Rattle.aia_move.specs.Plan.{moving_of, IsInPhase}
+use Rattle.aia_model.specs.Move.{Move, mover}
 use Rattle.aia_model.specs.Move.Move.{Arrives, Leaves, Shifts}
 use Rattle.aia_model.specs.Event.{History, greatest_identity_of, file_words}
 use Rattle.aia_model.specs.Event.Event.{Began}
@@ -43,7 +44,7 @@ use Rattle.aia_home.proofs.HomeLemmas.{same_place, is_itself_place}
 use Rattle.aia_standing.proofs.VcpuLemmas.{IsHeld, Wanted}
 use Rattle.aia_standing.specs.Passes.{own_passes}
 use Rattle.aia_standing.proofs.LeaseLemmas.{IsFreeAt}
-use Rattle.aia_standing.proofs.MoveBegins.{begun_stands}
+use Rattle.aia_standing.proofs.MoveBegins.{with_taken, is_taken, IsFreeIn, begun_stands}
 
 -- ---- what is true of each beginning
 
@@ -93,6 +94,45 @@ or_nothing : (b : Bool) → b ≡ (b || false)
 or_nothing true = refl
 or_nothing false = refl
 
+-- the move of one begins at a way, and its places hold what they held
+begun_at : (x y : CoreState) (h : History) (move : Move) (who : Who) (plan : Plan) (r : VcpuRecord) (way : Way) (hand : Hand) (taken : Option Place) → Given x y h (mover move) who plan r → y.leases ≡ with_taken taken x.leases → IsFreeIn x h taken
+    → moving_of plan ≡ record { who = who; home = OnWay way at_first; hand = hand } → home (Began move ∷ h) (mover move) ≡ OnWay way at_first → ((q : Place) → holds q (OnWay way at_first) ≡ (holds q (home h (mover move)) || is_taken q taken)) → HasApart way
+    → Holds (file_words h) (slot_of (vms_of h) (mover move)) (notice_hart (vms_of h) (mover move)) (in_force_of h (mover move)) (places_of x.world (mover move) (OnWay way at_first)) (OnWay way at_first) hand (guest_file h (mover move)) (a_look_saw (Began move ∷ h) (mover move))
+    → CoreStands y (Began move ∷ h)
+begun_at x y h move who plan r way hand taken b leases free begins after holding apart held = begun_stands x y h move plan r taken (record {
+  stands = b.stands;
+  there = b.there;
+  world = b.world;
+  selects = b.selects;
+  passes = b.passes;
+  vcpus = b.vcpus;
+  leases = leases;
+  is_free = free;
+  stay = b.stay;
+  select = b.select;
+  majors = b.majors;
+  who = subst (IsWho x.world) (ap (λ (m : Moving). m.who) (sym begins)) b.is_who;
+  its_passes = ap (λ (m : Moving). m.who.passes.items) begins ∙ b.its_passes;
+  same = ap (λ (m : Moving). vcpu m.who.found.vm m.who.found.number) begins ∙ b.same;
+  phase = b.phase (width x.world);
+  goes = ap (λ (m : Moving). m.home) begins ∙ sym after;
+  moving = ap (λ (m : Moving). is_moving m.home) begins;
+  first = ap (λ (m : Moving). steps_done m.home) begins;
+  holds = λ q. ap (holds q) after ∙ holding q;
+  two_files = subst AreApart (sym after) apart;
+  held = subst IsHeld (λ k. record {
+    words = file_words h;
+    slot = slot_of (vms_of h) (mover move);
+    hart = notice_hart (vms_of h) (mover move);
+    reach = in_force_of h (mover move);
+    shows = places_of x.world (mover move) (sym after k);
+    there = sym after k;
+    hand = (sym begins k).hand;
+    file = guest_file h (mover move);
+    saw = a_look_saw (Began move ∷ h) (mover move);
+  }) held;
+})
+
 -- ---- a leave
 
 pub leave_begun : (x y : CoreState) (h : History) (g : Vcpu) (who : Who) (plan : Plan) (r : VcpuRecord) (from : Place) → Given x y h g who plan r → y.leases ≡ x.leases → (record_of x g).stay ≡ stays.Resident from
@@ -104,39 +144,8 @@ leave_begun x y h g who plan r from b leases was begins =
     let held : Holds (file_words h) (slot_of (vms_of h) g) (notice_hart (vms_of h) g) (in_force_of h g) (places_of x.world g (OnWay (Outward from) at_first)) (OnWay (Outward from) at_first) hand (guest_file h g) false =
     leave_begins (greatest_identity_of h) (file_words h) (slot_of (vms_of h) g) (notice_hart (vms_of h) g) (in_force_of h g) (places_of x.world g (Resident from)) (hand_in (record_of x g).stay) hand (guest_file h g) (a_look_saw h g) from refl
     (held_at x h g (Resident from) b.stands b.there before) in
-    begun_stands x y h (Leaves g) plan r None (record {
-      stands = b.stands;
-      there = b.there;
-      world = b.world;
-      selects = b.selects;
-      passes = b.passes;
-      vcpus = b.vcpus;
-      leases = leases;
-      is_free = tt;
-      stay = b.stay;
-      select = b.select;
-      majors = b.majors;
-      who = subst (IsWho x.world) (ap (λ (m : Moving). m.who) (sym begins)) b.is_who;
-      its_passes = ap (λ (m : Moving). m.who.passes.items) begins ∙ b.its_passes;
-      same = ap (λ (m : Moving). vcpu m.who.found.vm m.who.found.number) begins ∙ b.same;
-      phase = b.phase (width x.world);
-      goes = ap (λ (m : Moving). m.home) begins ∙ sym after;
-      moving = ap (λ (m : Moving). is_moving m.home) begins;
-      first = ap (λ (m : Moving). steps_done m.home) begins;
-      holds = λ q. ap (holds q) after ∙ ap (holds q) (sym before) ∙ or_nothing (holds q (home h g));
-      two_files = subst AreApart (sym after) tt;
-      held = subst IsHeld (λ k. record {
-        words = file_words h;
-        slot = slot_of (vms_of h) g;
-        hart = notice_hart (vms_of h) g;
-        reach = in_force_of h g;
-        shows = places_of x.world g (sym after k);
-        there = sym after k;
-        hand = (sym begins k).hand;
-        file = guest_file h g;
-        saw = sym (seen_begun h g) k;
-      }) held;
-    })
+    begun_at x y h (Leaves g) who plan r (Outward from) hand None b leases tt begins after (λ q. ap (holds q) (sym before) ∙ or_nothing (holds q (home h g))) tt
+    (subst (λ saw. Holds (file_words h) (slot_of (vms_of h) g) (notice_hart (vms_of h) g) (in_force_of h g) (places_of x.world g (OnWay (Outward from) at_first)) (OnWay (Outward from) at_first) hand (guest_file h g) saw) (sym (seen_begun h g)) held)
 
 -- ---- an arrival
 
@@ -151,39 +160,8 @@ arrive_begun x y h g hart who plan r to kept b free leases was begins =
     let held : Holds (file_words h) (slot_of (vms_of h) g) (notice_hart (vms_of h) g) (in_force_of h g) (places_of x.world g (OnWay (Inward to) at_first)) (OnWay (Inward to) at_first) hand (guest_file h g) false =
     arrive_begins (greatest_identity_of h) (file_words h) (slot_of (vms_of h) g) (notice_hart (vms_of h) g) (in_force_of h g) (places_of x.world g (InMemory Parked)) (hand_in (record_of x g).stay) hand (guest_file h g) (a_look_saw h g) to (places_of x.world g (OnWay (Inward to) at_first)) refl
     (free_is_empty x h hart to b.stands free) (ap (λ s. (hand_in s).delivery) (sym was)) (ap (λ s. (hand_in s).threshold) (sym was)) (held_at x h g (InMemory Parked) b.stands b.there before) in
-    begun_stands x y h (Arrives g hart) plan r (Some to) (record {
-      stands = b.stands;
-      there = b.there;
-      world = b.world;
-      selects = b.selects;
-      passes = b.passes;
-      vcpus = b.vcpus;
-      leases = leases;
-      is_free = (free.inside, free.none);
-      stay = b.stay;
-      select = b.select;
-      majors = b.majors;
-      who = subst (IsWho x.world) (ap (λ (m : Moving). m.who) (sym begins)) b.is_who;
-      its_passes = ap (λ (m : Moving). m.who.passes.items) begins ∙ b.its_passes;
-      same = ap (λ (m : Moving). vcpu m.who.found.vm m.who.found.number) begins ∙ b.same;
-      phase = b.phase (width x.world);
-      goes = ap (λ (m : Moving). m.home) begins ∙ sym after;
-      moving = ap (λ (m : Moving). is_moving m.home) begins;
-      first = ap (λ (m : Moving). steps_done m.home) begins;
-      holds = λ q. ap (holds q) after ∙ sym (ap (λ t. holds q t || is_place q to) before);
-      two_files = subst AreApart (sym after) tt;
-      held = subst IsHeld (λ k. record {
-        words = file_words h;
-        slot = slot_of (vms_of h) g;
-        hart = notice_hart (vms_of h) g;
-        reach = in_force_of h g;
-        shows = places_of x.world g (sym after k);
-        there = sym after k;
-        hand = (sym begins k).hand;
-        file = guest_file h g;
-        saw = a_look_saw (Began (Arrives g hart) ∷ h) g;
-      }) (saw_any _ (a_look_saw (Began (Arrives g hart) ∷ h) g) refl held);
-    })
+    begun_at x y h (Arrives g hart) who plan r (Inward to) hand (Some to) b leases (free.inside, free.none) begins after (λ q. sym (ap (λ t. holds q t || is_place q to) before)) tt
+    (saw_any _ (a_look_saw (Began (Arrives g hart) ∷ h) g) refl held)
 
 -- ---- a shift
 
@@ -198,39 +176,8 @@ shift_begun x y h g hart who plan r from to b free leases was begins =
     let held : Holds (file_words h) (slot_of (vms_of h) g) (notice_hart (vms_of h) g) (in_force_of h g) (places_of x.world g (OnWay (Across from to) at_first)) (OnWay (Across from to) at_first) hand (guest_file h g) false =
     shift_begins (greatest_identity_of h) (file_words h) (slot_of (vms_of h) g) (notice_hart (vms_of h) g) (in_force_of h g) (places_of x.world g (Resident from)) (hand_in (record_of x g).stay) hand (guest_file h g) (a_look_saw h g) from to (places_of x.world g (OnWay (Across from to) at_first)) refl
     (free_is_empty x h hart to b.stands free) (held_at x h g (Resident from) b.stands b.there before) in
-    begun_stands x y h (Shifts g hart) plan r (Some to) (record {
-      stands = b.stands;
-      there = b.there;
-      world = b.world;
-      selects = b.selects;
-      passes = b.passes;
-      vcpus = b.vcpus;
-      leases = leases;
-      is_free = (free.inside, free.none);
-      stay = b.stay;
-      select = b.select;
-      majors = b.majors;
-      who = subst (IsWho x.world) (ap (λ (m : Moving). m.who) (sym begins)) b.is_who;
-      its_passes = ap (λ (m : Moving). m.who.passes.items) begins ∙ b.its_passes;
-      same = ap (λ (m : Moving). vcpu m.who.found.vm m.who.found.number) begins ∙ b.same;
-      phase = b.phase (width x.world);
-      goes = ap (λ (m : Moving). m.home) begins ∙ sym after;
-      moving = ap (λ (m : Moving). is_moving m.home) begins;
-      first = ap (λ (m : Moving). steps_done m.home) begins;
-      holds = λ q. ap (holds q) after ∙ sym (ap (λ t. holds q t || is_place q to) before);
-      two_files = subst AreApart (sym after) (apart before);
-      held = subst IsHeld (λ k. record {
-        words = file_words h;
-        slot = slot_of (vms_of h) g;
-        hart = notice_hart (vms_of h) g;
-        reach = in_force_of h g;
-        shows = places_of x.world g (sym after k);
-        there = sym after k;
-        hand = (sym begins k).hand;
-        file = guest_file h g;
-        saw = a_look_saw (Began (Shifts g hart) ∷ h) g;
-      }) (saw_any _ (a_look_saw (Began (Shifts g hart) ∷ h) g) refl held);
-    })
+    begun_at x y h (Shifts g hart) who plan r (Across from to) hand (Some to) b leases (free.inside, free.none) begins after (λ q. sym (ap (λ t. holds q t || is_place q to) before)) (apart before)
+    (saw_any _ (a_look_saw (Began (Shifts g hart) ∷ h) g) refl held)
   where
     -- its own file is held, the other one is not
     apart : home h g ≡ Resident from → is_place from to ≡ false

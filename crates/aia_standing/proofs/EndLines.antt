@@ -48,7 +48,7 @@ use Rattle.aia_standing.specs.declared.vcpu.VcpuRecord.{VcpuRecord}
 use Rattle.aia_standing.specs.Core.{CoreState, record_of, home_in, hand_in}
 use Rattle.aia_standing.specs.Moves.{stay_after, back_of, with_back}
 use Rattle.aia_standing.specs.Stands.{PlanStands, VcpuStands, is_held, CoreStands}
-use Rattle.aia_home.proofs.HomeLemmas.{same_place, is_itself_place}
+use Rattle.aia_home.proofs.HomeLemmas.{same_place, origin_is_held}
 use Rattle.aia_standing.proofs.VcpuLemmas.{IsHeld, majors_rest}
 use Rattle.aia_standing.proofs.StandsLemmas.{guest_too}
 use Rattle.aia_pool.proofs.LeaseLemmas.{out_here, out_elsewhere}
@@ -87,8 +87,7 @@ ended_left q there e n = absurd (false≢true e)
 
 -- the file that it leaves it held, and holds no more
 pub ended_held : (p : Place) (there : Home) → old_file there ≡ Some p → holds p there ≡ true
-ended_held p (OnWay (Outward from) at) e = let same : from ≡ p = cc in ap (is_place p) same ∙ is_itself_place p
-ended_held p (OnWay (Across from to) at) e = let same : from ≡ p = cc in ap (λ f. is_place p f || is_place p to) same ∙ ap (λ b. b || is_place p to) (is_itself_place p)
+ended_held p (OnWay way at) e = origin_is_held (OnWay way at) p e
 ended_held p there e = absurd (cc)
 
 ended_unheld : (p : Place) (there : Home) → AreApart there → old_file there ≡ Some p → holds p (ended there) ≡ false
@@ -134,6 +133,21 @@ change_word words v there word now file first h = record {
     enables_no : (w : ℕ) → is_last_made words there (TakeEnables w) ≡ false
     enables_no w = ne_eqb (steps_done there) (step_of words there (TakeEnables w) + 1) (λ e. omega (arith, first, e))
 
+in_its_file : (p : Place) (hand now : Hand) (words slot hart : ℕ) (reach : Option Place) (v : Places) (file : InterruptFile) (saw : Bool) → Holds words slot hart reach v (Resident p) hand file false → Holds words slot hart reach v (Resident p) now file saw
+in_its_file p hand now words slot hart reach v file saw h = record {
+  sets = change_word words v (Resident p) hand.word now.word file refl h.sets;
+  numbers = record {
+    own_delivery = h.numbers.own_delivery;
+    next_delivery = h.numbers.next_delivery;
+    kept_delivery = λ z. absurd (cc);
+    own_threshold = h.numbers.own_threshold;
+    next_threshold = h.numbers.next_threshold;
+    kept_threshold = λ z. absurd (cc);
+  };
+  routes = h.routes;
+  looks = refl;
+}
+
 rested : (o : Outcome) (there : Home) (hand : Hand) (words slot hart : ℕ) (reach : Option Place) (v : Places) (file : InterruptFile) (saw : Bool) → GivesBack o there hand → Holds words slot hart reach v (ended there) hand file false → Holds words slot hart reach v (ended there) (hand_in (stay_after o)) file saw
 rested (Left place kept) (OnWay (Outward from) at) hand words slot hart reach v file saw g h = record {
   sets = change_word words v (InMemory Parked) hand.word 0 file refl h.sets;
@@ -148,32 +162,8 @@ rested (Left place kept) (OnWay (Outward from) at) hand words slot hart reach v 
   routes = h.routes;
   looks = refl;
 }
-rested (Arrived place) (OnWay (Inward to) at) hand words slot hart reach v file saw g h = record {
-  sets = change_word words v (Resident to) hand.word 0 file refl h.sets;
-  numbers = record {
-    own_delivery = h.numbers.own_delivery;
-    next_delivery = h.numbers.next_delivery;
-    kept_delivery = λ z. absurd (cc);
-    own_threshold = h.numbers.own_threshold;
-    next_threshold = h.numbers.next_threshold;
-    kept_threshold = λ z. absurd (cc);
-  };
-  routes = h.routes;
-  looks = refl;
-}
-rested (Shifted old new) (OnWay (Across from to) at) hand words slot hart reach v file saw g h = record {
-  sets = change_word words v (Resident to) hand.word 0 file refl h.sets;
-  numbers = record {
-    own_delivery = h.numbers.own_delivery;
-    next_delivery = h.numbers.next_delivery;
-    kept_delivery = λ z. absurd (cc);
-    own_threshold = h.numbers.own_threshold;
-    next_threshold = h.numbers.next_threshold;
-    kept_threshold = λ z. absurd (cc);
-  };
-  routes = h.routes;
-  looks = refl;
-}
+rested (Arrived place) (OnWay (Inward to) at) hand words slot hart reach v file saw g h = in_its_file to hand (hand_in (stay_after (Arrived place))) words slot hart reach v file saw h
+rested (Shifted old new) (OnWay (Across from to) at) hand words slot hart reach v file saw g h = in_its_file to hand (hand_in (stay_after (Shifted old new))) words slot hart reach v file saw h
 rested o there hand words slot hart reach v file saw g h = absurd g
 
 -- ---- the last step

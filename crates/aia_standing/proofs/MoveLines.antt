@@ -33,7 +33,6 @@ use Rattle.aia_model.specs.Refusal.{refusal}
 use Rattle.aia_model.specs.Answer.{accepted_answer, msi_taken}
 use Rattle.aia_model.proofs.AnswerLemmas.{answered, step_refusal, begin_refusal}
 use Rattle.aia_model.specs.declared.want.Want.{Want}
-use Rattle.aia_model.specs.declared.want.Want.TheVariants as wants
 use Rattle.aia_standing.specs.declared.vcpu.Stay.{Stay}
 use Rattle.aia_standing.specs.declared.vcpu.Stay.TheVariants as stays
 use Rattle.aia_standing.specs.Core.{CoreState, record_of, home_in, hand_in, has_plan}
@@ -47,15 +46,11 @@ use Rattle.aia_standing.proofs.EventLemmas.{by_refusal, refused}
 -- ---- a beginning
 
 okay : (h : History) (vm number : ℕ) (want : Want) → accepted_answer h (lines.Begin vm number want) ≡ accepted_answer h (lines.Move vm number want)
-okay h vm number wants.Leave = refl
-okay h vm number (wants.Arrive hart) = refl
-okay h vm number (wants.Shift hart) = refl
+okay h vm number want = refl
 
 served : (r : Option Answer) (h : History) (vm number : ℕ) (want : Want) → line_served r h (lines.Begin vm number want) ≡ move_begun r h (wanted_move (vcpu vm number) want)
 served (Some word) h vm number want = refl
-served None h vm number wants.Leave = refl
-served None h vm number (wants.Arrive hart) = refl
-served None h vm number (wants.Shift hart) = refl
+served None h vm number want = refl
 
 pub begin_taken : (x y : CoreState) (vm number : ℕ) (want : Want) (given : Answer) → MoveBegins x y vm number want given → CoreTakes x y (lines.Begin vm number want) given
 begin_taken x y vm number want given begins = record {

@@ -1,18 +1,15 @@
 -- A whole move: it begins, and all its steps are done.
 use Rattle.std.proofs.Common.{◌≡◌, ℕ, zero, suc, ◌+◌, ◌≤◌, Bool, true, false, ◌&&◌, not, cond, nat_lt, List, is_none, ◌∷◌, Option, Some, None, unwrap_or, refl, sym, ap, subst, ◌∙◌, arith}
-use Rattle.std.specs.Option.{option_map_or}
-use Rattle.std.proofs.lemmas.Bool.{cond-true, cond-false, and_parts, lt-ltb, ltb-true, eqb-true, true≢false}
+use Rattle.std.proofs.lemmas.Bool.{cond-false, and_parts, lt-ltb, ltb-true, eqb-true}
 use Rattle.std.proofs.lemmas.Bool.Decides.{nat_tests}
 use Rattle.std.proofs.lemmas.Option.{none-some}
 use Rattle.aia_home.specs.declared.vm.Vm.{Vm}
 use Rattle.aia_home.specs.Vms.{Vcpu, vcpu, is_vcpu_in}
-use Rattle.aia_home.specs.Home.{Way, Home, old_end, new_end, rests_in_memory, is_moving, leaving, arriving, shifting, one_more}
+use Rattle.aia_home.specs.Home.{Home, old_end, new_end, rests_in_memory, is_moving, one_more}
 use Rattle.aia_home.specs.Plans.{is_at_last}
 use Rattle.aia_home.specs.declared.rest.Rest.TheVariants.{Parked}
-use Rattle.aia_home.specs.Home.Home.{InMemory, Resident, OnWay}
-use Rattle.aia_home.specs.Home.Way.{Outward, Inward, Across}
+use Rattle.aia_home.specs.Home.Home.{InMemory, OnWay}
 use Rattle.aia_world.specs.declared.found.Found.{Found}
-use Rattle.aia_moving.specs.Move.{}
 use Rattle.aia_model.specs.declared.line.Line.TheVariants as lines
 use Rattle.aia_model.specs.declared.answer.Answer.{Answer}
 use Rattle.aia_model.specs.declared.answer.Answer.TheVariants.{Okay, Refused}
@@ -30,13 +27,13 @@ use Rattle.aia_home.specs.Aims.{aims_done, aims_step, is_aiming, aimed, further,
 use Rattle.aia_home.specs.Plans.{steps_done, plan_steps}
 use Rattle.aia_home.proofs.HomeLemmas.{not_the_last}
 use Rattle.aia_standing.specs.Passes.{AimsBy, StepsAim}
-use Rattle.aia_model.specs.HomeOf.{home, guest_place, free_file}
+use Rattle.aia_model.specs.HomeOf.{home, free_file}
 use Rattle.aia_model.specs.Refusal.{refusal}
 use Rattle.aia_model.proofs.FlightLemmas.{words_first, home_stepped, passes_stepped}
 use Rattle.aia_model.specs.Answer.{answer, steps_taken, steps_of, line_taken, step_taken}
 use Rattle.aia_model.proofs.RefusalLemmas.{unless_parked}
 use Rattle.aia_model.proofs.AnswerLemmas.{answered, arrive_refusal, leave_refusal, shift_refusal}
-use Rattle.aia_model.proofs.MoveLemmas.{home_step, is_itself}
+use Rattle.aia_model.proofs.BeginLemmas.{begun}
 use Rattle.aia_model.specs.declared.want.Want.{Want}
 use Rattle.aia_model.specs.declared.want.Want.TheVariants as wants
 use Rattle.aia_standing.specs.Core.{CoreState, record_of, home_in}
@@ -62,21 +59,9 @@ same_passes (suc i) g h = same_passes i g (step_taken g h) ∙ passes_stepped g 
 
 -- ---- how far a move has come
 
--- a way is that of the move, whose steps are then those between its ends; a home is on it
-abbrev IsItsWay : Move → Way → Type 0
-IsItsWay (Leaves g) (Outward from) = Unit {0}
-IsItsWay (Arrives g hart) (Inward to) = Unit {0}
-IsItsWay (Shifts g hart) (Across from to) = Unit {0}
-IsItsWay move way = ⊥
-
-steps_between : (move : Move) (way : Way) (words : ℕ) → IsItsWay move way → steps_of words move ≡ plan_steps (old_end way) (new_end way) words
-steps_between (Leaves g) (Outward from) words is = refl
-steps_between (Arrives g hart) (Inward to) words is = refl
-steps_between (Shifts g hart) (Across from to) words is = refl
-steps_between move way words is = absurd is
-
+-- a home is on a way of the move, whose steps are those between its ends
 abbrev IsOn : Move → Home → Type 0
-IsOn move (OnWay way at) = IsItsWay move way
+IsOn move (OnWay way at) = (words : ℕ) → steps_of words move ≡ plan_steps (old_end way) (new_end way) words
 IsOn move there = ⊥
 
 -- with so many of its steps done, those that aim among them
@@ -91,7 +76,7 @@ last_at move passes i (OnWay way at) words aimed is last =
     let far = not_the_last way words in
     let all = aimed.all (lt-ltb (aims_step (OnWay way at)) at.steps (omega (arith, end, far))) in
     let most : passes ≤ at.aims = grind (arith, nat_tests) in
-    let few = is.few in let count = is.count in let same = steps_between move way words is.on in
+    let few = is.few in let count = is.count in let same = is.on words in
     omega (arith, end, most, few, count, same)
 last_at move passes i there words aimed is last = absurd is.on
 
@@ -141,26 +126,18 @@ pub record Accepts (h : History) (line_refusal : Option Answer) (move : Move) (g
   pub accepted : line_refusal ≡ None
   pub begun : IsAt move (passes_for h g) 0 (home (Began move ∷ h) g)
 
-leave_begun_at : (h : History) (g : Vcpu) (there : Home) → home h g ≡ there → is_moving there ≡ false → rests_in_memory there ≡ false → IsAt (Leaves g) (passes_for h g) 0 (home (Began (Leaves g) ∷ h) g)
-leave_begun_at h g (Resident p) e still home_is = subst (IsAt (Leaves g) (passes_for h g) 0) (sym (home_step (Began (Leaves g)) h g ∙ cond-true _ _ _ (is_itself g) ∙ ap leaving e)) (record { on = tt; count = refl; few = omega arith })
-leave_begun_at h g (OnWay way at) e still home_is = absurd (true≢false still)
-leave_begun_at h g there e still home_is = absurd (true≢false home_is)
-
-arrive_begun_at : (h : History) (g : Vcpu) (hart : ℕ) (o : Option ℕ) → home h g ≡ InMemory Parked → free_file h (home h) hart ≡ o → is_none o ≡ false → IsAt (Arrives g hart) (passes_for h g) 0 (home (Began (Arrives g hart) ∷ h) g)
-arrive_begun_at h g hart (Some file) e free some =
-    subst (IsAt (Arrives g hart) (passes_for h g) 0) (sym (home_step (Began (Arrives g hart)) h g ∙ cond-true _ _ _ (is_itself g) ∙ ap (λ o. option_map_or (λ file. arriving (guest_place hart file) (home h g)) o (home h g)) free ∙ ap (arriving (guest_place hart file)) e)) (record { on = tt; count = refl; few = omega arith })
-arrive_begun_at h g hart None e free some = absurd (true≢false some)
-
-shift_begun_at : (h : History) (g : Vcpu) (hart : ℕ) (there : Home) (o : Option ℕ) → home h g ≡ there → free_file h (home h) hart ≡ o → is_moving there ≡ false → rests_in_memory there ≡ false → is_none o ≡ false → IsAt (Shifts g hart) (passes_for h g) 0 (home (Began (Shifts g hart) ∷ h) g)
-shift_begun_at h g hart (Resident p) (Some file) e free still home_is some =
-    subst (IsAt (Shifts g hart) (passes_for h g) 0) (sym (home_step (Began (Shifts g hart)) h g ∙ cond-true _ _ _ (is_itself g) ∙ ap (λ o. option_map_or (λ file. shifting (guest_place hart file) (home h g)) o (home h g)) free ∙ ap (shifting (guest_place hart file)) e)) (record { on = tt; count = refl; few = omega arith })
-shift_begun_at h g hart (Resident p) None e free still home_is some = absurd (true≢false some)
-shift_begun_at h g hart (OnWay way at) o e free still home_is some = absurd (true≢false still)
-shift_begun_at h g hart there o e free still home_is some = absurd (true≢false home_is)
-
 module _ (h : History) (vm number : ℕ) (machine : has_machine h ≡ true) where
   abbrev its : Home
   its = home h (vcpu vm number)
+
+  accepts : (want : Want) → refusal h (lines.Move vm number want) ≡ None → Accepts h (refusal h (lines.Move vm number want)) (wanted_move (vcpu vm number) want) (vcpu vm number)
+  accepts want e =
+      let move = wanted_move (vcpu vm number) want in
+      let first = begun h vm number want e in
+      record {
+        accepted = e;
+        begun = subst (IsAt move (passes_for h (vcpu vm number)) 0) (sym first.at_home) (record { on = first.steps; count = refl; few = omega arith });
+      }
 
   leave_accepts : Okay ≡ unwrap_or (refusal h (lines.Move vm number wants.Leave)) Okay → Accepts h (refusal h (lines.Move vm number wants.Leave)) (Leaves (vcpu vm number)) (vcpu vm number)
   leave_accepts e =
@@ -168,10 +145,7 @@ module _ (h : History) (vm number : ℕ) (machine : has_machine h ≡ true) wher
       let range = passed (not (has_vcpu h (vcpu vm number))) words.Range _ (e ∙ ap (λ o. unwrap_or o Okay) is) in
       let busy = passed (is_moving its) words.Busy _ range.1 in
       let parked = passed (rests_in_memory its) words.Parked None busy.1 in
-      record {
-        accepted = is ∙ cond-false _ _ _ range.0 ∙ cond-false _ _ _ busy.0 ∙ cond-false _ _ _ parked.0;
-        begun = leave_begun_at h (vcpu vm number) its refl busy.0 parked.0;
-      }
+      accepts wants.Leave (is ∙ cond-false _ _ _ range.0 ∙ cond-false _ _ _ busy.0 ∙ cond-false _ _ _ parked.0)
 
   arrive_accepts : (hart : ℕ) → Okay ≡ unwrap_or (refusal h (lines.Move vm number (wants.Arrive hart))) Okay → Accepts h (refusal h (lines.Move vm number (wants.Arrive hart))) (Arrives (vcpu vm number) hart) (vcpu vm number)
   arrive_accepts hart e =
@@ -179,10 +153,7 @@ module _ (h : History) (vm number : ℕ) (machine : has_machine h ≡ true) wher
       let range = passed (not (has_vcpu h (vcpu vm number) && has_hart h hart)) words.Range _ (e ∙ ap (λ o. unwrap_or o Okay) is) in
       let parked = passed_parked its _ range.1 in
       let full = passed (is_none (free_file h (home h) hart)) words.NoFile None parked.1 in
-      record {
-        accepted = is ∙ cond-false _ _ _ range.0 ∙ ap (λ t. unless_parked t (cond (is_none (free_file h (home h) hart)) (Some (Refused words.NoFile)) None)) parked.0 ∙ cond-false _ _ _ full.0;
-        begun = arrive_begun_at h (vcpu vm number) hart (free_file h (home h) hart) parked.0 refl full.0;
-      }
+      accepts (wants.Arrive hart) (is ∙ cond-false _ _ _ range.0 ∙ ap (λ t. unless_parked t (cond (is_none (free_file h (home h) hart)) (Some (Refused words.NoFile)) None)) parked.0 ∙ cond-false _ _ _ full.0)
 
   shift_accepts : (hart : ℕ) → Okay ≡ unwrap_or (refusal h (lines.Move vm number (wants.Shift hart))) Okay → Accepts h (refusal h (lines.Move vm number (wants.Shift hart))) (Shifts (vcpu vm number) hart) (vcpu vm number)
   shift_accepts hart e =
@@ -191,15 +162,10 @@ module _ (h : History) (vm number : ℕ) (machine : has_machine h ≡ true) wher
       let busy = passed (is_moving its) words.Busy _ range.1 in
       let parked = passed (rests_in_memory its) words.Parked _ busy.1 in
       let full = passed (is_none (free_file h (home h) hart)) words.NoFile None parked.1 in
-      record {
-        accepted = is ∙ cond-false _ _ _ range.0 ∙ cond-false _ _ _ busy.0 ∙ cond-false _ _ _ parked.0 ∙ cond-false _ _ _ full.0;
-        begun = shift_begun_at h (vcpu vm number) hart its (free_file h (home h) hart) refl refl busy.0 parked.0 full.0;
-      }
+      accepts (wants.Shift hart) (is ∙ cond-false _ _ _ range.0 ∙ cond-false _ _ _ busy.0 ∙ cond-false _ _ _ parked.0 ∙ cond-false _ _ _ full.0)
 
   answer_is : (want : Want) → answer h (lines.Move vm number want) ≡ unwrap_or (refusal h (lines.Move vm number want)) Okay
-  answer_is wants.Leave = answered h (lines.Move vm number wants.Leave) _ refl
-  answer_is (wants.Arrive hart) = answered h (lines.Move vm number (wants.Arrive hart)) _ refl
-  answer_is (wants.Shift hart) = answered h (lines.Move vm number (wants.Shift hart)) _ refl
+  answer_is want = answered h (lines.Move vm number want) _ refl
 
   pub okay_accepts : (want : Want) → Okay ≡ answer h (lines.Move vm number want) → Accepts h (refusal h (lines.Move vm number want)) (wanted_move (vcpu vm number) want) (vcpu vm number)
   okay_accepts wants.Leave e = leave_accepts (e ∙ answer_is wants.Leave)
