@@ -6,6 +6,7 @@ use crate::{Access, End};
 
 /// Gives the access that a plan makes after `done` steps, of files of `words` words. Profile: all
 /// plans.
+#[inline(always)]
 pub fn access_at(from: End, to: End, words: u32, done: u32) -> Access
     requires few { words ≤ FILE_WORDS }
     requires more { done < plan_steps from to words }

@@ -60,6 +60,7 @@ impl Hand {
     /// guest file each, or `None`: its slot of memory. A number is taken or put at a guest file
     /// alone; a word is one of the files' words, and one that is put as word 0 has no identity 0.
     /// Before the fence of the entry all stores in flight of the VM land.
+    #[inline(always)]
     pub fn make(
         &mut self,
         fabric: &mut Fabric,
