@@ -5,6 +5,7 @@
 # print these, and sources this.
 
 unwritten='the output could not be written to its end'
+ended_early='ended; what is proved by now stays, and the same command goes on from there'
 
 # Says something on standard error, as the launcher.
 say() { printf '%s: %s\n' "$name" "$*" >&2; }
@@ -12,9 +13,9 @@ say() { printf '%s: %s\n' "$name" "$*" >&2; }
 # Answers a request for help or for the version, and ends; `manual` prints the help.
 answer_requests() { # WORDS..
   local answer
-  case "${1-}" in
-    -h | --help | help) answer=$(manual) ;;
-    --version) answer="$name $(< "$top/VERSION")" ;;
+  case "${1-} ${2-}" in
+    -h\ * | --help\ * | help\ * | *\ -h | *\ --help) answer=$(manual) ;;
+    --version\ *) answer="$name $(< "$top/VERSION")" ;;
     *) return 0 ;;
   esac
   { printf '%s\n' "$answer"; } 2> /dev/null || {
@@ -78,8 +79,9 @@ progress_of() { # LOG LIST
     /^crate [a-z0-9_]+:/ { sub(/:.*/, "", $2); if ($2 in place) at = place[$2] + 1 }
     /^rt: chose --jobs [0-9]+ for / { if ($NF in place) at = place[$NF] }
     END {
-      if (at > count) at = count
-      printf "%s: crate %d of %d, %d minutes so far", name, at, count, (now - begun) / 60
+      how = at > count ? "all " count " crates are proved, and it is compiled" \
+                       : "crate " at " of " count
+      printf "%s: %s, %d min so far", name, how, (now - begun) / 60
     }' "$2" "$1"
 }
 
@@ -90,14 +92,15 @@ is_stale() { # CRATE BUILT
   "$top/suite/stale" "$2" "${crates[@]}"
 }
 
-# Shows how a build goes on until it ends: on a terminal in one line, else in a line a crate.
+# Shows how a build goes on until it ends: on a terminal in one line, else in a line a crate and a
+# minute.
 watch_build() { # PROCESS LOG LIST
   local shown=x line
   while kill -0 "$1" 2> /dev/null; do
     line=$(progress_of "$2" "$3")
     if [ -t 2 ]; then
       printf '\r%s' "$line" >&2
-    elif [ "${line%%,*}" != "${shown%%,*}" ]; then
+    elif [ "$line" != "$shown" ]; then
       printf '%s\n' "$line" >&2
     fi
     shown=$line
@@ -119,7 +122,7 @@ build() { # CRATE INPUT COMMAND..
   # It stays in this group, so that it ends where that is ended; rt ends what it has started.
   env -C "$top/crates/$crate" "$@" < "$input" > "$log" 2>&1 &
   worker=$!
-  trap 'kill -TERM "$worker"; rm -f "$list"; exit 130' INT TERM HUP
+  trap 'kill -TERM "$worker"; rm -f "$list"; say "$ended_early"; exit 130' INT TERM HUP
   watch_build "$worker" "$log" "$list"
   wait "$worker"
   status=$?
@@ -133,8 +136,7 @@ build() { # CRATE INPUT COMMAND..
 }
 
 # Sees that rt is there, and says before a first build how long it takes, in minutes of processor
-# time on a server's processor of 2.5 GHz: of plans as measured, of the others as reckoned from the
-# time of the gate. Ends where there is none.
+# time as measured on a server's processor of 2.5 GHz. Ends where there is none.
 begin_build() { # WHAT MINUTES WITH_RT WITHOUT_RT
   local processors
   command -v rt > /dev/null || {
@@ -148,8 +150,11 @@ begin_build() { # WHAT MINUTES WITH_RT WITHOUT_RT
       "most $2 minutes of processor time.${3:+ $3}"
   else
     say "first $made is proved and built, once: some $2 minutes of processor time, which take" \
-      "about $((($2 + processors - 1) / processors)) here.${3:+ $3}"
+      "$((($2 + processors - 1) / processors)) or more here. Ctrl-C ends it, and the same command" \
+      "goes on from there.${3:+ $3}"
   fi
+  [ ! -t 0 ] || say 'the program reads standard input, which is the terminal here'
+
 }
 
 # Runs the program, and hands on to it what would end this; says of a failure in a sentence what it

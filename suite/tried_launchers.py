@@ -37,6 +37,8 @@ WRONG = (
     ("aia", ("audit", "leave"), "two words are wanted behind audit, KIND and W, and 1 given"),
     ("aia", ("audit", "go", "1"), "KIND of audit is leave, arrive or shift, and not 'go'"),
     ("aia", ("audit", "leave", "3"), "W of audit is 1, 2, 4, 8, 16 or 32, and not '3'"),
+    ("aia", ("audit", "leave", "4", "VERSION"),
+     "'VERSION' is a file: have it read from standard input, as aia audit leave 4 < VERSION"),
     ("plans", (), "a word is wanted"),
     ("plans", ("jugde",), "there is no command 'jugde'"),
     ("plans", ("judge", "VERSION"), "'VERSION' is a file: have it read from standard input"),
@@ -192,7 +194,8 @@ def launchers_build(trial):
         said = ran.errors.splitlines()
         trial.sees(ran.status == 0 and " minutes of processor time" in said[0],
                    f"{launcher} says before a first build {said[:1]}")
-        is_quiet = all(re.fullmatch(rf"{launcher}: crate \d+ of \d+, 0 minutes so far", line)
+        goes = r"crate \d+ of \d+|all \d+ crates are proved, and it is compiled"
+        is_quiet = all(re.fullmatch(rf"{launcher}: ({goes}), 0 min so far", line)
                        for line in said[1:])
         trial.sees(is_quiet and len(said) > 2, f"{launcher} builds with {said[1:]}")
         log = tree.folder / "out" / f"build-{launcher}.log"
