@@ -215,6 +215,34 @@ def plans():
     yield from stands_where()
 
 
+def step_line(step, word):
+    """Gives the line of a plan file that says a step of anybody's plan, w its word."""
+    names = re.findall(r"\w+", step.replace("Number", ""))
+    return " ".join(str(word) if name == "w" else name.lower() for name in names)
+
+
+def told_plan(move):
+    """Lists the lines of a plan of homes, told as anybody's plan as `told_plan` has it."""
+    told = {pattern.strip("()").split(" ")[0].removeprefix("accesses."): right
+            for pattern, right in clauses("plans_tie", "Told", "told")}
+    lines_ = [step_line(told[name].removeprefix("Some "), word)
+              for name, word in move.accesses() if told[name] != "None"]
+    end = "Memory" if KINDS[move.kind][1] == "memory" else "File"
+    back = dict(clauses("plans_tie", "Told", "given_back"))[end]
+    return lines_ + [step_line(step, None) for step in back.split(" ∷ ") if step != "[]"]
+
+
+def told_plans():
+    """Compares the core's plans in examples/hypervisors with the plans of homes, told so."""
+    for kind in KINDS:
+        name = f"examples/hypervisors/core-{kind}.plan"
+        text = re.sub(r"(?m) *#.*$", "", (TOP / name).read_text(encoding="utf-8"))
+        size = int(re.search(r"(?m)^words (\d+)$", text)[1])
+        steps = [line for line in text.strip().rpartition("\n\n")[2].split("\n") if line]
+        if steps != told_plan(Move(kind, size)):
+            yield f"{name} is not the plan of {CALLED[kind]}, as plans_tie tells it"
+
+
 # What the table of what stands where has, by the word of its last column: whether it is so of a
 # move, of word w after k steps.
 STANDS = {
@@ -509,6 +537,6 @@ def alone():
 
 def drifts():
     """Says each place where a document is not in step."""
-    for check in (lines, answers, statuses, places, plans, crates, promised, shown, tried, dated,
-                  linked, patient, alone):
+    for check in (lines, answers, statuses, places, plans, told_plans, crates, promised, shown,
+                  tried, dated, linked, patient, alone):
         yield from check()

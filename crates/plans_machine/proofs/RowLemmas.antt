@@ -2,18 +2,9 @@
 use Rattle.std.proofs.Common.{true, false, [], ◌∷◌, refl}
 use Rattle.plans_machine.specs.declared.setting.Spot.TheVariants.{InNew}
 use Rattle.plans_machine.specs.declared.rule.Rule.TheVariants.{Routes, Words, Blank, Numbers, Freeing}
-use Rattle.plans_machine.specs.Plans.{core_leave, core_arrive, core_shift, to_leave, to_arrive, to_shift, kvm_leave, kvm_arrive, kvm_shift, kvm_leave_with, kvm_arrive_with, kvm_shift_with, entry_led, kvm_producers, with_devices, kvm_moves, kvm_leaves}
+use Rattle.plans_machine.specs.Plans.{kvm_leave, kvm_arrive, kvm_shift, kvm_leave_with, kvm_arrive_with, kvm_shift_with, entry_led, kvm_producers, with_devices, kvm_moves, kvm_leaves}
 use Rattle.plans_machine.specs.Rows.{widths, AreAccepted, BreakAlone, LeaveUntold, plainly, with_numbers, to_memory, heeded, all_moved, break_routes, break_words, break_blank, break_numbers, break_freeing, break_freeing_with_numbers, looked_early, looked_first, posted_first, told_early, told_shut, shut_again}
 use Rattle.plans_machine.proofs.Untold.{looked_early_leaves_untold, looked_first_leaves_untold, posted_first_leaves_untold, told_early_leaves_untold, untold_leaves_untold, told_shut_leaves_untold, shut_again_leaves_untold}
-
-pub core_leaves : AreAccepted widths to_leave core_leave
-core_leaves = (refl, (refl, (refl, (refl, (refl, (refl, tt))))))
-
-pub core_arrives : AreAccepted widths to_arrive core_arrive
-core_arrives = (refl, (refl, (refl, (refl, (refl, (refl, tt))))))
-
-pub core_shifts : AreAccepted widths to_shift core_shift
-core_shifts = (refl, (refl, (refl, (refl, (refl, (refl, tt))))))
 
 pub kvm_leave_rows : AreAccepted widths (kvm_leaves kvm_producers) kvm_leave
 kvm_leave_rows = (refl, (refl, (refl, (refl, (refl, (refl, tt))))))

@@ -1,97 +1,21 @@
--- Plans of hypervisors: those of the core of this project, and those of Linux KVM. Profile.
+-- Plans of a hypervisor: those of Linux KVM. Producer 0 is the host's injectors, producer 1 the
+-- other virtual harts, and producer 2 the devices behind an entry of an IOMMU, if there are any.
+-- Profile.
 use Rattle.std.specs.Prelude.{ℕ, zero, suc, true, false, List, [], ◌∷◌, ◌++◌}
 use Rattle.plans_machine.specs.declared.step.Place.TheVariants.{New}
-use Rattle.plans_machine.specs.declared.step.Bank.{Bank}
 use Rattle.plans_machine.specs.declared.step.Bank.TheVariants.{Pending, Enabled}
 use Rattle.plans_machine.specs.declared.step.Number.TheVariants.{Threshold, Delivery}
-use Rattle.plans_machine.specs.declared.setting.Spot.TheVariants.{InOld, InHand, InNew}
+use Rattle.plans_machine.specs.declared.setting.Spot.TheVariants.{InOld, InNew}
 use Rattle.plans_machine.specs.declared.setting.Kind.{Kind}
 use Rattle.plans_machine.specs.declared.setting.Kind.TheVariants.{Routed, Switched}
 use Rattle.plans_machine.specs.declared.step.Step.{Step}
-use Rattle.plans_machine.specs.declared.step.Step.TheVariants.{Route, Fence, Switch, Zero, Take, Join, ZeroNumber, TakeNumber, PutNumber, Look, Post, Tell, Free}
+use Rattle.plans_machine.specs.declared.step.Step.TheVariants.{Route, Fence, Switch, Zero, Take, Join, ZeroNumber, TakeNumber, PutNumber, Tell, Free}
 use Rattle.plans_machine.specs.Setting.{Setting}
 
 -- The steps of so many words from word w on.
 abbrev pub each : (ℕ → List Step) → ℕ → ℕ → List Step
 each steps w zero = []
 each steps w (suc count) = steps w ++ each steps (suc w) count
-
--- ---- the core's plans, without passed sources and without the word that says where notices go:
--- producer 0 is the devices, producer 1 the other virtual harts
-
--- Both are routed.
-abbrev pub core_producers : List Kind
-core_producers = Routed ∷ Routed ∷ []
-
--- The routes of both are written and put in force.
-abbrev pub both_routed : List Step
-both_routed = Route 0 ∷ Fence 0 ∷ Route 1 ∷ Fence 1 ∷ []
-
--- A word of a set is taken, and joined to the new place at once. The core writes enables over the
--- word there, which comes to the same where it is empty.
-abbrev pub moved_at_once : Bank → ℕ → List Step
-moved_at_once s w = Take s w ∷ Join s w ∷ []
-
--- All words of both sets are moved so.
-abbrev pub core_words : ℕ → List Step
-core_words words =
-    each (moved_at_once Pending) 0 words ++ each (moved_at_once Enabled) 0 words
-
--- The plan of a leave, of so many words.
-abbrev pub core_leave : ℕ → List Step
-core_leave words =
-    TakeNumber Delivery ∷ both_routed ++ core_words words ++ each (λ w. Look w ∷ []) 0 words
-    ++ TakeNumber Threshold ∷ Post ∷ Free ∷ []
-
--- The plan of an arrival.
-abbrev pub core_arrive : ℕ → List Step
-core_arrive words =
-    both_routed ++ core_words words ++ PutNumber Threshold ∷ PutNumber Delivery ∷ []
-
--- The plan of a shift.
-abbrev pub core_shift : ℕ → List Step
-core_shift words =
-    TakeNumber Delivery ∷ both_routed ++ core_words words
-    ++ TakeNumber Threshold ∷ PutNumber Threshold ∷ PutNumber Delivery ∷ Free ∷ []
-
--- What the core declares for a leave.
-abbrev pub to_leave : ℕ → Setting
-to_leave words = record {
-  producers = core_producers;
-  words = words;
-  is_fresh = true;
-  in_memory = true;
-  heeds = false;
-  number_from = InOld;
-  number_to = InHand;
-}
-
--- What it declares for an arrival.
-abbrev pub to_arrive : ℕ → Setting
-to_arrive words = record {
-  producers = core_producers;
-  words = words;
-  is_fresh = true;
-  in_memory = false;
-  heeds = false;
-  number_from = InHand;
-  number_to = InNew;
-}
-
--- What it declares for a shift.
-abbrev pub to_shift : ℕ → Setting
-to_shift words = record {
-  producers = core_producers;
-  words = words;
-  is_fresh = true;
-  in_memory = false;
-  heeds = false;
-  number_from = InOld;
-  number_to = InNew;
-}
-
--- ---- KVM's: producer 0 is the host's injectors, producer 1 the other virtual harts, and producer
--- 2 the devices behind an entry of an IOMMU, if there are any
 
 -- The host's injectors, which are switched, and the other virtual harts.
 abbrev pub kvm_producers : List Kind

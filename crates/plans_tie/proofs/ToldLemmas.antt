@@ -1,72 +1,29 @@
--- The plans of homes, told in the words of anybody's plans.
-use Rattle.std.proofs.Common.{◌≡◌, ℕ, zero, suc, List, [], ◌∷◌, ◌++◌, refl, sym, ap, ◌∙◌, append_assoc}
+-- The plans of homes, told in the words of anybody's plans and in those of our shape.
+use Rattle.std.proofs.Common.{◌≡◌, ℕ, zero, suc, true, List, [], ◌∷◌, ◌++◌, map, Some, refl, sym, ap, ◌∙◌}
+use Rattle.std.specs.Prelude.{IfSome}
+use Rattle.std.proofs.lemmas.List.{append_assoc, map-append}
+use Rattle.std.specs.List.{All, AllByRecursion}
 use Rattle.aia_home.specs.declared.end.End.TheVariants.{File, Memory}
 use Rattle.aia_home.specs.declared.access.Access.{Access}
 use Rattle.aia_home.specs.declared.access.Access.TheVariants as accesses
 use Rattle.aia_home.specs.Plans as home
-use Rattle.plans_machine.specs.declared.step.Bank.TheVariants.{Pending, Enabled}
-use Rattle.plans_machine.specs.declared.step.Number.TheVariants.{Delivery}
+use Rattle.aia_plan.specs.Plan.{Plan, each_word, all_words, core_plan}
+use Rattle.aia_plan.specs.declared.step.Kind.{Kind}
+use Rattle.aia_plan.specs.declared.step.Kind.TheVariants as kinds
+use Rattle.aia_plan.specs.declared.step.Step.TheVariants as ours
+use Rattle.aia_plan.proofs.Throughout.{by_place}
 use Rattle.plans_machine.specs.declared.step.Step.{Step}
-use Rattle.plans_machine.specs.declared.step.Step.TheVariants.{Route, Fence, Take, Join, TakeNumber, Look}
-use Rattle.plans_machine.specs.Plans.{each, core_words, core_leave, core_arrive, core_shift}
+use Rattle.plans_machine.specs.Setting.{Setting}
 use Rattle.plans_machine.specs.Rows.{widths, AreAccepted}
-use Rattle.plans_tie.specs.Told.{told, all_told, given_back, told_plan, told_setting, joined_plan}
+use Rattle.plans_machine.specs.Rules.{moves}
+use Rattle.plans_machine.specs.Safe.{IsSafe, IsTold}
+use Rattle.plans_machine.proofs.BoolLaws.{and_left}
+use Rattle.plans_machine.proofs.RulesAreSafe.{rules_are_safe, rules_are_told}
+use Rattle.plans_tie.specs.Translated.{access_of}
+use Rattle.plans_tie.specs.Told.{told, told_plan, told_setting}
+use Rattle.plans_tie.specs.Shaped.{shaped, shaped_plan}
 
-module _ (puts : ℕ → Step) where
-  all_told-append : (xs ys : List Access) → all_told puts (xs ++ ys) ≡ all_told puts xs ++ all_told puts ys
-  all_told-append [] ys = refl
-  all_told-append (x ∷ xs) ys = ap (λ later. told puts x ++ later) (all_told-append xs ys) ∙ sym (append_assoc (told puts x) (all_told puts xs) (all_told puts ys))
-
-  each_told : (of_word : ℕ → List Access) (w count : ℕ) → all_told puts (home.each_word of_word w count) ≡ each (λ w. all_told puts (of_word w)) w count
-  each_told of_word w zero = refl
-  each_told of_word w (suc count) = all_told-append (of_word w) (home.each_word of_word (suc w) count) ∙ ap (λ xs. all_told puts (of_word w) ++ xs) (each_told of_word (suc w) count)
-
-  told_words : ℕ → List Step
-  told_words words = each (λ w. Take Pending w ∷ Join Pending w ∷ []) 0 words ++ each (λ w. Take Enabled w ∷ puts w ∷ []) 0 words
-
-  words_told : (words : ℕ) → all_told puts (home.all_words words) ≡ told_words words
-  unfolding told_words
-  words_told words =
-      all_told-append (home.each_word (λ w. accesses.TakePending w ∷ accesses.PutPending w ∷ []) 0 words) (home.each_word (λ w. accesses.TakeEnables w ∷ accesses.PutEnables w ∷ []) 0 words)
-      ∙ ap (λ xs. xs ++ all_told puts (home.each_word (λ w. accesses.TakeEnables w ∷ accesses.PutEnables w ∷ []) 0 words)) (each_told (λ w. accesses.TakePending w ∷ accesses.PutPending w ∷ []) 0 words)
-      ∙ ap (λ xs. each (λ w. Take Pending w ∷ Join Pending w ∷ []) 0 words ++ xs) (each_told (λ w. accesses.TakeEnables w ∷ accesses.PutEnables w ∷ []) 0 words)
-
-  -- all words, and what comes after them
-  on_told : (words : ℕ) (xs : List Access) (back : List Step) → all_told puts (home.all_words words ++ xs) ++ back ≡ told_words words ++ (all_told puts xs ++ back)
-  on_told words xs back =
-      ap (λ ys. ys ++ back) (all_told-append (home.all_words words) xs ∙ ap (λ ys. ys ++ all_told puts xs) (words_told words))
-      ∙ append_assoc (told_words words) (all_told puts xs) back
-
-  looked_told : (words : ℕ) (xs : List Access) (back : List Step) → all_told puts (home.each_word (λ w. accesses.Look w ∷ []) 0 words ++ xs) ++ back ≡ each (λ w. Look w ∷ []) 0 words ++ (all_told puts xs ++ back)
-  looked_told words xs back =
-      ap (λ ys. ys ++ back) (all_told-append (home.each_word (λ w. accesses.Look w ∷ []) 0 words) xs ∙ ap (λ ys. ys ++ all_told puts xs) (each_told (λ w. accesses.Look w ∷ []) 0 words))
-      ∙ append_assoc (each (λ w. Look w ∷ []) 0 words) (all_told puts xs) back
-
-joins : ℕ → Step
-joins w = Join Enabled w
-
-both_routed : List Step → List Step
-both_routed later = Route 0 ∷ Fence 0 ∷ Route 1 ∷ Fence 1 ∷ later
-
-pub leave_is : (words : ℕ) → joined_plan File Memory words ≡ core_leave words
-unfolding told_words joins both_routed
-leave_is words =
-    let looks = home.each_word (λ w. accesses.Look w ∷ []) 0 words in
-    let last = accesses.TakeThreshold ∷ accesses.Post ∷ [] in
-    ap (λ later. TakeNumber Delivery ∷ both_routed later)
-    (on_told joins words (looks ++ last) (given_back File)
-    ∙ ap (λ later. core_words words ++ later) (looked_told joins words last (given_back File))
-    ∙ sym (append_assoc (core_words words) (each (λ w. Look w ∷ []) 0 words) (all_told joins last ++ given_back File)))
-
-pub arrive_is : (words : ℕ) → joined_plan Memory File words ≡ core_arrive words
-unfolding told_words joins both_routed
-arrive_is words = ap both_routed (on_told joins words (accesses.PutThreshold ∷ accesses.PutDelivery ∷ []) [])
-
-pub shift_is : (words : ℕ) → joined_plan File File words ≡ core_shift words
-unfolding told_words joins both_routed
-shift_is words = ap (λ later. TakeNumber Delivery ∷ both_routed later) (on_told joins words (accesses.TakeThreshold ∷ accesses.PutThreshold ∷ accesses.PutDelivery ∷ []) (given_back File))
-
--- ---- and they keep the rules as they are made
+-- ---- they keep the rules of anybody's plans, for each number of words that a file may have
 
 pub leave_keeps : AreAccepted widths (told_setting File Memory) (told_plan File Memory)
 leave_keeps = (refl, (refl, (refl, (refl, (refl, (refl, tt))))))
@@ -76,3 +33,93 @@ arrive_keeps = (refl, (refl, (refl, (refl, (refl, (refl, tt))))))
 
 pub shift_keeps : AreAccepted widths (told_setting File File) (told_plan File File)
 shift_keeps = (refl, (refl, (refl, (refl, (refl, (refl, tt))))))
+
+-- ---- so they are safe, and tell
+
+accepted_safe : (sizes : List ℕ) (settings : ℕ → Setting) (plans : ℕ → List Step) → AreAccepted sizes settings plans → AllByRecursion (λ words. IsSafe (settings words) (plans words)) sizes
+accepted_safe [] settings plans kept = tt
+accepted_safe (words ∷ others) settings plans kept =
+    (rules_are_safe (settings words) (plans words) (and_left (moves (settings words) (plans words)) _ kept.0), accepted_safe others settings plans kept.1)
+
+accepted_told : (sizes : List ℕ) (settings : ℕ → Setting) (plans : ℕ → List Step) → ((words : ℕ) → (settings words).in_memory ≡ true) → AreAccepted sizes settings plans → AllByRecursion (λ words. IsTold (settings words) (plans words)) sizes
+accepted_told [] settings plans memory kept = tt
+accepted_told (words ∷ others) settings plans memory kept =
+    (rules_are_told (settings words) (plans words) (memory words) kept.0, accepted_told others settings plans memory kept.1)
+
+all_safe : (settings : ℕ → Setting) (plans : ℕ → List Step) → AreAccepted widths settings plans → All (λ words. IsSafe (settings words) (plans words)) widths
+all_safe settings plans kept = by_place (λ words. IsSafe (settings words) (plans words)) widths (accepted_safe widths settings plans kept)
+
+pub leave_safe : All (λ words. IsSafe (told_setting File Memory words) (told_plan File Memory words)) widths
+leave_safe = all_safe (told_setting File Memory) (told_plan File Memory) leave_keeps
+
+pub arrive_safe : All (λ words. IsSafe (told_setting Memory File words) (told_plan Memory File words)) widths
+arrive_safe = all_safe (told_setting Memory File) (told_plan Memory File) arrive_keeps
+
+pub shift_safe : All (λ words. IsSafe (told_setting File File words) (told_plan File File words)) widths
+shift_safe = all_safe (told_setting File File) (told_plan File File) shift_keeps
+
+pub leave_tells : All (λ words. IsTold (told_setting File Memory words) (told_plan File Memory words)) widths
+leave_tells =
+    by_place (λ words. IsTold (told_setting File Memory words) (told_plan File Memory words)) widths
+    (accepted_told widths (told_setting File Memory) (told_plan File Memory) (λ words. refl) leave_keeps)
+
+-- ---- the plans of our shape
+
+module _ (kind : Kind) where
+  each_shaped : (of_word : ℕ → List Access) (w count : ℕ) → map (shaped kind) (home.each_word of_word w count) ≡ each_word (λ w. map (shaped kind) (of_word w)) w count
+  each_shaped of_word w zero = refl
+  each_shaped of_word w (suc count) =
+      map-append (shaped kind) (of_word w) (home.each_word of_word (suc w) count)
+      ∙ ap (λ xs. map (shaped kind) (of_word w) ++ xs) (each_shaped of_word (suc w) count)
+
+  -- all words, and what comes after them
+  words_shaped : (words : ℕ) (later : List Access) → map (shaped kind) (home.all_words words ++ later) ≡ all_words words ++ map (shaped kind) later
+  words_shaped words later =
+      let pending : ℕ → List Access = λ w. accesses.TakePending w ∷ accesses.PutPending w ∷ [] in
+      let enables : ℕ → List Access = λ w. accesses.TakeEnables w ∷ accesses.PutEnables w ∷ [] in
+      map-append (shaped kind) (home.all_words words) later
+      ∙ ap (λ xs. xs ++ map (shaped kind) later)
+      (map-append (shaped kind) (home.each_word pending 0 words) (home.each_word enables 0 words)
+      ∙ ap (λ xs. xs ++ map (shaped kind) (home.each_word enables 0 words)) (each_shaped pending 0 words)
+      ∙ ap (λ xs. each_word (λ w. ours.TakeP w ∷ ours.PutP w ∷ []) 0 words ++ xs) (each_shaped enables 0 words))
+
+  looks_shaped : (words : ℕ) (later : List Access) → map (shaped kind) (home.each_word (λ w. accesses.Look w ∷ []) 0 words ++ later) ≡ each_word (λ w. ours.Look w ∷ []) 0 words ++ map (shaped kind) later
+  looks_shaped words later =
+      map-append (shaped kind) (home.each_word (λ w. accesses.Look w ∷ []) 0 words) later
+      ∙ ap (λ xs. xs ++ map (shaped kind) later) (each_shaped (λ w. accesses.Look w ∷ []) 0 words)
+
+pub core_is_shaped : (kind : Kind) (words : ℕ) → core_plan kind words ≡ shaped_plan kind words
+core_is_shaped kinds.Leave words =
+    let looks : Plan = each_word (λ w. ours.Look w ∷ []) 0 words in
+    let last : List Access = accesses.TakeThreshold ∷ accesses.Post ∷ [] in
+    ap (λ later. ours.Quiet ∷ ours.Word1 ∷ ours.Word0 ∷ ours.Fence ∷ ours.Unmap ∷ ours.GFence ∷ later)
+    (append_assoc (all_words words) looks (ours.TakeT ∷ ours.Post ∷ [])
+    ∙ sym (words_shaped kinds.Leave words (home.each_word (λ w. accesses.Look w ∷ []) 0 words ++ last)
+    ∙ ap (λ later. all_words words ++ later) (looks_shaped kinds.Leave words last)))
+core_is_shaped kinds.Arrive words =
+    ap (λ later. ours.Word0 ∷ ours.Fence ∷ ours.Map ∷ ours.GFence ∷ later)
+    (sym (words_shaped kinds.Arrive words (accesses.PutThreshold ∷ accesses.PutDelivery ∷ [])))
+core_is_shaped kinds.Shift words =
+    ap (λ later. ours.Quiet ∷ ours.Word0 ∷ ours.Fence ∷ ours.Remap ∷ ours.GFence ∷ later)
+    (sym (words_shaped kinds.Shift words (accesses.TakeThreshold ∷ accesses.PutThreshold ∷ accesses.PutDelivery ∷ [])))
+
+-- ---- one access is the same step by both ways
+
+pub told_alike : (kind : Kind) (access : Access) → IfSome (access_of (shaped kind access)) (λ step. told access ≡ Some step)
+told_alike kinds.Leave accesses.Map = refl
+told_alike kinds.Arrive accesses.Map = refl
+told_alike kinds.Shift accesses.Map = refl
+told_alike kind accesses.TakeDelivery = tt
+told_alike kind accesses.PutDelivery = tt
+told_alike kind accesses.WriteNotice = tt
+told_alike kind accesses.WriteEntry = refl
+told_alike kind accesses.Fence = refl
+told_alike kind accesses.GFence = refl
+told_alike kind (accesses.TakePending w) = refl
+told_alike kind (accesses.PutPending w) = refl
+told_alike kind (accesses.TakeEnables w) = refl
+told_alike kind (accesses.PutEnables w) = refl
+told_alike kind (accesses.Look w) = refl
+told_alike kind accesses.TakeThreshold = tt
+told_alike kind accesses.PutThreshold = tt
+told_alike kind accesses.Post = refl

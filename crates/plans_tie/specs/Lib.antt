@@ -1,2 +1,3 @@
 pub mod Translated
 pub mod Told
+pub mod Shaped

@@ -6,14 +6,18 @@ use Rattle.aia_plan.specs.declared.step.Step.TheVariants as ours
 use Rattle.plans_machine.specs.declared.step.Bank.TheVariants.{Pending, Enabled}
 use Rattle.plans_machine.specs.declared.step.Step.{Step}
 use Rattle.plans_machine.specs.declared.step.Step.TheVariants.{Route, Fence, Take, Join, Put, Look, Post}
+use Rattle.plans_machine.specs.declared.setting.Kind.{Kind}
 use Rattle.plans_machine.specs.declared.setting.Kind.TheVariants.{Routed}
 use Rattle.plans_machine.specs.declared.setting.Spot.TheVariants.{InOld}
 use Rattle.plans_machine.specs.Setting.{Setting}
 
--- The access that a step makes. Producer 0 is the devices, whose route is the entry; producer 1 the
--- other virtual harts, whose route is the G-stage record. There is none where the step is about
--- delivery, the threshold or where notices go, of which the rule on plans of our shape says
--- nothing.
+-- Producer 0 is the devices, whose route is the entry; producer 1 the other virtual harts, whose
+-- route is the G-stage record.
+abbrev pub our_producers : List Kind
+our_producers = Routed ∷ Routed ∷ []
+
+-- The access that a step makes. There is none where the step is about delivery, the threshold or
+-- where notices go, of which the rule on plans of our shape says nothing.
 abbrev pub access_of : OurStep → Option Step
 access_of ours.Word0 = Some (Route 0)
 access_of ours.Fence = Some (Fence 0)
@@ -43,7 +47,7 @@ translated (x ∷ later) = onto (access_of x) (translated later)
 -- no memory, as the rule on plans of our shape says nothing of notices.
 abbrev pub shape_setting : ℕ → Setting
 shape_setting words = record {
-  producers = Routed ∷ Routed ∷ [];
+  producers = our_producers;
   words = words;
   is_fresh = true;
   in_memory = false;

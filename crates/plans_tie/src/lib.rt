@@ -1,18 +1,20 @@
 //! Plans of the shape of ours are judged alike by both checkers: what the rule on these accepts is
-//! safe on the machine of anybody's plan. And the plans that the core makes keep the rules there.
+//! safe on the machine of anybody's plan. And the plans that the core makes, told in either words,
+//! are those that homes follow, and keep the rules there.
 #![tactic(auto)]
 
-ghost use Rattle.std.specs.Prelude.{◌≡◌, ℕ, true, None};
+ghost use Rattle.std.specs.Prelude.{◌≡◌, ℕ, true, Some, None, IfSome};
 ghost use Rattle.std.specs.List.{All};
 ghost use Rattle.aia_home.specs.declared.end.End.TheVariants.{File, Memory};
-ghost use Rattle.aia_plan.specs.Plan.{Plan, IsInside};
+ghost use Rattle.aia_home.specs.declared.access.Access.{Access};
+ghost use Rattle.aia_plan.specs.Plan.{Plan, IsInside, core_plan};
 ghost use Rattle.aia_plan.specs.Rule.{failing};
-ghost use Rattle.plans_machine.specs.Plans.{core_arrive, core_leave, core_shift, to_arrive, to_leave, to_shift};
 ghost use Rattle.plans_machine.specs.Rows.{AreAccepted, widths};
 ghost use Rattle.plans_machine.specs.Rules.{moves};
-ghost use Rattle.plans_machine.specs.Safe.{IsSafe};
-ghost use Rattle.plans_tie.specs.Told.{joined_plan, told_plan, told_setting};
-ghost use Rattle.plans_tie.specs.Translated.{shape_setting, translated};
+ghost use Rattle.plans_machine.specs.Safe.{IsSafe, IsTold};
+ghost use Rattle.plans_tie.specs.Shaped.{shaped, shaped_plan};
+ghost use Rattle.plans_tie.specs.Told.{told, told_plan, told_setting};
+ghost use Rattle.plans_tie.specs.Translated.{access_of, shape_setting, translated};
 
 use aia_plan::Kind;
 
@@ -27,8 +29,8 @@ pub fn accepted_plans_of_ours_are_accepted_there()
 {}
 
 /// The plans that the core makes, told as anybody's plans, keep all rules, for files of 1, 2, 4, 8,
-/// 16 and 32 words: they are safe, and the leave tells its host. They are those that homes follow
-/// (`aia_home`), word for word; where notices go is left out, of which no rule speaks.
+/// 16 and 32 words. They are those that homes follow (`aia_home`), access by access; where notices
+/// go is left out, of which no rule speaks.
 #[tactic(auto, using(crate::proofs::ToldLemmas::leave_keeps, crate::proofs::ToldLemmas::arrive_keeps, crate::proofs::ToldLemmas::shift_keeps))]
 pub fn the_plans_of_the_core_keep_the_rules_there()
     ensures leave { AreAccepted widths (told_setting File Memory) (told_plan File Memory) }
@@ -36,15 +38,30 @@ pub fn the_plans_of_the_core_keep_the_rules_there()
     ensures shift { AreAccepted widths (told_setting File File) (told_plan File File) }
 {}
 
-/// What is called the core's plans there is what the core makes, for every number of words, with
-/// each word of the enabled set joined to the new place, which is empty, and not written over it;
-/// and so is what they declare.
-#[tactic(auto, using(crate::proofs::ToldLemmas::leave_is, crate::proofs::ToldLemmas::arrive_is, crate::proofs::ToldLemmas::shift_is))]
-pub fn what_is_called_the_plans_of_the_core_is_what_it_makes()
-    ensures leave { (words : ℕ) → joined_plan File Memory words ≡ core_leave words }
-    ensures arrive { (words : ℕ) → joined_plan Memory File words ≡ core_arrive words }
-    ensures shift { (words : ℕ) → joined_plan File File words ≡ core_shift words }
-    ensures to_leave { (words : ℕ) → told_setting File Memory words ≡ to_leave words }
-    ensures to_arrive { (words : ℕ) → told_setting Memory File words ≡ to_arrive words }
-    ensures to_shift { (words : ℕ) → told_setting File File words ≡ to_shift words }
+/// So they are safe on that machine, whatever both producers do, and the leave tells its host.
+#[tactic(auto, using(crate::proofs::ToldLemmas::leave_safe, crate::proofs::ToldLemmas::arrive_safe, crate::proofs::ToldLemmas::shift_safe, crate::proofs::ToldLemmas::leave_tells))]
+pub fn the_plans_of_the_core_are_safe_there()
+    ensures leave { All (λ words. IsSafe (told_setting File Memory words)
+        (told_plan File Memory words)) widths }
+    ensures arrive { All (λ words. IsSafe (told_setting Memory File words)
+        (told_plan Memory File words)) widths }
+    ensures shift { All (λ words. IsSafe (told_setting File File words)
+        (told_plan File File words)) widths }
+    ensures told { All (λ words. IsTold (told_setting File Memory words)
+        (told_plan File Memory words)) widths }
+{}
+
+/// The plans of the core as plans of our shape (`core_plan` of `aia_plan`) are those that homes
+/// follow too, access by access, for every number of words.
+#[tactic(auto, using(crate::proofs::ToldLemmas::core_is_shaped))]
+pub fn the_plans_of_the_core_are_those_of_homes()
+    ensures { (kind : Kind) (words : ℕ) → core_plan kind words ≡ shaped_plan kind words }
+{}
+
+/// An access is the same step of anybody's plan, whether it is told at once or as a step of our
+/// shape; but for those of which the rule on plans of our shape says nothing.
+#[tactic(auto, using(crate::proofs::ToldLemmas::told_alike))]
+pub fn an_access_is_told_alike_both_ways()
+    ensures { (kind : Kind) (access : Access) → IfSome (access_of (shaped kind access))
+        (λ step. told access ≡ Some step) }
 {}
