@@ -4,7 +4,7 @@ import re
 from dataclasses import dataclass
 from functools import cache
 
-from antt import clauses, has_clauses, module_path
+from antt import TOP, clauses, has_clauses, module_path
 
 TOKEN = re.compile(r"\s*(\d+|[A-Za-z_][\w.]*|&&|\|\||[()+*\-])")
 # The modules in which moves are defined.
@@ -205,13 +205,15 @@ class Move:
 
     def length(self):
         """Gives how many steps it has, those that aim aside."""
-        return computed(f"{self.kind}_steps", [self.words])
+        way = self.home()[1]
+        ends = [computed(end, [way]) for end in ("old_end", "new_end")]
+        return computed("plan_steps", [*ends, self.words])
 
     def accesses(self):
         """Lists its accesses in order, as (constructor, number of the word or None)."""
-        text = module_path("aia_home", "Plans").read_text(encoding="utf-8")
+        text = (TOP / "crates/aia_home/src/access.rt").read_text(encoding="utf-8")
         found = {}
-        for name, word in re.findall(r"(?m)^  (\w+) : (\(w : ℕ\) → )?Access$", text):
+        for name, word in re.findall(r"(?m)^    (\w+)(\(u32\))?,$", text):
             for w in range(self.words) if word else [None]:
                 if self.has(name, w):
                     found[self.step(name, w)] = (name, w)

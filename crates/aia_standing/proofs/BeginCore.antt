@@ -168,7 +168,7 @@ module _ (x y : CoreState) (who : Who) (given : Answer) (h : History) (stands : 
   taken_in : (want : Want) (new old : Stay) (hart : ℕ) (moving : Place → Moving) (o : Option ℕ) → Put x y who new → (record_of x (vcpu who.found.vm who.found.number)).stay ≡ old → hart < x.leases.harts → least_free x.leases hart ≡ o
       → refusal h (lines.Move who.found.vm who.found.number want) ≡ cond (is_none o) (Some (Refused words.NoFile)) None
       → ((plan : Plan) (to : Place) → Given x y h (vcpu who.found.vm who.found.number) who plan (at_stay (record_of x (vcpu who.found.vm who.found.number)) (stays.Moving plan)) → IsFreeAt x h hart to → y.leases ≡ with_out x.leases to true → moving_of plan ≡ moving to
-        → CoreStands y (Began (wanted_move (vcpu who.found.vm who.found.number) want) ∷ h))
+      → CoreStands y (Began (wanted_move (vcpu who.found.vm who.found.number) want) ∷ h))
       → BeginsIn o hart moving old new x.leases y.leases given → Answered x y h who.found.vm who.found.number want given
   taken_in want new old hart moving None p was low found is begun b = refused want words.NoFile new old p was b is
   taken_in want (stays.Moving plan) old hart moving (Some file) p was low found is begun b = (

@@ -88,8 +88,7 @@ module _ (x y : CoreState) (who : Found) (new : Stay) (plan : Plan) (was : stays
       )
   by_plan false c =
       let made = made_of false c in
-      let same : (y.world ≡ x.world) × (made.0 ≡ plan) × EndsPhaseOrAims (phase_of plan) (width x.world) (moving_of plan) = made.2 in
-      (
+      let same : (y.world ≡ x.world) × (made.0 ≡ plan) × EndsPhaseOrAims (phase_of plan) (width x.world) (moving_of plan) = made.2 in (
         same_core x y same.0 c.leases (c.back ∙ ap (λ s. set x.vcpus who.slot (at_stay (get_or x.vcpus who.slot no_record) s)) (made.1 ∙ ap (λ (p : Plan). stays.Moving p) same.1) ∙ same_records) c.selects c.passes,
         λ p is.
             let own : stays.Moving plan ≡ stays.Moving p = was ∙ ap (λ q. (get_or x.vcpus q no_record).stay) c.is_who.slot ∙ is in
