@@ -6,6 +6,8 @@ from antt import TOP
 
 TARGET = TOP / "docs/EDITS.md"
 REFUSALS = TOP / "docs/make/refusals.txt"
+# The most edits of a crate: the gate proves the crate once more for each.
+MOST = 9
 HEAD = ["| Edit | Turns | Into | Refused by |", "|---|---|---|---|"]
 BEGIN, END = "<!-- edits, by `suite/documents make` -->", "<!-- /edits -->"
 
@@ -15,9 +17,9 @@ def edits():
     found = []
     for path in sorted(TOP.glob("crates/*/must-fail/*.edit")):
         lines = path.read_text(encoding="utf-8").split("\n")
-        file = next(line[6:] for line in lines if line.startswith("file: "))
+        file = next((line[6:] for line in lines if line.startswith("file: ")), "")
         old = [line[5:] for line in lines if line.startswith("old: ")]
-        new = [line[5:] for line in lines if line.startswith("new: ")]
+        new = [line[5:] for line in lines if line.startswith("new:")]
         found.append((path.parts[-3], path.stem, file, list(zip(old, new))))
     return found
 
@@ -96,8 +98,42 @@ def rendered():
     return before + table() + rest.split(END, 1)[1]
 
 
+def misfit(crate, file, pairs):
+    """Says why an edit can't be made: each old text stands once in its file, as the pairs before it
+    left that; gives nothing where it can be."""
+    path = TOP / "crates" / crate / file
+    if not path.is_file():
+        return f"there is no {file} in crates/{crate}" if file else "it has no line 'file: '"
+    text = path.read_text(encoding="utf-8")
+    for old, new in pairs:
+        count = text.count(old)
+        if not old.strip() or count != 1:
+            return f"its old text stands {count} times in {file}, and not once: {old.strip()}"
+        if old == new:
+            return f"what it puts there is what stands there: {old.strip()}"
+        text = text.replace(old, new)
+    return "" if pairs else "it has no pair of lines 'old: ' and 'new: '"
+
+
+def misfits():
+    """Says which edits can't be made, and which crates have too many."""
+    for of, name, file, pairs in edits():
+        if why := misfit(of, file, pairs):
+            yield f"crates/{of}/must-fail/{name}.edit: {why}"
+    crates = [of for of, *_ in edits()]
+    for crate in sorted(set(crates)):
+        if (count := crates.count(crate)) > MOST:
+            yield f"crates/{crate}/must-fail has {count} edits, and may have {MOST}"
+
+
 def drifts():
-    """Says where the tables differ from the edits, and which edits nothing is said of."""
+    """Says where the tables differ from the edits, which edits nothing is said of, and which can't
+    be made."""
+    found = list(misfits())
+    yield from found
+    if found:
+        # What is made of the edits needs those that can be made.
+        return
     there = {(of, name) for of, name, _, _ in edits()}
     for of, name in sorted(there - set(refusals())):
         yield f"docs/make/refusals.txt does not say what refuses {of} {name}"
