@@ -160,7 +160,8 @@ def drifts():
     if wanted != stands:
         at = next((i for i, (a, b) in enumerate(zip(wanted, stands)) if a != b), len(stands))
         near = next((w[4:] for w in reversed(wanted[: at + 1]) if w.startswith("### ")), "its head")
-        yield f"docs/DEFINITIONS.md drifts from the definitions, first at line {at + 1}, in {near}"
+        yield (f"docs/DEFINITIONS.md drifts from the definitions, first at line {at + 1}, in {near}:"
+               " suite/documents make writes it anew")
 
 
 def make():

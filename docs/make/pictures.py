@@ -312,7 +312,8 @@ def drifts():
     for name, text in rendered().items():
         path = FOLDER / name
         if not path.exists() or path.read_text(encoding="utf-8") != text:
-            yield f"docs/pictures/{name} drifts from the plans, the map or the script"
+            yield (f"docs/pictures/{name} drifts from the plans, the map or the script:"
+                   " suite/documents make writes it anew")
     for path in FOLDER.glob("*.svg"):
         if path.name not in rendered():
             yield f"docs/pictures/{path.name} is none that the scripts make"

@@ -136,13 +136,17 @@ def drifts():
         return
     there = {(of, name) for of, name, _, _ in edits()}
     for of, name in sorted(there - set(refusals())):
-        yield f"docs/make/refusals.txt does not say what refuses {of} {name}"
+        yield (f"docs/make/refusals.txt does not say what refuses {of} {name}: its head says how,"
+               " and rt must-fail what")
     for of, name in sorted(set(refusals()) - there):
         yield f"docs/make/refusals.txt speaks of {of} {name}, which is no edit"
     if rendered() != TARGET.read_text(encoding="utf-8"):
-        yield "docs/EDITS.md: its tables drift from must-fail/ or docs/make/refusals.txt"
+        yield ("docs/EDITS.md: its tables drift from must-fail/ or docs/make/refusals.txt:"
+               " suite/documents make writes them anew")
 
 
 def make():
-    """Writes the tables into the document."""
+    """Writes the tables into the document; ends where an edit can't be made."""
+    if found := list(misfits()):
+        raise SystemExit("\n".join(found))
     TARGET.write_text(rendered(), encoding="utf-8")
