@@ -161,7 +161,7 @@ def walked_down(browser, address):
       for (;;) {
         const fold = at.querySelector(':scope > li > details');
         if (!fold) break;
-        fold.querySelector('summary').click();
+        if (!fold.open) fold.querySelector('summary').click();
         if (!fold.open || fold.querySelector('summary').offsetHeight === 0) return -1;
         steps += 1;
         const inner = fold.querySelector(':scope > ul');

@@ -138,8 +138,8 @@ def stands(site, place, what):
 
 def linked_sentences(site):
     """Says which sentence of README has no link to what carries it on the start page."""
-    page = site.pages[FIRST]
-    there = {(place, anchor) for _, place, anchor in page.links}
+    marks = "".join(re.findall(r'(?s)<sup class="laws">.*?</sup>', site.pages[FIRST].text))
+    there = {(place, anchor) for _, place, anchor in Page(FIRST, marks).links}
     for sentence in site_documents.claims():
         for reference in site_documents.carriers(sentence):
             leads = site_documents.leads_to(reference)
@@ -170,7 +170,7 @@ def is_ended(text):
             depth[-1][1] += 1
         else:
             break
-    folds = text.count("<details>")
+    folds = text.count("<details>") + text.count("<details open>")
     ends = text.count("</summary><ul>") + text.count('names nothing</p>')
     ends += len(re.findall(r"</pre><ul>", text))
     return not depth and not empty and folds == ends

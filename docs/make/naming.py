@@ -336,6 +336,11 @@ def labels(block):
     return {match.start(1) for match in re.finditer(r"[{;]\s*([\w']+)\s*=(?![=>])", block)}
 
 
+def is_bracket(block, match):
+    """Says whether a sign is a bracket of a type of Rust, as in `Vec<u8>`, and no operator."""
+    return set(match["sign"]) <= set("<>&") and block[match.start() - 1 : match.start()] != " "
+
+
 def named(block, meaning):
     """Lists what names in a block of code lead to: each with its place, its length and its
     target."""
@@ -350,7 +355,7 @@ def named(block, meaning):
                 leads, length = meaning.names.get("if◌then◌else◌"), len(match["name"])
             if leads:
                 yield match.start(), length, leads
-        elif match["sign"]:
+        elif match["sign"] and not is_bracket(block, match):
             leads = meaning.of_sign(match["sign"])
             if leads:
                 yield match.start(), len(match["sign"]), leads

@@ -17,6 +17,8 @@ LAWS, CALLS, THEOREM = "laws/index.html", "calls/index.html", "theorem.html"
 # Crates whose laws are worked scripts, each law one row: they stand together, and rest on what the
 # answers of a script rest on.
 WORKED = ("aia_guest_vectors", "aia_vectors")
+# Crates whose laws are of the definitions alone (docs/promises/laws.md).
+FOR_USERS = ("aia_laws", "aia_isolation", "aia_model")
 HEADLINE = ("aia_replay", "run", ("done", "all"))
 
 
@@ -157,12 +159,13 @@ class Tree:
         where = one.crate if one.is_item else f"{one.module} of {one.crate}"
         named_keys = rests_on(key)
         inner = self.rows(named_keys, self.below[key])
-        code = ""
+        code, is_open = "", ""
         if self.has_code:
+            is_open = " open" if key in self.keys else ""
             code = Prose.of("\n".join(shown_comment(one))) + code_of(self.page, one, ids=False)
         head = f"{link(self.page, one.place, escape(one.name))} <small>{where}</small>"
         rest = f"<ul>{inner}</ul>" if inner else '<p class="leaves">names nothing</p>'
-        return (f'<li id="t{self.numbers[key]}"><details><summary>{head}</summary>{code}{rest}'
+        return (f'<li id="t{self.numbers[key]}"><details{is_open}><summary>{head}</summary>{code}{rest}'
                 "</details></li>")
 
 
@@ -209,15 +212,19 @@ def crate_page(site, crate, own, folder, title, note):
     site.write(page, title, "\n".join(body), of)
 
 
-def listed(site, page, title, note, of_crates):
-    """Writes a list of functions by crate."""
+def listed(site, page, title, note, chapters):
+    """Writes a list of functions, by chapters and crates; the first chapter is unfolded where it
+    has a heading."""
     body = [f"<h1>{title}</h1>", f'<p class="note">{note}</p>']
-    for crate, own in of_crates.items():
-        rows = "".join(
-            f"<li>{link(page, place_of(one), escape(one.called()))}"
-            f" <small>{escape(first_sentence(one.comment))}</small></li>" for one in own)
-        body.append(f'<details id="{crate}"><summary>{crate} <small>{len(own)}</small></summary>'
-                    f"<ul>{rows}</ul></details>")
+    for heading, of_crates in chapters.items():
+        body += [f"<h2>{heading}</h2>"] if heading else []
+        is_open = " open" if heading == next(iter(chapters)) != "" else ""
+        for crate, own in of_crates.items():
+            rows = "".join(
+                f"<li>{link(page, place_of(one), escape(one.called()))}"
+                f" <small>{escape(first_sentence(one.comment))}</small></li>" for one in own)
+            body.append(f'<details{is_open} id="{crate}"><summary>{crate} <small>{len(own)}'
+                        f"</small></summary><ul>{rows}</ul></details>")
     site.write(page, title, "\n".join(body))
 
 
@@ -264,7 +271,11 @@ def make(site):
                    "Each with its contract, as it stands in its source: what it requires and what"
                    " was proved that it ensures.")
     listed(site, LAWS, "Laws", "Functions that do nothing, whose clauses were proved of the"
-           " definitions. Each page has a law's clauses, and what they rest on.", laws | worked)
+           " definitions. Each page has a law's clauses, and what they rest on.",
+           {"Of the definitions": {crate: laws[crate] for crate in FOR_USERS},
+            "Of parts of the program": {crate: own for crate, own in laws.items()
+                                        if crate not in FOR_USERS},
+            "Worked scripts": worked})
     listed(site, CALLS, "Public calls", "What each crate offers to others, with the clauses of its"
-           " contract.", calls)
+           " contract.", {"": calls})
     theorem(site)

@@ -130,7 +130,7 @@ def make_examples(site, workers):
         page, is_drawn = example_page(site, workers, path, command, by)
         said = " ".join(one.removeprefix("#").strip()
                         for one in answers.head_comment(path.read_bytes()))
-        first = said.split(". ")[0].rstrip(".")
+        first = said.split(". ")[0].rstrip(".").replace("`", "")
         drawn.setdefault(is_drawn, []).append(
             f"<li>{link(MOVES, page, path.stem)} <small>{escape(first)}</small></li>")
     body = ["<h1>Examples, line by line</h1>",
