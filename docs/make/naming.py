@@ -237,7 +237,7 @@ class Meaning:
         if crate not in crates():
             return
         for name in re.findall(r"[A-Z]\w*", text):
-            one = by_name(crate).get(name) or elsewhere(name)
+            one = offered_by(crate, name) or elsewhere(name)
             if one:
                 self.names.setdefault(name, target(one))
 
@@ -258,6 +258,20 @@ class Meaning:
     def of_sign(self, sign):
         """Gives the target of an operator, or of a part of one."""
         return self.names.get(f"◌{sign}◌") or self.names.get(sign)
+
+
+@cache
+def offered_by(crate, name):
+    """Gives the item that a crate offers under a name: its own, or one of another crate that it
+    hands on; None where there is none."""
+    if name in by_name(crate):
+        return by_name(crate)[name]
+    root = next((f for f in source_files(crate) if f in ("src/lib.rt", "src/main.rt")), None)
+    text = "\n".join(source_lines(crate, root)) if root else ""
+    for of, words in re.findall(r"(?m)^pub use (\w+)::([^;]*);", text):
+        if of in crates() and of != crate and re.search(rf"\b{name}\b", words):
+            return offered_by(of, name)
+    return None
 
 
 @cache

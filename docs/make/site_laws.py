@@ -8,8 +8,8 @@ from html import escape
 from antt import TOP
 from definitions import prose
 from functions import dedented, functions, source_files
-from naming import (all_definitions, crates, keys_of, meaning_of_file, named, rests_on,
-                    with_generics)
+from naming import (all_definitions, by_name, crates, inside, keys_of, meaning_of_file, named,
+                    rests_on, with_generics)
 from site_definitions import code_of, library_words
 from site_pages import Prose, first_sentence, link, linked_code
 
@@ -58,9 +58,14 @@ def comments():
     return ["\n".join(one.comment) for one in all_functions()]
 
 
+@cache
 def meaning(one):
-    """Gives what the names of a function mean."""
-    return with_generics(meaning_of_file(one.crate, one.file), "\n".join(one.text))
+    """Gives what the names of a function mean: one of a trait may name what that has."""
+    found = with_generics(meaning_of_file(one.crate, one.file), "\n".join(one.text))
+    owner = by_name(one.crate).get(one.owner)
+    if owner and owner.lines[0].startswith("pub trait"):
+        found.names = inside(owner) | found.names
+    return found
 
 
 @cache
