@@ -15,9 +15,12 @@ from running import TOP
 
 sys.path.append(str(TOP / "docs/make"))
 
-import site_documents  # noqa: E402: the way to it stands above
+import site_documents  # noqa: E402: the way to these stands above
 import site_laws  # noqa: E402
 import site_scripts  # noqa: E402
+from antt import all_modules, module_path  # noqa: E402
+from functions import dedented  # noqa: E402
+from naming import spec_page  # noqa: E402
 
 TAG = re.compile(r"<(\w+)((?:\s+[\w-]+(?:=\"[^\"]*\")?)*)\s*/?>")
 VALUE = re.compile(r"([\w-]+)=\"([^\"]*)\"")
@@ -148,6 +151,35 @@ def linked_sentences(site):
                 yield f"the start page has no link to {leads[1]}, of '{sentence[:60]}'"
 
 
+# ---- lines
+
+def shown_lines(page):
+    """Gives the blocks of code of a page as text."""
+    blocks = re.findall(r"(?s)<pre[^>]*>(.*?)</pre>", page.text)
+    return [unescape(re.sub(r"<[^>]*>", "", block)) for block in blocks]
+
+
+def whole_modules(site):
+    """Says which module's page lacks a line of its definitions."""
+    for crate, module in all_modules():
+        page = site.pages.get(spec_page(crate, module))
+        there = {line for block in shown_lines(page) for line in block.split("\n")} if page else ()
+        for line in module_path(crate, module).read_text(encoding="utf-8").split("\n"):
+            if line and not line.startswith(("--", "use ")) and line.rstrip() not in there:
+                yield f"{spec_page(crate, module)} does not show the line {line}"
+
+
+def whole_contracts(site):
+    """Says which law or public call does not stand in the site as in its source."""
+    shown = {}
+    for one in site_laws.all_functions():
+        place = site_laws.place_of(one).partition("#")[0]
+        if place in site.pages and place not in shown:
+            shown[place] = set(shown_lines(site.pages[place]))
+        if "\n".join(dedented(one.text)) not in shown.get(place, ()):
+            yield f"{place} does not show {one.called()} as its source has it"
+
+
 # ---- trees
 
 def tree_of(page):
@@ -266,7 +298,8 @@ def sliders(site, workers):
 def faults(site, workers):
     """Gives all that is wrong with a site, by its kind."""
     return {"links": list(dead_links(site)), "reach": list(out_of_reach(site)),
-            "laws": [*laws(site), *linked_sentences(site)], "trees": list(trees(site)),
+            "laws": [*laws(site), *linked_sentences(site)],
+            "lines": [*whole_modules(site), *whole_contracts(site)], "trees": list(trees(site)),
             "sliders": list(sliders(site, workers))}
 
 

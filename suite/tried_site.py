@@ -8,7 +8,7 @@ import siting
 from running import TOP
 
 SITE, MAKER = TOP / "suite/site", TOP / "docs/make/site"
-LAW = "laws/aia_laws/no_notice_is_lost.html"
+LAW, SCRIPT = "laws/aia_laws/no_notice_is_lost.html", "definitions/aia_model/Script.html"
 # What the makers need of a path; without pandoc and a browser.
 COMMANDS = ("env", "python3", "git", "bash")
 # How long the site may take to be made, in seconds.
@@ -83,6 +83,7 @@ class Planted:
 def plants(planted, workers):
     """Plants a fault of each kind."""
     def sliders(site):
+        """Looks at the sliders of a site."""
         return siting.sliders(site, workers)
     planted.tells("docs/PROMISE.html, which is not there", "docs/README.html",
                   'href="PROMISES.html"', 'href="PROMISE.html"', siting.dead_links)
@@ -94,6 +95,10 @@ def plants(planted, workers):
                   f'href="{LAW}#no_notice_is_lost.sent"', f'href="{LAW}"', siting.linked_sentences)
     planted.lacks("the law no_notice_is_lost of aia_laws has no place", LAW, siting.laws)
     planted.lacks(f"links to {LAW}, which is not there", LAW, siting.dead_links)
+    planted.tells(f"{LAW} does not show no_notice_is_lost as its source has it", LAW,
+                  "</i> true }", "</i> false }", siting.whole_contracts)
+    planted.tells("Script.html does not show the line text_answer h", SCRIPT,
+                  "text_answer h (", "text_answer k (", siting.whole_modules)
     planted.tells(f"the tree of {LAW} does not end", LAW, "</summary><ul>", "</summary>",
                   siting.trees)
     planted.tells(f"the tree of {LAW} leaves out", LAW, '<summary><a href="../../definitions/',

@@ -86,14 +86,13 @@ def module_page(site, crate, module, namers):
             Prose.of("\n".join(head), page, meaning)]
     for group in groups:
         body.append(Prose.of("\n".join(prose(group.comment)), page, meaning))
-        before = []
         for line in group.code:
             if line in by_head:
                 one = by_head[line]
                 body += ['<section class="one">', code_of(page, one),
                          around(page, one, namers), "</section>"]
             elif line.startswith("infix"):
-                before.append(line)
+                body.append(f"<pre>{escape(line)}</pre>")
     site.write(page, f"{module} of {crate}", "\n".join(body), DEFINITIONS)
 
 

@@ -8,7 +8,7 @@ from antt import TOP
 from markdown import documents, read, section
 from naming import all_definitions
 from site_definitions import DEFINITIONS
-from site_laws import all_functions, anchor_of, place_of
+from site_laws import THEOREM, all_functions, anchor_of, place_of
 from site_pages import document_page, link, pandoc
 
 PROVED = TOP / "docs/make/proved.txt"
@@ -53,12 +53,13 @@ def joined(pieces):
 
 def proved():
     """Gives what docs/make/proved.txt says: of the first words of a sentence, which laws, clauses
-    and definitions carry it, each as (words of a reference)."""
-    found = {}
+    and definitions carry it, each as the words of a reference."""
+    found, now = {}, []
     for line in PROVED.read_text(encoding="utf-8").split("\n"):
-        if line and not line.startswith("#"):
-            words, _, rest = line.partition(" | ")
-            found[words] = [tuple(one.split()) for one in rest.split(", ")]
+        if line.startswith(" "):
+            now.append(tuple(line.split()))
+        elif line and not line.startswith("#"):
+            now = found.setdefault(line, [])
     return found
 
 
@@ -71,7 +72,9 @@ def carriers(sentence):
 
 def leads_to(reference):
     """Gives the place that a reference names, with its name: `crate function [clause]`, or
-    `crate Module name` of a definition; None where it names nothing."""
+    `crate Module name` of a definition, or `theorem`; None where it names nothing."""
+    if reference == ("theorem",):
+        return THEOREM, "the theorem"
     crate, name, *rest = reference
     for one in all_functions():
         if one.crate == crate and one.called() == name:
