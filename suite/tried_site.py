@@ -96,7 +96,7 @@ def plants(planted, workers):
     planted.lacks("the law no_notice_is_lost of aia_laws has no place", LAW, siting.laws)
     planted.lacks(f"links to {LAW}, which is not there", LAW, siting.dead_links)
     planted.tells(f"{LAW} does not show no_notice_is_lost as its source has it", LAW,
-                  "</i> true }", "</i> false }", siting.whole_contracts)
+                  "true</i> }", "false</i> }", siting.whole_contracts)
     planted.tells("Script.html does not show the line text_answer h", SCRIPT,
                   "text_answer h (", "text_answer k (", siting.whole_modules)
     planted.tells(f"the tree of {LAW} does not end", LAW, "</summary><ul>", "</summary>",

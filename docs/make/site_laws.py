@@ -30,10 +30,15 @@ def all_functions():
             if one.clauses() and (one.is_law or one.is_public)]
 
 
+def is_worked(one):
+    """Says whether a law is of a row: that the answers of a script are those beside its lines."""
+    return one.is_law and one.crate in WORKED and one.module().startswith("rows::")
+
+
 @cache
 def place_of(one):
     """Gives the place of a law or a call."""
-    if one.is_law and one.crate not in WORKED:
+    if one.is_law and not is_worked(one):
         return f"laws/{one.crate}/{one.name}.html"
     folder = "laws" if one.is_law else "calls"
     return f"{folder}/{one.crate}.html#{anchor_of(one)}"
@@ -205,8 +210,8 @@ def section(page, one):
             f"<pre>{contract(page, one)}</pre></section>")
 
 
-def crate_page(site, crate, own, folder, title, note):
-    """Writes a page of functions of one crate, folded by module."""
+def crate_page(site, crate, own, folder, title, note, more=""):
+    """Writes a page of functions of one crate, folded by module, with more behind them."""
     page, of = f"{folder}/{crate}.html", f"{folder}/index.html"
     body = [f'<p class="path">{link(page, of, folder.capitalize())} / {crate}</p>',
             f"<h1>{title}</h1>", f'<p class="note">{note}</p>']
@@ -214,7 +219,7 @@ def crate_page(site, crate, own, folder, title, note):
         inner = [section(page, one) for one in own if one.module() == module]
         body += [f"<details open><summary>{module or crate} <small>{len(inner)}</small></summary>",
                  *inner, "</details>"]
-    site.write(page, title, "\n".join(body), of)
+    site.write(page, title, "\n".join([*body, more]), of)
 
 
 def listed(site, page, title, note, chapters):
@@ -231,6 +236,15 @@ def listed(site, page, title, note, chapters):
             body.append(f'<details{is_open} id="{crate}"><summary>{crate} <small>{len(own)}'
                         f"</small></summary><ul>{rows}</ul></details>")
     site.write(page, title, "\n".join(body))
+
+
+def shared_tree(crate, own):
+    """Gives the tree of what all clauses of some laws of a crate name."""
+    shared = [key for key in keys_in(own[0]) if all(key in keys_in(one) for one in own)]
+    rests = Tree(f"laws/{crate}.html", shared)
+    return ("<h2>What they rest on</h2>\n"
+            f'<p class="note">What all of these clauses name, with {len(rests.below)} definitions;'
+            f" besides, each names its script.</p>\n{rests.html()}")
 
 
 def theorem(site):
@@ -261,7 +275,7 @@ def make(site):
     """Writes all pages on what is proved."""
     laws, worked, calls = {}, {}, {}
     for one in all_functions():
-        of = calls if not one.is_law else worked if one.crate in WORKED else laws
+        of = calls if not one.is_law else worked if is_worked(one) else laws
         of.setdefault(one.crate, []).append(one)
     for own in laws.values():
         for one in own:
@@ -269,8 +283,7 @@ def make(site):
     for crate, own in worked.items():
         crate_page(site, crate, own, "laws", f"Worked scripts of {crate}",
                    "Each is a theorem whose one clause the checker computes: the answers of the"
-                   " script are those beside its lines. All rest on"
-                   f" {link(f'laws/{crate}.html', THEOREM, 'what the theorem rests on')}.")
+                   " script are those beside its lines.", shared_tree(crate, own))
     for crate, own in calls.items():
         crate_page(site, crate, own, "calls", f"Public calls of {crate}",
                    "Each with its contract, as it stands in its source: what it requires and what"

@@ -207,7 +207,7 @@ def first_sentence(lines):
     """Gives the first sentence of a comment, as plain text."""
     text = " ".join(line[2:].strip() if line.startswith("--") else line for line in lines
                     if not line.startswith("-- ----"))
-    return re.split(r"(?<=[.:;]) ", text, maxsplit=1)[0].rstrip(".:;").replace("`", "")
+    return re.split(r"(?<=\.) ", text, maxsplit=1)[0].rstrip(".").replace("`", "")
 
 
 def shown_file(crate, file):
