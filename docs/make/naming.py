@@ -166,9 +166,9 @@ def inside(one):
 def in_module(crate, module):
     """Gives all that a module defines, forms and parts too."""
     found = {one.name: one for one in defined(crate, module)}
-    return {name: target(one) for name, one in found.items()} | {
-        form: target(one, form) for one in found.values()
-        for form in one.members if not one.lines[0].startswith("pub record")}
+    forms = {form: target(one, form) for one in found.values()
+             for form in one.members if not one.lines[0].startswith("pub record")}
+    return forms | {name: target(one) for name, one in found.items()}
 
 
 def item_of(crate, file, name):
@@ -362,7 +362,8 @@ def named(block, meaning):
     for match in TOKEN.finditer(block):
         if match["name"]:
             first = re.split(r"\.|::", match["name"])[0]
-            if hidden.get(first, len(block)) <= match.start() or match["name"] in WORDS or match.start() in parts:
+            is_hidden = hidden.get(first, len(block)) <= match.start()
+            if is_hidden or match["name"] in WORDS or match.start() in parts:
                 continue
             leads, length = meaning.of(match["name"])
             if leads is None and match["name"] in ("if", "then", "else"):

@@ -19,6 +19,12 @@ LAWS, CALLS, THEOREM = "laws/index.html", "calls/index.html", "theorem.html"
 WORKED = ("aia_guest_vectors", "aia_vectors")
 # Crates whose laws are of the definitions alone (docs/promises/laws.md).
 FOR_USERS = ("aia_laws", "aia_isolation", "aia_model")
+# What stands at the head of the two lists.
+OF_LAWS = ("Functions that do nothing, whose clauses were proved of the definitions. Each page has a"
+           " law's clauses, and what they rest on. Beside a name stands the first sentence of its"
+           " comment alone: where others bound it, they stand on the page.")
+OF_CALLS = ("What each crate offers to others, with the clauses of its contract. Beside a name"
+            " stands the first sentence of its comment alone.")
 HEADLINE = ("aia_replay", "run", ("done", "all"))
 
 
@@ -172,11 +178,12 @@ class Tree:
         code, is_open = "", ""
         if self.has_code:
             is_open = " open" if key in self.keys else ""
-            code = Prose.of("\n".join(shown_comment(one))) + code_of(self.page, one, ids=False)
+            code = Prose.of("\n".join(shown_comment(one)))
+            code += code_of(self.page, one, ids=False)
         head = f"{link(self.page, one.place, escape(one.name))} <small>{where}</small>"
         rest = f"<ul>{inner}</ul>" if inner else '<p class="leaves">names nothing</p>'
-        return (f'<li id="t{self.numbers[key]}"><details{is_open}><summary>{head}</summary>{code}{rest}'
-                "</details></li>")
+        return (f'<li id="t{self.numbers[key]}"><details{is_open}><summary>{head}</summary>'
+                f"{code}{rest}</details></li>")
 
 
 def shown_comment(one):
@@ -288,12 +295,10 @@ def make(site):
         crate_page(site, crate, own, "calls", f"Public calls of {crate}",
                    "Each with its contract, as it stands in its source: what it requires and what"
                    " was proved that it ensures.")
-    listed(site, LAWS, "Laws", "Functions that do nothing, whose clauses were proved of the"
-           " definitions. Each page has a law's clauses, and what they rest on.",
+    listed(site, LAWS, "Laws", OF_LAWS,
            {"Of the definitions": {crate: laws[crate] for crate in FOR_USERS},
             "Of parts of the program": {crate: own for crate, own in laws.items()
                                         if crate not in FOR_USERS},
             "Worked scripts": worked})
-    listed(site, CALLS, "Public calls", "What each crate offers to others, with the clauses of its"
-           " contract.", {"": calls})
+    listed(site, CALLS, "Public calls", OF_CALLS, {"": calls})
     theorem(site)
