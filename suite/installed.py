@@ -47,9 +47,7 @@ class Root:
                 (self.folder / to).mkdir(parents=True, exist_ok=True)
                 (self.folder / name).symlink_to(to)
         listed = self.done("dpkg-query", "-L", *names).decode().splitlines()
-        wanted = [path for path in dict.fromkeys(listed)
-                  if path.startswith("/") and path != "/." and os.path.lexists(path)
-                  and not path.startswith(LEFT_OUT) and path[1:] not in MERGED]
+        wanted = [path for path in dict.fromkeys(listed) if is_wanted(path)]
         files = self.folder / "tmp/files"
         files.write_text("".join(f".{path}\n" for path in wanted), encoding="utf-8")
         self.done(*self.before, "bash", "-c",
@@ -93,6 +91,14 @@ class Root:
             found |= {os.path.relpath(os.path.join(folder, name), self.folder)
                       for name in [*folders, *files]}
         return {path for path in found if not path.startswith(OF_OTHERS)}
+
+
+def is_wanted(path):
+    """Says whether a file of a package goes into the root: it is there, may be read, and is of
+    use."""
+    return (path.startswith("/") and path != "/." and path[1:] not in MERGED
+            and not path.startswith(LEFT_OUT)
+            and (os.path.islink(path) or os.access(path, os.R_OK)))
 
 
 def packages(run, names):
