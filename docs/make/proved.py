@@ -58,8 +58,8 @@ def head(version, commit, is_dirty, toolchain):
     yield f"Commit     {commit}, of {day}"
     if is_dirty:
         yield "           and the tree had changes that no commit has, which are in this release"
-    yield "Toolchain  " + (toolchain or "no rt was on the path where this was packed; the documents"
-                           " name that of the commit")
+    yield "Toolchain  " + (f"{toolchain}, as `rt version` said where this was packed" if toolchain
+                           else "no rt was on the path where this was packed; README.md names one")
 
 
 def files(folder, origins):
