@@ -1,8 +1,8 @@
 # shellcheck shell=bash disable=SC2154
 
-# What ./aia, ./plans and ./library share. Each sets `name`, its own, `top`, `made`, what it builds,
-# and `unbuilt`, the status where nothing could be built; it has functions `usage` and `manual` that
-# print these, and sources this.
+# What ./aia, ./plans, ./library and ./release share. Each sets `name`, its own, `top`, `made`, what
+# it builds, and `unbuilt`, the status where nothing could be built; it has functions `usage` and
+# `manual` that print these, and sources this.
 
 unwritten='the output could not be written to its end'
 ended_early='ended; what is proved by now stays, and the same command goes on from there'
@@ -71,6 +71,11 @@ crates_of() { # CRATE
     END { visit(crate) }' "$top/crates.txt"
 }
 
+# Prints the names of the calls that the library's header declares.
+calls_of_header() {
+  sed -n 's/^[a-z].*[ *]\(aia_[a-z0-9_]*\)(.*/\1/p' "$top/include/aia.h"
+}
+
 # Prints how far a build is by its log: the crate that was named last, among those of a list.
 progress_of() { # LOG LIST
   awk -v begun="$build_begun" -v now="$SECONDS" -v name="$name" '
@@ -85,9 +90,11 @@ progress_of() { # LOG LIST
     }' "$2" "$1"
 }
 
-# Says whether what is built of a crate is missing, or older than a source that it is made of.
+# Says whether what is built of a crate is missing, or older than a source that it is made of. In a
+# release there is no source, and nothing is stale.
 is_stale() { # CRATE BUILT
   local crates
+  [ -f "$top/crates.txt" ] || return 1
   mapfile -t crates < <(crates_of "$1")
   "$top/suite/stale" "$2" "${crates[@]}"
 }

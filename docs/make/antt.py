@@ -86,10 +86,10 @@ def imports(uses):
 
 
 def read_item(crate, file, name):
-    """Gives the text of a pub enum, struct or const of a source file, its comment included."""
+    """Gives the text of an enum, struct, const or trait of a source file, its comment included."""
     path = TOP / "crates" / crate / file
     lines = path.read_text(encoding="utf-8").split("\n")
-    head = re.compile(rf"pub (?:enum|struct|const|trait) {name}\b")
+    head = re.compile(rf"(?:pub(?:\([a-z]+\))? )?(?:enum|struct|const|trait) {name}\b")
     at = next((i for i, line in enumerate(lines) if head.match(line)), None)
     if at is None:
         raise SystemExit(f"{crate}/{file} has no {name}")
@@ -98,7 +98,7 @@ def read_item(crate, file, name):
         first -= 1
     last = at
     if not lines[at].rstrip().endswith(";"):
-        while not lines[last].startswith("}"):
+        while not lines[last].startswith(("}", "]")) and not lines[last].endswith('";'):
             last += 1
     text = lines[first : last + 1]
     return [line for line in text if not line.startswith("#[")]

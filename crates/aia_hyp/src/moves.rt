@@ -157,8 +157,8 @@ impl Core {
         made
     }
 
-    /// Makes such a step with the plan out of its record, where none is made in place: it comes to
-    /// another phase, or aims.
+    /// Makes such a step with the plan out of its record, where none is made in place: it is the
+    /// last one of its phase, or aims.
     fn step_out<T: Targets>(&mut self, found: Found, targets: &mut T) -> bool
         requires found { IsFound self.old.world found }
         requires moving { is_moving (home_in (record_of self.old (vcpu found.vm found.number)).stay)

@@ -1,15 +1,14 @@
 -- What the next access of a move needs: a file, a word, who is there.
 use Rattle.std.proofs.Common.{◌≡◌, ℕ, true, false, Option, Some, None, refl, sym, ap, ◌∙◌, subst, arith}
-use Rattle.std.specs.Prelude.{IsSome, option_map}
-use Rattle.std.proofs.lemmas.Bool.{ltb-true, eq-eqb, false≢true}
+use Rattle.std.specs.Prelude.{IsSome, option_map, not, nat_lt}
+use Rattle.std.proofs.lemmas.Bool.{ltb-true, eq-eqb, false≢true, and_parts}
 use Rattle.aia_word.specs.Sets.{has_bit}
 use Rattle.aia_home.specs.declared.place.Place.{Place}
 use Rattle.aia_home.specs.declared.access.Access.{Access}
 use Rattle.aia_home.specs.declared.access.Access.TheVariants.{TakeDelivery, PutDelivery, TakePending, PutPending, TakeEnables, PutEnables, Look, TakeThreshold, PutThreshold}
 use Rattle.aia_home.specs.declared.end.End.{End}
-use Rattle.aia_home.specs.Home.{Way, Progress, Home, old_end, new_end}
+use Rattle.aia_home.specs.Home.{Way, Progress, Home, is_file, left, led_to, end_at, old_end, new_end}
 use Rattle.aia_home.specs.Home.Home.{OnWay}
-use Rattle.aia_home.specs.Home.Way.{Outward, Inward, Across}
 use Rattle.aia_home.specs.Plans.{IsAt, IsNext, plan_has, plan_step, is_last_made}
 use Rattle.aia_home.specs.Phases.{Phase, phase_begins, begins}
 use Rattle.aia_home.specs.BySteps.{old_file, new_file}
@@ -27,27 +26,25 @@ word_fits w s access fits next = by_home s.home fits.no_pending_zero fits.no_ena
     by_home (OnWay way at) pending enabled (PutPending k) next = (ltb-true _ _ next.has, λ z. pending (eq-eqb _ _ (omega (arith, z, next.step))))
     by_home (OnWay way at) pending enabled (TakeEnables k) next = ltb-true _ _ next.has
     by_home (OnWay way at) pending enabled (PutEnables k) next = (ltb-true _ _ next.has, λ z. enabled (eq-eqb _ _ (omega (arith, z, next.step))))
-    by_home (OnWay (Outward from) at) pending enabled (Look k) next = ltb-true _ _ next.has
-    by_home (OnWay (Inward to) at) pending enabled (Look k) next = let no : false ≡ true = next.has in absurd (cc)
-    by_home (OnWay (Across from to) at) pending enabled (Look k) next = let no : false ≡ true = next.has in absurd (cc)
+    by_home (OnWay way at) pending enabled (Look k) next = ltb-true _ _ (and_parts (not (is_file (new_end way))) (nat_lt k (width w)) next.has).1
     by_home (OnWay way at) pending enabled access next = tt
     by_home there pending enabled access next = let no : false ≡ true = next.has in absurd (cc)
 
 -- the file that a number is taken of, or put in
 has_file : (words : ℕ) (there : Home) (access : Access) → IsNext words there access → HasFile access (old_file there) (new_file there)
-has_file words (OnWay (Outward from) at) TakeDelivery next = refl
-has_file words (OnWay (Outward from) at) TakeThreshold next = refl
-has_file words (OnWay (Across from to) at) TakeDelivery next = refl
-has_file words (OnWay (Across from to) at) TakeThreshold next = refl
-has_file words (OnWay (Across from to) at) PutDelivery next = refl
-has_file words (OnWay (Across from to) at) PutThreshold next = refl
-has_file words (OnWay (Inward to) at) PutDelivery next = refl
-has_file words (OnWay (Inward to) at) PutThreshold next = refl
-has_file words there TakeDelivery next = let no : false ≡ true = next.has in absurd (cc)
-has_file words there TakeThreshold next = let no : false ≡ true = next.has in absurd (cc)
-has_file words there PutDelivery next = let no : false ≡ true = next.has in absurd (cc)
-has_file words there PutThreshold next = let no : false ≡ true = next.has in absurd (cc)
-has_file words there access next = tt
+has_file words (OnWay way at) access next = at_ends (left way) (led_to way) access next.has
+  where
+    at_ends : (old new : Option Place) (access : Access) → plan_has (end_at old) (end_at new) words access ≡ true → HasFile access old new
+    at_ends (Some p) new TakeDelivery has = refl
+    at_ends (Some p) new TakeThreshold has = refl
+    at_ends old (Some p) PutDelivery has = refl
+    at_ends old (Some p) PutThreshold has = refl
+    at_ends None new TakeDelivery has = absurd (false≢true has)
+    at_ends None new TakeThreshold has = absurd (false≢true has)
+    at_ends old None PutDelivery has = absurd (false≢true has)
+    at_ends old None PutThreshold has = absurd (false≢true has)
+    at_ends old new access has = tt
+has_file words there access next = absurd (false≢true next.has)
 
 -- of the leases that have them
 pub leases_have : {A : Type 0} (place : A → Place) (words : ℕ) (there : Home) (access : Access) (old new : Option A) → IsNext words there access → option_map place old ≡ old_file there → option_map place new ≡ new_file there → HasFile access old new

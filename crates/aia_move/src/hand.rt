@@ -24,7 +24,7 @@ use std::marker::Model;
 /// What a move carries from one access to the next.
 #[derive(Clone, Copy, Debug, Default, PartialEq, Eq)]
 pub struct Hand {
-    /// The word of a set that was taken last.
+    /// The word of a set that is carried.
     pub word: u64,
     /// eidelivery.
     pub delivery: u64,
@@ -59,7 +59,8 @@ impl Hand {
     /// Makes an access of the move of who is moved from its old place to its new one, both there: a
     /// guest file each, or `None`: its slot of memory. A number is taken or put at a guest file
     /// alone; a word is one of the files' words, and one that is put as word 0 has no identity 0.
-    /// Before the fence of the entry all stores in flight of the VM land.
+    /// Before the fence of the entry all stores in flight of the VM land. It promises
+    /// nothing where both places are the slot.
     #[inline(always)]
     pub fn make(
         &mut self,

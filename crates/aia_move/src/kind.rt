@@ -148,7 +148,7 @@ impl Kind for ToOtherFile {
     ghost follows = { λ k at. refl };
 }
 
-/// Tells what the end of a move is at which this guest file is, or none.
+/// Tells what the end of a move is that has this guest file; `None`: memory.
 pub(crate) fn end_of(file: Option<&FileLease>) -> End
     ensures { result ≡ end_at (option_map (λ (lease : Bor Place). lease.now) file.entry) }
 {

@@ -52,7 +52,7 @@ impl<K: Kind, P> Model for Move<K, P> {
 }
 
 impl<K: Kind> Move<K, First> {
-    /// Begins, with what the hypervisor kept: no step is done.
+    /// Begins, with this in the hand: no step is done.
     pub(crate) fn new(kind: K, who: Who, hand: Hand) -> Move<K, First>
         ensures { result ≡ record {
           who = who;
@@ -240,7 +240,7 @@ impl<K: Kind> Move<K, Enable> {
 }
 
 impl<K: Kind> Move<K, Look> {
-    /// Looks at a word of both sets of the slot. Why here: each word is watched, so that a look
+    /// Looks at a word of both sets of the slot, in a leave alone. Why here: each word is watched, so that a look
     /// misses only what the host is told of; it finds what had come before.
     pub fn step(mut self, fabric: &mut Fabric) -> Turn<Self, Move<K, Last>>
         requires fits { MoveFits fabric.old self }

@@ -51,8 +51,8 @@ pub enum Next {
     Finished(Outcome),
 }
 
-/// The plan after the last step of the phase of the G-stage record, or an aim: it comes to the
-/// aims, or past them.
+/// The plan after the last step of the phase of the G-stage record: it comes to the aims, or past
+/// them.
 macro_rules! past {
     ($closed:expr, $aim:ident, $past:ident) => {
         match $closed {

@@ -39,7 +39,7 @@ WordFits access words word = ⊤
 
 -- ---- what it makes
 
--- The move of who is moved on a way, so far on it.
+-- A move of who is moved, on a way, as far as it has come, with this in its hand.
 abbrev pub moved : Who → Way → Progress → Hand → Moving
 moved who way at hand = record { who = who; home = OnWay way at; hand = hand }
 

@@ -143,7 +143,7 @@ impl Rehearsal {
         }
     }
 
-    /// Gives what an access has in the hand: the word that it puts, and the numbers.
+    /// Gives what an access has in the hand: the word that it puts, and what else is carried.
     fn hand_for(&self, access: Access) -> Hand
         ensures { result ≡ hand_for access self.now.hand }
     {
