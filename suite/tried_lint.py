@@ -261,8 +261,10 @@ def program_of(workers, language):
 
 def compares(words):
     """Compares lint with the program over random lines: LINES SEED [LANGUAGE]."""
-    if len(words) not in (2, 3) or words[2:] and words[2] not in COMPARED:
-        running.usage()
+    if len(words) not in (2, 3):
+        running.usage("LINES and SEED are wanted behind `try`")
+    if words[2:] and words[2] not in COMPARED:
+        running.usage(f"there is no language {words[2]!r}; there are {', '.join(COMPARED)}")
     count = running.number(words[0], "LINES", 1, 100_000_000)
     seed = running.number(words[1], "SEED", 0, (1 << 64) - 1)
     tally = Tally((*words[2:], "script")[0])
