@@ -53,7 +53,7 @@ class Ran(NamedTuple):
 
 
 class Pace:
-    """Says on standard error how far a tool is: each ten seconds on a terminal, else each minute."""
+    """Says on standard error how far a tool is: each ten seconds on a terminal, else a minute."""
 
     def __init__(self):
         self.every = 10 if sys.stderr.isatty() else 60

@@ -123,8 +123,8 @@ def reasons(trial):
              "--lines is FIRST-LAST, as 31-49, and not '5'"),
             (["examples/draw"], "one SCRIPT is wanted, and not 0"),
             (["suite/hunt"], "a COMMAND is wanted"),
-            (["suite/compare", script], "ANSWERS are wanted behind the SCRIPT, or `-- COMMAND`; over"
-                                        " the suite `-- COMMAND`"),
+            (["suite/compare", script], "ANSWERS are wanted behind the SCRIPT, or `-- COMMAND`;"
+                                        " over the suite `-- COMMAND`"),
             (["suite/check", "-k", ""], "a PATTERN is wanted behind -k"),
             (["examples/lockstep.py", "a", "b"], "one PROGRAM at most is wanted, and not 2 words")):
         ran, name = trial.run(TOP / words[0], *words[1:]), words[0].rpartition("/")[2]

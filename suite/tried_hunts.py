@@ -185,8 +185,8 @@ def hunts_changing(trial):
                  "pins,h", "--lines", 30, "--into", into, values)
     # The first line differs only as long as a line before it is there.
     third = command(trial, "third", '/^pins/ && ++seen >= 3 { $0 = "pins 2 0 0 0" } 1')
-    said = trial.prints(1, ["shrunk to 4 lines,", "machine", "mine: pins 2 0 0 0\n"], HUNT, "--only",
-                        "pins", "--lines", 30, third)
+    said = trial.prints(1, ["shrunk to 4 lines,", "machine", "mine: pins 2 0 0 0\n"], HUNT,
+                        "--only", "pins", "--lines", 30, third)
     trial.sees(said.count("mine:") == 1, f"of the third of some lines is left {said}")
 
 
@@ -213,9 +213,9 @@ def hunts_words(trial):
 
 def paces(trial):
     """How far a tool is stands on standard error, once it is time to."""
-    said = trial.run(sys.executable, "-B", "-c", f"import sys; sys.path.append({str(TOP)!r} + '/suite')"
-                     "; import running; pace = running.Pace(); pace.tell('never');"
-                     " pace.every = 0; pace.tell('7 of 9 scripts')").errors
+    said = trial.run(sys.executable, "-B", "-c", "import sys; sys.path.append("
+                     f"{str(TOP / 'suite')!r}); import running; pace = running.Pace();"
+                     " pace.tell('never'); pace.every = 0; pace.tell('7 of 9 scripts')").errors
     trial.sees(said == "-c: 7 of 9 scripts, 0 seconds", f"a pace says {said!r}")
 
 

@@ -485,8 +485,8 @@ def lints_files(trial):
     ran_ = trial.run(LINT, "-", text=b"wire 1 1\nwire 1 2\n")
     trial.sees(ran_.status == 1 and ran_.output.startswith(b"-:2:8: L of"), f"lint - says {ran_}")
     for status, *words in ((2,), (2, "/nosuch"), (2, "--language", "x", bad), (2, "try"),
-                           (2, "--words", 3, bad), (2, bad, "--words", 4), (2, "try", 1, 1, "x"), (2, "--x"),
-                           (0, "--help")):
+                           (2, "--words", 3, bad), (2, bad, "--words", 4),
+                           (2, "try", 1, 1, "x"), (2, "--x"), (0, "--help")):
         ended = trial.run(LINT, *words)
         trial.sees(ended.status == status and bool(ended.errors) == (status == 2),
                    f"lint {words} ends with {ended.status}: {ended.errors}")
