@@ -1,13 +1,13 @@
 #!/usr/bin/env python3
 # SPDX-License-Identifier: Apache-2.0
-"""A bridge to a machine whose sizes and addresses are its own: lines in, answers out.
+"""fixed-machine.py: a bridge to a machine whose sizes and addresses are its own.
 
     fixed-machine.py [CHOICE..] < script > answers
 
-The machine is that of peers/apart/fixed.py: two harts, seven guest files each, the identities 1 to
-255, 96 wired sources, and a map of its own. Put yours in its place: what it wants is in the class
-Bridge, which has a method for each form of line. So its answers are held against the model's, over
-the scripts that every right machine answers alike:
+It reads lines and prints answers. The machine is that of peers/apart/fixed.py: two harts, seven
+guest files each, the identities 1 to 255, 96 wired sources, and a map of its own. Put yours in its
+place: what it wants is in the class Bridge, which has a method for each form of line. So its
+answers are held against the model's, over the scripts that every right machine answers alike:
 
     suite/compare --only-standard --machine '2 7 255 96' -- examples/fixed-machine.py
 

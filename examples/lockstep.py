@@ -65,7 +65,8 @@ def main():
         print(__doc__.strip())
         return
     if len(words) > 1:
-        end(2, __doc__.strip())
+        end(2, f"lockstep.py: one PROGRAM at most is wanted, and not {len(words)} words\n"
+               "lockstep.py -h says more")
     program = words[0] if words else Path(__file__).resolve().parent.parent / "aia"
     try:
         model = subprocess.Popen([program, "replay"], text=True, stdin=subprocess.PIPE,
@@ -77,6 +78,9 @@ def main():
             ask(model, line, mine)
     finally:
         status = leave(model)
+        if status and not words:
+            print("another model goes behind lockstep.py: examples/lockstep.py"
+                  " peers/apart/model.py, which is not proved", file=sys.stderr)
     if status:
         end(2, f"the model ended with status {status}")
 

@@ -18,6 +18,9 @@ EACH = 60
 MOST = 5
 # After so many scripts that a command had to be stopped over, no more are tried.
 STOPPED = 3
+# Words of lines about interrupt files.
+OF_FILES = (("sireg", "sireg"), ("mireg", "mireg"), ("stopei", "stopei"), ("mtopei", "mtopei"),
+            ("csrrs", "csrrs"), ("csrrc", "csrrc"), ("vm", "guest file"))
 HINT = ("each script ended with status 2: the command refuses its words, perhaps for want of"
         " `replay`")
 
@@ -43,7 +46,17 @@ class Tally:
 
     def __init__(self):
         self.same = self.differ = self.known = self.stopped = 0
-        self.statuses, self.left_out = set(), Counter()
+        self.statuses, self.left_out, self.words = set(), Counter(), Counter()
+
+    def take(self, script):
+        """Counts the words of a script that was run, each once."""
+        self.words.update({word for line in answers.lines(script) for word in line.text.split(" ")})
+
+    def told_reach(self):
+        """Says in how many of the scripts which word about interrupt files is."""
+        had = ", ".join(f"{what} in {self.words[word]}" if self.words[word] else f"no {what}"
+                        for word, what in OF_FILES)
+        return f"little of an IMSIC was looked at; of these scripts: {had}"
 
     def told_left_out(self):
         """Says how many scripts were left out, and what they need; nothing where none was."""
@@ -131,12 +144,15 @@ def tell(path, ran, verdict, options):
 def over_suite(command, options, workers, model=None):
     """Holds a command against the model over the scripts; prints each that differs. Gives whether
     none does."""
-    tally = Tally()
-    for path, script in asked(options, tally):
+    tally, pace = Tally(), running.Pace()
+    found = list(asked(options, tally))
+    for at, (path, script) in enumerate(found):
+        pace.tell(f"{at} of {running.counted(len(found), 'script')}")
         ran, verdict = workers.submit(held, path, script, command, options, model).result()
         if not ran:
             tally.left_out[verdict] += 1
             continue
+        tally.take(script)
         tally.statuses.add(ran.status)
         tally.stopped += bool(ran.stopped)
         if ran.fault() or verdict.count():
@@ -153,6 +169,8 @@ def over_suite(command, options, workers, model=None):
     if not tally.same and not tally.differ:
         running.fail("no script is left that can be asked")
     print(tally.summary())
+    if options.is_standard:
+        print(tally.told_reach())
     if tally.statuses == {2}:
         print(HINT)
     return not tally.differ

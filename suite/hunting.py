@@ -2,7 +2,8 @@
 and what is left of it.
 
 A command may answer otherwise now and then. So a difference counts only as it was seen: a script is
-shrunk by runs that differed, and what is printed is one of these."""
+shrunk by runs that differed, and what is printed is one of these. If it differs in another way from
+run to run nothing is shrunk: what would be left is of no difference in particular."""
 
 import math
 import os
@@ -27,30 +28,53 @@ SELDOM = 4
 SURE = 0.95
 # How many scripts a process tries before it tells, at first and at most.
 FIRST_UNIT, MOST_UNIT = 4, 256
-# After how many seconds it is said again how far a shrinking is.
-EVERY = 10
 CHANGES = "the command's answers change from run to run"
 
 
 class Found(NamedTuple):
     """The first difference over a script: its kind, its place without the lines that each script
-    begins with, the model's answer there; and how both ended. Beside the kinds of a verdict there
-    are `broken`, answers are missing and the command ended with a fault, and `ending`, it did so
-    after all of them."""
+    begins with, the model's answer there, and mine, if there are two; and how both ended. Beside
+    the kinds of a verdict there are `broken`, answers are missing and the command ended with a
+    fault, and `ending`, it did so after all of them."""
 
     kind: str
     at: int
     model: str
+    mine: str
     wanted: bytes
     ran: running.Ran
+
+    def way(self):
+        """Gives what is the same of a difference that comes again. How far a command gets until it
+        is stopped is not."""
+        return self.kind, None if self.ran.stopped else self.at, self.mine
+
+
+class Seen(NamedTuple):
+    """What came of running a script again: a difference, if one came, how often one did, in how
+    many runs, and in which ways."""
+
+    found: Found
+    seen: int
+    runs: int
+    ways: frozenset
+
+    def changes(self):
+        """Says whether it differed in more ways than one."""
+        return len(self.ways) > 1
+
+    def and_then(self, other):
+        """Gives both together."""
+        return Seen(other.found or self.found, self.seen + other.seen, self.runs + other.runs,
+                    self.ways | other.ways)
 
 
 class Hunt:
     """Two commands, and how they are held against each other."""
 
-    def __init__(self, command, model, each, known, begin):
+    def __init__(self, command, model, each, known, begin, pace=None):
         self.command, self.model, self.each, self.known = command, model, each, known
-        self.begin = begin
+        self.begin, self.pace = begin, pace or running.Pace()
         self.last = None, None
 
     def wanted(self, script):
@@ -81,20 +105,20 @@ class Hunt:
         if not kind:
             return None
         model = verdict.model[place] if kind in ("answer", "missing") else ""
+        mine = verdict.differences[0].mine if kind == "answer" else ""
         kind = "broken" if kind == "missing" and ran.fault() else kind
-        return Found(kind, max(min(place, before - 1), place - len(self.begin), 0), model, wanted,
-                     ran)
+        return Found(kind, max(min(place, before - 1), place - len(self.begin), 0), model, mine,
+                     wanted, ran)
 
     def again(self, script, most):
-        """Runs a script so many times, or until that took too long; gives a difference that came,
-        how often one came, and in how many runs."""
-        found, seen, runs, deadline = None, 0, 0, time.monotonic() + LONGEST
-        while runs < most and time.monotonic() < deadline:
-            difference = self.differs(script)
-            runs += 1
-            if difference:
-                found, seen = difference, seen + 1
-        return found, seen, runs
+        """Runs a script so many times, or until that took too long; gives what was seen."""
+        seen, deadline = Seen(None, 0, 0, frozenset()), time.monotonic() + LONGEST
+        while seen.runs < most and time.monotonic() < deadline:
+            one = self.differs(script)
+            seen = seen.and_then(Seen(one, int(bool(one)), 1,
+                                      frozenset([one.way()] if one else ())))
+            self.pace.tell(f"run again {running.counted(seen.runs, 'time')} of {most} at most")
+        return seen
 
     def told(self, script, found):
         """Says each line with its answers, as a run had them."""
@@ -121,8 +145,16 @@ class Hunt:
 
     def search(self, seeds, lines, draw):
         """Gives the first of these numbers whose script differs, None where none does."""
-        return next((seed for seed in seeds
-                     if self.differs(scripts.script_of(seed, lines, draw))), None)
+        for tried, seed in enumerate(seeds, 1):
+            if self.differs(scripts.script_of(seed, lines, draw)):
+                return seed
+            self.pace.tell(far(tried, len(seeds)))
+        return None
+
+
+def far(tried, count):
+    """Says how far a search is."""
+    return f"{tried:,} of {running.counted(count, 'script')}"
 
 
 class Left(NamedTuple):
@@ -142,43 +174,45 @@ class Progress:
 
     def __init__(self, hunt, into):
         self.hunt, self.into = hunt, into
-        self.last = time.monotonic()
 
     def tell(self, shrinker):
         """Says how far a shrinking is, now and then, and writes what is left."""
         if self.into:
             Path(self.into).write_bytes(self.hunt.whole(shrinker.seen_script()))
-        if time.monotonic() - self.last >= EVERY:
-            self.last = time.monotonic()
-            print(f"hunt: shrinking: {running.counted(len(shrinker.texts), 'line')} left, after"
-                  f" {running.counted(shrinker.runs, 'run')}", file=sys.stderr, flush=True)
+        self.hunt.pace.tell(f"shrinking: {running.counted(len(shrinker.texts), 'line')} left, after"
+                            f" {running.counted(shrinker.runs, 'run')}")
 
 
 def left_of(hunt, script, is_machine_fixed, tell, progress):
     """Runs a script that differed once some more, and shrinks it unless the difference comes too
-    seldom. Says where it does not come each time."""
-    found, seen, runs = hunt.again(script, FEW)
-    for line in hunt.uneven(script, found):
+    seldom, or another one comes. Says where it does not come each time."""
+    again = hunt.again(script, FEW)
+    for line in hunt.uneven(script, again.found):
         tell(line)
-    is_steady = seen == runs
+    is_steady = again.seen == again.runs
     if not is_steady:
-        _, more, more_runs = hunt.again(script, MANY - runs)
-        seen, runs = seen + more, runs + more_runs
-        tell(f"seen {times(seen + 1, runs + 1)}: {CHANGES}")
-    if not seen or seen * SELDOM < runs:
-        return Left(script, None, seen, runs, 0)
-    unseen = 1 - seen / runs
+        again = again.and_then(hunt.again(script, MANY - again.runs))
+        tell(f"seen {times(again.seen + 1, again.runs + 1)}: {CHANGES}")
+    if again.changes():
+        tell(f"differs in {len(again.ways)} ways in {again.runs} runs: {CHANGES}")
+    if again.changes() or not again.seen or again.seen * SELDOM < again.runs:
+        return Left(script, None, again.seen, again.runs, 0)
+    unseen = 1 - again.seen / again.runs
     shrinker = Shrinker(script, hunt.differs, is_machine_fixed,
                         math.ceil(math.log(1 - SURE, unseen)) if unseen else 1, progress.tell)
     shrunk = (shrinker.script, shrinker.seen_script) if shrinker.shrink() else ()
     # What was cut off unseen may be wanted after all.
     for lines in (one() for one in shrunk):
-        found, seen, runs = hunt.again(lines, FEW if is_steady else MANY)
-        if not seen and is_steady:
-            found, seen, runs = hunt.again(lines, MANY)
-        if seen:
-            return Left(lines, found, seen, runs, shrinker.runs)
-    return Left(script, None, 0, runs, shrinker.runs if shrunk else 0)
+        again = hunt.again(lines, FEW if is_steady else MANY)
+        if not again.seen and is_steady:
+            again = hunt.again(lines, MANY)
+        if again.changes():
+            tell(f"what was left of it differs in {len(again.ways)} ways in {again.runs} runs:"
+                 f" {CHANGES}")
+            return Left(script, None, again.seen, again.runs, 0)
+        if again.seen:
+            return Left(lines, again.found, again.seen, again.runs, shrinker.runs)
+    return Left(script, None, 0, again.runs, shrinker.runs if shrunk else 0)
 
 
 def times(seen, runs):
@@ -210,15 +244,24 @@ def searched(tool, words, each, unit):
     return running.run(command, b"", 60 + count * 2 * (each + 5), 1 << 16)
 
 
-def search_by(jobs, tool, words, each, first, count):
+def result_of(one, waiting, tried, pace):
+    """Waits for a range to be looked through, and says meanwhile how far all are."""
+    while not one.done():
+        wait([one], pace.left() + 0.1)
+        pace.tell(far(sum(size for each, size in zip(waiting, tried) if each.done()), sum(tried)))
+    return one.result()
+
+
+def search_by(jobs, tool, words, each, first, count, pace):
     """Looks through the numbers by so many processes of a tool; gives what the first of them, in
     the order of the numbers, said that found one, None where none did."""
+    ranges = list(units(first, count, jobs))
+    sizes = [size for _, size in ranges]
     with running.Workers(jobs) as workers:
-        waiting = [workers.submit(searched, tool, words, each, unit)
-                   for unit in units(first, count, jobs)]
+        waiting = [workers.submit(searched, tool, words, each, unit) for unit in ranges]
         try:
             for one in waiting:
-                ran = one.result()
+                ran = result_of(one, waiting, sizes, pace)
                 if running.State.is_stopping:
                     sys.exit(2)
                 if ran.stopped or ran.status not in (0, 1):

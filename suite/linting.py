@@ -31,6 +31,10 @@ NAMES = {
 MNEMONICS = {"csrr": "CSR", **{word.decode(): "CSR V" for word in reading.WRITING}}
 CSRS = {"m": reading.MACHINE_CSRS, "h": reading.FILE_CSRS, "g": reading.GUEST_CSRS}
 ALL_CSRS = {word.decode() for names in CSRS.values() for word in names}
+# Words that are no form, with the forms that may be meant.
+MEANT = {"store": "st", "write": "st", "read": "ld, or h, m or g with csrr",
+         "move": "arrive, leave, shift", "migrate": "arrive, leave, shift", "irq": "wire",
+         "csr": "m, h, g", "hart": "m, h", "reset": "machine"}
 # Bytes that a text of words has, whether or not it spells a line.
 PLAIN = frozenset(range(0x20, 0x7f))
 MARK = b"\xef\xbb\xbf"
@@ -56,6 +60,8 @@ def unknown(what, word, known):
     """Says that a word is none of those that are known, with the one that it is most like."""
     if word.lower() in known:
         return f"capital letters: {word}; {word.lower()}?"
+    if what == "word" and word.lower() in MEANT and "st" in known:
+        return f"unknown word {word}; {MEANT[word.lower()]}?"
     like = nearest(word, tuple(sorted(known)))
     return f"unknown {what} {word}" + (f"; {like}?" if like else "")
 

@@ -52,6 +52,25 @@ class Ran(NamedTuple):
         return ": ".join([self.stopped or f"the command ended with status {self.status}", *why])
 
 
+class Pace:
+    """Says on standard error how far a tool is: each ten seconds on a terminal, else a minute."""
+
+    def __init__(self):
+        self.every = 10 if sys.stderr.isatty() else 60
+        self.began = self.last = time.monotonic()
+
+    def left(self):
+        """Gives in how many seconds it is time to say something."""
+        return max(0, self.last + self.every - time.monotonic())
+
+    def tell(self, how_far):
+        """Says how far the tool is, if it is time to."""
+        if not self.left():
+            self.last = time.monotonic()
+            print(f"{Path(sys.argv[0]).name}: {how_far}, {self.last - self.began:.0f} seconds",
+                  file=sys.stderr, flush=True)
+
+
 class State:
     """What runs, whether the tool is being stopped, and how long a command has to end then."""
 
@@ -67,11 +86,10 @@ def fail(message):
     sys.exit(2)
 
 
-def usage(reason=""):
-    """Ends the tool with status 2, its head comment and, last, what is wrong with the words."""
-    print(sys.modules["__main__"].__doc__.strip(), file=sys.stderr)
-    if reason:
-        print(f"\n{Path(sys.argv[0]).name}: {reason}", file=sys.stderr)
+def usage(reason):
+    """Ends the tool with status 2, and says what is wrong with the words."""
+    name = Path(sys.argv[0]).name
+    print(f"{name}: {reason}\n{name} -h says more", file=sys.stderr)
     sys.exit(2)
 
 

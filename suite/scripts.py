@@ -13,6 +13,8 @@ import random_scripts
 LINES = ("only=", "without=", "machine=", "mood=", "refused=", "begin=")
 SEEDS = (1 << 64) - 1
 MOST_LINES = 100_000
+# How many scripts are looked through for a line that fits a pattern, at most.
+LOOKED = 100
 
 
 class Draw(NamedTuple):
@@ -98,3 +100,20 @@ def script_of(seed, count, draw):
     is_filtered = draw.only or draw.without or draw.refused is not None
     return random_scripts.Generator(seed, count, mood=draw.mood, sizes=draw.sizes,
                                     filter_=Filter(draw) if is_filtered else None).script()
+
+
+def unmet(draw, known, seeds, count):
+    """Lists the forms and patterns of a draw, and those of what is known, that no line fits of the
+    first of these scripts, with what each is of; and gives how many scripts these are."""
+    left = [*(("only", form) for form in sorted((draw.only or set()) - {"machine"})),
+            *(("without", pattern) for pattern in draw.without),
+            *(("known", row[0]) for row in known.rows)]
+    for seed in seeds[:LOOKED]:
+        if not left:
+            break
+        script, _ = begun(script_of(seed, count, draw._replace(without=())), draw.begin)
+        texts = {line.text for line in answers.lines(script)}
+        left = [(name, pattern) for name, pattern in left if not any(
+            answers.form(text) == pattern if name == "only" else answers.fits(text, pattern)
+            for text in texts)]
+    return left, len(seeds[:LOOKED])

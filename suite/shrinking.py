@@ -23,9 +23,10 @@ class Shrinker:
     difference, None where there is none: its kind, its place among the lines that have an answer,
     and the model's answer there. It is run so many `times` at most until the difference comes.
 
-    Lines are left out only where a difference of the first one's kind was seen without them. A line
-    that the model answered as a machine would is not made one by which the script is wrong: that
-    another machine takes it says nothing. What stands behind the first difference is cut off
+    Lines are left out only where a difference of the first one's kind was seen without them. If an
+    answer differs, the line that it is of is kept, and its answer has to be the first to differ. A
+    line that the model answered as a machine would is not made one by which the script is wrong:
+    that another machine takes it says nothing. What stands behind the first difference is cut off
     without a run, unless the first time shows that it is wanted; so `seen` keeps the lines of the
     last run that differed. `tell` is called with the shrinker each time that lines are taken."""
 
@@ -34,6 +35,8 @@ class Shrinker:
         self.tell = tell or (lambda _: None)
         self.runs, self.deadline = 0, time.monotonic() + LONGEST
         self.allowed, self.kind, self.cuts = answers.MISTAKES, None, True
+        # The place of the line whose answer differs.
+        self.target = None
         self.texts = [text for text in answers.reading.texts(script)
                       if not answers.reading.is_skipped(text)]
         self.seen = self.texts
@@ -50,41 +53,59 @@ class Shrinker:
         """Gives the form and the fields of a line."""
         return answers.reading.read(self.texts[at])
 
-    def tried(self, texts):
-        """Gives the first difference over these lines that is of the kind that is kept, by some of
-        the runs that are left; None where none came."""
+    def is_kept(self, found, target):
+        """Says whether a difference is of the kind that is kept, and of the line at this place."""
+        return (self.kind in (None, found.kind) and (self.kind != "answer" or found.at == target)
+                and found.model not in answers.MISTAKES - self.allowed)
+
+    def tried(self, texts, target=None):
+        """Gives the first difference over these lines, if it is one to be kept, by some of the runs
+        that are left; None where none came."""
         for _ in range(self.times):
             if self.runs == MOST_RUNS or time.monotonic() > self.deadline:
                 return None
             self.runs += 1
             found = self.try_(script_of(texts))
-            if found and self.kind in (None, found.kind) and not (
-                    found.model in answers.MISTAKES - self.allowed):
+            if found and self.is_kept(found, target):
                 return found
         return None
 
-    def takes(self, texts):
-        """Takes these lines, up to the first difference, if there is one."""
-        found = self.tried(texts)
+    def takes(self, texts, target):
+        """Takes these lines, up to the first difference, if it is one to be kept; `target` is the
+        place that the line whose answer differs has among them."""
+        found = self.tried(texts, target)
         if not found:
             return False
+        self.target = found.at
         self.seen, self.texts = texts, texts[:found.at + 1] if self.cuts else texts
         self.allowed = {found.model} & self.allowed
         self.tell(self)
         return True
+
+    def kept(self):
+        """Gives the place of the line that stays, if there is one."""
+        return {self.target} if self.kind == "answer" else set()
+
+    def takes_without(self, places):
+        """Takes the lines but for those at these places, and the one that stays."""
+        places = places - self.kept()
+        before = sum(at < self.target for at in places)
+        return bool(places) and self.takes(
+            [text for at, text in enumerate(self.texts) if at not in places], self.target - before)
 
     def begin(self):
         """Cuts off what stands behind the first difference, and settles the kind that is kept: that
         without these lines, which may differ in other ways; or that of the whole, where they are
         wanted. Says whether a difference came."""
         whole = self.texts
-        if not self.takes(whole):
+        if not self.takes(whole, None):
             return False
         found = self.tried(self.texts)
         if not found:
             self.texts, self.cuts = whole, False
             found = self.tried(whole)
-        self.kind = found.kind if found else None
+        if found:
+            self.kind, self.target = found.kind, found.at
         return bool(found)
 
     def leave_out(self):
@@ -96,14 +117,14 @@ class Shrinker:
             is_shorter = False
             at = len(self.texts) - size
             while at >= 0:
-                is_shorter |= self.takes(self.texts[:at] + self.texts[at + size:])
+                is_shorter |= self.takes_without({*range(at, at + size)})
                 at = min(at, len(self.texts)) - size
             size = 1 if is_shorter and size == 1 else size // 2
         first = len(self.texts) - 2
         while first >= 0:
             for second in range(first + 1, min(first + NEAR, len(self.texts))):
-                if self.takes([text for at, text in enumerate(self.texts)
-                               if at not in (first, second)]):
+                pair = {first, second}
+                if not pair & self.kept() and self.takes_without(pair):
                     break
             first = min(first, len(self.texts)) - 1
         return len(self.texts) < before
@@ -120,7 +141,8 @@ class Shrinker:
             for size in SMALLER[place]:
                 less = (*sizes[:place], size, *sizes[place + 1:])
                 if size < sizes[place] and self.takes(
-                        [*self.texts[:at], b"machine %d %d %d %d" % less, *self.texts[at + 1:]]):
+                        [*self.texts[:at], b"machine %d %d %d %d" % less, *self.texts[at + 1:]],
+                        self.target):
                     sizes = less
                     break
         return list(sizes) != before
@@ -132,14 +154,21 @@ class Shrinker:
             # Fewer lines may be left than there were.
             name, fields = self.read(at) if at < len(self.texts) else ("", ())
             if name.startswith("begin_"):
-                rest = [text for text in self.texts[at + 1:]
-                        if answers.reading.read(text) != ("step", fields[:2])]
-                whole = self.texts[at].split(b" ", 1)[1]
-                # What came between the steps comes after the whole move, or else before it.
-                last = rest[-1:]
-                self.takes([*self.texts[:at], whole, *rest]) or self.takes(
-                    [*self.texts[:at], *rest[:-1], whole, *last])
+                self.takes_whole(at, fields[:2])
         return len(self.texts) < before
+
+    def takes_whole(self, at, mover):
+        """Takes a whole move in the place of one by steps that begins at a place."""
+        rest = [place for place in range(at + 1, len(self.texts))
+                if answers.reading.read(self.texts[place]) != ("step", mover)]
+        # What came between the steps comes after the whole move, or else before it.
+        for order in ([at, *rest], [*rest[:-1], at, *rest[-1:]]):
+            order = [*range(at), *order]
+            texts = [self.texts[place] for place in order]
+            texts[order.index(at)] = self.texts[at].split(b" ", 1)[1]
+            target = order.index(self.target) if self.target in order else None
+            if self.takes(texts, target):
+                return
 
     def spell(self):
         """Spells great numbers as addresses are, and others without zeros in front."""
@@ -148,7 +177,7 @@ class Shrinker:
             if value is None or word.isdigit() and value < answers.GREAT:
                 return word
             return b"0x%x" % value
-        self.takes([b" ".join(map(plain, text.split(b" "))) for text in self.texts])
+        self.takes([b" ".join(map(plain, text.split(b" "))) for text in self.texts], self.target)
 
     def shrink(self):
         """Makes the script as short as it gets; says whether a difference came at first."""

@@ -4,6 +4,7 @@ status 0; 0 says that all is the same, 1 that something differs, 2 that a tool c
 import os
 import shutil
 import stat
+import sys
 
 import answers
 from running import TOP
@@ -112,6 +113,60 @@ def words_are_refused(trial):
     trial.sees("\n    a_priority_of_0_is_kept\n" in said, "plants.py -h lists no plants")
 
 
+def reasons(trial):
+    """Where words are wrong a tool says what is, in few lines, and no more of its help."""
+    script = TOP / "examples/claim.script"
+    for words, said in (
+            (["suite/random", "7"], "SEED and COUNT are wanted, and not 1 word"),
+            (["suite/gen-script", "7"], "COUNT and SEED are wanted, and not 1 word"),
+            (["examples/draw", "--lines", "5", script],
+             "--lines is FIRST-LAST, as 31-49, and not '5'"),
+            (["examples/draw"], "one SCRIPT is wanted, and not 0"),
+            (["suite/hunt"], "a COMMAND is wanted"),
+            (["suite/compare", script], "ANSWERS are wanted behind the SCRIPT, or `-- COMMAND`;"
+                                        " over the suite `-- COMMAND`"),
+            (["suite/check", "-k", ""], "a PATTERN is wanted behind -k"),
+            (["examples/lockstep.py", "a", "b"], "one PROGRAM at most is wanted, and not 2 words")):
+        ran, name = trial.run(TOP / words[0], *words[1:]), words[0].rpartition("/")[2]
+        trial.sees(ran.status == 2 and ran.errors == f"{name}: {said}\n{name} -h says more",
+                   f"{' '.join(map(str, words))} says {ran.errors}")
+    said = trial.run(TOP / "examples/migrate", "x", "1").errors.splitlines()
+    trial.sees(said[-1].startswith("migrate: the numbers of a VM"), f"migrate x 1 says {said}")
+    for tool in ("examples/fixed-machine.py", "peers/apart/model.py"):
+        said = answers.shown(trial.run(TOP / tool, "-h").output)
+        trial.sees(" with status 2 " in said or " with 2 " in said, f"{tool} -h says no 2")
+    trial.sees(answers.shown(trial.run(TOP / "examples/fixed-machine.py", "-h").output).startswith(
+        "fixed-machine.py: "), "fixed-machine.py -h begins without its name")
+
+
+def judges_nothing(trial):
+    """Where plans can't be judged the checks of examples say that, and never that one differs."""
+    fails = program(trial, "fails", "echo no judge >&2; exit 126")
+    for tool, one in (("plans/check", APART / "model.py"), ("plans/check", fails),
+                      ("hypervisors/check", APART / "model.py"), ("hypervisors/check", fails)):
+        given = [one] if tool == "hypervisors/check" else []
+        ran = trial.run("env", f"PROGRAM={one}", TOP / "examples" / tool, *given)
+        trial.sees(ran.status == 2 and not ran.output and "check: could not look: " in ran.errors,
+                   f"{tool} with {one.name} ends with {ran.status}: {ran.output}")
+
+
+def without_toolchain(trial):
+    """Without the toolchain and a program each tool says what serves in its place."""
+    path = f"PATH={os.path.dirname(sys.executable)}:/usr/bin:/bin"
+    if shutil.which("rt", path=path.partition("=")[2]) or list(TOP.glob("crates/*/out")):
+        return
+    for tool in ("suite/isolation", "suite/from-memory", "suite/migrations", "suite/no-sense",
+                 "suite/statuses", "examples/check", "examples/plans/check", "peers/apart/run",
+                 "suite/compare"):
+        words = [TOP / "examples/claim.script", "--", "cat"] if tool == "suite/compare" else []
+        ran = trial.run("env", "-u", "PROGRAM", path, TOP / tool, *words)
+        trial.sees(ran.status == 2 and "PROGRAM=" in ran.errors,
+                   f"{tool} without a program ends with {ran.status}: {ran.errors}")
+    ran = trial.run("env", "-u", "PROGRAM", path, TOP / "examples/lockstep.py")
+    trial.sees(ran.status == 2 and "lockstep.py peers/apart/model.py" in ran.errors,
+               f"lockstep.py without a program says {ran.errors}")
+
+
 def could_not_look(trial):
     """No program, or one that can't be run, no compiler, no place to write: status 2."""
     here = TOP / "examples"
@@ -189,4 +244,5 @@ def locksteps(trial):
                            f"{tool[0].name} {name} ends with {ran.status}: {ran.errors[:80]!r}")
 
 
-PARTS = (helps, words_are_refused, could_not_look, same_and_different, locksteps)
+PARTS = (helps, words_are_refused, reasons, judges_nothing, without_toolchain, could_not_look,
+         same_and_different, locksteps)

@@ -4,6 +4,7 @@ import os
 import shlex
 import signal
 import subprocess
+import sys
 import time
 from pathlib import Path
 
@@ -169,6 +170,55 @@ def hunts_now_and_then(trial):
     trial.sees(listed(said)[-1:] == ["pins 0"], f"of every other run is left {said}")
 
 
+def hunts_changing(trial):
+    """A command of which another answer is wrong in each run: nothing is shrunk. One that is wrong
+    in one line of many that are alike: that line is kept."""
+    into, runs = trial.folder / "changing.script", trial.file("runs", "")
+    changes = command(trial, "changes", 'NR == 5 + run * 7 % 30 { $0 = "wrong" } 1', runs)
+    said = trial.prints(1, ["suite/random 1 40 differs\n", "differs in 4 ways in 4 runs: the"
+                            " command's answers change", f"whole script is kept in {into}\n"], HUNT,
+                        "--lines", 40, "--into", into, changes)
+    trial.sees("shrunk" not in said and into.read_bytes() == trial.run(RANDOM, 1, 40).output,
+               f"of answers that change is left {said}")
+    values = command(trial, "values", 'text == "pins 0" { $0 = "pins " run } 1', runs)
+    trial.prints(1, ["differs in 4 ways in 4 runs: the command's answers change"], HUNT, "--only",
+                 "pins,h", "--lines", 30, "--into", into, values)
+    # The first line differs only as long as a line before it is there.
+    third = command(trial, "third", '/^pins/ && ++seen >= 3 { $0 = "pins 2 0 0 0" } 1')
+    said = trial.prints(1, ["shrunk to 4 lines,", "machine", "mine: pins 2 0 0 0\n"], HUNT,
+                        "--only", "pins", "--lines", 30, third)
+    trial.sees(said.count("mine:") == 1, f"of the third of some lines is left {said}")
+
+
+def hunts_words(trial):
+    """A command that fails over an empty script, an option behind the command, and patterns that no
+    line fits."""
+    ran = trial.run(HUNT, "bash", "-c", "echo one >&2; echo no board >&2; exit 4")
+    trial.sees(ran.status == 2 and not ran.output and ran.errors == "hunt: over an empty script the"
+               " command ended with status 4: no board", f"hunt over a command that fails: {ran}")
+    takes = trial.file("takes", f"#!/bin/sh\nexec '{trial.program}' replay\n")
+    takes.chmod(0o755)
+    known = trial.file("known", "h 7 * | * | * | no such hart\nh * | a | b | one\n")
+    short = ("--scripts", "2", "--lines", "40")
+    for words, said in (
+            ([*short, takes, "--jobs", "2"], ["hunt: --jobs stands behind the command, and so goes"
+                                              " to it; options of hunt come first"]),
+            ([*short, "--", takes, "--jobs=2"], []),
+            ([*short, "--only", "st,h", "--without", "st 0xnosuch,h * hgeip", "--known", known,
+              takes], ["hunt: --without st 0xnosuch: no line of the first 2 scripts fits it",
+                       "hunt: --known h 7 *: no line of the first 2 scripts fits it"])):
+        ran = trial.run(HUNT, *words)
+        trial.sees(ran.status == 0 and ran.errors.splitlines() == said, f"hunt {words}: {ran}")
+
+
+def paces(trial):
+    """How far a tool is stands on standard error, once it is time to."""
+    said = trial.run(sys.executable, "-B", "-c", "import sys; sys.path.append("
+                     f"{str(TOP / 'suite')!r}); import running; pace = running.Pace();"
+                     " pace.tell('never'); pace.every = 0; pace.tell('7 of 9 scripts')").errors
+    trial.sees(said == "-c: 7 of 9 scripts, 0 seconds", f"a pace says {said!r}")
+
+
 def hunts_first(trial):
     """The command and the file of --into are tried before the model is asked for, and the file is
     as it was, or not there, until there is something to write."""
@@ -244,5 +294,5 @@ def all_plants(trial, jobs):
         print(f"{plant}: {fewest} lines, {time.monotonic() - began:.0f} seconds", flush=True)
 
 
-PARTS = (hunts, hunts_ranges, hunts_by_processes, hunts_kinds, hunts_now_and_then, hunts_first,
-         hunts_stopped)
+PARTS = (hunts, hunts_ranges, hunts_by_processes, hunts_kinds, hunts_now_and_then, hunts_changing,
+         hunts_words, paces, hunts_first, hunts_stopped)

@@ -261,8 +261,10 @@ def program_of(workers, language):
 
 def compares(words):
     """Compares lint with the program over random lines: LINES SEED [LANGUAGE]."""
-    if len(words) not in (2, 3) or words[2:] and words[2] not in COMPARED:
-        running.usage()
+    if len(words) not in (2, 3):
+        running.usage("LINES and SEED are wanted behind `try`")
+    if words[2:] and words[2] not in COMPARED:
+        running.usage(f"there is no language {words[2]!r}; there are {', '.join(COMPARED)}")
     count = running.number(words[0], "LINES", 1, 100_000_000)
     seed = running.number(words[1], "SEED", 0, (1 << 64) - 1)
     tally = Tally((*words[2:], "script")[0])
@@ -284,6 +286,9 @@ CASES = (
     ("ld 0x00000000000000001", 4, "more than 16 digits behind 0x"),
     ("ld 18446744073709551616", 4, "a number at or above 2^64"),
     ("wire 01 1", 6, "a leading zero: 01"),
+    ("store 0x28000000 5", 1, "unknown word store; st?"),
+    ("Read 0x28000000", 1, "unknown word Read; ld, or h, m or g with csrr?"),
+    ("move 0 0", 1, "unknown word move; arrive, leave, shift?"),
     ("wire 1 2", 8, "L of `wire S L` is 0 or 1: 2"),
     ("st 0x28000000 4294967296", 15, "V of `st A V` is below 2^32: 4294967296"),
     ("ld -4", 4, "a sign before a number: -4"),
@@ -480,8 +485,8 @@ def lints_files(trial):
     ran_ = trial.run(LINT, "-", text=b"wire 1 1\nwire 1 2\n")
     trial.sees(ran_.status == 1 and ran_.output.startswith(b"-:2:8: L of"), f"lint - says {ran_}")
     for status, *words in ((2,), (2, "/nosuch"), (2, "--language", "x", bad), (2, "try"),
-                           (2, "--words", 3, bad), (2, "try", 1, 1, "x"), (2, "--x"),
-                           (0, "--help")):
+                           (2, "--words", 3, bad), (2, bad, "--words", 4),
+                           (2, "try", 1, 1, "x"), (2, "--x"), (0, "--help")):
         ended = trial.run(LINT, *words)
         trial.sees(ended.status == status and bool(ended.errors) == (status == 2),
                    f"lint {words} ends with {ended.status}: {ended.errors}")

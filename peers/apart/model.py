@@ -4,7 +4,8 @@ docs/DEFINITIONS.md, with the images of parked virtual harts (`save`, `load`).
 
     model.py < script > answers
 
-It takes the word `replay` too, as the program does. Ends with status 0.
+It takes the word `replay` too, as the program does. Ends with status 0, and with 2 where a word is
+wrong.
 """
 
 import sys

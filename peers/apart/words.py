@@ -14,15 +14,15 @@ def fail(message):
 
 
 def given(doc, fits):
-    """Gives the words where they fit. Else it prints the head comment and ends: with status 0 where
-    that is asked for, with 2 where the words are wrong."""
+    """Gives the words where they fit. Else it ends: with status 0 and the head comment where that is
+    asked for; where the words are wrong with 2, the head comment, and last these words."""
     words = sys.argv[1:]
     if words[:1] in (["-h"], ["--help"]):
         print(doc.strip())
         sys.exit(0)
     if not fits(words):
-        print(doc.strip(), file=sys.stderr)
-        sys.exit(2)
+        print(f"{doc.strip()}\n", file=sys.stderr)
+        fail(f"these words are wrong: {' '.join(words)}" if words else "words are wanted")
     return words
 
 
