@@ -247,7 +247,7 @@ def searched(tool, words, each, unit):
 def result_of(one, waiting, tried, pace):
     """Waits for a range to be looked through, and says meanwhile how far all are."""
     while not one.done():
-        wait([one], pace.left() + 0.1)
+        wait([one], min(pace.left(), 60) + 0.1)
         pace.tell(far(sum(size for each, size in zip(waiting, tried) if each.done()), sum(tried)))
     return one.result()
 

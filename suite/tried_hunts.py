@@ -88,7 +88,8 @@ def hunts_by_processes(trial):
     what a process says against the words is said once."""
     plant = (APART / "plants.py", "guards_stand_without_passes")
     one, three = (trial.run(HUNT, "--jobs", jobs, *plant) for jobs in (1, 3))
-    trial.sees(one == three and one.status == 1, f"hunt --jobs 3 prints {three}, and not {one}")
+    trial.sees((one.output, one.status) == (three.output, three.status) and one.status == 1,
+               f"hunt --jobs 3 prints {three}, and not {one}")
     words = answers.shown(one.output).split()
     seed, fewest = (words[words.index(word) + 1] for word in ("suite/random", "to"))
     trial.sees(int(fewest) <= 2, f"hunt shrinks {plant[1]} to {fewest} lines")
