@@ -143,7 +143,8 @@ build() { # CRATE INPUT COMMAND..
 }
 
 # Sees that rt is there, and says before a first build how long it takes, in minutes of processor
-# time as measured on a server's processor of 2.5 GHz. Ends where there is none.
+# time as measured on a server's processor of 2.5 GHz: of the library crate by crate. Ends where
+# there is none.
 begin_build() { # WHAT MINUTES WITH_RT WITHOUT_RT
   local processors
   command -v rt > /dev/null || {
