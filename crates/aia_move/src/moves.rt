@@ -99,7 +99,7 @@ impl<K: Kind> Move<K, First> {
         ensures goes { OnceLanded fabric.old self (λ landed. GoesOn landed self fabric.new result) }
         ensures phase { IsIn ClosingPhase (width fabric.new) result }
     {
-        self.advance(fabric);
+        self.end_phase(fabric);
         self.into_phase()
     }
 }
@@ -135,7 +135,7 @@ impl<K: Kind> Move<K, Closing> {
         ensures phase { MatchClosed result IsAtAims (IsInDrain (width fabric.new)) }
     {
         let _words = fabric.words();
-        self.advance(fabric);
+        self.end_phase(fabric);
         self.closed()
     }
 }
@@ -201,7 +201,7 @@ impl<K: Kind> Move<K, Drain> {
         ensures goes { GoesOn fabric.old self fabric.new result }
         ensures phase { IsIn EnablePhase (width fabric.new) result }
     {
-        self.advance(fabric);
+        self.end_phase(fabric);
         self.into_phase()
     }
 }
@@ -234,7 +234,7 @@ impl<K: Kind> Move<K, Enable> {
         ensures phase { IsIn K.after (width fabric.new) result }
     {
         let _words = fabric.words();
-        self.advance(fabric);
+        self.end_phase(fabric);
         self.into_phase()
     }
 }
@@ -265,7 +265,7 @@ impl<K: Kind> Move<K, Look> {
         ensures goes { GoesOn fabric.old self fabric.new result }
         ensures phase { IsIn LastPhase (width fabric.new) result }
     {
-        self.advance(fabric);
+        self.end_phase(fabric);
         self.into_phase()
     }
 }
@@ -320,6 +320,18 @@ impl<K: Kind, P: AccessPhase> Move<K, P> {
             self.advance(fabric);
         }
         stays
+    }
+
+    /// Makes such an access as `advance`, out of line: what comes to another phase stays small, so
+    /// that the plan is not copied for it.
+    #[inline(never)]
+    fn end_phase(&mut self, fabric: &mut Fabric)
+        requires fits { MoveFits fabric.old self.old }
+        requires phase { NextStepIsOf (Some P.phase) (width fabric.old) self.old }
+        requires more { steps_done self.old.home + 1 < begins (width fabric.old) self.old.home AllDone }
+        ensures { GoesOnIn P.phase fabric.old self.old fabric.new self.new }
+    {
+        self.advance(fabric);
     }
 
     /// Makes the next access of the plan, which is not the last one.
