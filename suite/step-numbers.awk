@@ -37,7 +37,7 @@ comment {
 line ~ /(^|\(|[^+ ] +)[1-9][0-9]* \+ ([0-9]+ \+ )?[0-9]+ \* (words|\(?width|c\.words)/ { found(); next }
 
 # ---- the progress of a move beside a number; with 0 no step is done
-line ~ /(at|\.carrier)\.steps (\+ 1 )?(<|≤|≡|≢) [1-9]/ { found(); next }
+line ~ /(at|self)\.(steps|done) (\+ 1 )?(<|≤|≡|≢|==|!=|<=) [1-9]/ { found(); next }
 line ~ /(^|[^a-z0-9_.])[1-9][0-9]* (<|≤|≡|≢) [a-z.]*\.steps/ { found(); next }
 line ~ /nat_(lt|le|eq) \(?(at\.steps|\(?steps_done [a-z.]+)( \+ 1\))?\)? \(?[1-9]/ { found(); next }
 line ~ /nat_(lt|le|eq) \(?[1-9][0-9]*( \+ [^()]*)?\)? \(?(at\.steps|steps_done)/ { found(); next }

@@ -5,8 +5,8 @@ use Rattle.std.specs.List.{AllByRecursion}
 use Rattle.std.proofs.lemmas.Bool.{cases_eq, eq-eqb, ne_eqb}
 use Rattle.aia_plan.specs.declared.step.Step.{Step}
 use Rattle.aia_plan.specs.declared.step.Step.TheVariants.{Fence, GFence, TakeP, PutP, TakeE, PutE, Look}
-use Rattle.aia_plan.specs.Plan.{Plan, IsInside}
-use Rattle.aia_plan.specs.Rule.{is_step, stands, is_once, comes_before, all_below, takes_late, takes_pending, takes_enables, names}
+use Rattle.aia_plan.specs.Plan.{Plan, IsInside, is_step}
+use Rattle.aia_plan.specs.Rule.{stands, is_once, comes_before, all_below, takes_late, takes_pending, takes_enables, names}
 use Rattle.aia_plan.proofs.RuleIsSafe.{once_is}
 use Rattle.aia_audit.specs.Behind.{is_taken, may_take, all_may_take, is_late, is_any_time}
 use Rattle.aia_audit.proofs.TakesLemmas.{same_below}

@@ -7,8 +7,8 @@ use Rattle.aia_plan.specs.declared.step.Kind.{Kind}
 use Rattle.aia_plan.specs.declared.step.Kind.TheVariants.{Leave, Arrive, Shift}
 use Rattle.aia_plan.specs.declared.step.Step.{Step}
 use Rattle.aia_plan.specs.declared.step.Step.TheVariants.{Word1, Word0, Fence, GFence}
-use Rattle.aia_plan.specs.Plan.{Plan}
-use Rattle.aia_plan.specs.Rule.{is_step, stands, is_once, comes_before, own_record, other_records, names_notice, turns_routes, is_record}
+use Rattle.aia_plan.specs.Plan.{Plan, is_step}
+use Rattle.aia_plan.specs.Rule.{stands, is_once, comes_before, own_record, other_records, names_notice, turns_routes, is_record}
 use Rattle.aia_plan.proofs.Behind.{before, Before}
 use Rattle.aia_plan.proofs.RuleIsSafe.{comes_before-before, none_before, once_is, once_stands, once_before, in_order, NoOther, any_record, record_before_record, record_before, all_turns}
 use Rattle.aia_audit.specs.Behind.{has_record, orders, fits_before, are_in_order, is_leave}

@@ -3,8 +3,8 @@
 use Rattle.std.specs.Prelude.{ℕ, Bool, true, false, not, ◌&&◌, List, [], ◌∷◌, Option, Some, None}
 use Rattle.std.specs.List.{list_any, list_all}
 use Rattle.aia_word.specs.Sets.{word_of}
-use Rattle.aia_plan.specs.Plan.{Plan}
-use Rattle.aia_plan.specs.Rule.{is_step, is_record, names, stands, other_records, is_same, takes_pending, puts_pending, takes_enables, puts_enables}
+use Rattle.aia_plan.specs.Plan.{Plan, is_step}
+use Rattle.aia_plan.specs.Rule.{is_record, names, stands, other_records, is_same, takes_pending, puts_pending, takes_enables, puts_enables}
 use Rattle.aia_plan.specs.declared.step.Kind.{Kind}
 use Rattle.aia_plan.specs.declared.step.Kind.TheVariants as kinds
 use Rattle.aia_plan.specs.declared.step.Step.{Step}

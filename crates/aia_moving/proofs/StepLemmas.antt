@@ -61,19 +61,14 @@ post_kept w u false hart identity e = by_equation w u w (record { n = refl; vms 
 access_keeps : (access : Access) (m : Moving) (w u : World) → Makes access m w u → SameMachine w u
 access_keeps TakeDelivery m w u made = register_kept w u _ _ _ made
 access_keeps PutDelivery m w u made = register_kept w u _ _ _ made
-access_keeps WriteNotice m w u made = by_equation w u _ (record { n = refl; vms = refl; harts = refl; guests = refl }) made
-access_keeps WriteEntry m w u made = by_equation w u _ (record { n = refl; vms = refl; harts = refl; guests = refl }) made
-access_keeps Fence m w u made = by_equation w u _ (record { n = refl; vms = refl; harts = refl; guests = refl }) made
-access_keeps Map m w u made = by_equation w u _ (record { n = refl; vms = refl; harts = refl; guests = refl }) made
-access_keeps GFence m w u made = by_equation w u _ (record { n = refl; vms = refl; harts = refl; guests = refl }) made
 access_keeps (TakePending k) m w u made = by_equation w u _ (pending_kept w (old_at m) k _) made
 access_keeps (PutPending k) m w u made = by_equation w u _ (pending_kept w (new_at m) k _) made.1
 access_keeps (TakeEnables k) m w u made = by_equation w u _ (enable_kept w (old_at m) k _) made
 access_keeps (PutEnables k) m w u made = by_equation w u _ (enable_kept w (new_at m) k _) made.1
-access_keeps (Look k) m w u made = by_equation w u w (record { n = refl; vms = refl; harts = refl; guests = refl }) made
 access_keeps TakeThreshold m w u made = register_kept w u _ _ _ made
 access_keeps PutThreshold m w u made = register_kept w u _ _ _ made
 access_keeps Post m w u made = post_kept w u m.hand.seen m.who.found.notice (m.who.found.slot + 1) made
+access_keeps access m w u made = by_equation w u _ (record { n = refl; vms = refl; harts = refl; guests = refl }) made
 
 -- ---- one step more
 

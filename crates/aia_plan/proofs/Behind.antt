@@ -4,8 +4,8 @@ use Rattle.std.specs.List.{list_any, AllByRecursion}
 use Rattle.std.proofs.lemmas.Bool.{false≢true, eq-eqb, eqb-true, and_parts, not-true}
 use Rattle.aia_plan.specs.declared.step.Step.{Step}
 use Rattle.aia_plan.specs.declared.step.Step.TheVariants.{Word0, Fence, Map, Unmap, Remap, GFence, TakeP, TakeE}
-use Rattle.aia_plan.specs.Plan.{Plan, IsInside}
-use Rattle.aia_plan.specs.Rule.{is_step, is_same, are_paired, takes_pending, puts_pending, takes_enables, puts_enables, is_record}
+use Rattle.aia_plan.specs.Plan.{Plan, IsInside, is_step}
+use Rattle.aia_plan.specs.Rule.{is_same, are_paired, takes_pending, puts_pending, takes_enables, puts_enables, is_record}
 use Rattle.aia_plan.proofs.StepKept.{Guard}
 
 -- Whether no step that passes one test has one that passes another behind it: `comes_before` said

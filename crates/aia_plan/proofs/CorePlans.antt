@@ -1,12 +1,13 @@
 -- The plans of the core keep the rule: for each kind and each number of words it is computed. And
 -- they name words of the file alone.
-use Rattle.std.proofs.Common.{◌≡◌, ℕ, zero, suc, ◌+◌, ◌<◌, ◌≤◌, [], ◌∷◌, ◌++◌, None, inl, inr, refl, sym, subst, arith}
-use Rattle.std.specs.List.{All, AllByRecursion}
+use Rattle.std.proofs.Common.{◌≡◌, ℕ, zero, suc, ◌+◌, ◌<◌, ◌≤◌, Bool, true, false, [], ◌∷◌, ◌++◌, None, inl, inr, refl, sym, subst, arith}
+use Rattle.std.proofs.lemmas.Bool.{and_parts}
+use Rattle.std.specs.List.{All, AllByRecursion, list_all}
 use Rattle.aia_plan.specs.declared.step.Kind.{Kind}
 use Rattle.aia_plan.specs.declared.step.Kind.TheVariants.{Leave, Arrive, Shift}
 use Rattle.aia_plan.specs.declared.step.Step.{Step}
-use Rattle.aia_plan.specs.declared.step.Step.TheVariants.{Quiet, Word1, Word0, Fence, Map, Unmap, Remap, GFence, TakeP, PutP, TakeE, PutE, Look, TakeT, PutT, Post, Wake}
-use Rattle.aia_plan.specs.Plan.{Plan, IsWidth, IsInside, each_word, all_words, core_plan}
+use Rattle.aia_plan.specs.declared.step.Step.TheVariants.{TakeP, PutP, TakeE, PutE, Look}
+use Rattle.aia_plan.specs.Plan.{Plan, IsWidth, IsInside, each_word, all_words, first_steps, last_steps, core_plan}
 use Rattle.aia_plan.specs.Rule.{failing}
 use Rattle.aia_plan.proofs.Throughout.{by_place}
 
@@ -50,15 +51,45 @@ looks_inside words = each_inside words (λ w. Look w ∷ []) (λ w low. (low, tt
 around : (words : ℕ) (front last : Plan) → AllByRecursion (IsInside words) front → AllByRecursion (IsInside words) last → AllByRecursion (IsInside words) (front ++ all_words words ++ last)
 around words front last first end = appended (IsInside words) (front ++ all_words words) last (appended (IsInside words) front (all_words words) first (all_inside words)) end
 
+-- a step that names no word
+abbrev is_plain : Step → Bool
+is_plain (TakeP w) = false
+is_plain (PutP w) = false
+is_plain (TakeE w) = false
+is_plain (PutE w) = false
+is_plain (Look w) = false
+is_plain step = true
+
+one_inside : (words : ℕ) (step : Step) → is_plain step ≡ true → IsInside words step
+one_inside words (TakeP w) e = absurd (cc)
+one_inside words (PutP w) e = absurd (cc)
+one_inside words (TakeE w) e = absurd (cc)
+one_inside words (PutE w) e = absurd (cc)
+one_inside words (Look w) e = absurd (cc)
+one_inside words step e = tt
+
+plain_inside : (words : ℕ) (plan : Plan) → list_all is_plain plan ≡ true → AllByRecursion (IsInside words) plan
+plain_inside words [] e = tt
+plain_inside words (x ∷ later) e = let both = and_parts (is_plain x) (list_all is_plain later) e in (one_inside words x both.0, plain_inside words later both.1)
+
+first_inside : (kind : Kind) (words : ℕ) → AllByRecursion (IsInside words) (first_steps kind)
+first_inside Leave words = plain_inside words (first_steps Leave) refl
+first_inside Arrive words = plain_inside words (first_steps Arrive) refl
+first_inside Shift words = plain_inside words (first_steps Shift) refl
+
+last_inside : (kind : Kind) (words : ℕ) → AllByRecursion (IsInside words) (last_steps kind)
+last_inside Leave words = plain_inside words (last_steps Leave) refl
+last_inside Arrive words = plain_inside words (last_steps Arrive) refl
+last_inside Shift words = plain_inside words (last_steps Shift) refl
+
 core_inside : (kind : Kind) (words : ℕ) → AllByRecursion (IsInside words) (core_plan kind words)
 core_inside Leave words =
-    let front : Plan = Quiet ∷ Word1 ∷ Word0 ∷ Fence ∷ Unmap ∷ GFence ∷ [] in
     let looks : Plan = each_word (λ w. Look w ∷ []) 0 words in
-    appended (IsInside words) (front ++ all_words words ++ looks) (TakeT ∷ Post ∷ [])
-    (around words front looks (tt, (tt, (tt, (tt, (tt, (tt, tt)))))) (looks_inside words))
-    (tt, (tt, tt))
-core_inside Arrive words = around words (Word0 ∷ Fence ∷ Map ∷ GFence ∷ []) (PutT ∷ Wake ∷ []) (tt, (tt, (tt, (tt, tt)))) (tt, (tt, tt))
-core_inside Shift words = around words (Quiet ∷ Word0 ∷ Fence ∷ Remap ∷ GFence ∷ []) (TakeT ∷ PutT ∷ Wake ∷ []) (tt, (tt, (tt, (tt, (tt, tt))))) (tt, (tt, (tt, tt)))
+    appended (IsInside words) (first_steps Leave ++ all_words words ++ looks) (last_steps Leave)
+    (around words (first_steps Leave) looks (first_inside Leave words) (looks_inside words))
+    (last_inside Leave words)
+core_inside Arrive words = around words (first_steps Arrive) (last_steps Arrive) (first_inside Arrive words) (last_inside Arrive words)
+core_inside Shift words = around words (first_steps Shift) (last_steps Shift) (first_inside Shift words) (last_inside Shift words)
 
 pub core_is_inside : (kind : Kind) (words : ℕ) → All (IsInside words) (core_plan kind words)
 core_is_inside kind words = by_place (IsInside words) (core_plan kind words) (core_inside kind words)

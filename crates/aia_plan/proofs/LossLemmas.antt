@@ -2,8 +2,8 @@
 use Rattle.std.proofs.Common.{◌≡◌, ℕ, zero, suc, ◌<◌, Bool, true, refl, sym, ◌∙◌, arith, lit<}
 use Rattle.std.proofs.lemmas.List.Elements.{All-nil}
 use Rattle.std.proofs.lemmas.Bool.{false≢true}
-use Rattle.aia_plan.specs.Plan.{Plan}
-use Rattle.aia_plan.specs.Rule.{is_step, stands}
+use Rattle.aia_plan.specs.Plan.{Plan, is_step}
+use Rattle.aia_plan.specs.Rule.{stands}
 use Rattle.aia_plan.specs.declared.step.Step.TheVariants.{Fence, GFence, TakeP, TakeE}
 use Rattle.aia_plan.specs.Transit.{Flight, no_bits}
 use Rattle.aia_plan.specs.Transit.Side.{Old}

@@ -6,8 +6,8 @@ use Rattle.aia_plan.specs.declared.step.Kind.{Kind}
 use Rattle.aia_plan.specs.declared.step.Kind.TheVariants as kinds
 use Rattle.aia_plan.specs.declared.step.Step.{Step}
 use Rattle.aia_plan.specs.declared.step.Step.TheVariants.{Word0, Fence, Map, Unmap, Remap, GFence, TakeP, TakeE}
-use Rattle.aia_plan.specs.Plan.{Plan, IsInside}
-use Rattle.aia_plan.specs.Rule.{is_step, stands, is_never, is_once, comes_before, all_below, own_record, other_records, names_notice, turns_routes, takes_late, puts_at_once, moves_enables, are_paired, takes_enables, puts_enables, failing, first_failing, is_record}
+use Rattle.aia_plan.specs.Plan.{Plan, IsInside, is_step}
+use Rattle.aia_plan.specs.Rule.{stands, is_never, is_once, comes_before, all_below, own_record, other_records, names_notice, turns_routes, takes_late, puts_at_once, moves_enables, are_paired, takes_enables, puts_enables, failing, first_failing, is_record}
 use Rattle.aia_plan.specs.Safe.{IsSafe}
 use Rattle.aia_plan.proofs.BoolLaws.{or_none}
 use Rattle.aia_plan.proofs.Behind.{before, Before}

@@ -1,5 +1,5 @@
 -- Plans of moves as lists of steps, and those that the hypervisor's core makes. Profile.
-use Rattle.std.specs.Prelude.{◌≡◌, ℕ, zero, suc, ◌<◌, ◌⊎◌, ⊤, List, [], ◌∷◌, ◌++◌}
+use Rattle.std.specs.Prelude.{◌≡◌, ℕ, zero, suc, ◌<◌, ◌⊎◌, ⊤, Bool, true, false, nat_eq, List, [], ◌∷◌, ◌++◌}
 use Rattle.aia_plan.specs.declared.step.Kind.{Kind}
 use Rattle.aia_plan.specs.declared.step.Kind.TheVariants as kinds
 use Rattle.aia_plan.specs.declared.step.Step.{Step}
@@ -8,6 +8,27 @@ use Rattle.aia_plan.specs.declared.step.Step.TheVariants.{Quiet, Word1, Word0, F
 -- The steps in their order.
 abbrev pub Plan : Type 0
 Plan = List Step
+
+-- Whether a step is the other.
+abbrev pub is_step : Step → Step → Bool
+is_step Quiet Quiet = true
+is_step Word1 Word1 = true
+is_step Word0 Word0 = true
+is_step Fence Fence = true
+is_step Map Map = true
+is_step Unmap Unmap = true
+is_step Remap Remap = true
+is_step GFence GFence = true
+is_step (TakeP w) (TakeP v) = nat_eq v w
+is_step (PutP w) (PutP v) = nat_eq v w
+is_step (TakeE w) (TakeE v) = nat_eq v w
+is_step (PutE w) (PutE v) = nat_eq v w
+is_step (Look w) (Look v) = nat_eq v w
+is_step TakeT TakeT = true
+is_step PutT PutT = true
+is_step Post Post = true
+is_step Wake Wake = true
+is_step step other = false
 
 -- How many words of 64 identities the sets of a file have, where it has 63, 127, 255, 511, 1023 or
 -- 2047 identities.
@@ -39,13 +60,21 @@ all_words words =
     each_word (λ w. TakeP w ∷ PutP w ∷ []) 0 words
     ++ each_word (λ w. TakeE w ∷ PutE w ∷ []) 0 words
 
--- The plan that the core makes for a move of each kind, of files of so many words.
+-- What the core does before it carries the sets, in a move of each kind; and what in the end.
+abbrev pub first_steps : Kind → Plan
+first_steps kinds.Leave = Quiet ∷ Word1 ∷ Word0 ∷ Fence ∷ Unmap ∷ GFence ∷ []
+first_steps kinds.Arrive = Word0 ∷ Fence ∷ Map ∷ GFence ∷ []
+first_steps kinds.Shift = Quiet ∷ Word0 ∷ Fence ∷ Remap ∷ GFence ∷ []
+
+abbrev pub last_steps : Kind → Plan
+last_steps kinds.Leave = TakeT ∷ Post ∷ []
+last_steps kinds.Arrive = PutT ∷ Wake ∷ []
+last_steps kinds.Shift = TakeT ∷ PutT ∷ Wake ∷ []
+
+-- The plan that the core makes for a move of each kind, of files of so many words. One to memory
+-- looks there at all words.
 abbrev pub core_plan : Kind → ℕ → Plan
 core_plan kinds.Leave words =
-    (Quiet ∷ Word1 ∷ Word0 ∷ Fence ∷ Unmap ∷ GFence ∷ [])
-    ++ all_words words ++ each_word (λ w. Look w ∷ []) 0 words ++ TakeT ∷ Post ∷ []
-core_plan kinds.Arrive words =
-    (Word0 ∷ Fence ∷ Map ∷ GFence ∷ []) ++ all_words words ++ PutT ∷ Wake ∷ []
-core_plan kinds.Shift words =
-    (Quiet ∷ Word0 ∷ Fence ∷ Remap ∷ GFence ∷ [])
-    ++ all_words words ++ TakeT ∷ PutT ∷ Wake ∷ []
+    first_steps kinds.Leave ++ all_words words ++ each_word (λ w. Look w ∷ []) 0 words
+    ++ last_steps kinds.Leave
+core_plan kind words = first_steps kind ++ all_words words ++ last_steps kind

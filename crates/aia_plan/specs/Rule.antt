@@ -2,34 +2,13 @@
 -- is proved: so nobody has to believe the rule. Profile.
 use Rattle.std.specs.Prelude.{ℕ, zero, suc, Bool, true, false, not, ◌&&◌, ◌||◌, nat_eq, if◌then◌else◌, List, [], ◌∷◌, Option, Some, None}
 use Rattle.std.specs.List.{list_any, list_all}
-use Rattle.aia_plan.specs.Plan.{Plan}
+use Rattle.aia_plan.specs.Plan.{Plan, is_step}
 use Rattle.aia_plan.specs.declared.step.Kind.{Kind}
 use Rattle.aia_plan.specs.declared.step.Kind.TheVariants as kinds
 use Rattle.aia_plan.specs.declared.step.Step.{Step}
-use Rattle.aia_plan.specs.declared.step.Step.TheVariants.{Quiet, Word1, Word0, Fence, Map, Unmap, Remap, GFence, TakeP, PutP, TakeE, PutE, Look, TakeT, PutT, Post, Wake}
+use Rattle.aia_plan.specs.declared.step.Step.TheVariants.{Word1, Word0, Fence, Map, Unmap, Remap, GFence, TakeP, PutP, TakeE, PutE}
 
 -- ---- how often a step stands, and in which order
-
--- Whether a step is the other.
-abbrev pub is_step : Step → Step → Bool
-is_step Quiet Quiet = true
-is_step Word1 Word1 = true
-is_step Word0 Word0 = true
-is_step Fence Fence = true
-is_step Map Map = true
-is_step Unmap Unmap = true
-is_step Remap Remap = true
-is_step GFence GFence = true
-is_step (TakeP w) (TakeP v) = nat_eq v w
-is_step (PutP w) (PutP v) = nat_eq v w
-is_step (TakeE w) (TakeE v) = nat_eq v w
-is_step (PutE w) (PutE v) = nat_eq v w
-is_step (Look w) (Look v) = nat_eq v w
-is_step TakeT TakeT = true
-is_step PutT PutT = true
-is_step Post Post = true
-is_step Wake Wake = true
-is_step step other = false
 
 -- Whether a step writes the G-stage record.
 abbrev pub is_record : Step → Bool

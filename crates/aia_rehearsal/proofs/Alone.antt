@@ -172,10 +172,6 @@ step_kept steps.Fence w u r whole of f =
       routes = λ g there other. let e = fenced_elsewhere f.landed.tables r.passage.who.found.vm r.passage.who.found.number f.landed.memory g.vm g.number (elsewhere g (mover_of r.passage) other) in
           let fenced : routes_of (with_fence f.landed r.passage.who.found.vm r.passage.who.found.number) g ≡ routes_of f.landed g = λ k. record (routes_of f.landed g) { in_force = e k } in fenced ∙ landed g;
     })
-step_kept steps.Map w u r whole of e = kept_by w u _ r.passage e (stage_kept w r.passage whole of _)
-step_kept steps.Unmap w u r whole of e = kept_by w u _ r.passage e (stage_kept w r.passage whole of _)
-step_kept steps.Remap w u r whole of e = kept_by w u _ r.passage e (stage_kept w r.passage whole of _)
-step_kept steps.GFence w u r whole of e = kept_by w u _ r.passage e (stage_kept w r.passage whole of _)
 step_kept (steps.TakeP k) w u r whole of makes = kept_by w u _ r.passage makes.1 (pending_kept w r.passage whole of k 0 r.passage.old makes.0)
 step_kept (steps.PutP k) w u r whole of makes = kept_by w u _ r.passage makes.1 (pending_kept w r.passage whole of k _ r.passage.new makes.0)
 step_kept (steps.TakeE k) w u r whole of makes = kept_by w u _ r.passage makes.1 (enabled_kept w r.passage whole of k 0 r.passage.old makes.0)
@@ -185,6 +181,7 @@ step_kept steps.TakeT w u r whole of makes = put_kept w r.passage whole of u r.p
 step_kept steps.PutT w u r whole of makes = put_kept w r.passage whole of u r.passage.new Threshold r.hand.threshold makes
 step_kept steps.Post w u r whole of makes = post_kept w r.passage whole of u r.hand.seen r.passage.who.found.notice (r.passage.who.found.slot + 1) makes
 step_kept steps.Wake w u r whole of makes = put_kept w r.passage whole of u r.passage.new Delivery r.hand.delivery makes
+step_kept step w u r whole of e = kept_by w u _ r.passage e (stage_kept w r.passage whole of _)
 
 -- ---- all that happens
 

@@ -109,22 +109,7 @@ all_landed_due (f ∷ later) z i =
 
 step_due : (step : Step) (w : World) (p : Passage) (z : Transit) (i : ℕ) → z.flights ≡ flights_in w.imsic p (flight_of w p.who.found.vm) → (stepped step z).due i ≡ (z.due i || (is_identity i && asks (Steps step) w p i))
 step_due steps.Fence w p z i own = all_landed_due z.flights z i ∙ ap (λ l. z.due i || (is_identity i && list_any (λ (f : Flight). nat_eq f.identity i) l)) own
-step_due steps.Quiet w p z i own = or_false (z.due i) (is_identity i)
-step_due steps.Word1 w p z i own = or_false (z.due i) (is_identity i)
-step_due steps.Word0 w p z i own = or_false (z.due i) (is_identity i)
-step_due steps.Map w p z i own = or_false (z.due i) (is_identity i)
-step_due steps.Unmap w p z i own = or_false (z.due i) (is_identity i)
-step_due steps.Remap w p z i own = or_false (z.due i) (is_identity i)
-step_due steps.GFence w p z i own = or_false (z.due i) (is_identity i)
-step_due (steps.TakeP k) w p z i own = or_false (z.due i) (is_identity i)
-step_due (steps.PutP k) w p z i own = or_false (z.due i) (is_identity i)
-step_due (steps.TakeE k) w p z i own = or_false (z.due i) (is_identity i)
-step_due (steps.PutE k) w p z i own = or_false (z.due i) (is_identity i)
-step_due (steps.Look k) w p z i own = or_false (z.due i) (is_identity i)
-step_due steps.TakeT w p z i own = or_false (z.due i) (is_identity i)
-step_due steps.PutT w p z i own = or_false (z.due i) (is_identity i)
-step_due steps.Post w p z i own = or_false (z.due i) (is_identity i)
-step_due steps.Wake w p z i own = or_false (z.due i) (is_identity i)
+step_due step w p z i own = or_false (z.due i) (is_identity i)
 
 -- a store that is for the one who is moved, or not
 store_due : (is : Bool) (side : Side) (x i : ℕ) (h : Happening) (z : Transit) → happened h z ≡ landed side x z → (all_happened (cond is (h ∷ []) []) z).due i ≡ (z.due i || (is_identity i && (is && nat_eq x i)))

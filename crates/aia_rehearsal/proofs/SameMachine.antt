@@ -45,16 +45,10 @@ stored_same w u rest = same_by w u _ rest (record { n = refl; vms = refl; harts 
 
 pub step_same : (step : Step) (w u : World) (r : Rehearsed) → Makes step r w u → SameMachine w u
 step_same steps.Quiet w u r makes = put_same w u r.passage.old Delivery 0 makes
-step_same steps.Word1 w u r e = same_by w u _ e (record { n = refl; vms = refl; harts = refl; guests = refl })
-step_same steps.Word0 w u r e = same_by w u _ e (record { n = refl; vms = refl; harts = refl; guests = refl })
 step_same steps.Fence w u r f =
     let landed = all_landed_rest (length (flight_of w r.passage.who.found.vm)) w f.landed r.passage.who.found.vm f.lands in
     let same : SameMachine w f.landed = same_by w f.landed _ landed (record { n = refl; vms = refl; harts = refl; guests = refl }) in
     same_by w u _ f.fenced (record { n = same.n; vms = same.vms; harts = same.harts; guests = same.guests })
-step_same steps.Map w u r e = same_by w u _ e (record { n = refl; vms = refl; harts = refl; guests = refl })
-step_same steps.Unmap w u r e = same_by w u _ e (record { n = refl; vms = refl; harts = refl; guests = refl })
-step_same steps.Remap w u r e = same_by w u _ e (record { n = refl; vms = refl; harts = refl; guests = refl })
-step_same steps.GFence w u r e = same_by w u _ e (record { n = refl; vms = refl; harts = refl; guests = refl })
 step_same (steps.TakeP k) w u r makes = same_by w u _ makes.1 (word_same w (at Old r.passage) k 0).0
 step_same (steps.PutP k) w u r makes = same_by w u _ makes.1 (word_same w (at New r.passage) k _).0
 step_same (steps.TakeE k) w u r makes = same_by w u _ makes.1 (word_same w (at Old r.passage) k 0).1
@@ -64,6 +58,7 @@ step_same steps.TakeT w u r makes = put_same w u r.passage.old Threshold 0 makes
 step_same steps.PutT w u r makes = put_same w u r.passage.new Threshold r.hand.threshold makes
 step_same steps.Post w u r makes = post_kept w u r.hand.seen r.passage.who.found.notice (r.passage.who.found.slot + 1) makes
 step_same steps.Wake w u r makes = put_same w u r.passage.new Delivery r.hand.delivery makes
+step_same step w u r e = same_by w u _ e (record { n = refl; vms = refl; harts = refl; guests = refl })
 
 -- so who is moved and both places are of the fabric still
 pub step_of : (step : Step) (w u : World) (r t : Rehearsed) → IsOf w r.passage → Makes step r w u → t ≡ after step r w → IsOf u t.passage

@@ -23,8 +23,7 @@ use Rattle.aia_plan.specs.declared.step.Step.TheVariants.{Quiet, Word1, Word0, F
 use Rattle.aia_rehearsal.specs.declared.place.Place as ends
 use Rattle.aia_rehearsal.specs.declared.place.Place.TheVariants.{File, Slot}
 use Rattle.aia_rehearsal.specs.Rehearsed.{Rehearsed, NotBothSlots, mover_of, at_of, file_of}
-use Rattle.aia_rehearsal.specs.Steps.{identities_in, Puts, Makes, delivery_taken, threshold_taken, after}
-use Rattle.aia_rehearsal.specs.Accesses.{number_at, access_made, hand_for, carried_after}
+use Rattle.aia_rehearsal.specs.Steps.{identities_in, Puts, Makes, delivery_taken, threshold_taken, after, number_at, access_made, hand_for, carried_after}
 
 -- ---- the way between two places
 
@@ -69,13 +68,6 @@ word_fits words r step access inside is = subst (λ found. IfSome found Fits) is
 
     by_step : (step : Step) → IsInside words step → IfSome (access_made step r.passage) Fits
     by_step Quiet inside = number_fits r.passage.old accesses.TakeDelivery Fits tt
-    by_step Word1 inside = tt
-    by_step Word0 inside = tt
-    by_step Fence inside = tt
-    by_step Map inside = tt
-    by_step Unmap inside = tt
-    by_step Remap inside = tt
-    by_step GFence inside = tt
     by_step (TakeP k) inside = inside
     by_step (PutP k) inside = (inside, no_zero k r.hand.pending)
     by_step (TakeE k) inside = inside
@@ -83,8 +75,8 @@ word_fits words r step access inside is = subst (λ found. IfSome found Fits) is
     by_step (Look k) inside = inside
     by_step TakeT inside = number_fits r.passage.old accesses.TakeThreshold Fits tt
     by_step PutT inside = number_fits r.passage.new accesses.PutThreshold Fits tt
-    by_step Post inside = tt
     by_step Wake inside = number_fits r.passage.new accesses.PutDelivery Fits tt
+    by_step step inside = tt
 
 -- ---- what it makes
 
@@ -132,16 +124,13 @@ module _ (w u : World) (r : Rehearsed) (way : Way) (hand : Hand) (leaves : left 
 
   by_step : (step : Step) → IfSome (access_made step r.passage) (λ access. IsMade (Makes step r w u) (carrying access hand ≡ after step r w) access)
   by_step Quiet = quiet r.passage.old leaves
-  by_step Word1 = λ is. (is.makes, ap (carrying accesses.WriteNotice) is.carries)
   by_step Word0 = λ is. (
     subst (λ o. u ≡ with_entry_word w r.passage.who.found.vm r.passage.who.found.number 0 (entry_word slot o)) leads is.makes,
     ap (carrying accesses.WriteEntry) is.carries,
   )
-  by_step Fence = λ is. (is.makes, ap (carrying accesses.Fence) is.carries)
   by_step Map = λ is. (subst (λ o. u ≡ with_map w (mover_of r.passage) o) leads is.makes, ap (carrying accesses.Map) is.carries)
   by_step Unmap = λ is. (subst (λ o. u ≡ with_map w (mover_of r.passage) o) leads is.makes, ap (carrying accesses.Map) is.carries)
   by_step Remap = λ is. (subst (λ o. u ≡ with_map w (mover_of r.passage) o) leads is.makes, ap (carrying accesses.Map) is.carries)
-  by_step GFence = λ is. (is.makes, ap (carrying accesses.GFence) is.carries)
   by_step (TakeP k) = λ is. (
     subst (λ a. (k < pending_words w a) × (u ≡ with_pending w a k 0)) old_is (is.within, is.makes),
     ap (carrying (accesses.TakePending k)) is.carries ∙ ap (λ a. record r { hand = record r.hand { pending = pending_at w a k } }) old_is,
@@ -161,8 +150,8 @@ module _ (w u : World) (r : Rehearsed) (way : Way) (hand : Hand) (leaves : left 
   by_step (Look k) = λ is. (is.makes, ap (carrying (accesses.Look k)) is.carries)
   by_step TakeT = threshold r.passage.old leaves
   by_step PutT = putt r.passage.new leads
-  by_step Post = λ is. (is.makes, ap (carrying accesses.Post) is.carries)
   by_step Wake = wake r.passage.new leads
+  by_step step = λ is. (is.makes, ap (carrying accesses.Fence) is.carries)
 
   pub made : (step : Step) (access : Access) → access_made step r.passage ≡ Some access → Executes access (moved r.passage.who way at_first (hand_for access r.hand)) w u hand
       → Makes step r w u × (record r { hand = carried_after access hand r.hand } ≡ after step r w)

@@ -6,8 +6,7 @@ ghost use Rattle.aia_plan.specs.Transit.{Transit, stepped};
 ghost use Rattle.aia_moving.specs.Move.{width};
 ghost use Rattle.aia_moving.specs.Touches.{SameMachine};
 ghost use Rattle.aia_rehearsal.specs.Rehearsed.{Rehearsed, NotBothSlots, IsOf, from_to};
-ghost use Rattle.aia_rehearsal.specs.Steps.{Makes, after, identities_in};
-ghost use Rattle.aia_rehearsal.specs.Accesses.{number_at, access_made, hand_for, carried_after};
+ghost use Rattle.aia_rehearsal.specs.Steps.{Makes, after, identities_in, number_at, access_made, hand_for, carried_after};
 ghost use Rattle.aia_rehearsal.specs.Stands.{StandsFor};
 
 use crate::{Place, Step};

@@ -208,15 +208,15 @@ module _ (w : World) (g : Vcpu) (there : Home) (whole : IsWhole w) (stands : is_
   stage_here : (s : Stage) → stage_of (with_stage w g s) g ≡ s
   stage_here s = let low = slot_low w g whole stands in get_or-set_same w.stages (slot_of w.vms g) s no_stage (omega (arith, low, whole.stages))
 
+  -- whatever is made of the record
+  pub stage-places : (s : Stage) → places_of (with_stage w g s) g there ≡ record (places_of w g there) { stage = s.written; stage_in_force = s.in_force }
+  stage-places s = let new = stage_here s in λ t. record (places_of w g there) { stage = (new t).written; stage_in_force = (new t).in_force }
+
   pub map-places : (to : Option Place) → places_of (with_map w g to) g there ≡ record (places_of w g there) { stage = to }
-  map-places to =
-      let new = stage_here (record (stage_of w g) { written = to }) in
-      λ t. record (places_of w g there) { stage = (new t).written; stage_in_force = (new t).in_force }
+  map-places to = stage-places (record (stage_of w g) { written = to })
 
   pub gfence-places : places_of (with_gfence w g) g there ≡ record (places_of w g there) { stage_in_force = (places_of w g there).stage }
-  gfence-places =
-      let new = stage_here (record (stage_of w g) { in_force = (stage_of w g).written }) in
-      λ t. record (places_of w g there) { stage = (new t).written; stage_in_force = (new t).in_force }
+  gfence-places = stage-places (record (stage_of w g) { in_force = (stage_of w g).written })
 
 -- ---- a notice
 
