@@ -24,6 +24,8 @@ mod moves;
 #[cfg(test)]
 mod passes;
 #[cfg(test)]
+mod plans;
+#[cfg(test)]
 mod registers;
 #[cfg(test)]
 mod sets;
