@@ -4,9 +4,9 @@
 
 The model is PROGRAM with the word `replay`, else ../aia. Here the machine is a list of accesses and
 of what each of them read, of one that claims the wrong identity; yours calls `ask` for each access
-as it makes it. Ends with status 1 and a message at the first answer that differs, else with 0; and
-with 2 where the words are wrong, or the model can't be run, ends before its time or with another
-status than 0.
+as it makes it. Ends with status 1 and a message at the first answer that differs, else with 0, and
+says how many were the same; and with 2 where the words are wrong, or the model can't be run, ends
+before its time or with another status than 0.
 """
 
 import subprocess
@@ -59,6 +59,13 @@ def leave(model):
         return model.wait()
 
 
+def program_of(words):
+    """Gives the model's program: a file that is named, or one on the path; else ../aia."""
+    if not words:
+        return Path(__file__).resolve().parent.parent / "aia"
+    return Path(words[0]).absolute() if Path(words[0]).is_file() else words[0]
+
+
 def main():
     words = sys.argv[1:]
     if words in (["-h"], ["--help"]):
@@ -67,7 +74,7 @@ def main():
     if len(words) > 1:
         end(2, f"lockstep.py: one PROGRAM at most is wanted, and not {len(words)} words\n"
                "lockstep.py -h says more")
-    program = words[0] if words else Path(__file__).resolve().parent.parent / "aia"
+    program = program_of(words)
     try:
         model = subprocess.Popen([program, "replay"], text=True, stdin=subprocess.PIPE,
                                  stdout=subprocess.PIPE)
@@ -83,6 +90,7 @@ def main():
                   " peers/apart/model.py, which is not proved", file=sys.stderr)
     if status:
         end(2, f"the model ended with status {status}")
+    print(f"{len(MACHINE)} accesses, all the same")
 
 
 if __name__ == "__main__":

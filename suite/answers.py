@@ -139,6 +139,12 @@ def with_sizes(script, sizes):
     return b"\n".join(texts)
 
 
+def asks_for_none(script):
+    """Says whether a script has a `machine` line of sizes that no machine has."""
+    found = (reading.read(text) or ("", ()) for text in script.split(b"\n"))
+    return any(name == "machine" and not is_machine_size(*fields) for name, fields in found)
+
+
 def answers(text):
     """Lists the answers of a text; the last one may lack its LF."""
     return [shown(one) for one in reading.texts(text)]

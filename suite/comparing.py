@@ -113,7 +113,9 @@ def wanted(path, script, options, model):
 
 def needs_others(path, script, anew):
     """Says whether a script needs a machine of other sizes: a line that its own takes is refused
-    anew."""
+    anew, or it asks for sizes that no machine has."""
+    if answers.asks_for_none(script):
+        return True
     own = answers.answers(path.with_suffix(".out").read_bytes())
     return any(answers.is_refused(line.text, new) and not answers.is_refused(line.text, old)
                for line, old, new in zip(answers.lines(script), own, answers.answers(anew)))

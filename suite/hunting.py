@@ -192,8 +192,9 @@ def left_of(hunt, script, is_machine_fixed, tell, progress):
     is_steady = again.seen == again.runs
     if not is_steady:
         again = again.and_then(hunt.again(script, MANY - again.runs))
-        tell(f"seen {times(again.seen + 1, again.runs + 1)}: {CHANGES}")
-    if again.changes():
+        ways = f", in {len(again.ways)} ways" if again.changes() else ""
+        tell(f"seen {times(again.seen + 1, again.runs + 1)}{ways}: {CHANGES}")
+    elif again.changes():
         tell(f"differs in {len(again.ways)} ways in {again.runs} runs: {CHANGES}")
     if again.changes() or not again.seen or again.seen * SELDOM < again.runs:
         return Left(script, None, again.seen, again.runs, 0)

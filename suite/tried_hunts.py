@@ -80,7 +80,9 @@ def hunts(trial):
     begin = trial.file("begin.script", "st 0xc000000 4\n")
     trial.prints(1, ["shrunk to 2 lines,", "machine", "st 0xc000000 4"], HUNT, "--begin", begin,
                  "--scripts", 1, "head", "-n", 2)
-    trial.prints(1, ["it took too long"], HUNT, "--each", 1, "--lines", 2, "sleep", 1000)
+    ran = trial.run(HUNT, "--each", 1, "--lines", 2, "sleep", 1000)
+    trial.sees(ran.status == 2 and "over an empty script it took too long" in ran.errors,
+               f"hunt says of a command that never ends {ran.errors}")
 
 
 def hunts_by_processes(trial):

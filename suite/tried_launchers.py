@@ -26,6 +26,7 @@ RIGHT = {"aia": ("replay",), "plans": ("judge",), "library": ("library-folder",)
 WRONG = (
     ("aia", (), "a word is wanted"),
     ("aia", ("replai",), "there is no command 'replai'"),
+    ("aia", ("judge",), "judge is a command of plans"),
     ("aia", ("--verison",), "there is no option '--verison': there are --help and --version"),
     ("aia", ("VERSION",), "'VERSION' is a file: have it read from standard input"),
     ("aia", ("replay", "VERSION"), "'VERSION' is a file: have it read from standard input"),
@@ -45,6 +46,8 @@ WRONG = (
     ("library", (), "one folder is wanted, and 0 words given"),
     ("library", ("a", "b"), "one folder is wanted, and 2 words given"),
     ("library", ("-x",), "there is no option '-x'"),
+    ("library", ("",), "a folder is wanted, and not an empty word"),
+    ("library", ("VERSION",), "'VERSION' is no folder"),
 )
 # Words of which command lines are made at random.
 WORDS = ("replay", "gen", "audit", "leave", "arrive", "shift", "0", "1", "3", "32", "33", "+5",

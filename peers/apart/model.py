@@ -17,7 +17,7 @@ from majors import HVICTL, HVIPRIO1, MAJORS, is_hvictl, is_injectable
 from moves import (ARRIVING, ENTERED, LEAVING, PARKED, RESIDENT, SHIFTING, Pass, VirtualHart,
                    word_mask)
 from refusals import Refused, unless
-from words import fail, given
+from words import fail, given, main
 
 ROOT_DOMAIN, CHILD_DOMAIN, DOMAINS_END = 0x0c000000, 0x0c008000, 0x0c010000
 MEMORY, MEMORY_END = 0x80000000, 0x8000c000
@@ -513,4 +513,4 @@ if __name__ == "__main__":
     for wrong in given(__doc__, lambda words: True):
         if wrong != "replay":
             fail(f"it reads standard input, as model.py < SCRIPT, and takes no word {wrong!r}")
-    replay()
+    main(replay)
