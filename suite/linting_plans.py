@@ -16,12 +16,12 @@ DECLARATIONS = {
 STEPS = {
     "route": ("producer",), "fence": ("producer",), "switch": ("producer",),
     "zero": ("place", "thing"), "take": ("thing",), "join": ("set",), "put": ("thing",),
-    "look": ("word",), "post": (), "tell": (), "free": (),
+    "look": ("word",), "post": (), "tell": (), "write": ("written",), "free": (),
 }
 SETS, NUMBERS = ("pending", "enabled"), ("threshold", "delivery")
 CHOICES = {
     "kind": ("routed", "switched"), "spot": ("old", "hand", "new"), "place": ("old", "new"),
-    "set": SETS, "thing": (*SETS, *NUMBERS),
+    "set": SETS, "thing": (*SETS, *NUMBERS), "written": ("notice",),
 }
 # The forms, as docs/ANY-PLAN.md has them.
 FORMS = {
@@ -29,6 +29,7 @@ FORMS = {
     "route": "`route P`", "fence": "`fence P`", "switch": "`switch P`",
     "zero": "`zero PLACE SET W` or `zero PLACE N`", "take": "`take SET W` or `take N`",
     "join": "`join SET W`", "put": "`put SET W` or `put N`", "look": "`look W`",
+    "write": "`write notice`",
 }
 NAMES = {"count": "N", "producer": "P", "word": "W"}
 NUMERAL = re.compile("[0-9]{1,2}")

@@ -217,7 +217,7 @@ def plans():
 
 def step_line(step, word):
     """Gives the line of a plan file that says a step of anybody's plan, w its word."""
-    names = re.findall(r"\w+", step.replace("Number", ""))
+    names = re.findall(r"[A-Z][a-z]*|\w+", step.replace("Number", ""))
     return " ".join(str(word) if name == "w" else name.lower() for name in names)
 
 
@@ -225,8 +225,7 @@ def told_plan(move):
     """Lists the lines of a plan of homes, told as anybody's plan as `told_plan` has it."""
     told = {pattern.strip("()").split(" ")[0].removeprefix("accesses."): right
             for pattern, right in clauses("plans_tie", "Told", "told")}
-    lines_ = [step_line(told[name].removeprefix("Some "), word)
-              for name, word in move.accesses() if told[name] != "None"]
+    lines_ = [step_line(told[name], word) for name, word in move.accesses()]
     end = "Memory" if KINDS[move.kind][1] == "memory" else "File"
     back = dict(clauses("plans_tie", "Told", "given_back"))[end]
     return lines_ + [step_line(step, None) for step in back.split(" ∷ ") if step != "[]"]

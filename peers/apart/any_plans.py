@@ -51,8 +51,8 @@ def hypervisors(words):
     put = [('put', 'threshold'), ('put', 'delivery')]
     routed, host = ['routed', 'routed'], ['switched', 'routed']
     yield (Setting(routed, words, True, True, False, 'old', 'hand'),
-           [('take', 'delivery')] + lead + core + [('look', w) for w in range(words)]
-           + [('take', 'threshold'), ('post',), ('free',)])
+           [('take', 'delivery'), ('write', 'notice')] + lead + core
+           + [('look', w) for w in range(words)] + [('take', 'threshold'), ('post',), ('free',)])
     yield Setting(routed, words, True, False, False, 'hand', 'new'), lead + core + put
     yield (Setting(routed, words, True, False, False, 'old', 'new'),
            [('take', 'delivery')] + lead + core + [('take', 'threshold')] + put + [('free',)])
@@ -68,7 +68,7 @@ def hypervisors(words):
 
 def all_steps(setting):
     """Every step that a plan of a setting may have."""
-    out = [('post',), ('tell',), ('free',)]
+    out = [('post',), ('tell',), ('write', 'notice'), ('free',)]
     for p in range(len(setting.producers)):
         out += [('route', p), ('fence', p), ('switch', p)]
     for w in range(setting.words):
@@ -209,6 +209,9 @@ class Machine:
 
     def do_tell(self):
         self.told |= any(self.out(w) for w in range(self.s.words))
+
+    def do_write(self, what):
+        """Where notices go changes nothing: to the host they go already."""
 
     def do_free(self):
         self.freed = True

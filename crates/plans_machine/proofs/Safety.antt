@@ -16,7 +16,7 @@ use Rattle.plans_machine.specs.declared.setting.Spot.TheVariants.{InOld, InHand,
 use Rattle.plans_machine.specs.declared.setting.Kind.{Kind}
 use Rattle.plans_machine.specs.declared.setting.Kind.TheVariants.{Routed, Switched}
 use Rattle.plans_machine.specs.declared.step.Step.{Step}
-use Rattle.plans_machine.specs.declared.step.Step.TheVariants.{Route, Fence, Switch, Zero, Take, Join, Put, ZeroNumber, TakeNumber, PutNumber, Look, Post, Tell, Free}
+use Rattle.plans_machine.specs.declared.step.Step.TheVariants.{Route, Fence, Switch, Zero, Take, Join, Put, ZeroNumber, TakeNumber, PutNumber, Look, Post, Tell, WriteNotice, Free}
 use Rattle.plans_machine.specs.Setting.{Setting, is_old, same_bank, same_spot, names}
 use Rattle.plans_machine.specs.Machine.{Flight, Machine, landed, flight_landed, all_landed, flights_of, flights_beside, led_to, stepped, By, route_of, Happening, one_landed, all_but, happened, all_happened, steps_in}
 use Rattle.plans_machine.specs.Machine.By.{Written, InForce}
@@ -644,6 +644,17 @@ does d start done Tell z guard v = record {
   enables = v.enables;
   freed = v.freed;
   safe = safe_more d start Tell done z v;
+  strayed = v.strayed;
+  numbers = v.numbers;
+}
+does d start done WriteNotice z guard v = record {
+  leads = v.leads;
+  flights = v.flights;
+  kept = v.kept;
+  late = late_more d WriteNotice done v.late;
+  enables = v.enables;
+  freed = v.freed;
+  safe = safe_more d start WriteNotice done z v;
   strayed = v.strayed;
   numbers = v.numbers;
 }

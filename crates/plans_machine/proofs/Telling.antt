@@ -13,7 +13,7 @@ use Rattle.plans_machine.specs.declared.step.Number.{Number}
 use Rattle.plans_machine.specs.declared.step.Number.TheVariants.{Threshold, Delivery}
 use Rattle.plans_machine.specs.declared.setting.Spot.TheVariants.{InHand, InNew}
 use Rattle.plans_machine.specs.declared.step.Step.{Step}
-use Rattle.plans_machine.specs.declared.step.Step.TheVariants.{Route, Fence, Switch, Zero, Take, Join, Put, ZeroNumber, TakeNumber, PutNumber, Look, Post, Tell, Free}
+use Rattle.plans_machine.specs.declared.step.Step.TheVariants.{Route, Fence, Switch, Zero, Take, Join, Put, ZeroNumber, TakeNumber, PutNumber, Look, Post, Tell, WriteNotice, Free}
 use Rattle.plans_machine.specs.Setting.{Setting, is_old, names}
 use Rattle.plans_machine.specs.Machine.{lets_out, stands_out, word_stands_out, Flight, Machine, landed, flight_landed, all_landed, flights_of, stepped, route_of, Happening, one_landed, happened, all_happened, steps_in}
 use Rattle.plans_machine.specs.Machine.Happening.{Does, Stores, Sends, Lands, Refetches}
@@ -358,6 +358,7 @@ notes_any d start done (PutNumber n) z memory guard w v = notes d start done (Pu
 notes_any d start done (Look u) z memory guard w v = notes d start done (Look u) z memory tt guard w v
 notes_any d start done Post z memory guard w v = notes d start done Post z memory tt guard w v
 notes_any d start done Tell z memory guard w v = notes d start done Tell z memory tt guard w v
+notes_any d start done WriteNotice z memory guard w v = notes d start done WriteNotice z memory tt guard w v
 notes_any d start done Free z memory guard w v = notes d start done Free z memory tt guard w v
 
 -- ---- a whole run

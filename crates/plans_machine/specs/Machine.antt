@@ -8,7 +8,7 @@ use Rattle.plans_machine.specs.declared.step.Bank.TheVariants.{Pending, Enabled}
 use Rattle.plans_machine.specs.declared.step.Number.{Number}
 use Rattle.plans_machine.specs.declared.step.Number.TheVariants.{Threshold, Delivery}
 use Rattle.plans_machine.specs.declared.step.Step.{Step}
-use Rattle.plans_machine.specs.declared.step.Step.TheVariants.{Route, Fence, Switch, Zero, Take, Join, Put, ZeroNumber, TakeNumber, PutNumber, Look, Post, Tell, Free}
+use Rattle.plans_machine.specs.declared.step.Step.TheVariants.{Route, Fence, Switch, Zero, Take, Join, Put, ZeroNumber, TakeNumber, PutNumber, Look, Post, Tell, WriteNotice, Free}
 use Rattle.plans_machine.specs.Setting.{Setting, is_old, is_pending, same_number, names, any_below}
 
 -- For each set the identities that stand in it.
@@ -170,6 +170,7 @@ stepped d (PutNumber n) z = record z {
 stepped d (Look w) z = record z { seen = z.seen || word_stands_out d z.new z.new_number w }
 stepped d Post z = record z { told = z.told || z.seen }
 stepped d Tell z = record z { told = z.told || any_stands_out d z.new z.new_number }
+stepped d WriteNotice z = z
 stepped d Free z = record z { freed = true }
 
 -- ---- what may happen

@@ -72,6 +72,9 @@ pub enum Step {
     /// Tells the host, if something stands out anywhere in the new place.
     Tell,
 
+    /// Writes where the notices of the new place go: to the host.
+    WriteNotice,
+
     /// Gives the old place back.
     Free,
 }

@@ -6,7 +6,7 @@ use Rattle.plans_machine.specs.declared.step.Number.TheVariants.{Threshold, Deli
 use Rattle.plans_machine.specs.declared.step.Place.{Place}
 use Rattle.plans_machine.specs.declared.step.Place.TheVariants.{Old, New}
 use Rattle.plans_machine.specs.declared.step.Step.{Step}
-use Rattle.plans_machine.specs.declared.step.Step.TheVariants.{Route, Fence, Switch, Zero, Take, Join, Put, ZeroNumber, TakeNumber, PutNumber, Look, Post, Tell, Free}
+use Rattle.plans_machine.specs.declared.step.Step.TheVariants.{Route, Fence, Switch, Zero, Take, Join, Put, ZeroNumber, TakeNumber, PutNumber, Look, Post, Tell, WriteNotice, Free}
 use Rattle.plans_machine.specs.Setting.{Setting, is_old, is_pending, same_number}
 use Rattle.plans_machine.specs.Machine.{Flight, Machine, landed, all_landed, flights_of, flights_beside, led_to, with_number, stepped}
 use Rattle.plans_run.specs.declared.trace.Case.{Case}
@@ -150,3 +150,4 @@ follows_step d c Free t z v = record { old = v.old; new = v.new; hand = v.hand; 
 follows_step d c (Look w) t z v = record { old = v.old; new = v.new; hand = v.hand; due = v.due; old_number = v.old_number; new_number = v.new_number; hand_number = v.hand_number; written = v.written; in_force = v.in_force; flights = v.flights; freed = v.freed; strayed = v.strayed }
 follows_step d c Post t z v = record { old = v.old; new = v.new; hand = v.hand; due = v.due; old_number = v.old_number; new_number = v.new_number; hand_number = v.hand_number; written = v.written; in_force = v.in_force; flights = v.flights; freed = v.freed; strayed = v.strayed }
 follows_step d c Tell t z v = record { old = v.old; new = v.new; hand = v.hand; due = v.due; old_number = v.old_number; new_number = v.new_number; hand_number = v.hand_number; written = v.written; in_force = v.in_force; flights = v.flights; freed = v.freed; strayed = v.strayed }
+follows_step d c WriteNotice t z v = record { old = v.old; new = v.new; hand = v.hand; due = v.due; old_number = v.old_number; new_number = v.new_number; hand_number = v.hand_number; written = v.written; in_force = v.in_force; flights = v.flights; freed = v.freed; strayed = v.strayed }

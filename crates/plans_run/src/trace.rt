@@ -165,6 +165,7 @@ impl Trace {
             Step::Look(_) => self,
             Step::Post => self,
             Step::Tell => self,
+            Step::WriteNotice => self,
             Step::Free => Trace {
                 freed: true,
                 ..self

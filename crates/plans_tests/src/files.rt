@@ -142,6 +142,9 @@ fn lines_are_read(rt: HostRuntime) {
     assert!(rt; parse_line(b"# nothing") == Reading::Skip);
     assert!(rt; parse_line(b"words 100") == Reading::Bad);
     assert!(rt; parse_line(b"join threshold") == Reading::Bad);
+    assert!(rt; parse_line(b"write notice") == Reading::Line(Line::Step(Step::WriteNotice)));
+    assert!(rt; parse_line(b"write") == Reading::Bad);
+    assert!(rt; parse_line(b"write notice 0") == Reading::Bad);
 }
 
 #[test]

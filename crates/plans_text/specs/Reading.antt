@@ -208,12 +208,25 @@ moving_named name text =
     else if bytes_eq name (codes "join") then join_at text
     else if bytes_eq name (codes "put") then put_at text else None
 
+-- The step that the word behind `write` names.
+abbrev pub notice_named : Text → Option Step
+notice_named word =
+    if bytes_eq word (codes "notice") then Some steps.WriteNotice else None
+
+-- What follows `write`.
+unfoldable pub write_at : Text → Option Step
+write_at text = do
+  word ← next_word text
+  step ← notice_named word.0
+  at_end word.1 step
+
 -- A step about notices, or `free`, likewise.
 abbrev pub telling_named : Text → Text → Option Step
 telling_named name text =
     if bytes_eq name (codes "look") then numbered_at steps.Look text
     else if bytes_eq name (codes "post") then at_end text steps.Post
     else if bytes_eq name (codes "tell") then at_end text steps.Tell
+    else if bytes_eq name (codes "write") then write_at text
     else if bytes_eq name (codes "free") then at_end text steps.Free else None
 
 -- The step that a name spells with the text behind it.

@@ -164,6 +164,27 @@ fn moving_named(name: &[u8], text: &[u8]) -> Option<Step>
     }
 }
 
+/// Gives the step that the word behind `write` names. `None`: it names none.
+fn notice_named(word: &[u8]) -> Option<Step>
+    ensures { result ≡ reading.notice_named word.now }
+{
+    if word == b"notice".as_slice() {
+        Some(Step::WriteNotice)
+    } else {
+        None
+    }
+}
+
+/// Reads what a `write` writes. `None`: it is none.
+#[tactic(auto, unfolding(crate::specs::Reading::write_at))]
+fn write_at(text: &[u8]) -> Option<Step>
+    ensures { result ≡ reading.write_at text.now }
+{
+    let (word, rest) = next_word(text)?;
+    let step = notice_named(word)?;
+    at_end(rest, step)
+}
+
 /// Reads a step about the host, or `free`. `None`: the name or what stands behind it spells none.
 fn telling_named(name: &[u8], text: &[u8]) -> Option<Step>
     ensures { result ≡ reading.telling_named name.now text.now }
@@ -174,6 +195,8 @@ fn telling_named(name: &[u8], text: &[u8]) -> Option<Step>
         at_end(text, Step::Post)
     } else if name == b"tell".as_slice() {
         at_end(text, Step::Tell)
+    } else if name == b"write".as_slice() {
+        write_at(text)
     } else if name == b"free".as_slice() {
         at_end(text, Step::Free)
     } else {

@@ -1,5 +1,5 @@
 -- The plans of homes, told in the words of anybody's plans and in those of our shape.
-use Rattle.std.proofs.Common.{◌≡◌, ℕ, zero, suc, true, List, [], ◌∷◌, ◌++◌, map, Some, refl, sym, ap, ◌∙◌}
+use Rattle.std.proofs.Common.{◌≡◌, ℕ, zero, suc, true, List, [], ◌∷◌, ◌++◌, map, refl, sym, ap, ◌∙◌}
 use Rattle.std.specs.Prelude.{IfSome}
 use Rattle.std.proofs.lemmas.List.{append_assoc, map-append}
 use Rattle.std.specs.List.{All, AllByRecursion}
@@ -105,13 +105,13 @@ core_is_shaped kinds.Shift words =
 
 -- ---- one access is the same step by both ways
 
-pub told_alike : (kind : Kind) (access : Access) → IfSome (access_of (shaped kind access)) (λ step. told access ≡ Some step)
+pub told_alike : (kind : Kind) (access : Access) → IfSome (access_of (shaped kind access)) (λ step. told access ≡ step)
 told_alike kinds.Leave accesses.Map = refl
 told_alike kinds.Arrive accesses.Map = refl
 told_alike kinds.Shift accesses.Map = refl
 told_alike kind accesses.TakeDelivery = tt
 told_alike kind accesses.PutDelivery = tt
-told_alike kind accesses.WriteNotice = tt
+told_alike kind accesses.WriteNotice = refl
 told_alike kind accesses.WriteEntry = refl
 told_alike kind accesses.Fence = refl
 told_alike kind accesses.GFence = refl

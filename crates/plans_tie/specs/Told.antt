@@ -1,5 +1,5 @@
 -- The plan of a move of this project's core, told as anybody's plan. Profile.
-use Rattle.std.specs.Prelude.{ℕ, true, false, not, List, [], ◌∷◌, ◌++◌, Option, Some, None}
+use Rattle.std.specs.Prelude.{ℕ, true, false, not, List, [], ◌∷◌, ◌++◌, map}
 use Rattle.aia_home.specs.declared.end.End.{End}
 use Rattle.aia_home.specs.Home.{is_file}
 use Rattle.aia_home.specs.declared.end.End.TheVariants.{File, Memory}
@@ -11,41 +11,37 @@ use Rattle.plans_machine.specs.declared.step.Number.TheVariants.{Threshold, Deli
 use Rattle.plans_machine.specs.declared.setting.Spot.{Spot}
 use Rattle.plans_machine.specs.declared.setting.Spot.TheVariants.{InOld, InHand, InNew}
 use Rattle.plans_machine.specs.declared.step.Step.{Step}
-use Rattle.plans_machine.specs.declared.step.Step.TheVariants.{Route, Fence, Take, Join, Put, TakeNumber, PutNumber, Look, Post, Free}
+use Rattle.plans_machine.specs.declared.step.Step.TheVariants.{Route, Fence, Take, Join, Put, TakeNumber, PutNumber, Look, Post, WriteNotice, Free}
 use Rattle.plans_machine.specs.Setting.{Setting}
-use Rattle.plans_tie.specs.Translated.{our_producers, onto}
+use Rattle.plans_tie.specs.Translated.{our_producers}
 
--- The step that an access is, of the producers of ours. There is none that says where notices go.
-abbrev pub told : Access → Option Step
-told accesses.TakeDelivery = Some (TakeNumber Delivery)
-told accesses.PutDelivery = Some (PutNumber Delivery)
-told accesses.WriteNotice = None
-told accesses.WriteEntry = Some (Route 0)
-told accesses.Fence = Some (Fence 0)
-told accesses.Map = Some (Route 1)
-told accesses.GFence = Some (Fence 1)
-told (accesses.TakePending w) = Some (Take Pending w)
-told (accesses.PutPending w) = Some (Join Pending w)
-told (accesses.TakeEnables w) = Some (Take Enabled w)
-told (accesses.PutEnables w) = Some (Put Enabled w)
-told (accesses.Look w) = Some (Look w)
-told accesses.TakeThreshold = Some (TakeNumber Threshold)
-told accesses.PutThreshold = Some (PutNumber Threshold)
-told accesses.Post = Some Post
-
--- Accesses, as those steps in their order.
-abbrev pub all_told : List Access → List Step
-all_told [] = []
-all_told (x ∷ later) = onto (told x) (all_told later)
+-- The step that an access is, of the producers of ours.
+abbrev pub told : Access → Step
+told accesses.TakeDelivery = TakeNumber Delivery
+told accesses.PutDelivery = PutNumber Delivery
+told accesses.WriteNotice = WriteNotice
+told accesses.WriteEntry = Route 0
+told accesses.Fence = Fence 0
+told accesses.Map = Route 1
+told accesses.GFence = Fence 1
+told (accesses.TakePending w) = Take Pending w
+told (accesses.PutPending w) = Join Pending w
+told (accesses.TakeEnables w) = Take Enabled w
+told (accesses.PutEnables w) = Put Enabled w
+told (accesses.Look w) = Look w
+told accesses.TakeThreshold = TakeNumber Threshold
+told accesses.PutThreshold = PutNumber Threshold
+told accesses.Post = Post
 
 -- At its end a move gives back the guest file that it left, which is no access.
 abbrev pub given_back : End → List Step
 given_back File = Free ∷ []
 given_back Memory = []
 
--- The plan of a move from one end to another, of files of so many words.
+-- The plan of a move from one end to another, of files of so many words: its accesses, each as that
+-- step, in their order.
 abbrev pub told_plan : End → End → ℕ → List Step
-told_plan from to words = all_told (plan from to words) ++ given_back from
+told_plan from to words = map told (plan from to words) ++ given_back from
 
 -- Where the numbers are at an end: in the file there, or kept by the hypervisor.
 abbrev pub number_at : Spot → End → Spot

@@ -5,7 +5,7 @@ use Rattle.aia_plan.specs.declared.step.Step.{Step as OurStep}
 use Rattle.aia_plan.specs.declared.step.Step.TheVariants as ours
 use Rattle.plans_machine.specs.declared.step.Bank.TheVariants.{Pending, Enabled}
 use Rattle.plans_machine.specs.declared.step.Step.{Step}
-use Rattle.plans_machine.specs.declared.step.Step.TheVariants.{Route, Fence, Take, Join, Put, Look, Post}
+use Rattle.plans_machine.specs.declared.step.Step.TheVariants.{Route, Fence, Take, Join, Put, Look, Post, WriteNotice}
 use Rattle.plans_machine.specs.declared.setting.Kind.{Kind}
 use Rattle.plans_machine.specs.declared.setting.Kind.TheVariants.{Routed}
 use Rattle.plans_machine.specs.declared.setting.Spot.TheVariants.{InOld}
@@ -16,10 +16,11 @@ use Rattle.plans_machine.specs.Setting.{Setting}
 abbrev pub our_producers : List Kind
 our_producers = Routed ∷ Routed ∷ []
 
--- The access that a step makes. There is none where the step is about delivery, the threshold or
--- where notices go, of which the rule on plans of our shape says nothing.
+-- The access that a step makes. There is none where the step is about delivery or the threshold, of
+-- which the rule on plans of our shape says nothing.
 abbrev pub access_of : OurStep → Option Step
 access_of ours.Word0 = Some (Route 0)
+access_of ours.Word1 = Some WriteNotice
 access_of ours.Fence = Some (Fence 0)
 access_of ours.Map = Some (Route 1)
 access_of ours.Unmap = Some (Route 1)

@@ -3,7 +3,7 @@
 //! are those that homes follow, and keep the rules there.
 #![tactic(auto)]
 
-ghost use Rattle.std.specs.Prelude.{◌≡◌, ℕ, true, Some, None, IfSome};
+ghost use Rattle.std.specs.Prelude.{◌≡◌, ℕ, true, None, IfSome};
 ghost use Rattle.std.specs.List.{All};
 ghost use Rattle.aia_home.specs.declared.end.End.TheVariants.{File, Memory};
 ghost use Rattle.aia_home.specs.declared.access.Access.{Access};
@@ -29,8 +29,7 @@ pub fn accepted_plans_of_ours_are_accepted_there()
 {}
 
 /// The plans that the core makes, told as anybody's plans, keep all rules, for files of 1, 2, 4, 8,
-/// 16 and 32 words. They are those that homes follow (`aia_home`), access by access; where notices
-/// go is left out, of which no rule speaks.
+/// 16 and 32 words. They are those that homes follow (`aia_home`), each access a step.
 #[tactic(auto, using(crate::proofs::ToldLemmas::leave_keeps, crate::proofs::ToldLemmas::arrive_keeps, crate::proofs::ToldLemmas::shift_keeps))]
 pub fn the_plans_of_the_core_keep_the_rules_there()
     ensures leave { AreAccepted widths (told_setting File Memory) (told_plan File Memory) }
@@ -63,5 +62,5 @@ pub fn the_plans_of_the_core_are_those_of_homes()
 #[tactic(auto, using(crate::proofs::ToldLemmas::told_alike))]
 pub fn an_access_is_told_alike_both_ways()
     ensures { (kind : Kind) (access : Access) → IfSome (access_of (shaped kind access))
-        (λ step. told access ≡ Some step) }
+        (λ step. told access ≡ step) }
 {}
