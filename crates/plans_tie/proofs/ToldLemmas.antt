@@ -7,7 +7,7 @@ use Rattle.aia_home.specs.declared.end.End.TheVariants.{File, Memory}
 use Rattle.aia_home.specs.declared.access.Access.{Access}
 use Rattle.aia_home.specs.declared.access.Access.TheVariants as accesses
 use Rattle.aia_home.specs.Plans as home
-use Rattle.aia_plan.specs.Plan.{Plan, each_word, all_words, core_plan}
+use Rattle.aia_plan.specs.Plan.{Plan, each_word, all_words, first_steps, last_steps, core_plan}
 use Rattle.aia_plan.specs.declared.step.Kind.{Kind}
 use Rattle.aia_plan.specs.declared.step.Kind.TheVariants as kinds
 use Rattle.aia_plan.specs.declared.step.Step.TheVariants as ours
@@ -20,8 +20,7 @@ use Rattle.plans_machine.specs.Safe.{IsSafe, IsTold}
 use Rattle.plans_machine.proofs.BoolLaws.{and_left}
 use Rattle.plans_machine.proofs.RulesAreSafe.{rules_are_safe, rules_are_told}
 use Rattle.plans_tie.specs.Translated.{access_of}
-use Rattle.plans_tie.specs.Told.{told, told_plan, told_setting}
-use Rattle.plans_tie.specs.Shaped.{shaped, shaped_plan}
+use Rattle.plans_tie.specs.Told.{told, told_plan, joined_plan, told_setting, shaped, shaped_plan}
 
 -- ---- they keep the rules of anybody's plans, for each number of words that a file may have
 
@@ -33,6 +32,15 @@ arrive_keeps = (refl, (refl, (refl, (refl, (refl, (refl, tt))))))
 
 pub shift_keeps : AreAccepted widths (told_setting File File) (told_plan File File)
 shift_keeps = (refl, (refl, (refl, (refl, (refl, (refl, tt))))))
+
+pub leave_joins : AreAccepted widths (told_setting File Memory) (joined_plan File Memory)
+leave_joins = (refl, (refl, (refl, (refl, (refl, (refl, tt))))))
+
+pub arrive_joins : AreAccepted widths (told_setting Memory File) (joined_plan Memory File)
+arrive_joins = (refl, (refl, (refl, (refl, (refl, (refl, tt))))))
+
+pub shift_joins : AreAccepted widths (told_setting File File) (joined_plan File File)
+shift_joins = (refl, (refl, (refl, (refl, (refl, (refl, tt))))))
 
 -- ---- so they are safe, and tell
 
@@ -91,17 +99,15 @@ module _ (kind : Kind) where
 pub core_is_shaped : (kind : Kind) (words : ℕ) → core_plan kind words ≡ shaped_plan kind words
 core_is_shaped kinds.Leave words =
     let looks : Plan = each_word (λ w. ours.Look w ∷ []) 0 words in
-    let last : List Access = accesses.TakeThreshold ∷ accesses.Post ∷ [] in
-    ap (λ later. ours.Quiet ∷ ours.Word1 ∷ ours.Word0 ∷ ours.Fence ∷ ours.Unmap ∷ ours.GFence ∷ later)
-    (append_assoc (all_words words) looks (ours.TakeT ∷ ours.Post ∷ [])
+    let last : List Access = home.last_part File Memory 0 in
+    ap (λ later. first_steps kinds.Leave ++ later)
+    (append_assoc (all_words words) looks (last_steps kinds.Leave)
     ∙ sym (words_shaped kinds.Leave words (home.each_word (λ w. accesses.Look w ∷ []) 0 words ++ last)
     ∙ ap (λ later. all_words words ++ later) (looks_shaped kinds.Leave words last)))
 core_is_shaped kinds.Arrive words =
-    ap (λ later. ours.Word0 ∷ ours.Fence ∷ ours.Map ∷ ours.GFence ∷ later)
-    (sym (words_shaped kinds.Arrive words (accesses.PutThreshold ∷ accesses.PutDelivery ∷ [])))
+    ap (λ later. first_steps kinds.Arrive ++ later) (sym (words_shaped kinds.Arrive words (home.last_part Memory File 0)))
 core_is_shaped kinds.Shift words =
-    ap (λ later. ours.Quiet ∷ ours.Word0 ∷ ours.Fence ∷ ours.Remap ∷ ours.GFence ∷ later)
-    (sym (words_shaped kinds.Shift words (accesses.TakeThreshold ∷ accesses.PutThreshold ∷ accesses.PutDelivery ∷ [])))
+    ap (λ later. first_steps kinds.Shift ++ later) (sym (words_shaped kinds.Shift words (home.last_part File File 0)))
 
 -- ---- one access is the same step by both ways
 
@@ -109,8 +115,6 @@ pub told_alike : (kind : Kind) (access : Access) → IfSome (access_of (shaped k
 told_alike kinds.Leave accesses.Map = refl
 told_alike kinds.Arrive accesses.Map = refl
 told_alike kinds.Shift accesses.Map = refl
-told_alike kind accesses.TakeDelivery = tt
-told_alike kind accesses.PutDelivery = tt
 told_alike kind accesses.WriteNotice = refl
 told_alike kind accesses.WriteEntry = refl
 told_alike kind accesses.Fence = refl
@@ -120,6 +124,5 @@ told_alike kind (accesses.PutPending w) = refl
 told_alike kind (accesses.TakeEnables w) = refl
 told_alike kind (accesses.PutEnables w) = refl
 told_alike kind (accesses.Look w) = refl
-told_alike kind accesses.TakeThreshold = tt
-told_alike kind accesses.PutThreshold = tt
 told_alike kind accesses.Post = refl
+told_alike kind access = tt

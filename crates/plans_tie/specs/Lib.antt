@@ -1,3 +1,2 @@
 pub mod Translated
 pub mod Told
-pub mod Shaped

@@ -12,8 +12,7 @@ ghost use Rattle.aia_plan.specs.Rule.{failing};
 ghost use Rattle.plans_machine.specs.Rows.{AreAccepted, widths};
 ghost use Rattle.plans_machine.specs.Rules.{moves};
 ghost use Rattle.plans_machine.specs.Safe.{IsSafe, IsTold};
-ghost use Rattle.plans_tie.specs.Shaped.{shaped, shaped_plan};
-ghost use Rattle.plans_tie.specs.Told.{told, told_plan, told_setting};
+ghost use Rattle.plans_tie.specs.Told.{told, told_plan, joined_plan, told_setting, shaped, shaped_plan};
 ghost use Rattle.plans_tie.specs.Translated.{access_of, shape_setting, translated};
 
 use aia_plan::Kind;
@@ -37,7 +36,16 @@ pub fn the_plans_of_the_core_keep_the_rules_there()
     ensures shift { AreAccepted widths (told_setting File File) (told_plan File File) }
 {}
 
-/// So they are safe on that machine, whatever both producers do, and the leave tells its host.
+/// So do these plans where enables are joined to those of the new place, and not put over them: a
+/// new place holds none.
+#[tactic(auto, using(crate::proofs::ToldLemmas::leave_joins, crate::proofs::ToldLemmas::arrive_joins, crate::proofs::ToldLemmas::shift_joins))]
+pub fn the_plans_of_the_core_may_join_enables()
+    ensures leave { AreAccepted widths (told_setting File Memory) (joined_plan File Memory) }
+    ensures arrive { AreAccepted widths (told_setting Memory File) (joined_plan Memory File) }
+    ensures shift { AreAccepted widths (told_setting File File) (joined_plan File File) }
+{}
+
+/// As the core makes them they are safe on that machine, whatever both producers do, and the leave tells its host.
 #[tactic(auto, using(crate::proofs::ToldLemmas::leave_safe, crate::proofs::ToldLemmas::arrive_safe, crate::proofs::ToldLemmas::shift_safe, crate::proofs::ToldLemmas::leave_tells))]
 pub fn the_plans_of_the_core_are_safe_there()
     ensures leave { All (λ words. IsSafe (told_setting File Memory words)
