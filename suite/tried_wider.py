@@ -1,0 +1,230 @@
+"""Tries suite/wider, as suite/tools does, in a tree of its own with an rt that only pretends, and
+what docs/make/strength.py tells of edits: each function takes its Trial."""
+
+import os
+import shutil
+import sys
+from pathlib import Path
+
+import answers
+from running import TOP
+
+sys.path.append(str(TOP / "docs/make"))
+
+import strength  # noqa: E402: the way to it stands above
+
+# What the tool needs of a tree, and an edit of its crates.
+FILES = ("suite/wider", "suite/running.py", "docs/make/strength.py", "docs/make/antt.py")
+SOURCE = "pub fn least() -> u32 {\n    1\n}\n\npub fn other() -> u32 {\n    2\n}\n"
+EDIT = "file: src/lib.rt\nold: {old}\nnew: {new}\n"
+# It says of each edit what its name asks for, and notes in `noted` which edits were given to it.
+RT = """#!/bin/sh
+[ "$1" = must-fail ] || exit 9
+for edit in "crates/$2/must-fail"/*.edit; do
+  name=$(basename "$edit" .edit)
+  echo "$2/$name ${RT_JOBS-}" >> "@FOLDER@/noted"
+  case $name in
+  *_proved) said='NOT REFUSED: the crate is still proved with this edit' ;;
+  *_bad) said='BAD EDIT: the prover cannot read the edited text' ;;
+  *_killed) said='NOT TRIED: its check was killed' ;;
+  *_long) echo $$ > "@FOLDER@/pid"; exec sleep 1000 ;;
+  *_silent) continue ;;
+  *) said='refused, as it must be: src/lib.rt:2:5: error: `returns`' ;;
+  esac
+  echo "rt: must-fail $2/$name.edit: $said"
+done
+echo 'rt: the end' >&2
+exit 1
+"""
+
+
+class Tree:
+    """A tree with two crates, `low` and `high`, a wider set and an rt."""
+
+    def __init__(self, trial, name):
+        self.trial, self.folder = trial, trial.folder / f"wider-{name}"
+        self.kept, self.noted = self.folder / "kept", self.folder / "noted"
+        for file in FILES:
+            self.write(file, (TOP / file).read_text(encoding="utf-8"))
+        self.write("crates.txt", "# Crates\nlow:\nhigh: low\n")
+        for crate in ("low", "high"):
+            self.write(f"crates/{crate}/src/lib.rt", SOURCE)
+            self.write(f"crates/{crate}/must-fail/tried_by_the_gate.edit",
+                       EDIT.format(old="1", new="3"))
+        self.write("bin/rt", RT.replace("@FOLDER@", str(self.folder)))
+        for file in ("suite/wider", "bin/rt"):
+            (self.folder / file).chmod(0o755)
+
+    def write(self, file, text):
+        """Writes a file of the tree."""
+        path = self.folder / file
+        path.parent.mkdir(parents=True, exist_ok=True)
+        path.write_text(text, encoding="utf-8")
+
+    def plant(self, *names, crate="low", old="1"):
+        """Writes edits of the wider set, each another one."""
+        for at, name in enumerate(names):
+            self.write(f"crates/{crate}/more-fail/{name}.edit",
+                       EDIT.format(old=old, new=f"{at + 7}"))
+
+    def given(self):
+        """Gives the edits that rt was given since the last time."""
+        lines = self.noted.read_text(encoding="utf-8").split("\n") if self.noted.exists() else []
+        self.noted.unlink(missing_ok=True)
+        return [line.split()[0] for line in lines if line]
+
+    def run(self, *words, path=None):
+        """Runs the tool with words; gives how it ended."""
+        temporary = self.folder / "tmp"
+        temporary.mkdir(exist_ok=True)
+        path = path or f"{self.folder}/bin:{os.environ['PATH']}"
+        ran = self.trial.run("env", f"PATH={path}", f"TMPDIR={temporary}", self.folder
+                             / "suite/wider", "--kept", self.kept, *words, seconds=40)
+        self.trial.sees(not any(temporary.iterdir()), f"wider {words} leaves a folder")
+        return ran
+
+    def sees(self, status, texts, *words):
+        """Sees that it ends with a status, and that it prints these texts, in this order."""
+        ran = self.run(*words)
+        said, at = answers.shown(ran.output), 0
+        for text in texts:
+            found = said.find(text, at)
+            self.trial.sees(found >= 0, f"wider {words} prints no {text!r} there: {said}")
+            at = max(at, found)
+        self.trial.sees(ran.status == status,
+                        f"wider {words} ends with {ran.status}: {ran.errors}")
+        return said
+
+
+def wider_goes_on(trial):
+    """All refused; a second run, which tries nothing; and after a change of the crate, or of an
+    edit, or where all is wanted anew, which tries what changed."""
+    tree = Tree(trial, "refused")
+    tree.plant("one", "two")
+    tree.plant("three", crate="high")
+    said = tree.sees(0, ["low/one: refused: src/lib.rt:2:5: error: `returns`\n", "low/two: refused",
+                         "high/three: refused", "3 refused, 0 LET THROUGH, 0 not tried\n"])
+    trial.sees(said.count("\n") == 4, f"wider prints {said}")
+    trial.sees(tree.given() == ["low/one", "low/two", "high/three"], "wider gives rt other edits")
+    tree.sees(0, ["low: 2 edits refused before\nhigh: 1 edit refused before\n3 refused"])
+    trial.sees(not tree.given(), "wider tries again what was refused")
+    tree.sees(0, ["low/one: can be made, refused before\n", "3 edits, of which 0 can't"], "--list")
+    tree.write("crates/high/src/lib.rt", SOURCE + "\n")
+    tree.sees(0, ["low: 2 edits refused before\nhigh/three: refused: "])
+    trial.sees(tree.given() == ["high/three"], "wider tries other crates than what changed")
+    tree.plant("two")
+    tree.sees(0, ["low: 1 edit refused before\nlow/two: refused: "], "low")
+    trial.sees(tree.given() == ["low/two"], "wider tries other edits than what changed")
+    tree.sees(0, ["low/one: ", "low/two: ", "2 refused"], "--anew", "--jobs", "3", "--at-once", "1",
+              "low")
+    trial.sees(tree.given() == ["low/one", "low/two"], "wider --anew tries others")
+    gate = (tree.folder / "crates/low/must-fail/tried_by_the_gate.edit").is_file()
+    trial.sees(gate and not (tree.folder / "crates/low/must-fail/one.edit").exists(),
+               "wider changes must-fail/ of the repository")
+
+
+def wider_tells(trial):
+    """One let through, and those that can't be tried, which are tried again."""
+    tree = Tree(trial, "told")
+    tree.plant("fine", "is_proved")
+    tree.sees(1, ["low/fine: refused: ", "low/is_proved: LET THROUGH: ",
+                  "1 refused, 1 LET THROUGH, 0 not tried"])
+    tree.given()
+    tree.sees(1, ["low/is_proved: LET THROUGH: ", "low: 1 edit refused before\n"])
+    trial.sees(not tree.given(), "wider tries again what was let through")
+    tree = Tree(trial, "untried")
+    tree.plant("fine", "is_bad", "is_killed", "is_silent")
+    tree.plant("has_no_place", crate="high", old="nosuch")
+    for _ in range(2):
+        tree.sees(2, ["low/is_bad: not tried: BAD EDIT: the prover cannot read",
+                      "low/is_killed: not tried: NOT TRIED: its check was killed",
+                      "low/is_silent: not tried: rt ended with status 1 and said nothing of it:"
+                      " rt: the end\n",
+                      "high/has_no_place: not tried: its old text stands 0 times",
+                      "1 refused, 0 LET THROUGH, 4 not tried\n"])
+    trial.sees(tree.given() == ["low/fine", "low/is_bad", "low/is_killed", "low/is_silent",
+                                "low/is_bad", "low/is_killed", "low/is_silent"],
+               "wider tries others than what is left")
+    tree.sees(2, ["high/has_no_place: can't be made: its old text", "of which 1 can't"], "--list",
+              "high")
+
+
+def wider_is_bounded(trial):
+    """A call that takes too long, which is stopped with all that it has started, and no minutes."""
+    tree = Tree(trial, "bounded")
+    tree.plant("fine", "takes_long")
+    tree.sees(2, ["low/fine: refused: ", "low/takes_long: not tried: it took too long",
+                  "1 refused, 0 LET THROUGH, 1 not tried\n"], "--seconds", "2", "--at-once", "1")
+    pid = (tree.folder / "pid").read_text(encoding="ascii").strip()
+    trial.sees(not Path(f"/proc/{pid}").exists(), "wider leaves rt behind")
+    tree.given()
+    tree.sees(2, ["0 LET THROUGH, 0 not tried, 1 left for another run"], "--minutes", "0")
+    trial.sees(not tree.given(), "wider begins a call though the minutes are over")
+
+
+def wider_refuses_words(trial):
+    """Wrong words, and no rt: status 2 and a message."""
+    tree = Tree(trial, "words")
+    tree.plant("one")
+    for words in (["nosuch"], ["high"], ["--x"], ["--jobs", "0"], ["--jobs", ""],
+                  ["--at-once", "x"], ["--seconds", "0"], ["--minutes", "-1"], ["--kept", ""],
+                  ["low", "nosuch"], ["--list", "nosuch"]):
+        ran = tree.run(*words)
+        trial.sees(ran.status == 2 and ran.errors and not ran.output,
+                   f"wider {words} ends with {ran.status}: {ran.errors[:80]!r}")
+    path = f"{Path(sys.executable).parent}:/usr/bin:/bin"
+    if not shutil.which("rt", path=path):
+        ran = tree.run(path=path)
+        trial.sees(ran.status == 2 and "there is no rt" in ran.errors,
+                   f"wider without rt ends with {ran.status}: {ran.errors}")
+    trial.sees(not tree.given(), "wider with wrong words runs rt")
+
+
+def planted_bugs(trial):
+    """Edits that can be made, and that can't, as suite/documents tells them apart."""
+    once, twice = ("pub fn least_one", "pub fn other"), ("None", "Some")
+    for is_made, file, *pairs in ((True, "src/bits.rt", once),
+                                  (True, "src/bits.rt", once, ("pub fn other", "")),
+                                  (False, "src/bits.rt"), (False, "src/bits.rt", twice),
+                                  (False, "src/bits.rt", ("nosuch text", "x")),
+                                  (False, "src/bits.rt", once, once), (False, "src", once),
+                                  (False, "data/bits.rt", once), (False, "src/nosuch.rt", once),
+                                  (False, "src/bits.rt", once[:1] * 2), (False, "", once)):
+        why = strength.misfit("aia_word", [(file, *pair) for pair in pairs])
+        trial.sees(bool(why) != is_made, f"of an edit of {file!r}, {pairs}, is said {why!r}")
+    read = strength.changes("file: a\nold: b\nnew: c\nold:  d\nnew:\nfile: e\nold: f\nnew:  g\n")
+    trial.sees(read == (("a", "b", "c"), ("a", " d", ""), ("e", "f", " g")),
+               f"an edit of three changes is read as {read}")
+    one = strength.Edit("aia_word", strength.WIDER, "one", (("src/bits.rt", *once),))
+    for other, number in ((one._replace(name="two"), 1), (one._replace(folder=strength.TRIED), 1),
+                          (one._replace(changes=(("src/bits.rt", once[0], "pub fn two"),)), 1),
+                          (strength.Edit("aia_word", strength.TRIED, "two",
+                                         (("src/bits.rt", once[0], "pub fn two"),)), 0)):
+        found = list(strength.told_apart([one, other]))
+        trial.sees(len(found) == number, f"of {other} beside another is said {found}")
+
+
+def written_proofs(trial):
+    """In which function a line stands, and whether that has a proof written by hand."""
+    text = ("const A: u32 = 1;\n\nimpl<T: Kind<u8>> Iterator for Some<'_, T> {\n"
+            "    fn next(&mut self) {\n        two\n    }\n\n    const B: u32 = 3;\n}\n\n"
+            "unsafe impl One {\n    pub(crate) fn four() {\n        if five {\n        }\n"
+            "        six\n    }\n}\n\npub extern \"C\" fn seven() {\n    eight\n}\n")
+    for old, wanted in (("A: u32", None), ("two", ("SomeIterator", "next")), ("B: u32", None),
+                        ("        six", ("One", "four")), ("eight", ("", "seven"))):
+        found = strength.function_at(text, old)
+        trial.sees(found == wanted, f"{old!r} is said to stand in {found}")
+    for place, is_there in ((("aia_hyp", "Core", "relay", "forwards"), True),
+                            (("aia_hyp", "Core", "nosuch", "forwards"), False),
+                            (("aia_domain", "ReadyIterator", "next", "ready"), True),
+                            (("aia_domain", "Ready", "next", "ready"), False),
+                            (("aia_hyp", "", "is_vm_size", "hypervisor_core"), True),
+                            (("aia_hyp", "", "is_vm_size", "moves"), False)):
+        trial.sees(strength.has_written_proof(*place) == is_there, f"a proof of {place}")
+    trial.sees(strength.function_refused("`Core::send`: `takes`, `aims`") == ("Core", "send")
+               and strength.function_refused("law `a_law`, at its lemma `b`") == ("", "a_law"),
+               "what a refusal names first")
+
+
+PARTS = (wider_goes_on, wider_tells, wider_is_bounded, wider_refuses_words, planted_bugs,
+         written_proofs)
