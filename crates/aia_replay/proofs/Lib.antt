@@ -1,4 +1,3 @@
-pub mod PieceLemmas
 pub mod MachineLemmas
 pub mod CutLemmas
 pub mod HeldLemmas

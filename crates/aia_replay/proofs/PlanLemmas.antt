@@ -15,13 +15,14 @@ use Rattle.aia_command.specs.declared.subcommand.Subcommand.TheVariants.{Audit}
 use Rattle.aia_script.specs.StepText.{step_of, step_at}
 use Rattle.aia_audit.specs.PlanText.{PlanRead, audit_text, plan_of, read_word, with_step, with_text, with_texts}
 use Rattle.aia_audit.specs.PlanText.PlanRead.{Steps, BadAt}
-use Rattle.aia_replay.specs.declared.limits.TheConstants.{SCRIPT_BYTES}
+use Rattle.aia_runs.specs.declared.limits.TheConstants.{SOURCE_BYTES}
 use Rattle.aia_replay.specs.declared.plan_reader.PlanReader.{PlanReader}
 use Rattle.aia_replay.specs.declared.program.Status.{Status}
 use Rattle.aia_replay.specs.declared.program.Status.TheVariants.{Done, ReadFault, WriteFault, Memory, TooLong}
-use Rattle.aia_replay.specs.Runs.{NoEnd, Ends}
+use Rattle.aia_runs.specs.Lines.{NoEnd}
+use Rattle.aia_replay.specs.Runs.{Ends}
 use Rattle.aia_replay.specs.Plans.{BeginsPlan, FeedsPlan, FinishesPlan, HoldsPlan, StreamsPlan, plan_read}
-use Rattle.aia_replay.specs.Streams.{ReadsOn}
+use Rattle.aia_runs.specs.Taken.{ReadsOn}
 use Rattle.aia_replay.proofs.CutLemmas.{texts_front, take_again}
 use Rattle.aia_replay.proofs.HeldLemmas.{one_text}
 use Rattle.aia_replay.proofs.ProgramLemmas.{all_of}
@@ -166,7 +167,7 @@ plan_piece_more {words = words} {left = left} n buffer so_far took feeds = recor
   length = length-append so_far.bytes (take n buffer) ∙ omega (arith, so_far.length, took.0);
 }
 
-pub plan_failed : {r : PlanReader} {words : ℕ} {read : PlanRead} {left mid rest : Supply} {count : ℕ} (buffer : List ℕ) → PlanReadSoFar r words left mid count → ReadsOn mid rest buffer reads.Failed → count ≤ SCRIPT_BYTES → StreamsPlan ReadFault words read left rest
+pub plan_failed : {r : PlanReader} {words : ℕ} {read : PlanRead} {left mid rest : Supply} {count : ℕ} (buffer : List ℕ) → PlanReadSoFar r words left mid count → ReadsOn mid rest buffer reads.Failed → count ≤ SOURCE_BYTES → StreamsPlan ReadFault words read left rest
 plan_failed {left = left} buffer so_far kept within = record {
   bytes = so_far.bytes;
   taken = kept left so_far.bytes so_far.taken;
@@ -176,7 +177,7 @@ plan_failed {left = left} buffer so_far kept within = record {
   limit = λ other. omega (arith, so_far.length, within);
 }
 
-pub plan_too_long : {r : PlanReader} {words : ℕ} {read : PlanRead} {left mid rest : Supply} {count : ℕ} (n : ℕ) (buffer : List ℕ) → PlanReadSoFar r words left mid count → ReadsOn mid rest buffer (reads.Got n) → n ≡ 1 → count ≡ SCRIPT_BYTES → StreamsPlan TooLong words read left rest
+pub plan_too_long : {r : PlanReader} {words : ℕ} {read : PlanRead} {left mid rest : Supply} {count : ℕ} (n : ℕ) (buffer : List ℕ) → PlanReadSoFar r words left mid count → ReadsOn mid rest buffer (reads.Got n) → n ≡ 1 → count ≡ SOURCE_BYTES → StreamsPlan TooLong words read left rest
 plan_too_long {left = left} n buffer so_far took one full = record {
   bytes = so_far.bytes ++ take n buffer;
   taken = took.1 left so_far.bytes so_far.taken;
@@ -186,7 +187,7 @@ plan_too_long {left = left} n buffer so_far took one full = record {
   limit = λ other. absurd (other refl);
 }
 
-pub plan_done : {r : PlanReader} {words : ℕ} {left mid rest : Supply} {count : ℕ} (new : PlanReader) (buffer : List ℕ) → PlanReadSoFar r words left mid count → ReadsOn mid rest buffer reads.End → FinishesPlan r new → count ≤ SCRIPT_BYTES → StreamsPlan Done words (plan_read new.plan) left rest
+pub plan_done : {r : PlanReader} {words : ℕ} {left mid rest : Supply} {count : ℕ} (new : PlanReader) (buffer : List ℕ) → PlanReadSoFar r words left mid count → ReadsOn mid rest buffer reads.End → FinishesPlan r new → count ≤ SOURCE_BYTES → StreamsPlan Done words (plan_read new.plan) left rest
 plan_done {words = words} {left = left} new buffer so_far ended finishes within =
     let all = ended left so_far.bytes so_far.taken in
     record {
@@ -200,7 +201,7 @@ plan_done {words = words} {left = left} new buffer so_far ended finishes within 
 
 -- ---- how a run of `audit` ends
 
-few_or_one_more : {status : Status} {words : ℕ} {read : PlanRead} {left rest : Supply} → StreamsPlan status words read left rest → TakesAtMost (SCRIPT_BYTES + 1) left rest
+few_or_one_more : {status : Status} {words : ℕ} {read : PlanRead} {left rest : Supply} → StreamsPlan status words read left rest → TakesAtMost (SOURCE_BYTES + 1) left rest
 few_or_one_more streams = (
   streams.bytes,
   streams.taken,

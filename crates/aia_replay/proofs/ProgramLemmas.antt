@@ -7,8 +7,9 @@ use Rattle.aia_command.specs.declared.subcommand.Subcommand.TheVariants.{Replay,
 use Rattle.aia_model.specs.Script.{answers}
 use Rattle.aia_replay.specs.declared.program.Status.{Status}
 use Rattle.aia_replay.specs.declared.program.Status.TheVariants.{Done, Usage, ReadFault, WriteFault, Memory, TooLong}
-use Rattle.aia_replay.specs.declared.limits.TheConstants.{SCRIPT_BYTES}
-use Rattle.aia_replay.specs.Runs.{IsScript, AnswersWhole, WritesLines, CutsLines, StopsAtMachine, IsDoneOrMemory, Ends}
+use Rattle.aia_runs.specs.declared.limits.TheConstants.{SOURCE_BYTES}
+use Rattle.aia_replay.specs.Runs.{AnswersWhole, WritesLines, CutsLines, StopsAtMachine, IsDoneOrMemory, Ends}
+use Rattle.aia_runs.specs.Taken.{IsAllLeft}
 use Rattle.aia_io.specs.Ends.{Supply, Gives, Rose, CutOff, TakesAtMost}
 use Rattle.aia_replay.specs.declared.replayer.Replayer.{Replayer}
 use Rattle.aia_replay.specs.Streams.{Streams, StreamsFront, StreamsStop, WrittenFor, GoesPast}
@@ -23,10 +24,10 @@ all_of None rest bytes took whole = tt
 all_of (Some script) None bytes took whole = absurd took
 all_of (Some script) (Some more) bytes took whole = ap Some (nothing_left bytes more (sym whole ∙ took))
 
-past_length : (before now : Option (List ℕ)) (bytes : List ℕ) → GoesPast before now bytes → length bytes ≡ SCRIPT_BYTES + 1
+past_length : (before now : Option (List ℕ)) (bytes : List ℕ) → GoesPast before now bytes → length bytes ≡ SOURCE_BYTES + 1
 past_length before now bytes past = ap length past.split ∙ length-append past.within past.beyond ∙ omega (arith, past.full, past.one)
 
-few_or_past : (status : Status) (before now : Option (List ℕ)) (bytes : List ℕ) → (status ≢ TooLong → length bytes ≤ SCRIPT_BYTES) → WrittenFor status before now bytes → length bytes ≤ SCRIPT_BYTES + 1
+few_or_past : (status : Status) (before now : Option (List ℕ)) (bytes : List ℕ) → (status ≢ TooLong → length bytes ≤ SOURCE_BYTES) → WrittenFor status before now bytes → length bytes ≤ SOURCE_BYTES + 1
 few_or_past Done before now bytes few written = omega (arith, few (λ e. absurd (cc)))
 few_or_past ReadFault before now bytes few written = omega (arith, few (λ e. absurd (cc)))
 few_or_past TooLong before now bytes few past = omega (arith, past_length before now bytes past)
@@ -34,7 +35,7 @@ few_or_past Usage before now bytes few written = absurd written
 few_or_past WriteFault before now bytes few written = absurd written
 few_or_past Memory before now bytes few written = absurd written
 
-one_more : (left rest : Supply) → TakesAtMost SCRIPT_BYTES left rest → TakesAtMost (SCRIPT_BYTES + 1) left rest
+one_more : (left rest : Supply) → TakesAtMost SOURCE_BYTES left rest → TakesAtMost (SOURCE_BYTES + 1) left rest
 one_more left rest few = (few.0, few.1, omega (arith, few.2))
 
 -- ---- what was written
@@ -74,7 +75,7 @@ stopped r left rest before mid now stop wrote =
       no_end = holds.no_end;
       end = elim stop.end [
         | inl goes_on ↦ inl goes_on
-        | inr last ↦ inr (last.0, subst (IsScript left) (holds.split ∙ ap (λ xs. holds.whole ++ xs) (ap (λ xs. holds.text ++ xs) last.0 ∙ append-nil holds.text)) last.1)
+        | inr last ↦ inr (last.0, subst (IsAllLeft left) (holds.split ∙ ap (λ xs. holds.whole ++ xs) (ap (λ xs. holds.text ++ xs) last.0 ∙ append-nil holds.text)) last.1)
       ];
       asks = holds.asks;
       written = all_written r.out.bytes.items before mid now _ holds.gathered wrote;
@@ -144,7 +145,7 @@ ends_cut {left} {rest} cut rose source_later sink_later = record {
 -- where memory lacked, and what waited is written
 pub ends_stopped : {r : Replayer} {left rest : Supply} {before mid now : Option (List ℕ)} {a b c d : ℕ} → StreamsStop r left rest before mid → Appends mid now r.out.bytes.items → a ≤ b → c ≤ d → Ends (Some Replay) Memory left rest before now a b c d
 ends_stopped {r} {left} {rest} {before} {mid} {now} stop wrote source_later sink_later =
-    let few : TakesAtMost SCRIPT_BYTES left rest = (stop.bytes, stop.taken, stop.limit) in
+    let few : TakesAtMost SOURCE_BYTES left rest = (stop.bytes, stop.taken, stop.limit) in
     record {
       as_asked = record {
         done = λ e. absurd (cc);

@@ -1,30 +1,17 @@
 -- What a run has taken and written so far, and how it ends.
 use Rattle.std.proofs.Common.{◌≡◌, ℕ, ◌+◌, ◌≤◌, List, [], ◌∷◌, ◌++◌, length, take, Option, inl, inr, refl, sym, ap, subst, ◌∙◌, arith}
 use Rattle.std.specs.Io.KnownBytes.{Appends}
-use Rattle.std.proofs.KnownBytes.{Consumes-whole}
-use Rattle.std.proofs.lemmas.List.{append-nil, length-append, length-take, take-append-le}
+use Rattle.std.proofs.lemmas.List.{append-nil, length-append}
 use Rattle.aia_replay.specs.declared.replayer.Replayer.{Replayer}
 use Rattle.aia_replay.specs.declared.program.Status.TheVariants.{Done, ReadFault, TooLong}
+use Rattle.aia_runs.specs.Taken.{ReadsOn}
 use Rattle.aia_replay.specs.Runs.{AnswersWhole}
-use Rattle.aia_replay.specs.Streams.{ReadsOn, WritesOut, WritesOutFront, StreamsFront, HasAnswered, Begins, Feeds, FeedsFront, FeedsStop, Finishes, FinishesFront, FinishesStop, Streams, StreamsStop}
+use Rattle.aia_replay.specs.Streams.{WritesOut, WritesOutFront, StreamsFront, HasAnswered, Begins, Feeds, FeedsFront, FeedsStop, Finishes, FinishesFront, FinishesStop, Streams, StreamsStop}
 use Rattle.aia_replay.proofs.HeldLemmas.{at_start}
-use Rattle.aia_io.specs.Ends.{Supply, Gives, Reads}
-use Rattle.aia_io.proofs.SupplyLemmas.{gives_nothing, gives_more, gives_no_more}
-use Rattle.aia_io.specs.declared.source.Read.{Read}
+use Rattle.aia_io.specs.Ends.{Supply, Gives}
+use Rattle.aia_io.proofs.SupplyLemmas.{gives_nothing}
 use Rattle.aia_io.specs.declared.source.Read.TheVariants as reads
-use Rattle.aia_replay.specs.declared.limits.TheConstants.{SCRIPT_BYTES}
-
--- ---- what one read takes
-
-pub reads_on : (old new : Supply) (buffer rest : List ℕ) (read : Read) → Reads old new buffer read → ReadsOn old new (buffer ++ rest) read
-reads_on old new buffer rest (reads.Got n) took =
-    let front = take-append-le n buffer rest took.1 in (
-      ap length front ∙ omega (arith, length-take n buffer, took.1),
-      λ left bytes so_far. subst (λ xs. Gives left new (bytes ++ xs)) (sym front) (gives_more left old new bytes (take n buffer) so_far took.2),
-    )
-reads_on old new buffer rest reads.End ended =
-    λ left bytes so_far. (gives_no_more left old new bytes so_far ended.1, Consumes-whole left.to_come old.to_come bytes (λ script. script ≡ bytes) so_far.0 ended.0 refl)
-reads_on old new buffer rest reads.Failed kept = λ left bytes so_far. gives_no_more left old new bytes so_far kept.0
+use Rattle.aia_runs.specs.declared.limits.TheConstants.{SOURCE_BYTES}
 
 -- ---- the loop
 
@@ -69,7 +56,7 @@ lines_answered r before now bytes empty holds = record {
   written = subst (Appends before now) (sym (append-nil holds.gathered.taken) ∙ ap (λ xs. holds.gathered.taken ++ xs) (sym empty) ∙ holds.gathered.together ∙ holds.answered) holds.gathered.appended;
 }
 
-pub reading_failed : {r : Replayer} {left mid rest : Supply} {before now : Option (List ℕ)} {count : ℕ} (buffer : List ℕ) → r.out.bytes.items ≡ [] → ReadSoFar r left mid before now count → ReadsOn mid rest buffer reads.Failed → count ≤ SCRIPT_BYTES → Streams ReadFault left rest before now
+pub reading_failed : {r : Replayer} {left mid rest : Supply} {before now : Option (List ℕ)} {count : ℕ} (buffer : List ℕ) → r.out.bytes.items ≡ [] → ReadSoFar r left mid before now count → ReadsOn mid rest buffer reads.Failed → count ≤ SOURCE_BYTES → Streams ReadFault left rest before now
 reading_failed {r} {left} {mid} {rest} {before} {now} buffer empty so_far kept within = record {
   bytes = so_far.bytes;
   taken = kept left so_far.bytes so_far.taken;
@@ -78,7 +65,7 @@ reading_failed {r} {left} {mid} {rest} {before} {now} buffer empty so_far kept w
   limit = λ other. omega (arith, so_far.length, within);
 }
 
-pub reading_too_long : {r : Replayer} {left mid rest : Supply} {before now : Option (List ℕ)} {count : ℕ} (n : ℕ) (buffer : List ℕ) → r.out.bytes.items ≡ [] → ReadSoFar r left mid before now count → ReadsOn mid rest buffer (reads.Got n) → n ≡ 1 → count ≡ SCRIPT_BYTES → Streams TooLong left rest before now
+pub reading_too_long : {r : Replayer} {left mid rest : Supply} {before now : Option (List ℕ)} {count : ℕ} (n : ℕ) (buffer : List ℕ) → r.out.bytes.items ≡ [] → ReadSoFar r left mid before now count → ReadsOn mid rest buffer (reads.Got n) → n ≡ 1 → count ≡ SOURCE_BYTES → Streams TooLong left rest before now
 reading_too_long {r} {left} {mid} {rest} {before} {now} n buffer empty so_far took one full = record {
   bytes = so_far.bytes ++ take n buffer;
   taken = took.1 left so_far.bytes so_far.taken;
@@ -94,7 +81,7 @@ reading_too_long {r} {left} {mid} {rest} {before} {now} n buffer empty so_far to
   limit = λ other. absurd (other refl);
 }
 
-pub reading_done : {r : Replayer} {left mid rest : Supply} {before now later : Option (List ℕ)} {count : ℕ} (buffer : List ℕ) → ReadSoFar r left mid before now count → ReadsOn mid rest buffer reads.End → Finishes r now later → count ≤ SCRIPT_BYTES → Streams Done left rest before later
+pub reading_done : {r : Replayer} {left mid rest : Supply} {before now later : Option (List ℕ)} {count : ℕ} (buffer : List ℕ) → ReadSoFar r left mid before now count → ReadsOn mid rest buffer reads.End → Finishes r now later → count ≤ SOURCE_BYTES → Streams Done left rest before later
 reading_done {left = left} {before = before} buffer so_far ended finishes within = record {
   bytes = so_far.bytes;
   taken = (ended left so_far.bytes so_far.taken).0;
@@ -105,13 +92,13 @@ reading_done {left = left} {before = before} buffer so_far ended finishes within
 
 -- ---- how the reading stops
 
-pub front_at_once : {r : Replayer} {left rest : Supply} {before mid now : Option (List ℕ)} {count : ℕ} → ReadSoFar r left rest before mid count → WritesOutFront r mid now → count ≤ SCRIPT_BYTES → StreamsFront left rest before now
+pub front_at_once : {r : Replayer} {left rest : Supply} {before mid now : Option (List ℕ)} {count : ℕ} → ReadSoFar r left rest before mid count → WritesOutFront r mid now → count ≤ SOURCE_BYTES → StreamsFront left rest before now
 front_at_once {before = before} so_far front within = record {
   front = record { bytes = so_far.bytes; taken = so_far.taken; cut = inl (front before so_far.bytes so_far.holds) };
   limit = (so_far.bytes, so_far.taken, omega (arith, so_far.length, within));
 }
 
-pub front_of_piece : {r : Replayer} {left mid rest : Supply} {before now later : Option (List ℕ)} {count : ℕ} (n : ℕ) (buffer : List ℕ) → ReadSoFar r left mid before now count → ReadsOn mid rest buffer (reads.Got n) → FeedsFront r now later (take n buffer) → count + n ≤ SCRIPT_BYTES → StreamsFront left rest before later
+pub front_of_piece : {r : Replayer} {left mid rest : Supply} {before now later : Option (List ℕ)} {count : ℕ} (n : ℕ) (buffer : List ℕ) → ReadSoFar r left mid before now count → ReadsOn mid rest buffer (reads.Got n) → FeedsFront r now later (take n buffer) → count + n ≤ SOURCE_BYTES → StreamsFront left rest before later
 front_of_piece {left = left} {before = before} n buffer so_far took front within =
     let bytes = so_far.bytes ++ take n buffer in
     let taken = took.1 left so_far.bytes so_far.taken in
@@ -120,7 +107,7 @@ front_of_piece {left = left} {before = before} n buffer so_far took front within
       limit = (bytes, taken, omega (arith, length-append so_far.bytes (take n buffer), so_far.length, took.0, within));
     }
 
-pub front_at_end : {r : Replayer} {left mid rest : Supply} {before now later : Option (List ℕ)} {count : ℕ} (buffer : List ℕ) → ReadSoFar r left mid before now count → ReadsOn mid rest buffer reads.End → FinishesFront r now later → count ≤ SCRIPT_BYTES → StreamsFront left rest before later
+pub front_at_end : {r : Replayer} {left mid rest : Supply} {before now later : Option (List ℕ)} {count : ℕ} (buffer : List ℕ) → ReadSoFar r left mid before now count → ReadsOn mid rest buffer reads.End → FinishesFront r now later → count ≤ SOURCE_BYTES → StreamsFront left rest before later
 front_at_end {left = left} {before = before} buffer so_far ended front within =
     let all = ended left so_far.bytes so_far.taken in
     record {
@@ -128,7 +115,7 @@ front_at_end {left = left} {before = before} buffer so_far ended front within =
       limit = (so_far.bytes, all.0, omega (arith, so_far.length, within));
     }
 
-pub stop_in_piece : {r new : Replayer} {left mid rest : Supply} {before now later : Option (List ℕ)} {count : ℕ} (n : ℕ) (buffer : List ℕ) → ReadSoFar r left mid before now count → ReadsOn mid rest buffer (reads.Got n) → FeedsStop r new now later (take n buffer) → count + n ≤ SCRIPT_BYTES → StreamsStop new left rest before later
+pub stop_in_piece : {r new : Replayer} {left mid rest : Supply} {before now later : Option (List ℕ)} {count : ℕ} (n : ℕ) (buffer : List ℕ) → ReadSoFar r left mid before now count → ReadsOn mid rest buffer (reads.Got n) → FeedsStop r new now later (take n buffer) → count + n ≤ SOURCE_BYTES → StreamsStop new left rest before later
 stop_in_piece {left = left} {before = before} n buffer so_far took stop within =
     let held = stop before so_far.bytes so_far.holds in
     record {
@@ -140,7 +127,7 @@ stop_in_piece {left = left} {before = before} n buffer so_far took stop within =
       limit = omega (arith, length-append so_far.bytes (take n buffer), so_far.length, took.0, within);
     }
 
-pub stop_at_end : {r new : Replayer} {left mid rest : Supply} {before now later : Option (List ℕ)} {count : ℕ} (buffer : List ℕ) → ReadSoFar r left mid before now count → ReadsOn mid rest buffer reads.End → FinishesStop r new now later → count ≤ SCRIPT_BYTES → StreamsStop new left rest before later
+pub stop_at_end : {r new : Replayer} {left mid rest : Supply} {before now later : Option (List ℕ)} {count : ℕ} (buffer : List ℕ) → ReadSoFar r left mid before now count → ReadsOn mid rest buffer reads.End → FinishesStop r new now later → count ≤ SOURCE_BYTES → StreamsStop new left rest before later
 stop_at_end {left = left} {before = before} buffer so_far ended stop within =
     let all = ended left so_far.bytes so_far.taken in
     record {

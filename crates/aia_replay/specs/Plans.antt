@@ -2,17 +2,18 @@
 use Rattle.std.specs.Prelude.{◌≡◌, ◌≢◌, ℕ, ◌+◌, ◌≤◌, ◌⊎◌, List, [], ◌++◌, length, take, Option, Some, None}
 use Rattle.std.specs.List.{All}
 use Rattle.aia_io.specs.Ends.{Supply, Gives}
+use Rattle.aia_runs.specs.declared.limits.TheConstants.{SOURCE_BYTES}
+use Rattle.aia_runs.specs.Taken.{IsAllLeft}
+use Rattle.aia_runs.specs.Lines.{NoEnd}
 use Rattle.aia_model.specs.Text.{texts_of}
 use Rattle.aia_model.specs.declared.limits.TheConstants.{LINE_BYTES}
 use Rattle.aia_plan.specs.Plan.{Plan, IsInside}
 use Rattle.aia_audit.specs.PlanText.{PlanRead, plan_of, with_texts}
 use Rattle.aia_audit.specs.PlanText.PlanRead.{Steps, BadAt}
-use Rattle.aia_replay.specs.declared.limits.TheConstants.{SCRIPT_BYTES}
 use Rattle.aia_replay.specs.declared.plan_so_far.PlanSoFar.{PlanSoFar}
 use Rattle.aia_replay.specs.declared.plan_reader.PlanReader.{PlanReader}
 use Rattle.aia_replay.specs.declared.program.Status.{Status}
 use Rattle.aia_replay.specs.declared.program.Status.TheVariants.{Done, ReadFault, TooLong}
-use Rattle.aia_replay.specs.Runs.{NoEnd, IsScript}
 
 -- What was read: the steps, or which text is bad.
 abbrev pub read_by : Option ℕ → Plan → PlanRead
@@ -60,6 +61,6 @@ pub record StreamsPlan (status : Status) (words : ℕ) (read : PlanRead) (left r
   pub bytes : List ℕ
   pub taken : Gives left rest bytes
   pub ends : (status ≡ Done) ⊎ ((status ≡ ReadFault) ⊎ (status ≡ TooLong))
-  pub whole : status ≡ Done → IsScript left bytes × (read ≡ plan_of words bytes)
-  pub past : status ≡ TooLong → length bytes ≡ SCRIPT_BYTES + 1
-  pub limit : status ≢ TooLong → length bytes ≤ SCRIPT_BYTES
+  pub whole : status ≡ Done → IsAllLeft left bytes × (read ≡ plan_of words bytes)
+  pub past : status ≡ TooLong → length bytes ≡ SOURCE_BYTES + 1
+  pub limit : status ≢ TooLong → length bytes ≤ SOURCE_BYTES

@@ -1,8 +1,11 @@
 -- What a run promises, by its status. Vocabulary.
-use Rattle.std.specs.Prelude.{◌≡◌, ◌≢◌, ℕ, ◌+◌, ◌≤◌, ◌⊎◌, Bool, true, false, nat_eq, List, [], ◌∷◌, ◌++◌, length, map, All, Option, Some, None, IfSome}
+use Rattle.std.specs.Prelude.{◌≡◌, ◌≢◌, ℕ, ◌+◌, ◌≤◌, ◌⊎◌, Bool, true, false, List, [], ◌∷◌, ◌++◌, length, map, Option, Some, None, IfSome}
 use Rattle.std.specs.Borrow.{Bor}
 use Rattle.std.specs.Io.KnownBytes.{Appends}
 use Rattle.aia_io.specs.Ends.{Supply, Gives, Rose, RoseBy, Takes, CutOff, TakesAll, TakesAtMost}
+use Rattle.aia_runs.specs.declared.limits.TheConstants.{SOURCE_BYTES}
+use Rattle.aia_runs.specs.Taken.{IsAllLeft}
+pub use Rattle.aia_runs.specs.Lines.{NoEnd}
 use Rattle.aia_command.specs.declared.subcommand.Subcommand.{Subcommand}
 use Rattle.aia_command.specs.declared.subcommand.Subcommand.TheVariants.{Replay, Generate, Audit}
 use Rattle.aia_command.specs.CommandLine.{subcommand_of}
@@ -17,7 +20,6 @@ use Rattle.aia_plan.specs.declared.step.Kind.{Kind}
 use Rattle.aia_audit.specs.PlanText.{audit_text}
 use Rattle.aia_replay.specs.declared.program.Status.{Status}
 use Rattle.aia_replay.specs.declared.program.Status.TheVariants.{Done, Usage, ReadFault, WriteFault, Memory, TooLong}
-use Rattle.aia_replay.specs.declared.limits.TheConstants.{SCRIPT_BYTES}
 
 -- What the words of the command line ask for, without the program's name; None where they are
 -- refused.
@@ -49,17 +51,9 @@ IsDoneOrMemory status = (status ≡ Done) ⊎ (status ≡ Memory)
 
 -- ---- a run that ends before the script does
 
--- No byte of a text is an LF.
-abbrev pub NoEnd : List ℕ → Type 0
-NoEnd text = All (λ b. nat_eq b 10 ≡ false) text
-
 -- The bytes are whole lines: there is none, or the last of them is an LF.
 abbrev pub AreWholeLines : List ℕ → Type 0
 AreWholeLines bytes = (bytes ≡ []) ⊎ ((front : List ℕ) × (bytes ≡ front ++ 10 ∷ []))
-
--- The bytes are all of the script, where the source tells it.
-abbrev pub IsScript : Supply → List ℕ → Type 0
-IsScript left bytes = IfSome left.to_come (λ script. script ≡ bytes)
 
 -- The answers of the whole lines that the bytes begin with are written, and no others; after them
 -- the bytes have no LF.
@@ -93,7 +87,7 @@ pub record CutsLines (before now : Option (List ℕ)) (bytes : List ℕ) : Type 
 pub record WritesFront (left rest : Supply) (before now : Option (List ℕ)) : Type 0 where
   pub bytes : List ℕ
   pub taken : Gives left rest bytes
-  pub cut : CutsLines before now bytes ⊎ (IsScript left bytes × CutOff before now (answers bytes))
+  pub cut : CutsLines before now bytes ⊎ (IsAllLeft left bytes × CutOff before now (answers bytes))
 
 -- What a text reads as is a `machine` line that is accepted.
 abbrev pub AsksMachine : History → Parsed → Type 0
@@ -110,7 +104,7 @@ pub record StopsAtMachine (left rest : Supply) (before now : Option (List ℕ)) 
   pub taken : Gives left rest (whole ++ (text ++ more))
   pub lines : AreWholeLines whole
   pub no_end : NoEnd text
-  pub end : ((next : List ℕ) × (more ≡ 10 ∷ next)) ⊎ ((more ≡ []) × IsScript left (whole ++ text))
+  pub end : ((next : List ℕ) × (more ≡ 10 ∷ next)) ⊎ ((more ≡ []) × IsAllLeft left (whole ++ text))
   pub asks : AsksMachine (history_of whole) (reading text)
   pub written : Appends before now (answers whole)
 
@@ -125,8 +119,8 @@ pub record EndsReplay (status : Status) (left rest : Supply) (before now : Optio
   pub read_fault : status ≡ ReadFault → WritesLines 0 left rest before now
   pub too_long : status ≡ TooLong → WritesLines 1 left rest before now
   pub write_fault : status ≡ WriteFault → WritesFront left rest before now
-  pub bound : TakesAtMost (SCRIPT_BYTES + 1) left rest
-  pub limit : status ≢ TooLong → TakesAtMost SCRIPT_BYTES left rest
+  pub bound : TakesAtMost (SOURCE_BYTES + 1) left rest
+  pub limit : status ≢ TooLong → TakesAtMost SOURCE_BYTES left rest
 
 -- A run of `gen`, of the text of the summary: it reads nothing. Memory may lack for the words, or
 -- for the machine of the generated script.
@@ -165,8 +159,8 @@ pub record EndsAudit (status : Status) (kind : Kind) (words : ℕ) (left rest : 
       → CutsVerdict kind words left before now × TakesAll left rest
   pub unwritten : status ≢ Done → status ≢ WriteFault → Appends before now []
   pub memory : status ≡ Memory → TouchesNothing left rest before now
-  pub bound : TakesAtMost (SCRIPT_BYTES + 1) left rest
-  pub limit : status ≢ TooLong → TakesAtMost SCRIPT_BYTES left rest
+  pub bound : TakesAtMost (SOURCE_BYTES + 1) left rest
+  pub limit : status ≢ TooLong → TakesAtMost SOURCE_BYTES left rest
 
 -- By what the words ask for.
 abbrev pub EndsAsAsked : Option Subcommand → Status → Supply → Supply → Option (List ℕ)
@@ -196,7 +190,7 @@ pub record Ends (asked : Option Subcommand) (status : Status) (left rest : Suppl
   pub as_asked : EndsAsAsked asked status left rest before now
   pub read_fault : status ≡ ReadFault → Rose source_old source_new
   pub write_fault : status ≡ WriteFault → Rose sink_old sink_new
-  pub too_long : status ≡ TooLong → Takes (SCRIPT_BYTES + 1) left rest
+  pub too_long : status ≡ TooLong → Takes (SOURCE_BYTES + 1) left rest
   pub memory : status ≡ Memory
       → TouchesNothing left rest before now ⊎ StopsAtMachine left rest before now
   pub source_faults : source_old ≤ source_new

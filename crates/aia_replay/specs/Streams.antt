@@ -1,22 +1,22 @@
 -- What a replayer has read, answered and written. Vocabulary.
 use Rattle.std.specs.Prelude.{◌≡◌, ◌≢◌, ℕ, ◌+◌, ◌<◌, ◌≤◌, ◌⊎◌, List, [], ◌∷◌, ◌++◌, length, take, Option}
 use Rattle.std.specs.Io.KnownBytes.{Appends}
-use Rattle.aia_io.specs.Ends.{Supply, Gives, GivesNone, Rose, CutOff, TakesAtMost}
-use Rattle.aia_io.specs.declared.source.Read.{Read}
-use Rattle.aia_io.specs.declared.source.Read.TheVariants as reads
+use Rattle.aia_io.specs.Ends.{Supply, Gives, CutOff, TakesAtMost}
+use Rattle.aia_runs.specs.declared.limits.TheConstants.{SOURCE_BYTES}
+use Rattle.aia_runs.specs.Taken.{IsAllLeft}
+use Rattle.aia_runs.specs.Lines.{NoEnd}
 use Rattle.aia_model.specs.Event.{History}
 use Rattle.aia_model.specs.Text.{texts_of}
 use Rattle.aia_model.specs.declared.parsed.Parsed.{Parsed}
 use Rattle.aia_model.specs.Reading.{reading}
 use Rattle.aia_model.specs.Script.{answers, answers_from, printed, text_answer, after_text, after_texts, history_of}
 use Rattle.aia_model.specs.declared.limits.TheConstants.{LINE_BYTES}
-use Rattle.aia_replay.specs.declared.limits.TheConstants.{SCRIPT_BYTES}
 use Rattle.aia_replay.specs.declared.replayer.Replayer.{Replayer}
 use Rattle.aia_replay.specs.declared.program.Status.{Status}
 use Rattle.aia_replay.specs.declared.program.Status.TheVariants.{Done, ReadFault, TooLong}
 use Rattle.aia_replay.specs.Buffered.{Gathers}
 use Rattle.aia_replay.specs.Stands.{StandsFor, ReadsAsMachine}
-use Rattle.aia_replay.specs.Runs.{NoEnd, AreWholeLines, AnswersWhole, IsScript, CutsLines, WritesFront, AsksMachine}
+use Rattle.aia_replay.specs.Runs.{AreWholeLines, AnswersWhole, CutsLines, WritesFront, AsksMachine}
 
 -- The bytes read so far are whole lines, which are answered, and the tail of a line whose LF wasn't
 -- read; what was answered is written or waits in the buffer, and whatever follows is answered as
@@ -50,18 +50,6 @@ pub record HasStopped (r : Replayer) (before now : Option (List ℕ)) (bytes mor
   pub lines : AreWholeLines whole
   pub no_end : NoEnd text
   pub asks : AsksMachine (history_of whole) (reading text)
-
--- Said of all that was taken of a source till now, whatever the source had left before.
-abbrev pub WhateverWasTaken : Supply → (Supply → List ℕ → Type 0) → Type 0
-WhateverWasTaken now P = (left : Supply) (bytes : List ℕ) → Gives left now bytes → P left bytes
-
--- What one read took follows what was taken before; at the end that was all of the script.
-abbrev pub ReadsOn : Supply → Supply → List ℕ → Read → Type 0
-ReadsOn old new piece (reads.Got n) = (length (take n piece) ≡ n)
-    × WhateverWasTaken old (λ left bytes. Gives left new (bytes ++ take n piece))
-ReadsOn old new piece reads.End =
-    WhateverWasTaken old (λ left bytes. Gives left new bytes × IsScript left bytes)
-ReadsOn old new piece reads.Failed = WhateverWasTaken old (λ left bytes. Gives left new bytes)
 
 -- Nothing was read yet.
 pub record Begins (r : Replayer) : Type 0 where
@@ -146,7 +134,7 @@ pub record GoesPast (before now : Option (List ℕ)) (bytes : List ℕ) : Type 0
   pub within : List ℕ
   pub beyond : List ℕ
   pub split : bytes ≡ within ++ beyond
-  pub full : length within ≡ SCRIPT_BYTES
+  pub full : length within ≡ SOURCE_BYTES
   pub one : length beyond ≡ 1
   pub answered : AnswersWhole before now within
 
@@ -164,14 +152,14 @@ pub record Streams (status : Status) (left rest : Supply) (before now : Option (
   pub bytes : List ℕ
   pub taken : Gives left rest bytes
   pub written : WrittenFor status before now bytes
-  pub whole : status ≡ Done → IsScript left bytes
-  pub limit : status ≢ TooLong → length bytes ≤ SCRIPT_BYTES
+  pub whole : status ≡ Done → IsAllLeft left bytes
+  pub limit : status ≢ TooLong → length bytes ≤ SOURCE_BYTES
 
 -- A run took no more bytes of the source than a script may have, and the sink failed after a front
 -- of their answers.
 pub record StreamsFront (left rest : Supply) (before now : Option (List ℕ)) : Type 0 where
   pub front : WritesFront left rest before now
-  pub limit : TakesAtMost SCRIPT_BYTES left rest
+  pub limit : TakesAtMost SOURCE_BYTES left rest
 
 -- A run took some bytes of the source, no more than a script may have, and stopped at a line that
 -- asks for a machine, for which there is no memory.
@@ -181,5 +169,5 @@ pub record StreamsStop (r : Replayer) (left rest : Supply) (before now : Option 
   pub more : List ℕ
   pub taken : Gives left rest bytes
   pub holds : HasStopped r before now bytes more
-  pub end : ((next : List ℕ) × (more ≡ 10 ∷ next)) ⊎ ((more ≡ []) × IsScript left bytes)
-  pub limit : length bytes ≤ SCRIPT_BYTES
+  pub end : ((next : List ℕ) × (more ≡ 10 ∷ next)) ⊎ ((more ≡ []) × IsAllLeft left bytes)
+  pub limit : length bytes ≤ SOURCE_BYTES

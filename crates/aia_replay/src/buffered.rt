@@ -1,18 +1,15 @@
-ghost use Rattle.std.specs.Prelude.{◌≡◌, ℕ, ◌+◌, ◌*◌, ◌^◌, ◌<◌, ◌≤◌, List, [], ◌++◌, length, Option, OnOk, OnErr};
+ghost use Rattle.std.specs.Prelude.{◌≡◌, ◌≤◌, [], length, OnOk, OnErr};
 ghost use Rattle.std.specs.Io.KnownBytes.{Appends};
 ghost use Rattle.aia_io.specs.Ends.{Rose, CutOff};
 ghost use Rattle.aia_model.specs.Answer.{answer_text};
 ghost use Rattle.aia_replay.specs.Buffered.{Gathers};
 
 use crate::limits::BUFFER_BYTES;
-use aia_io::{Sink, Write};
+use aia_io::Sink;
 use aia_model::limits::ANSWER_BYTES;
+use aia_runs::{SinkFault, write_all};
 use aia_script::{Answer, print_answer, push_answer};
 use arrayvec::ArrayVec;
-
-/// The sink failed, and its count of faults rose.
-#[derive(Clone, Copy, Debug, PartialEq, Eq)]
-pub struct SinkFault;
 
 /// Answers on their way to a sink, at most [`BUFFER_BYTES`] bytes at a time.
 #[derive(Drop)]
@@ -93,21 +90,4 @@ impl Buffered {
         self.bytes.clear();
         Ok(())
     }
-}
-
-/// Writes all the bytes.
-pub fn write_all<K: Sink>(sink: &mut K, bytes: &[u8]) -> Result<(), SinkFault>
-    ensures ok { OnOk result (Appends (K.taken sink.old) (K.taken sink.new) bytes.now) }
-    ensures err { OnErr result (Rose (K.faults sink.old) (K.faults sink.new)) }
-    ensures cut { OnErr result (CutOff (K.taken sink.old) (K.taken sink.new) bytes.now) }
-    ensures later { K.faults sink.old ≤ K.faults sink.new }
-{
-    let mut at = 0;
-    while at < bytes.len() {
-        match sink.write(&bytes[at..]) {
-            Write::Took(n) => at += n,
-            Write::Failed => return Err(SinkFault),
-        }
-    }
-    Ok(())
 }

@@ -6,12 +6,12 @@ ghost use Rattle.aia_generate.specs.Tally.{Tallies};
 ghost use Rattle.aia_replay.specs.Runs.{Ends};
 ghost use Rattle.aia_replay.specs.Stands.{StandsFor};
 
-use crate::buffered::write_all;
 use crate::engine::Engine;
 use crate::program::Status;
 use aia_command::{MOST_LINES, Subcommand};
 use aia_generate::{Tally, generated_lines, summary};
 use aia_io::Sink;
+use aia_runs::write_all;
 use arrayvec::ArrayVec;
 use std::alloc::{AllocError, Global};
 

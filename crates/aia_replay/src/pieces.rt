@@ -1,11 +1,8 @@
-//! Pieces of a source's bytes, and the lines that they are cut into.
+//! The lines that pieces of a source's bytes are cut into.
 
-ghost use Rattle.std.specs.Prelude.{◌≡◌, ◌+◌, ◌<◌, ◌≤◌, ◌++◌, length, take, position, nat_eq};
+ghost use Rattle.std.specs.Prelude.{◌≡◌, ◌+◌, ◌≤◌, ◌++◌, length, take, position, nat_eq};
 ghost use Rattle.arrayvec.specs.ArrayVec.{array_vec_len};
-ghost use Rattle.aia_io.specs.Ends.{ReadHasCause, ReadsFront};
-ghost use Rattle.aia_replay.specs.Streams.{ReadsOn};
 
-use aia_io::{Read, Source};
 use aia_model::limits::LINE_BYTES;
 use arrayvec::ArrayVec;
 use memchr::memchr;
@@ -37,15 +34,4 @@ pub fn line_end(bytes: &[u8]) -> Option<usize>
     ensures { result ≡ position (λ b. nat_eq b LF) bytes.now }
 {
     memchr(LF, bytes)
-}
-
-/// Reads at most `most` bytes into the front of `piece`.
-pub fn read_front<S: Source>(source: &mut S, piece: &mut [u8], most: usize) -> Read
-    requires some { 0 < most }
-    requires room { most ≤ length piece.old }
-    ensures bytes { ReadsFront most (S.supply source.old) (S.supply source.new) piece.new result }
-    ensures taken { ReadsOn (S.supply source.old) (S.supply source.new) piece.new result }
-    ensures cause { ReadHasCause (S.faults source.old) (S.faults source.new) result }
-{
-    source.read(&mut piece[..most])
 }

@@ -7,14 +7,14 @@ ghost use Rattle.aia_audit.specs.PlanText.{with_text};
 ghost use Rattle.aia_replay.specs.Plans.{AreInside, BeginsPlan, FeedsPlan, FinishesPlan, StreamsPlan, plan_read};
 ghost use Rattle.aia_replay.specs.Runs.{Ends};
 
-use crate::buffered::write_all;
-use crate::limits::{PIECE_BYTES, SCRIPT_BYTES};
-use crate::pieces::{LINE, keep, line_end, read_front};
+use crate::pieces::{LINE, keep, line_end};
 use crate::plan_so_far::PlanSoFar;
 use crate::program::Status;
 use aia_audit::Kind;
 use aia_command::Subcommand;
 use aia_io::{Read, Sink, Source};
+use aia_runs::limits::{PIECE_BYTES, SOURCE_BYTES};
+use aia_runs::{read_front, write_all};
 use arrayvec::ArrayVec;
 
 /// Reads a plan that comes in pieces: the plan so far, and the line that is being read.
@@ -106,9 +106,9 @@ impl PlanReader {
         let mut piece = [0; PIECE_BYTES];
         let mut taken: usize = 0;
         loop {
-            let asked = (SCRIPT_BYTES - taken).clamp(1, PIECE_BYTES);
+            let asked = (SOURCE_BYTES - taken).clamp(1, PIECE_BYTES);
             match read_front(source, &mut piece, asked) {
-                Read::Got(_) if taken == SCRIPT_BYTES => return Status::TooLong,
+                Read::Got(_) if taken == SOURCE_BYTES => return Status::TooLong,
                 Read::Got(n) => {
                     self.feed(&piece[..n]);
                     taken += n;

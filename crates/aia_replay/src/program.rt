@@ -4,13 +4,13 @@ ghost use Rattle.aia_replay.specs.Runs.{asked, reads_source, Ends, StopsAtMachin
 ghost use Rattle.aia_replay.specs.Streams.{Begins};
 
 use crate::generator::summarize;
-use crate::limits::SCRIPT_BYTES;
 use crate::plan_reader::audit_plan;
 use crate::replayer::Replayer;
 use crate::stop::Stop;
 use aia_audit::Kind;
 use aia_command::{Subcommand, read_words};
 use aia_io::{Sink, Source};
+use aia_runs::limits::SOURCE_BYTES;
 use std::alloc::Global;
 
 /// How a run ended.
@@ -27,7 +27,7 @@ pub enum Status {
     WriteFault,
     /// There was no memory for the words, or for the machine.
     Memory,
-    /// The script or the plan has more than [`SCRIPT_BYTES`] bytes.
+    /// The script or the plan has more than [`SOURCE_BYTES`] bytes.
     TooLong,
 }
 
@@ -80,7 +80,7 @@ pub fn run<S: Source, K: Sink>(
         → (¬ Rose (S.faults source.old) (S.faults source.new))
         → (¬ Rose (K.faults sink.old) (K.faults sink.new))
         → (reads_source (asked words.now) ≡ true
-        → FitsIn SCRIPT_BYTES (S.supply source.old) (S.supply source.new))
+        → FitsIn SOURCE_BYTES (S.supply source.old) (S.supply source.new))
         → IsDoneOrMemory result }
 {
     match read_words(alloc, words) {

@@ -3,13 +3,14 @@ ghost use Rattle.aia_io.specs.Ends.{Rose, CutOff};
 ghost use Rattle.aia_model.specs.Forms.{IsListed};
 ghost use Rattle.aia_model.specs.declared.line.Line.{Line};
 
-use crate::buffered::{Buffered, SinkFault};
+use crate::buffered::Buffered;
 use crate::engine::Engine;
-use crate::limits::{PIECE_BYTES, SCRIPT_BYTES};
-use crate::pieces::{LINE, keep, line_end, read_front};
+use crate::pieces::{LINE, keep, line_end};
 use crate::program::Status;
 use crate::stop::Stop;
 use aia_io::{Read, Sink, Source};
+use aia_runs::limits::{PIECE_BYTES, SOURCE_BYTES};
+use aia_runs::{SinkFault, read_front};
 use aia_script::{Answer, Parsed, parse_line};
 use arrayvec::ArrayVec;
 use std::alloc::Global;
@@ -179,9 +180,9 @@ impl Replayer {
         let mut taken: usize = 0;
         loop {
             self.write_out(sink)?;
-            let asked = (SCRIPT_BYTES - taken).clamp(1, PIECE_BYTES);
+            let asked = (SOURCE_BYTES - taken).clamp(1, PIECE_BYTES);
             match read_front(source, &mut piece, asked) {
-                Read::Got(_) if taken == SCRIPT_BYTES => return Ok(Status::TooLong),
+                Read::Got(_) if taken == SOURCE_BYTES => return Ok(Status::TooLong),
                 Read::Got(n) => {
                     self.feed(alloc, sink, &piece[..n])?;
                     taken += n;

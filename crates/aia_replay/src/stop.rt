@@ -1,4 +1,4 @@
-use crate::buffered::SinkFault;
+use aia_runs::SinkFault;
 use std::alloc::AllocError;
 
 /// What ends a run before the source is read to its end, other than the source.

@@ -1,15 +1,13 @@
--- Bytes that are read and written in pieces.
+-- Plans that are read and answered in pieces.
 use Rattle.std.proofs.Common.{append_assoc, ◌≡◌, ℕ, ◌+◌, ◌-◌, ◌≤◌, inl, inr, List, [], ◌++◌, length, take, drop, Option, Some, None, IfSome, Result, Ok, Err, OnOk, IfOk, refl, sym, ap, subst, ◌∙◌, arith}
-use Rattle.std.proofs.lemmas.List.{append-nil, take-append-drop, length-append, length-take}
-use Rattle.std.proofs.Math.Seq.{take-add}
-use Rattle.std.proofs.lemmas.Grind.{common_steps}
+use Rattle.std.proofs.lemmas.List.{append-nil, length-append}
 use Rattle.std.specs.Io.KnownBytes.{Appends, Keeps, Consumes, IsAtEnd}
-use Rattle.std.proofs.KnownBytes.{Appends-nil, Appends-trans, Appends-kept, Consumes-whole}
+use Rattle.std.proofs.KnownBytes.{Appends-nil, Appends-trans, Consumes-whole}
 use Rattle.aia_io.specs.Ends.{Supply, Gives, GivesNone, Rose, CutOff}
 use Rattle.aia_io.proofs.SupplyLemmas.{gives_nothing, gives_more, gives_no_more}
+use Rattle.aia_runs.specs.declared.limits.TheConstants.{SOURCE_BYTES}
 use Rattle.plans_text.specs.declared.outcome.Outcome.{Outcome}
 use Rattle.plans_text.specs.PlanFile.{Read, answers, outcome}
-use Rattle.plans_program.specs.declared.limits.TheConstants.{FILE_BYTES}
 use Rattle.plans_program.specs.declared.judging.Stop.{Stop}
 use Rattle.plans_program.specs.declared.judging.Stop.TheVariants.{Sink, Memory as LacksMemory}
 use Rattle.plans_program.specs.declared.program.Status.{Status}
@@ -18,23 +16,6 @@ use Rattle.plans_text.specs.declared.plan_reader.PlanReader.{PlanReader}
 use Rattle.plans_text.specs.Streaming.{HasRead, NoneWaits, WhateverWasRead}
 use Rattle.plans_text.proofs.StreamLemmas.{answers_grow}
 use Rattle.plans_program.specs.Runs.{AnswersEnded, CutsAnswers, EndsJudge, IsFront, Judged, JudgesAll, WhateverWasJudged, WritesFront, stopped}
-
--- ---- writing
-
-pub all_of_rest : (bytes : List ℕ) (at : ℕ) → take (length bytes - at) (drop at bytes) ≡ drop at bytes
-all_of_rest bytes at = grind (arith, common_steps)
-
-pub wrote_more : (before mid now : Option (List ℕ)) (bytes : List ℕ) (at n : ℕ) → Appends before mid (take at bytes) → Appends mid now (take n (take (length bytes - at) (drop at bytes))) → Appends before now (take (at + n) bytes)
-wrote_more before mid now bytes at n a b =
-    subst (Appends before now) (sym (take-add at n bytes)) (Appends-trans before mid now _ _ a (subst (λ (rest : List ℕ). Appends mid now (take n rest)) (all_of_rest bytes at) b))
-
-pub cut_here : (before mid now : Option (List ℕ)) (bytes : List ℕ) (at : ℕ) → Appends before mid (take at bytes) → Keeps mid now → CutOff before now bytes
-cut_here before mid now bytes at wrote kept = record {
-  part = take at bytes;
-  lost = drop at bytes;
-  appended = Appends-kept before mid now (take at bytes) wrote kept;
-  together = take-append-drop at bytes;
-}
 
 -- ---- what was written
 
@@ -105,7 +86,7 @@ pub record SoFar (reader : PlanReader) (left mid : Supply) (before now : Option 
   pub gave : Gives left mid bytes
   pub ends : mid.ends ≡ left.ends
   pub size : length bytes ≡ taken
-  pub within : taken ≤ FILE_BYTES
+  pub within : taken ≤ SOURCE_BYTES
   pub judged : Judged reader before now bytes
 
 pub nothing_yet : (reader : PlanReader) (left : Supply) (before : Option (List ℕ)) → HasRead reader [] [] → NoneWaits reader → SoFar reader left left before before 0
@@ -119,12 +100,12 @@ nothing_yet reader left before h none = record {
 }
 
 -- few lines were read
-pub few_lines : (reader : PlanReader) (left mid : Supply) (before now : Option (List ℕ)) (taken : ℕ) → SoFar reader left mid before now taken → reader.file.lines ≤ FILE_BYTES
+pub few_lines : (reader : PlanReader) (left mid : Supply) (before now : Option (List ℕ)) (taken : ℕ) → SoFar reader left mid before now taken → reader.file.lines ≤ SOURCE_BYTES
 few_lines reader left mid before now taken so =
     let h = so.judged.read in
     omega (arith, h.few, ap length h.split, length-append h.whole h.tail, so.size, so.within)
 
-pub so_far_more : (old new : PlanReader) (left mid rest : Supply) (before middle now : Option (List ℕ)) (taken n : ℕ) (piece : List ℕ) → SoFar old left mid before middle taken → Gives mid rest (take n piece) → rest.ends ≡ mid.ends → length (take n piece) ≡ n → taken + n ≤ FILE_BYTES
+pub so_far_more : (old new : PlanReader) (left mid rest : Supply) (before middle now : Option (List ℕ)) (taken n : ℕ) (piece : List ℕ) → SoFar old left mid before middle taken → Gives mid rest (take n piece) → rest.ends ≡ mid.ends → length (take n piece) ≡ n → taken + n ≤ SOURCE_BYTES
     → WhateverWasJudged old middle (λ before bytes. Judged new before now (bytes ++ take n piece)) → SoFar new left rest before now (taken + n)
 so_far_more old new left mid rest before middle now taken n piece so gave same size within judged = record {
   bytes = so.bytes ++ take n piece;
@@ -214,7 +195,7 @@ stops_last status stop reader left mid rest before middle now taken a b c d so e
     subst (λ s. EndsJudge s left rest before now a b c d) (sym is) (stops stop left rest before now a b c d (record { bytes = so.bytes; taken = all; within = omega (arith, so.size, so.within); cut = cut })
     (of_file (λ file. CutOff before now (answers file)) left.to_come so.bytes file cut) rose)
 
-pub stops_piece : (status : Status) (stop : Stop) (reader : PlanReader) (left mid rest : Supply) (before middle now : Option (List ℕ)) (taken n a b c d : ℕ) (piece : List ℕ) → SoFar reader left mid before middle taken → Gives mid rest (take n piece) → length (take n piece) ≡ n → taken + n ≤ FILE_BYTES
+pub stops_piece : (status : Status) (stop : Stop) (reader : PlanReader) (left mid rest : Supply) (before middle now : Option (List ℕ)) (taken n a b c d : ℕ) (piece : List ℕ) → SoFar reader left mid before middle taken → Gives mid rest (take n piece) → length (take n piece) ≡ n → taken + n ≤ SOURCE_BYTES
     → WhateverWasJudged reader middle (λ before bytes. IsFront before now (bytes ++ take n piece)) → (stop ≡ Sink → Rose c d) → status ≡ stopped stop → EndsJudge status left rest before now a b c d
 stops_piece status stop reader left mid rest before middle now taken n a b c d piece so gave size within fronts rose is =
     let all = gives_more left mid rest so.bytes (take n piece) so.gave gave in
@@ -249,10 +230,10 @@ ends_failed reader left mid rest before now taken a b c d so none rose =
       usage = λ e. absurd (cc);
     }
 
-pub ends_past : (reader : PlanReader) (left mid rest : Supply) (before now : Option (List ℕ)) (n a b c d : ℕ) (piece : List ℕ) → SoFar reader left mid before now FILE_BYTES → Gives mid rest (take n piece) → length (take n piece) ≡ n → n ≡ 1 → EndsJudge TooLong left rest before now a b c d
+pub ends_past : (reader : PlanReader) (left mid rest : Supply) (before now : Option (List ℕ)) (n a b c d : ℕ) (piece : List ℕ) → SoFar reader left mid before now SOURCE_BYTES → Gives mid rest (take n piece) → length (take n piece) ≡ n → n ≡ 1 → EndsJudge TooLong left rest before now a b c d
 ends_past reader left mid rest before now n a b c d piece so gave size one =
     let all = gives_more left mid rest so.bytes (take n piece) so.gave gave in
-    let long : length (so.bytes ++ take n piece) ≡ FILE_BYTES + 1 = omega (arith, length-append so.bytes (take n piece), so.size, size, one) in
+    let long : length (so.bytes ++ take n piece) ≡ SOURCE_BYTES + 1 = omega (arith, length-append so.bytes (take n piece), so.size, size, one) in
     record {
       done = λ other e. absurd (cc);
       write_fault = λ e. absurd (cc);
@@ -263,9 +244,6 @@ ends_past reader left mid rest before now n a b c d piece so gave size one =
       bound = (so.bytes ++ take n piece, all, omega (arith, long));
       usage = λ e. absurd (cc);
     }
-
-pub as_many : (n most : ℕ) (piece : List ℕ) → n ≤ most → most ≤ length piece → length (take n piece) ≡ n
-as_many n most piece few room = let e = length-take n piece in omega (arith, e, few, room)
 
 pub rose_since : (a m b : ℕ) → a ≤ m → Rose m b → Rose a b
 rose_since a m b low rose = elim rose [ inl more ↦ inl (omega (arith, low, more)) | inr full ↦ inr full ]

@@ -3,18 +3,19 @@ use Rattle.std.specs.Prelude.{◌≡◌, ◌≢◌, ℕ, ◌+◌, ◌≤◌, ◌
 use Rattle.std.specs.Borrow.{Bor}
 use Rattle.std.specs.Io.KnownBytes.{Appends}
 use Rattle.aia_io.specs.Ends.{Supply, Gives, Rose, Takes, TakesAtMost, TakesAll, CutOff}
+use Rattle.aia_runs.specs.declared.limits.TheConstants.{SOURCE_BYTES}
+use Rattle.aia_runs.specs.Lines.{NoEnd}
 use Rattle.plans_text.specs.declared.plan_reader.PlanReader.{PlanReader}
 use Rattle.plans_text.specs.declared.outcome.Outcome.{Outcome}
 use Rattle.plans_text.specs.PlanFile.{answers}
 use Rattle.plans_text.specs.PlanFile.{outcome as outcome_of_file}
-use Rattle.plans_text.specs.Streaming.{AreWhole, HasRead, NoEnd, NoneWaits, ended_answers}
+use Rattle.plans_text.specs.Streaming.{AreWhole, HasRead, NoneWaits, ended_answers}
 use Rattle.plans_program.specs.declared.words.Subcommand.{Subcommand}
 use Rattle.plans_program.specs.declared.words.Subcommand.TheVariants.{Judge}
 use Rattle.plans_program.specs.declared.judging.Stop.{Stop}
 use Rattle.plans_program.specs.declared.judging.Stop.TheVariants.{Sink, Memory as LacksMemory}
 use Rattle.plans_program.specs.declared.program.Status.{Status}
 use Rattle.plans_program.specs.declared.program.Status.TheVariants.{Done, Usage, ReadFault, WriteFault, Memory, TooLong}
-use Rattle.plans_program.specs.declared.limits.TheConstants.{FILE_BYTES}
 use Rattle.plans_program.specs.CommandLine.{subcommand_of}
 
 -- What the words of the command line ask for, without the program's name; None where they are
@@ -43,7 +44,7 @@ pub record JudgesAll (outcome : Outcome) (left rest : Supply) (before now : Opti
 pub record WritesFront (left rest : Supply) (before now : Option (List ℕ)) : Type 0 where
   pub bytes : List ℕ
   pub taken : Gives left rest bytes
-  pub within : length bytes ≤ FILE_BYTES
+  pub within : length bytes ≤ SOURCE_BYTES
   pub cut : CutOff before now (answers bytes)
 
 -- The sink took just what is answered of the plans that ended within the whole lines of some bytes;
@@ -62,7 +63,7 @@ pub record WritesEnded (count : ℕ) (left rest : Supply) (before now : Option (
   pub bytes : List ℕ
   pub beyond : List ℕ
   pub taken : Gives left rest (bytes ++ beyond)
-  pub within : length bytes ≤ FILE_BYTES
+  pub within : length bytes ≤ SOURCE_BYTES
   pub past : length beyond ≡ count
   pub answered : AnswersEnded before now bytes
 
@@ -104,10 +105,10 @@ pub record EndsJudge (status : Status) (left rest : Supply) (before now : Option
   pub read_fault : status ≡ ReadFault
       → WritesEnded 0 left rest before now × Rose source_old source_new
   pub too_long : status ≡ TooLong
-      → WritesEnded 1 left rest before now × Takes (FILE_BYTES + 1) left rest
+      → WritesEnded 1 left rest before now × Takes (SOURCE_BYTES + 1) left rest
   -- in each case it is a front of the answers of the whole file, where the source tells it
   pub front : CutsAnswers left before now
-  pub bound : TakesAtMost (FILE_BYTES + 1) left rest
+  pub bound : TakesAtMost (SOURCE_BYTES + 1) left rest
   pub usage : status ≢ Usage
 
 -- A run that touches nothing: the words are refused, or there is no memory for them.

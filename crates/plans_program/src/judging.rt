@@ -7,11 +7,10 @@ ghost use Rattle.plans_text.specs.PlanFile.{answers, outcome};
 ghost use Rattle.plans_text.specs.Streaming.{IsReady, lines_read};
 ghost use Rattle.plans_program.specs.Runs.{EndsJudge, IsFront, Judged, WhateverWasJudged, stopped};
 
-use crate::give::give_all;
-use crate::limits::{FILE_BYTES, PIECE_BYTES};
-use crate::pieces::read_front;
 use crate::program::Status;
 use aia_io::{Read, Sink, Source};
+use aia_runs::limits::{PIECE_BYTES, SOURCE_BYTES};
+use aia_runs::{read_front, write_all};
 use plans_text::{Answered, Outcome, PlanReader};
 use std::alloc::Global;
 
@@ -42,7 +41,7 @@ fn give<K: Sink>(sink: &mut K, bytes: &[u8]) -> Result<(), Stop>
     ensures fault { result ≡ Err Stop.Sink → Rose (K.faults sink.old) (K.faults sink.new) }
     ensures later { K.faults sink.old ≤ K.faults sink.new }
 {
-    match give_all(sink, bytes) {
+    match write_all(sink, bytes) {
         Ok(()) => Ok(()),
         Err(_) => Err(Stop::Sink),
     }
@@ -112,9 +111,9 @@ pub(crate) fn judge_file<S: Source, K: Sink>(alloc: Global, source: &mut S, sink
     let mut piece = [0; PIECE_BYTES];
     let mut taken: usize = 0;
     loop {
-        let asked = (FILE_BYTES - taken).clamp(1, PIECE_BYTES);
+        let asked = (SOURCE_BYTES - taken).clamp(1, PIECE_BYTES);
         match read_front(source, &mut piece, asked) {
-            Read::Got(_) if taken == FILE_BYTES => return Status::TooLong,
+            Read::Got(_) if taken == SOURCE_BYTES => return Status::TooLong,
             Read::Got(n) => {
                 if let Err(stop) = judge_piece(alloc, &mut reader, sink, &piece[..n]) {
                     return stopped(stop);

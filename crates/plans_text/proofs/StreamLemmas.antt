@@ -12,8 +12,10 @@ use Rattle.plans_text.specs.declared.plan_file.PlanFile.{PlanFile}
 use Rattle.plans_text.specs.Reading.{Text, reading}
 use Rattle.plans_text.specs.declared.outcome.Outcome.{Outcome}
 use Rattle.plans_text.specs.PlanFile.{AreInFile, Read, all_answers, all_outcomes, answers, as_read, bad_at, line_read, none_read, outcome, plan_answer, read_of, texts_of, with_line, with_text, with_texts}
-use Rattle.plans_text.specs.Streaming.{AreWhole, HasRead, NoEnd, WhateverWasRead, after, ended_answers}
-use Rattle.plans_text.proofs.FileLemmas.{cut_at_end, no_end_before, none_found, texts_front, texts_last, is_end}
+use Rattle.plans_text.specs.Streaming.{AreWhole, HasRead, WhateverWasRead, after, ended_answers}
+use Rattle.aia_runs.specs.Lines.{NoEnd}
+use Rattle.aia_runs.proofs.CutLemmas.{cut_at_end, front_cut, is_end, last_cut, no_end_at_all, no_end_before}
+use Rattle.plans_text.proofs.FileLemmas.{texts_cut}
 
 -- ---- answers that were taken out change nothing of what is read on
 
@@ -60,12 +62,12 @@ none_whole : AreWhole []
 none_whole = λ more. refl
 
 line_whole : (whole line : Text) → AreWhole whole → NoEnd line → texts_of (whole ++ (line ++ 10 ∷ [])) ≡ texts_of whole ++ line ∷ []
-line_whole whole line lines none = lines (line ++ 10 ∷ []) ∙ ap (λ ts. texts_of whole ++ ts) (texts_front line [] none)
+line_whole whole line lines none = lines (line ++ 10 ∷ []) ∙ ap (λ ts. texts_of whole ++ ts) (front_cut texts_of texts_cut line [] none)
 
 more_whole : (whole line : Text) → AreWhole whole → NoEnd line → AreWhole (whole ++ (line ++ 10 ∷ []))
 more_whole whole line lines none = λ more.
     ap texts_of (append_assoc whole (line ++ 10 ∷ []) more ∙ ap (λ xs. whole ++ xs) (append_assoc line (10 ∷ []) more))
-    ∙ lines (line ++ 10 ∷ more) ∙ ap (λ ts. texts_of whole ++ ts) (texts_front line more none)
+    ∙ lines (line ++ 10 ∷ more) ∙ ap (λ ts. texts_of whole ++ ts) (front_cut texts_of texts_cut line more none)
     ∙ sym (append_assoc (texts_of whole) (line ∷ []) (texts_of more)) ∙ ap (λ ts. ts ++ texts_of more) (sym (line_whole whole line lines none))
 
 -- ---- a line ends
@@ -122,7 +124,7 @@ fed_last old mid now piece left fed at same rest = λ given bytes h.
       tail = m.tail ++ left;
       split = ap (λ xs. bytes ++ xs) fed.split ∙ sym (append_assoc bytes fed.done left) ∙ ap (λ xs. xs ++ left) m.split ∙ append_assoc m.whole m.tail left;
       lines = m.lines;
-      no_end = All-append (λ b. nat_eq b 10 ≡ false) m.tail left m.no_end (none_found is_end left (sym at));
+      no_end = All-append (λ b. nat_eq b 10 ≡ false) m.tail left m.no_end (no_end_at_all left (sym at));
       rest = rest ∙ ap (λ xs. xs ++ left) m.rest;
       read = ap (λ f. after given (read_of f)) same ∙ m.read;
       inside = subst (λ (f : PlanFile). AreInFile f.draft) (sym same) m.inside;
@@ -142,7 +144,7 @@ answers_split whole tail lines = ap (λ ts. all_answers (with_texts none_read ts
 
 pub last_of : (old new : Read) (text : Text) → 0 < length text → new ≡ with_text old text → NoEnd text → new ≡ with_texts old (texts_of text)
 last_of old new [] some is none = absurd (omega (arith, some))
-last_of old new (x ∷ xs) some is none = is ∙ sym (ap (with_texts old) (texts_last x xs none))
+last_of old new (x ∷ xs) some is none = is ∙ sym (ap (with_texts old) (last_cut texts_of texts_cut x xs none))
 
 -- the whole file is read, as the last line is
 whole_read : (reader : PlanReader) (last : PlanFile) (given bytes : Text) → (NoEnd reader.rest.items → read_of last ≡ with_texts (read_of reader.file) (texts_of reader.rest.items)) → HasRead reader given bytes → after given (read_of last) ≡ with_texts none_read (texts_of bytes)

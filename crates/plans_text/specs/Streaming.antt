@@ -1,13 +1,9 @@
 -- A file of plans that comes in pieces: what was read, and what was answered of it.
-use Rattle.std.specs.Prelude.{◌≡◌, ℕ, ◌≤◌, false, nat_eq, [], ◌++◌, length}
-use Rattle.std.specs.List.{All}
+use Rattle.std.specs.Prelude.{◌≡◌, ℕ, ◌≤◌, [], ◌++◌, length}
+use Rattle.aia_runs.specs.Lines.{NoEnd}
 use Rattle.plans_text.specs.declared.plan_reader.PlanReader.{PlanReader}
 use Rattle.plans_text.specs.Reading.{Text}
 use Rattle.plans_text.specs.PlanFile.{AreInFile, Read, none_read, read_of, texts_of, with_texts}
-
--- No byte of a text is an LF.
-abbrev pub NoEnd : Text → Type 0
-NoEnd text = All (λ b. nat_eq b 10 ≡ false) text
 
 -- The bytes are whole lines: what follows them begins a line of its own.
 abbrev pub AreWhole : Text → Type 0

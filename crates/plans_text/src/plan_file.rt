@@ -1,9 +1,9 @@
 //! A file of plans, as far as its texts are read.
 
 ghost use Rattle.std.specs.Prelude.{◌≡◌, ◌+◌, ◌-◌, ◌^◌, ◌<◌, [], IfOk, OnOk, None, nat_eq, position};
+ghost use Rattle.aia_runs.specs.Lines.{NoEnd};
 ghost use Rattle.plans_text.specs.PlanFile as file;
 ghost use Rattle.plans_text.specs.PlanFile.{AreInFile, read_of};
-ghost use Rattle.plans_text.specs.Streaming.{NoEnd};
 
 use crate::draft::Draft;
 use crate::line::{Line, Reading};

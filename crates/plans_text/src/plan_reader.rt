@@ -1,9 +1,10 @@
 //! A file of plans that comes in pieces.
 
 ghost use Rattle.std.specs.Prelude.{◌≡◌, ◌+◌, ◌-◌, ◌^◌, ◌<◌, ◌++◌, List, [], ◌∷◌, IfOk, OnOk, length};
+ghost use Rattle.aia_runs.specs.Lines.{NoEnd};
 ghost use Rattle.plans_text.specs.PlanFile as file;
 ghost use Rattle.plans_text.specs.PlanFile.{AreInFile};
-ghost use Rattle.plans_text.specs.Streaming.{HasRead, IsReady, NoEnd, NoneWaits, WhateverWasRead, lines_read};
+ghost use Rattle.plans_text.specs.Streaming.{HasRead, IsReady, NoneWaits, WhateverWasRead, lines_read};
 
 use crate::outcome::Answered;
 use crate::plan_file::PlanFile;

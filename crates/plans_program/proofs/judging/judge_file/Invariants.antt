@@ -1,5 +1,5 @@
 use Rattle.std.proofs.Common.{◌≤◌, ◌-◌}
-use Rattle.plans_program.specs.declared.limits.TheConstants.{FILE_BYTES}
+use Rattle.aia_runs.specs.declared.limits.TheConstants.{SOURCE_BYTES}
 use Rattle.plans_program.proofs.PieceLemmas.{SoFar}
 use Rattle.plans_program.proofs.judging.judge_file.Given as goal
 
@@ -11,4 +11,4 @@ invariant-loop-reader g l = record {
 }
 
 abbrev pub decreases-loop-reader : goal.decreases-loop-reader
-decreases-loop-reader g l = FILE_BYTES - l.taken
+decreases-loop-reader g l = SOURCE_BYTES - l.taken

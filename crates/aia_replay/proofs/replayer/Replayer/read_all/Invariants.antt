@@ -1,5 +1,5 @@
 use Rattle.std.proofs.Common.{◌≡◌, ◌≤◌, ◌-◌}
-use Rattle.aia_replay.specs.declared.limits.TheConstants.{SCRIPT_BYTES}
+use Rattle.aia_runs.specs.declared.limits.TheConstants.{SOURCE_BYTES}
 use Rattle.aia_replay.proofs.StreamLemmas.{ReadSoFar}
 use Rattle.aia_replay.proofs.replayer.Replayer.read_all.Given as goal
 
@@ -7,10 +7,10 @@ abbrev pub invariant-loop-asked : goal.invariant-loop-asked
 invariant-loop-asked g l = record {
   so_far : ReadSoFar l.self (g.S.Source.supply l.fn.source) (g.S.Source.supply l.source) (g.K.Sink.taken l.fn.sink) (g.K.Sink.taken l.sink) l.taken;
   same_ends : (g.S.Source.supply l.source).ends ≡ (g.S.Source.supply l.fn.source).ends;
-  within : l.taken ≤ SCRIPT_BYTES;
+  within : l.taken ≤ SOURCE_BYTES;
   source_later : g.S.Source.faults l.fn.source ≤ g.S.Source.faults l.source;
   sink_later : g.K.Sink.faults l.fn.sink ≤ g.K.Sink.faults l.sink;
 }
 
 abbrev pub decreases-loop-asked : goal.decreases-loop-asked
-decreases-loop-asked g l = SCRIPT_BYTES - l.taken
+decreases-loop-asked g l = SOURCE_BYTES - l.taken

@@ -1,5 +1,6 @@
-use Rattle.std.proofs.Common.{arith, refl, ap, ◌∙◌, ◌+◌, length, length-drop}
-use Rattle.plans_text.proofs.FileLemmas.{all_of_rest, position_within}
+use Rattle.std.proofs.Common.{arith, refl, sym, ap, ◌∙◌, ◌+◌, length, length-drop}
+use Rattle.aia_runs.proofs.CutLemmas.{end_within}
+use Rattle.aia_runs.proofs.PieceLemmas.{all_of_rest}
 use Rattle.plans_text.proofs.StreamLemmas.{fed_nothing, fed_line, fed_last, kept_on}
 use Rattle.plans_text.proofs.plan_reader.PlanReader.feed.Goals as goal
 
@@ -8,7 +9,7 @@ loop-end-init c = record { fed = fed_nothing _ _; inside = c.requires.ready; few
 
 pub loop-end-preserved : goal.loop-end-preserved
 loop-end-preserved c =
-    let within = position_within c.loop-end.left.now c.in-Some.end c.in-Some.ensures in
+    let within = end_within c.loop-end.left.now c.in-Some.end (sym c.in-Some.ensures) in
     let left = ap length (all_of_rest c.loop-end.left.now (c.in-Some.end + 1)) ∙ length-drop (c.in-Some.end + 1) c.loop-end.left.now in
     record {
       fed = fed_line _ _ _ _ c.loop-end.left.now _ c.in-Some.end c.loop-end.invariant.fed c.in-Some.ensures (all_of_rest c.loop-end.left.now (c.in-Some.end + 1)) c.in_ok-read_line.ensures.read;

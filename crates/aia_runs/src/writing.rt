@@ -1,6 +1,6 @@
 //! Bytes are written to a sink.
 
-ghost use Rattle.std.specs.Prelude.{◌≡◌, ◌≤◌, OnOk, OnErr, length};
+ghost use Rattle.std.specs.Prelude.{◌≤◌, OnOk, OnErr, length};
 ghost use Rattle.std.specs.Io.KnownBytes.{Appends};
 ghost use Rattle.aia_io.specs.Ends.{Rose, CutOff};
 
@@ -8,10 +8,10 @@ use aia_io::{Sink, Write};
 
 /// The sink failed, and its count of faults rose.
 #[derive(Clone, Copy, Debug, PartialEq, Eq)]
-pub(crate) struct SinkFault;
+pub struct SinkFault;
 
 /// Writes all the bytes. `Err`: the sink failed, and took a front of them.
-pub(crate) fn give_all<K: Sink>(sink: &mut K, bytes: &[u8]) -> Result<(), SinkFault>
+pub fn write_all<K: Sink>(sink: &mut K, bytes: &[u8]) -> Result<(), SinkFault>
     ensures ok { OnOk result (Appends (K.taken sink.old) (K.taken sink.new) bytes.now) }
     ensures err { OnErr result (Rose (K.faults sink.old) (K.faults sink.new)) }
     ensures cut { OnErr result (CutOff (K.taken sink.old) (K.taken sink.new) bytes.now) }

@@ -1,0 +1,3 @@
+-- What the two programs share.
+pub mod Taken
+pub mod Lines
