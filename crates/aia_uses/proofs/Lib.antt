@@ -1,0 +1,6 @@
+mod Facts
+mod TopLemmas
+mod ClearLemmas
+mod SinceLemmas
+mod ForwardFacts
+mod ImageFacts

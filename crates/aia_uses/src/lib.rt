@@ -1,0 +1,15 @@
+//! The laws of `aia_laws` in use: what follows from each of their clauses, by it alone. A use calls
+//! its law, and its answer applies the clause, so a law that says less is noticed: some uses spell
+//! the clause out, each word of `aia_laws` replaced by what it says; others are worked at one
+//! history, where all premises hold. Nothing rests on them.
+#![tactic(auto)]
+
+pub mod claims;
+pub mod forwards;
+pub mod images;
+pub mod moves;
+pub mod notices;
+pub mod requests;
+pub mod serving;
+pub mod told;
+pub mod words;
