@@ -73,11 +73,13 @@ after_notice_shown : (h : History) (f : FileName) (n : ℕ) (g : Vcpu) → clear
 unfolding cleared_since_notice
 after_notice_shown [] f n g e = false≢true e
 after_notice_shown (event ∷ past) f n g e =
-    let parts = and_parts (not (names_vcpu (noticed past event) g)) _ e in
-    (not_noticed past event g parts.0, elim (or_cases (is_clear (host_pending_said past event f n)) _ parts.1) [
-      | inl now ↦ inl (clear_of _ now)
-      | inr before ↦ inr (after_notice_shown past f n g before)
-    ])
+    let parts = and_parts (not (names_vcpu (noticed past event) g)) _ e in (
+      not_noticed past event g parts.0,
+      elim (or_cases (is_clear (host_pending_said past event f n)) _ parts.1) [
+        | inl now ↦ inl (clear_of _ now)
+        | inr before ↦ inr (after_notice_shown past f n g before)
+      ],
+    )
 
 pub none_after_notice : (h : History) (f : FileName) (n : ℕ) (g : Vcpu) → ¬ HappenedAfter (λ past event. pending_said (select_of past f) (file_of past f) (deed_at f past event) n ≡ Clear) (λ past event. noticed past event ≡ Some g) h → cleared_since_notice h f n g ≡ false
 none_after_notice h f n g none = false_from_ne_true (cleared_since_notice h f n g) (λ e. none (after_notice_shown h f n g e))
