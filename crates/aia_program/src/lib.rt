@@ -1,22 +1,22 @@
 //! What the program `aia` does: the words of the command line, the ends, the exit status.
 #![tactic(auto)]
 
-ghost use Rattle.std.specs.Prelude.{◌≡◌, ◌≢◌, ◌+◌, ◌⊎◌, ◌↔◌, ℕ, true, map, Contains, Some, None, IfOk};
-ghost use Rattle.std.specs.IoError.{error_kind};
+ghost use Rattle.std.specs.Prelude.{◌≡◌, ◌≢◌, ◌+◌, ◌⊎◌, ◌↔◌, ℕ, true, Contains, Some, None};
 ghost use Rattle.std.specs.Process.{exit_status};
 ghost use Rattle.aia_command.specs.declared.subcommand.Subcommand.TheVariants.{Replay, Generate, Audit};
 ghost use Rattle.aia_plan.specs.declared.step.Kind.{Kind};
 ghost use Rattle.aia_command.specs.CommandLine.{subcommand_of};
 ghost use Rattle.aia_io.specs.Ends.{Rose, TakesAll};
 ghost use Rattle.aia_replay.specs.Runs.{Ends, FitsIn, IsDoneOrMemory, WritesAnswers, WritesVerdict, reads_source};
-ghost use Rattle.aia_program.specs.Command.{AreNoText, AreRefused, asked_by, exit_number, exit_numbers, words_of};
+ghost use Rattle.aia_runs.specs.Words.{AreNoText, AreRefused, asked_by, words_of};
+ghost use Rattle.aia_program.specs.Command.{exit_number, exit_numbers};
 
 use aia_io::{Sink, Source, StdSink, StdSource};
 use aia_replay::{SCRIPT_BYTES, Status, run};
-use std::alloc::{AllocError, Global};
-use std::io::ErrorKind;
+use aia_runs::{arguments, refusal, words};
+use std::alloc::Global;
+use std::io;
 use std::process::ExitCode;
-use std::{env, io};
 
 /// Runs the program over the standard streams by the words of its command line, and gives its exit
 /// status, which `command` speaks of; the clause here says only that it is one of the program's.
@@ -28,13 +28,6 @@ pub fn start(rt: &HostRuntime) -> ExitCode
     command(rt.alloc(), arguments(rt), &mut source, &mut sink)
 }
 
-/// Reads the words of the command line, the program's name first. `Err`: one of them is no text,
-/// or there is no memory for them.
-fn arguments(rt: &HostRuntime) -> io::Result<Vec<String>> {
-    let arguments = env::args(rt)?.collect(rt.alloc())?;
-    Ok(arguments)
-}
-
 /// Runs the command that the words of the command line give, the program's name first, from the
 /// source to the sink, and gives the exit status of the program.
 pub fn command<S: Source, K: Sink>(
@@ -44,58 +37,46 @@ pub fn command<S: Source, K: Sink>(
     sink: &mut K,
 ) -> ExitCode
     // The headline: at 0 what is written is the model's answers of the whole script.
-    ensures done { asked_by arguments ≡ Some Replay → exit_status result ≡ 0
+    ensures done { asked_by subcommand_of arguments ≡ Some Replay → exit_status result ≡ 0
         → WritesAnswers (S.supply source.old) (K.taken sink.old) (K.taken sink.new) }
-    ensures all { asked_by arguments ≡ Some Replay → exit_status result ≡ 0
+    ensures all { asked_by subcommand_of arguments ≡ Some Replay → exit_status result ≡ 0
         → TakesAll (S.supply source.old) (S.supply source.new) }
 
     // Of `audit`: at 0 what is written is the verdict on the whole plan, or which of its texts is
     // bad.
-    ensures audits { (kind : Kind) (width : ℕ) → asked_by arguments ≡ Some (Audit kind width)
+    ensures audits { (kind : Kind) (width : ℕ) → asked_by subcommand_of arguments ≡ Some (Audit kind width)
         → exit_status result ≡ 0
         → WritesVerdict kind width (S.supply source.old) (K.taken sink.old) (K.taken sink.new)
         × TakesAll (S.supply source.old) (S.supply source.new) }
 
     // What every number promises, by what the words ask for.
     ensures ends { (status : Status) → exit_status result ≡ exit_number status
-        → Ends (asked_by arguments) status (S.supply source.old) (S.supply source.new)
+        → Ends (asked_by subcommand_of arguments) status (S.supply source.old) (S.supply source.new)
         (K.taken sink.old) (K.taken sink.new) (S.faults source.old) (S.faults source.new)
         (K.faults sink.old) (K.faults sink.new) }
-    ensures unread { (count seed : ℕ) → asked_by arguments ≡ Some (Generate count seed)
+    ensures unread { (count seed : ℕ) → asked_by subcommand_of arguments ≡ Some (Generate count seed)
         → source.new ≡ source.old }
 
     // Where there is memory for the words, they are refused exactly by 2.
-    ensures usage { exit_status result ≢ 5 → ((exit_status result ≡ 2) ↔ AreRefused arguments) }
+    ensures usage { exit_status result ≢ 5 → ((exit_status result ≡ 2) ↔ AreRefused subcommand_of arguments) }
     ensures nothing { exit_status result ≡ 2
         → (source.new ≡ source.old) × (sink.new ≡ sink.old) }
     ensures no_text { AreNoText arguments → exit_status result ≡ 2 }
 
     // There is no other number, and where nothing is in the way, it is 0, or 5.
     ensures number { Contains exit_numbers (exit_status result) }
-    ensures complete { asked_by arguments ≢ None
+    ensures complete { asked_by subcommand_of arguments ≢ None
         → (¬ Rose (S.faults source.old) (S.faults source.new))
         → (¬ Rose (K.faults sink.old) (K.faults sink.new))
-        → (reads_source (asked_by arguments) ≡ true
+        → (reads_source (asked_by subcommand_of arguments) ≡ true
         → FitsIn SCRIPT_BYTES (S.supply source.old) (S.supply source.new))
         → (exit_status result ≡ 0) ⊎ (exit_status result ≡ 5) }
 {
     let status = match arguments {
         Ok(arguments) => run_words(alloc, &arguments, source, sink),
-        Err(error) => refusal(&error),
+        Err(error) => refusal(&error, Status::Usage, Status::Memory),
     };
     exit_code(status)
-}
-
-/// Says what words that can't be read mean: they are no text, or there is no memory for them.
-fn refusal(error: &io::Error) -> Status
-    ensures memory { error_kind error.now ≡ ErrorKind.OutOfMemory → result ≡ Status.Memory }
-    ensures usage { error_kind error.now ≢ ErrorKind.OutOfMemory → result ≡ Status.Usage }
-{
-    if error.kind() == ErrorKind::OutOfMemory {
-        Status::Memory
-    } else {
-        Status::Usage
-    }
 }
 
 /// Runs the command on the words without the program's name.
@@ -125,18 +106,6 @@ fn run_words<S: Source, K: Sink>(
         Ok(words) => run(alloc, &words, source, sink),
         Err(_) => Status::Memory,
     }
-}
-
-/// Gives the words without the program's name. `Err`: there is no memory for them.
-fn words(alloc: Global, arguments: &[String]) -> Result<Vec<&str>, AllocError>
-    ensures { IfOk result (λ words. map (λ word. word.now) words.items ≡ words_of arguments.now) }
-{
-    let mut words = Vec::new(alloc);
-    let rest = arguments.get(1..).unwrap_or_default();
-    for argument in rest {
-        words.push(argument.as_str())?;
-    }
-    Ok(words)
 }
 
 /// Gives each status its number, by which the program ends.

@@ -1,14 +1,13 @@
 -- What a run promises, by its status. Vocabulary.
-use Rattle.std.specs.Prelude.{◌≡◌, ◌≢◌, ℕ, ◌+◌, ◌≤◌, ◌⊎◌, Bool, true, false, List, [], ◌∷◌, ◌++◌, length, map, Option, Some, None, IfSome}
-use Rattle.std.specs.Borrow.{Bor}
+use Rattle.std.specs.Prelude.{◌≡◌, ◌≢◌, ℕ, ◌+◌, ◌≤◌, ◌⊎◌, Bool, true, false, List, [], ◌∷◌, ◌++◌, length, Option, Some, None, IfSome}
 use Rattle.std.specs.Io.KnownBytes.{Appends}
 use Rattle.aia_io.specs.Ends.{Supply, Gives, Rose, RoseBy, Takes, CutOff, TakesAll, TakesAtMost}
 use Rattle.aia_runs.specs.declared.limits.TheConstants.{SOURCE_BYTES}
 use Rattle.aia_runs.specs.Taken.{IsAllLeft}
+use Rattle.aia_runs.specs.Words.{EndsUnasked}
 pub use Rattle.aia_runs.specs.Lines.{NoEnd}
 use Rattle.aia_command.specs.declared.subcommand.Subcommand.{Subcommand}
 use Rattle.aia_command.specs.declared.subcommand.Subcommand.TheVariants.{Replay, Generate, Audit}
-use Rattle.aia_command.specs.CommandLine.{subcommand_of}
 use Rattle.aia_model.specs.declared.parsed.Parsed.{Parsed}
 use Rattle.aia_model.specs.declared.parsed.Parsed.TheVariants as parsed
 use Rattle.aia_model.specs.Event.{History}
@@ -20,11 +19,6 @@ use Rattle.aia_plan.specs.declared.step.Kind.{Kind}
 use Rattle.aia_audit.specs.PlanText.{audit_text}
 use Rattle.aia_replay.specs.declared.program.Status.{Status}
 use Rattle.aia_replay.specs.declared.program.Status.TheVariants.{Done, Usage, ReadFault, WriteFault, Memory, TooLong}
-
--- What the words of the command line ask for, without the program's name; None where they are
--- refused.
-abbrev pub asked : List (Bor (List ℕ)) → Option Subcommand
-asked words = subcommand_of (map (λ (w : Bor (List ℕ)). w.now) words)
 
 -- What the sink took is the answers of all that the source had left, where it tells that.
 abbrev pub WritesAnswers : Supply → Option (List ℕ) → Option (List ℕ) → Type 0
@@ -132,13 +126,6 @@ pub record EndsGenerate (status : Status) (text : List ℕ) (left rest : Supply)
   pub write_fault : status ≡ WriteFault → CutOff before now text
   pub memory : status ≡ Memory → Appends before now []
 
--- A run of words that are refused: it touches nothing. Memory may lack for the words.
-pub record EndsRefused (status : Status) (left rest : Supply) (before now : Option (List ℕ))
-    : Type 0 where
-  pub ends : (status ≡ Usage) ⊎ (status ≡ Memory)
-  pub unread : rest ≡ left
-  pub unwritten : now ≡ before
-
 -- What the sink took is what is printed of all that the source had left, where it tells that: the
 -- verdict on the plan, or which of its texts is bad.
 abbrev pub WritesVerdict : Kind → ℕ → Supply → Option (List ℕ) → Option (List ℕ) → Type 0
@@ -165,7 +152,8 @@ pub record EndsAudit (status : Status) (kind : Kind) (words : ℕ) (left rest : 
 -- By what the words ask for.
 abbrev pub EndsAsAsked : Option Subcommand → Status → Supply → Supply → Option (List ℕ)
     → Option (List ℕ) → Type 0
-EndsAsAsked None status left rest before now = EndsRefused status left rest before now
+EndsAsAsked None status left rest before now =
+    EndsUnasked Usage Memory status left rest before now
 EndsAsAsked (Some Replay) status left rest before now = EndsReplay status left rest before now
 EndsAsAsked (Some (Generate count seed)) status left rest before now =
     EndsGenerate status (summary count seed) left rest before now

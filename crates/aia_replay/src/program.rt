@@ -1,6 +1,8 @@
 ghost use Rattle.std.specs.Prelude.{◌≡◌, ◌≢◌, ◌↔◌, ◌⊎◌, ◌+◌, ℕ, true, Some, None};
 ghost use Rattle.aia_io.specs.Ends.{Rose, TakesAll};
-ghost use Rattle.aia_replay.specs.Runs.{asked, reads_source, Ends, StopsAtMachine, WritesAnswers, WritesVerdict, FitsIn, IsDoneOrMemory};
+ghost use Rattle.aia_command.specs.CommandLine.{subcommand_of};
+ghost use Rattle.aia_runs.specs.Words.{asked};
+ghost use Rattle.aia_replay.specs.Runs.{reads_source, Ends, StopsAtMachine, WritesAnswers, WritesVerdict, FitsIn, IsDoneOrMemory};
 ghost use Rattle.aia_replay.specs.Streams.{Begins};
 
 use crate::generator::summarize;
@@ -46,40 +48,40 @@ pub fn run<S: Source, K: Sink>(
     sink: &mut K,
 ) -> Status
     // The headline: what is written is the model's answers of the whole script.
-    ensures done { asked words.now ≡ Some Subcommand.Replay → result ≡ Status.Done
+    ensures done { asked subcommand_of words.now ≡ Some Subcommand.Replay → result ≡ Status.Done
         → WritesAnswers (S.supply source.old) (K.taken sink.old) (K.taken sink.new) }
-    ensures all { asked words.now ≡ Some Subcommand.Replay → result ≡ Status.Done
+    ensures all { asked subcommand_of words.now ≡ Some Subcommand.Replay → result ≡ Status.Done
         → TakesAll (S.supply source.old) (S.supply source.new) }
 
     // Of `audit`: what is written is the verdict on the whole plan, or which of its texts is bad.
     ensures audits { (kind : Kind) (width : ℕ)
-        → asked words.now ≡ Some (Subcommand.Audit kind width) → result ≡ Status.Done
+        → asked subcommand_of words.now ≡ Some (Subcommand.Audit kind width) → result ≡ Status.Done
         → WritesVerdict kind width (S.supply source.old) (K.taken sink.old) (K.taken sink.new)
         × TakesAll (S.supply source.old) (S.supply source.new) }
 
     // What every ending promises, by what the words ask for: its cause, what was then written, and
     // how much was taken.
-    ensures ends { Ends (asked words.now) result (S.supply source.old) (S.supply source.new)
+    ensures ends { Ends (asked subcommand_of words.now) result (S.supply source.old) (S.supply source.new)
         (K.taken sink.old) (K.taken sink.new) (S.faults source.old) (S.faults source.new)
         (K.faults sink.old) (K.faults sink.new) }
-    ensures unread { (count seed : ℕ) → asked words.now ≡ Some (Subcommand.Generate count seed)
+    ensures unread { (count seed : ℕ) → asked subcommand_of words.now ≡ Some (Subcommand.Generate count seed)
         → source.new ≡ source.old }
 
     // Where there is memory for them, words are refused exactly by `Usage`; nothing is touched
     // then.
     ensures usage { result ≢ Status.Memory
-        → ((result ≡ Status.Usage) ↔ (asked words.now ≡ None)) }
-    ensures nothing { asked words.now ≡ None
+        → ((result ≡ Status.Usage) ↔ (asked subcommand_of words.now ≡ None)) }
+    ensures nothing { asked subcommand_of words.now ≡ None
         → ((result ≡ Status.Usage) ⊎ (result ≡ Status.Memory))
         × (source.new ≡ source.old) × (sink.new ≡ sink.old) }
 
     // Completeness: with good words, no fault and a script or plan that fits, by what the source
     // told before or by its count of the bytes that it gave, nothing but want of memory is in the
     // way.
-    ensures complete { asked words.now ≢ None
+    ensures complete { asked subcommand_of words.now ≢ None
         → (¬ Rose (S.faults source.old) (S.faults source.new))
         → (¬ Rose (K.faults sink.old) (K.faults sink.new))
-        → (reads_source (asked words.now) ≡ true
+        → (reads_source (asked subcommand_of words.now) ≡ true
         → FitsIn SOURCE_BYTES (S.supply source.old) (S.supply source.new))
         → IsDoneOrMemory result }
 {

@@ -1,10 +1,10 @@
 -- What a run promises, by its status.
-use Rattle.std.specs.Prelude.{◌≡◌, ◌≢◌, ℕ, ◌+◌, ◌≤◌, ◌⊎◌, List, ◌++◌, length, map, Option, Some, None, IfSome}
-use Rattle.std.specs.Borrow.{Bor}
+use Rattle.std.specs.Prelude.{◌≡◌, ◌≢◌, ℕ, ◌+◌, ◌≤◌, ◌⊎◌, List, ◌++◌, length, Option, Some, None, IfSome}
 use Rattle.std.specs.Io.KnownBytes.{Appends}
 use Rattle.aia_io.specs.Ends.{Supply, Gives, Rose, Takes, TakesAtMost, TakesAll, CutOff}
 use Rattle.aia_runs.specs.declared.limits.TheConstants.{SOURCE_BYTES}
 use Rattle.aia_runs.specs.Lines.{NoEnd}
+use Rattle.aia_runs.specs.Words.{EndsUnasked}
 use Rattle.plans_text.specs.declared.plan_reader.PlanReader.{PlanReader}
 use Rattle.plans_text.specs.declared.outcome.Outcome.{Outcome}
 use Rattle.plans_text.specs.PlanFile.{answers}
@@ -16,12 +16,6 @@ use Rattle.plans_program.specs.declared.judging.Stop.{Stop}
 use Rattle.plans_program.specs.declared.judging.Stop.TheVariants.{Sink, Memory as LacksMemory}
 use Rattle.plans_program.specs.declared.program.Status.{Status}
 use Rattle.plans_program.specs.declared.program.Status.TheVariants.{Done, Usage, ReadFault, WriteFault, Memory, TooLong}
-use Rattle.plans_program.specs.CommandLine.{subcommand_of}
-
--- What the words of the command line ask for, without the program's name; None where they are
--- refused.
-abbrev pub asked : List (Bor (List ℕ)) → Option Subcommand
-asked words = subcommand_of (map (λ (w : Bor (List ℕ)). w.now) words)
 
 -- ---- what is written
 
@@ -111,16 +105,11 @@ pub record EndsJudge (status : Status) (left rest : Supply) (before now : Option
   pub bound : TakesAtMost (SOURCE_BYTES + 1) left rest
   pub usage : status ≢ Usage
 
--- A run that touches nothing: the words are refused, or there is no memory for them.
-pub record EndsUnasked (status : Status) (left rest : Supply) (before now : Option (List ℕ))
-    : Type 0 where
-  pub ends : (status ≡ Usage) ⊎ (status ≡ Memory)
-  pub unread : rest ≡ left
-  pub unwritten : now ≡ before
-
 -- By what the words ask for.
 abbrev pub EndsAsAsked : Option Subcommand → Status → Supply → Supply → Option (List ℕ)
     → Option (List ℕ) → ℕ → ℕ → ℕ → ℕ → Type 0
-EndsAsAsked None status left rest before now a b c d = EndsUnasked status left rest before now
+EndsAsAsked None status left rest before now a b c d =
+    EndsUnasked Usage Memory status left rest before now
 EndsAsAsked (Some Judge) status left rest before now a b c d =
-    EndsJudge status left rest before now a b c d ⊎ EndsUnasked status left rest before now
+    EndsJudge status left rest before now a b c d
+    ⊎ EndsUnasked Usage Memory status left rest before now

@@ -1,7 +1,9 @@
 //! A run of the program.
 
 ghost use Rattle.std.specs.Prelude.{◌≡◌, ◌≢◌, ◌↔◌, ◌≤◌, [], Some, None};
-ghost use Rattle.plans_program.specs.Runs.{asked, EndsAsAsked};
+ghost use Rattle.aia_runs.specs.Words.{asked};
+ghost use Rattle.plans_program.specs.CommandLine.{subcommand_of};
+ghost use Rattle.plans_program.specs.Runs.{EndsAsAsked};
 
 use crate::judging::judge_file;
 use crate::words::{Subcommand, read_words};
@@ -43,11 +45,11 @@ pub fn run<S: Source, K: Sink>(
     source: &mut S,
     sink: &mut K,
 ) -> Status
-    ensures ends { EndsAsAsked (asked words.now) result (S.supply source.old)
+    ensures ends { EndsAsAsked (asked subcommand_of words.now) result (S.supply source.old)
         (S.supply source.new) (K.taken sink.old) (K.taken sink.new) (S.faults source.old)
         (S.faults source.new) (K.faults sink.old) (K.faults sink.new) }
     ensures usage { result ≢ Status.Memory
-        → ((result ≡ Status.Usage) ↔ (asked words.now ≡ None)) }
+        → ((result ≡ Status.Usage) ↔ (asked subcommand_of words.now ≡ None)) }
     ensures nothing { result ≡ Status.Usage → (source.new ≡ source.old) × (sink.new ≡ sink.old) }
 {
     match read_words(alloc, words) {

@@ -1,19 +1,19 @@
 //! The program over the words of its command line, and its exit status.
 
-ghost use Rattle.std.specs.Prelude.{◌≡◌, ◌≢◌, ◌⊎◌, ◌↔◌, ℕ, map, Contains, Some, None, IfOk};
-ghost use Rattle.std.specs.IoError.{error_kind};
+ghost use Rattle.std.specs.Prelude.{◌≡◌, ◌≢◌, ◌⊎◌, ◌↔◌, ℕ, Contains, Some, None};
 ghost use Rattle.std.specs.Process.{exit_status};
 ghost use Rattle.plans_program.specs.CommandLine.{subcommand_of};
-ghost use Rattle.plans_program.specs.Command.{AreRefused, asked_by, exit_number, exit_numbers, outcome_number, words_of};
+ghost use Rattle.aia_runs.specs.Words.{AreRefused, asked_by, words_of};
+ghost use Rattle.plans_program.specs.Command.{exit_number, exit_numbers, outcome_number};
 ghost use Rattle.plans_program.specs.Runs.{EndsAsAsked, JudgesAll};
 
 use crate::program::{Status, run};
 use aia_io::{Sink, Source, StdSink, StdSource};
+use aia_runs::{arguments, refusal, words};
 use plans_text::Outcome;
-use std::alloc::{AllocError, Global};
-use std::io::ErrorKind;
+use std::alloc::Global;
+use std::io;
 use std::process::ExitCode;
-use std::{env, io};
 
 /// Runs the program over the standard streams by the words of its command line, and gives its exit
 /// status, which `command` speaks of.
@@ -23,13 +23,6 @@ pub fn start(rt: &HostRuntime) -> ExitCode
     let mut source = StdSource::new(rt.stdin());
     let mut sink = StdSink::new(rt.stdout());
     command(rt.alloc(), arguments(rt), &mut source, &mut sink)
-}
-
-/// Reads the words of the command line, the program's name first. `Err`: one of them is no text,
-/// or there is no memory for them.
-fn arguments(rt: &HostRuntime) -> io::Result<Vec<String>> {
-    let arguments = env::args(rt)?.collect(rt.alloc())?;
-    Ok(arguments)
 }
 
 /// Runs the command that the words of the command line give, the program's name first, from the
@@ -48,12 +41,12 @@ pub fn command<S: Source, K: Sink>(
 
     // What every number promises.
     ensures ends { (status : Status) → exit_status result ≡ exit_number status
-        → EndsAsAsked (asked_by arguments) status (S.supply source.old) (S.supply source.new)
+        → EndsAsAsked (asked_by subcommand_of arguments) status (S.supply source.old) (S.supply source.new)
         (K.taken sink.old) (K.taken sink.new) (S.faults source.old) (S.faults source.new)
         (K.faults sink.old) (K.faults sink.new) }
 
     // Where there is memory for the words, they are refused exactly by 2.
-    ensures usage { exit_status result ≢ 5 → ((exit_status result ≡ 2) ↔ AreRefused arguments) }
+    ensures usage { exit_status result ≢ 5 → ((exit_status result ≡ 2) ↔ AreRefused subcommand_of arguments) }
     ensures nothing { exit_status result ≡ 2
         → (source.new ≡ source.old) × (sink.new ≡ sink.old) }
     ensures number { Contains exit_numbers (exit_status result) }
@@ -68,27 +61,15 @@ fn run_arguments<S: Source, K: Sink>(
     source: &mut S,
     sink: &mut K,
 ) -> Status
-    ensures ends { EndsAsAsked (asked_by arguments) result (S.supply source.old)
+    ensures ends { EndsAsAsked (asked_by subcommand_of arguments) result (S.supply source.old)
         (S.supply source.new) (K.taken sink.old) (K.taken sink.new) (S.faults source.old)
         (S.faults source.new) (K.faults sink.old) (K.faults sink.new) }
-    ensures usage { result ≢ Status.Memory → ((result ≡ Status.Usage) ↔ AreRefused arguments) }
+    ensures usage { result ≢ Status.Memory → ((result ≡ Status.Usage) ↔ AreRefused subcommand_of arguments) }
     ensures nothing { result ≡ Status.Usage → (source.new ≡ source.old) × (sink.new ≡ sink.old) }
 {
     match arguments {
         Ok(arguments) => run_words(alloc, &arguments, source, sink),
-        Err(error) => refusal(&error),
-    }
-}
-
-/// Says what words that can't be read mean: they are no text, or there is no memory for them.
-fn refusal(error: &io::Error) -> Status
-    ensures memory { error_kind error.now ≡ ErrorKind.OutOfMemory → result ≡ Status.Memory }
-    ensures usage { error_kind error.now ≢ ErrorKind.OutOfMemory → result ≡ Status.Usage }
-{
-    if error.kind() == ErrorKind::OutOfMemory {
-        Status::Memory
-    } else {
-        Status::Usage
+        Err(error) => refusal(&error, Status::Usage, Status::Memory),
     }
 }
 
@@ -110,18 +91,6 @@ fn run_words<S: Source, K: Sink>(
         Ok(words) => run(alloc, &words, source, sink),
         Err(_) => Status::Memory,
     }
-}
-
-/// Gives the words without the program's name. `Err`: there is no memory for them.
-fn words(alloc: Global, arguments: &[String]) -> Result<Vec<&str>, AllocError>
-    ensures { IfOk result (λ words. map (λ word. word.now) words.items ≡ words_of arguments.now) }
-{
-    let mut words = Vec::new(alloc);
-    let rest = arguments.get(1..).unwrap_or_default();
-    for argument in rest {
-        words.push(argument.as_str())?;
-    }
-    Ok(words)
 }
 
 /// Gives each status its number, by which the program ends.
