@@ -44,8 +44,8 @@ pub fn command<S: Source, K: Sink>(
 
     // Of `audit`: at 0 what is written is the verdict on the whole plan, or which of its texts is
     // bad.
-    ensures audits { (kind : Kind) (width : ℕ) → asked_by subcommand_of arguments ≡ Some (Audit kind width)
-        → exit_status result ≡ 0
+    ensures audits { (kind : Kind) (width : ℕ)
+        → asked_by subcommand_of arguments ≡ Some (Audit kind width) → exit_status result ≡ 0
         → WritesVerdict kind width (S.supply source.old) (K.taken sink.old) (K.taken sink.new)
         × TakesAll (S.supply source.old) (S.supply source.new) }
 
@@ -54,11 +54,12 @@ pub fn command<S: Source, K: Sink>(
         → Ends (asked_by subcommand_of arguments) status (S.supply source.old) (S.supply source.new)
         (K.taken sink.old) (K.taken sink.new) (S.faults source.old) (S.faults source.new)
         (K.faults sink.old) (K.faults sink.new) }
-    ensures unread { (count seed : ℕ) → asked_by subcommand_of arguments ≡ Some (Generate count seed)
-        → source.new ≡ source.old }
+    ensures unread { (count seed : ℕ)
+        → asked_by subcommand_of arguments ≡ Some (Generate count seed) → source.new ≡ source.old }
 
     // Where there is memory for the words, they are refused exactly by 2.
-    ensures usage { exit_status result ≢ 5 → ((exit_status result ≡ 2) ↔ AreRefused subcommand_of arguments) }
+    ensures usage { exit_status result ≢ 5
+        → ((exit_status result ≡ 2) ↔ AreRefused subcommand_of arguments) }
     ensures nothing { exit_status result ≡ 2
         → (source.new ≡ source.old) × (sink.new ≡ sink.old) }
     ensures no_text { AreNoText arguments → exit_status result ≡ 2 }

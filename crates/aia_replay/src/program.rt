@@ -61,10 +61,11 @@ pub fn run<S: Source, K: Sink>(
 
     // What every ending promises, by what the words ask for: its cause, what was then written, and
     // how much was taken.
-    ensures ends { Ends (asked subcommand_of words.now) result (S.supply source.old) (S.supply source.new)
-        (K.taken sink.old) (K.taken sink.new) (S.faults source.old) (S.faults source.new)
-        (K.faults sink.old) (K.faults sink.new) }
-    ensures unread { (count seed : ℕ) → asked subcommand_of words.now ≡ Some (Subcommand.Generate count seed)
+    ensures ends { Ends (asked subcommand_of words.now) result (S.supply source.old)
+        (S.supply source.new) (K.taken sink.old) (K.taken sink.new) (S.faults source.old)
+        (S.faults source.new) (K.faults sink.old) (K.faults sink.new) }
+    ensures unread { (count seed : ℕ)
+        → asked subcommand_of words.now ≡ Some (Subcommand.Generate count seed)
         → source.new ≡ source.old }
 
     // Where there is memory for them, words are refused exactly by `Usage`; nothing is touched

@@ -41,12 +41,13 @@ pub fn command<S: Source, K: Sink>(
 
     // What every number promises.
     ensures ends { (status : Status) → exit_status result ≡ exit_number status
-        → EndsAsAsked (asked_by subcommand_of arguments) status (S.supply source.old) (S.supply source.new)
-        (K.taken sink.old) (K.taken sink.new) (S.faults source.old) (S.faults source.new)
-        (K.faults sink.old) (K.faults sink.new) }
+        → EndsAsAsked (asked_by subcommand_of arguments) status (S.supply source.old)
+        (S.supply source.new) (K.taken sink.old) (K.taken sink.new) (S.faults source.old)
+        (S.faults source.new) (K.faults sink.old) (K.faults sink.new) }
 
     // Where there is memory for the words, they are refused exactly by 2.
-    ensures usage { exit_status result ≢ 5 → ((exit_status result ≡ 2) ↔ AreRefused subcommand_of arguments) }
+    ensures usage { exit_status result ≢ 5
+        → ((exit_status result ≡ 2) ↔ AreRefused subcommand_of arguments) }
     ensures nothing { exit_status result ≡ 2
         → (source.new ≡ source.old) × (sink.new ≡ sink.old) }
     ensures number { Contains exit_numbers (exit_status result) }
@@ -64,7 +65,8 @@ fn run_arguments<S: Source, K: Sink>(
     ensures ends { EndsAsAsked (asked_by subcommand_of arguments) result (S.supply source.old)
         (S.supply source.new) (K.taken sink.old) (K.taken sink.new) (S.faults source.old)
         (S.faults source.new) (K.faults sink.old) (K.faults sink.new) }
-    ensures usage { result ≢ Status.Memory → ((result ≡ Status.Usage) ↔ AreRefused subcommand_of arguments) }
+    ensures usage { result ≢ Status.Memory
+        → ((result ≡ Status.Usage) ↔ AreRefused subcommand_of arguments) }
     ensures nothing { result ≡ Status.Usage → (source.new ≡ source.old) × (sink.new ≡ sink.old) }
 {
     match arguments {

@@ -45,7 +45,8 @@ pub fn the_plans_of_the_core_may_join_enables()
     ensures shift { AreAccepted widths (told_setting File File) (joined_plan File File) }
 {}
 
-/// As the core makes them they are safe on that machine, whatever both producers do, and the leave tells its host.
+/// As the core makes them they are safe on that machine, whatever both producers do, and the leave
+/// tells its host.
 #[tactic(auto, using(crate::proofs::ToldLemmas::leave_safe, crate::proofs::ToldLemmas::arrive_safe, crate::proofs::ToldLemmas::shift_safe, crate::proofs::ToldLemmas::leave_tells))]
 pub fn the_plans_of_the_core_are_safe_there()
     ensures leave { All (λ words. IsSafe (told_setting File Memory words)
