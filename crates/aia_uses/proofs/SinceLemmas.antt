@@ -1,19 +1,14 @@
 -- The words on what the host was told since say what happened since.
-use Rattle.std.proofs.Common.{◌≡◌, ◌⊎◌, ℕ, Bool, true, false, not, ◌&&◌, ◌||◌, [], ◌∷◌, Option, Some, None, inl, inr, refl, sym, ap, ◌∙◌}
+use Rattle.std.proofs.Common.{◌≡◌, ℕ, true, false, not, [], ◌∷◌, Option, Some, None, inl, inr, refl, sym, ap, ◌∙◌}
 use Rattle.std.proofs.lemmas.Bool.{and_parts, and_from, or_cases, or_left, or_right, not-true, false≢true, false_from_ne_true}
 use Rattle.aia_regs.specs.BitUpdate.{BitUpdate}
 use Rattle.aia_regs.specs.BitUpdate.BitUpdate.{Ask, Clear, Nothing}
-use Rattle.aia_home.specs.Vms.{Vcpu, is_vcpu}
-use Rattle.aia_home.specs.Home.{is_resident}
+use Rattle.aia_home.specs.Vms.{Vcpu}
 use Rattle.aia_home.proofs.VmLemmas.{same_vcpu}
-use Rattle.aia_model.specs.Move.Move.{Leaves}
 use Rattle.aia_model.specs.Event.{Event, History}
-use Rattle.aia_model.specs.Event.Event.{Began}
-use Rattle.aia_model.specs.HomeOf.{home}
 use Rattle.aia_model.specs.Notice.{noticed}
 use Rattle.aia_model.specs.FileAfter.{pending_said}
 use Rattle.aia_model.specs.FileOf.{FileName, select_of, file_of, deed_at}
-use Rattle.aia_model.specs.GuestFile.{guest_deed, guest_select, guest_file}
 use Rattle.aia_model.proofs.MoveLemmas.{is_itself}
 use Rattle.aia_laws.specs.Told.{is_ask, is_clear, begins_leave, is_to_be_told, names_vcpu, host_pending_said, noticed_since, told_since, cleared_since, cleared_since_notice}
 use Rattle.aia_uses.specs.Since.{HappenedSince, HappenedAfter, IsToBeTold}
@@ -73,11 +68,13 @@ after_notice_shown : (h : History) (f : FileName) (n : ℕ) (g : Vcpu) → clear
 unfolding cleared_since_notice
 after_notice_shown [] f n g e = false≢true e
 after_notice_shown (event ∷ past) f n g e =
-    let parts = and_parts (not (names_vcpu (noticed past event) g)) _ e in
-    (not_noticed past event g parts.0, elim (or_cases (is_clear (host_pending_said past event f n)) _ parts.1) [
-      | inl now ↦ inl (clear_of _ now)
-      | inr before ↦ inr (after_notice_shown past f n g before)
-    ])
+    let parts = and_parts (not (names_vcpu (noticed past event) g)) _ e in (
+      not_noticed past event g parts.0,
+      elim (or_cases (is_clear (host_pending_said past event f n)) _ parts.1) [
+        | inl now ↦ inl (clear_of _ now)
+        | inr before ↦ inr (after_notice_shown past f n g before)
+      ],
+    )
 
 pub none_after_notice : (h : History) (f : FileName) (n : ℕ) (g : Vcpu) → ¬ HappenedAfter (λ past event. pending_said (select_of past f) (file_of past f) (deed_at f past event) n ≡ Clear) (λ past event. noticed past event ≡ Some g) h → cleared_since_notice h f n g ≡ false
 none_after_notice h f n g none = false_from_ne_true (cleared_since_notice h f n g) (λ e. none (after_notice_shown h f n g e))
