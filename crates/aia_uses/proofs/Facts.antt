@@ -26,7 +26,7 @@ use Rattle.aia_model.specs.ReachOf.{in_force_of, stage_in_force_of}
 use Rattle.aia_model.specs.Notice.{noticed, look_saw}
 use Rattle.aia_model.specs.Act.{newest}
 use Rattle.aia_model.specs.SourceOf.{genmsi_waits}
-use Rattle.aia_model.specs.Sent.{all_senders, msis_sent_by}
+use Rattle.aia_model.specs.Sent.{all_senders}
 use Rattle.aia_model.specs.Refusal.{refusal, serves}
 use Rattle.aia_model.specs.Answer.{answer, after}
 use Rattle.aia_laws.specs.Requests.{forwards_to}

@@ -1,5 +1,5 @@
 -- Forwards of the worked script, by computing; and what one says in files of machine level.
-use Rattle.std.proofs.Common.{◌≡◌, ℕ, Bool, true, false, ◌&&◌, cond, is_none, Some, None, refl, ap, arith}
+use Rattle.std.proofs.Common.{◌≡◌, ℕ, Bool, true, false, ◌&&◌, cond, is_none, Some, None, refl, arith}
 use Rattle.std.specs.List.{Contains}
 use Rattle.aia_word.specs.Sets.{word_of, least_of}
 use Rattle.aia_word.specs.Packed.{packed, ones}
@@ -7,7 +7,6 @@ use Rattle.aia_regs.specs.BitUpdate.{BitUpdate}
 use Rattle.aia_regs.specs.BitUpdate.BitUpdate.{Nothing}
 use Rattle.aia_regs.specs.DomainRegisters.{domain_register_of}
 use Rattle.aia_source.specs.Top.{least_pair}
-use Rattle.aia_home.specs.Vms.{vcpu, is_vcpu}
 use Rattle.aia_model.specs.declared.line.Line.TheVariants.{Wire}
 use Rattle.aia_model.specs.declared.msi.Msi.{Msi}
 use Rattle.aia_model.specs.Event.{History}

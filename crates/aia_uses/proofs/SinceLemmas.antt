@@ -1,19 +1,14 @@
 -- The words on what the host was told since say what happened since.
-use Rattle.std.proofs.Common.{◌≡◌, ◌⊎◌, ℕ, Bool, true, false, not, ◌&&◌, ◌||◌, [], ◌∷◌, Option, Some, None, inl, inr, refl, sym, ap, ◌∙◌}
+use Rattle.std.proofs.Common.{◌≡◌, ℕ, true, false, not, [], ◌∷◌, Option, Some, None, inl, inr, refl, sym, ap, ◌∙◌}
 use Rattle.std.proofs.lemmas.Bool.{and_parts, and_from, or_cases, or_left, or_right, not-true, false≢true, false_from_ne_true}
 use Rattle.aia_regs.specs.BitUpdate.{BitUpdate}
 use Rattle.aia_regs.specs.BitUpdate.BitUpdate.{Ask, Clear, Nothing}
-use Rattle.aia_home.specs.Vms.{Vcpu, is_vcpu}
-use Rattle.aia_home.specs.Home.{is_resident}
+use Rattle.aia_home.specs.Vms.{Vcpu}
 use Rattle.aia_home.proofs.VmLemmas.{same_vcpu}
-use Rattle.aia_model.specs.Move.Move.{Leaves}
 use Rattle.aia_model.specs.Event.{Event, History}
-use Rattle.aia_model.specs.Event.Event.{Began}
-use Rattle.aia_model.specs.HomeOf.{home}
 use Rattle.aia_model.specs.Notice.{noticed}
 use Rattle.aia_model.specs.FileAfter.{pending_said}
 use Rattle.aia_model.specs.FileOf.{FileName, select_of, file_of, deed_at}
-use Rattle.aia_model.specs.GuestFile.{guest_deed, guest_select, guest_file}
 use Rattle.aia_model.proofs.MoveLemmas.{is_itself}
 use Rattle.aia_laws.specs.Told.{is_ask, is_clear, begins_leave, is_to_be_told, names_vcpu, host_pending_said, noticed_since, told_since, cleared_since, cleared_since_notice}
 use Rattle.aia_uses.specs.Since.{HappenedSince, HappenedAfter, IsToBeTold}

@@ -1,7 +1,6 @@
 -- The identity on top, and the least that may be claimed: each gives the other.
-use Rattle.std.proofs.Common.{◌≡◌, ◌≢◌, ℕ, ◌+◌, ◌<◌, ◌≤◌, Bool, true, false, ◌&&◌, Option, Some, None, inl, inr, refl, sym, ◌∙◌, arith}
+use Rattle.std.proofs.Common.{◌≡◌, ℕ, ◌<◌, ◌≤◌, Bool, false, ◌&&◌, Option, Some, None, inl, inr, refl, sym, ◌∙◌, arith}
 use Rattle.std.proofs.lemmas.Bool.{cases_lt, and_parts, and_from, false≢true}
-use Rattle.aia_word.specs.Sets.{least_of}
 use Rattle.aia_word.specs.Top.{lets_through}
 use Rattle.aia_word.proofs.LeastLemmas.{least_of_is, least_of_is_none}
 use Rattle.aia_file.specs.InterruptFile.{InterruptFile, top_of}

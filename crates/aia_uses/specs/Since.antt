@@ -12,13 +12,15 @@ use Rattle.aia_model.specs.FileAfter.{pending_said}
 use Rattle.aia_model.specs.GuestFile.{guest_deed, guest_select, guest_file}
 
 -- Something happened no earlier than the newest event that makes it count anew.
-abbrev pub HappenedSince : (History → Event → Type 0) → (History → Event → Type 0) → History → Type 0
+abbrev pub HappenedSince : (History → Event → Type 0) → (History → Event → Type 0) → History
+    → Type 0
 HappenedSince Happens IsAnew [] = ⊥
 HappenedSince Happens IsAnew (event ∷ past) =
     Happens past event ⊎ ((¬ IsAnew past event) × HappenedSince Happens IsAnew past)
 
 -- Something happened later than it.
-abbrev pub HappenedAfter : (History → Event → Type 0) → (History → Event → Type 0) → History → Type 0
+abbrev pub HappenedAfter : (History → Event → Type 0) → (History → Event → Type 0) → History
+    → Type 0
 HappenedAfter Happens IsAnew [] = ⊥
 HappenedAfter Happens IsAnew (event ∷ past) =
     (¬ IsAnew past event) × (Happens past event ⊎ HappenedAfter Happens IsAnew past)

@@ -93,7 +93,8 @@ pub fn one_is_forwarded()
         ≡ true }
     ensures hosts { (file_of (msi_taken forward (history_of PASSED.now)) (SupervisorFile 0)).pending
         5 ≡ false }
-    ensures after_a_line { (guest_file (after (history_of PASSED.now) (Wire 1 true)) (vcpu 0 0)).pending 5 ≡ true }
+    ensures after_a_line { (guest_file (after (history_of PASSED.now) (Wire 1 true))
+        (vcpu 0 0)).pending 5 ≡ true }
 {
     a_forward_asks_at_its_guest_alone();
     what_a_line_forwards_is_pending_after_it();

@@ -66,7 +66,8 @@ pub fn what_images_tell()
         → part_of x k ≡ part_of y k }
     ensures read { (h other : History) (g x : Vcpu) (csr : Csr)
         → guest_select h g ≡ guest_select other x → guest_file h g ≡ guest_file other x
-        → majors_of h g ≡ majors_of other x → guest_csr_value h g csr ≡ guest_csr_value other x csr }
+        → majors_of h g ≡ majors_of other x
+        → guest_csr_value h g csr ≡ guest_csr_value other x csr }
 {
     images_tell_states();
 }
@@ -83,8 +84,11 @@ pub fn what_one_image_tells()
         (part_loaded (part_of (state_of (history_of TOLD.now) (vcpu 0 0)) 2)
         (part_loaded (part_of (state_of (history_of TOLD.now) (vcpu 0 0)) 1)
         (part_loaded (part_of (state_of (history_of TOLD.now) (vcpu 0 0)) 0)
-        (record { select = 0; file = empty_file (state_of (history_of TOLD.now) (vcpu 0 0)).file.n; majors = new_majors }))))).file.pending 1
-        ≡ true }
+        (record {
+          select = 0;
+          file = empty_file (state_of (history_of TOLD.now) (vcpu 0 0)).file.n;
+          majors = new_majors;
+        }))))).file.pending 1 ≡ true }
 {
     every_virtual_hart_has_a_state();
     images_tell_states();
@@ -125,8 +129,8 @@ pub fn what_a_line_loads()
 pub fn one_part_is_loaded()
     ensures own { (guest_file (after made (LoadPart 0 1 (parts.Word 0 2 2))) (vcpu 0 1)).pending 1
         ≡ true }
-    ensures others { (guest_file (after made (LoadPart 0 1 (parts.Word 0 2 2))) (vcpu 0 0)).pending 1
-        ≡ false }
+    ensures others { (guest_file (after made (LoadPart 0 1 (parts.Word 0 2 2)))
+        (vcpu 0 0)).pending 1 ≡ false }
 {
     a_line_loads_its_part();
 }

@@ -1,4 +1,4 @@
-use Rattle.std.proofs.Common.{refl, ap}
+use Rattle.std.proofs.Common.{ap}
 use Rattle.aia_uses.proofs.claims.what_a_claim_takes.Goals as goal
 
 pub returns-clause-answered : goal.returns-clause-answered

@@ -1,4 +1,4 @@
-use Rattle.std.proofs.Common.{true, refl, ap, ◌∙◌}
+use Rattle.std.proofs.Common.{true, refl, ap}
 use Rattle.aia_word.specs.Sets.{word_of, least_of}
 use Rattle.aia_word.specs.Packed.{packed, ones}
 use Rattle.aia_regs.specs.DomainRegisters.{domain_register_of}

@@ -1,4 +1,4 @@
-use Rattle.std.proofs.Common.{◌≡◌, refl, ap, ◌∙◌}
+use Rattle.std.proofs.Common.{ap, ◌∙◌}
 use Rattle.std.proofs.lemmas.Bool.{cond-true, cond-false}
 use Rattle.aia_regs.specs.BitUpdate.{settle}
 use Rattle.aia_model.specs.FileOf.{MachineFile, SupervisorFile, file_of}

@@ -1,4 +1,3 @@
-use Rattle.std.proofs.Common.{refl}
 use Rattle.aia_home.specs.Vms.{vcpu}
 use Rattle.aia_model.specs.Script.{history_of}
 use Rattle.aia_model.proofs.HistoryLemmas.{script_happens}

@@ -1,4 +1,4 @@
-use Rattle.std.proofs.Common.{refl, ap, arith, subst, ◌≡◌, ◌∙◌, [], ◌∷◌}
+use Rattle.std.proofs.Common.{refl, [], ◌∷◌}
 use Rattle.aia_regs.specs.declared.access.Csr.TheVariants.{Topei}
 use Rattle.aia_home.specs.Vms.{vcpu}
 use Rattle.aia_model.specs.StateOf.{state_of}

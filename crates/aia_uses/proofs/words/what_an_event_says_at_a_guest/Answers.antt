@@ -1,5 +1,4 @@
-use Rattle.std.proofs.Common.{◌≡◌, ℕ, [], ◌∷◌, refl, sym, ap, ◌∙◌}
-use Rattle.aia_model.specs.Event.{Event, History}
+use Rattle.std.proofs.Common.{[], ◌∷◌, sym, ap, ◌∙◌}
 use Rattle.aia_laws.specs.Told.{is_ask, guest_pending_said}
 use Rattle.aia_laws.specs.Newest.{or_before, newest, guest_enable_said}
 use Rattle.aia_uses.proofs.words.what_an_event_says_at_a_guest.Goals as goal

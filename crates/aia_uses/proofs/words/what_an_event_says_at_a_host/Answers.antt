@@ -1,5 +1,4 @@
-use Rattle.std.proofs.Common.{◌≡◌, ℕ, [], ◌∷◌, refl, sym, ap, ◌∙◌}
-use Rattle.aia_model.specs.Event.{Event, History}
+use Rattle.std.proofs.Common.{◌∷◌, sym, ap, ◌∙◌}
 use Rattle.aia_laws.specs.Told.{is_ask, host_pending_said}
 use Rattle.aia_laws.specs.Newest.{or_before, newest, host_enable_said}
 use Rattle.aia_uses.proofs.words.what_an_event_says_at_a_host.Goals as goal
