@@ -11,7 +11,7 @@ LINE_BYTES, MOST_WORDS, MOST_PRODUCERS, MOST_STEPS = 128, 32, 16, 4096
 # What follows the first word of a declaration, and of a step: the names of CHOICES, or numbers.
 DECLARATIONS = {
     "plan": (), "fresh": (), "memory": (), "heeds": (), "words": ("count",), "producer": ("kind",),
-    "numbers": ("spot", "spot"),
+    "numbers": ("spot", "spot"), "notices": ("declared",),
 }
 STEPS = {
     "route": ("producer",), "fence": ("producer",), "switch": ("producer",),
@@ -22,10 +22,12 @@ SETS, NUMBERS = ("pending", "enabled"), ("threshold", "delivery")
 CHOICES = {
     "kind": ("routed", "switched"), "spot": ("old", "hand", "new"), "place": ("old", "new"),
     "set": SETS, "thing": (*SETS, *NUMBERS), "written": ("notice",),
+    "declared": ("unset",),
 }
 # The forms, as docs/ANY-PLAN.md has them.
 FORMS = {
     "words": "`words N`", "producer": "`producer KIND`", "numbers": "`numbers FROM TO`",
+    "notices": "`notices unset`",
     "route": "`route P`", "fence": "`fence P`", "switch": "`switch P`",
     "zero": "`zero PLACE SET W` or `zero PLACE N`", "take": "`take SET W` or `take N`",
     "join": "`join SET W`", "put": "`put SET W` or `put N`", "look": "`look W`",

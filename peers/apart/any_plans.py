@@ -8,7 +8,8 @@ something, or, of a plan that the rule on notices alone refuses, one that leaves
 Prints how many accepted plans had a bad run, how many refused ones had none, and how many runs that
 were shown were good or missing, and ends with 1 if any was, and with 2 if the words are wrong or
 PROGRAM can't be run. A plan into memory that heeds its numbers may be refused by the rule on
-notices though no run of it leaves the host untold: none is shown then.
+notices though no run of it leaves the host untold: none is shown then. Where notices are declared
+unset, no store tells the host before the plan writes where they go.
 """
 import random
 import re
@@ -21,10 +22,10 @@ import words as command_line
 class Setting:
     """What is declared: kinds of producers, words, and what the new place is."""
 
-    def __init__(self, producers, words, fresh, memory, heeds, start, end):
+    def __init__(self, producers, words, fresh, memory, heeds, start, end, unset=False):
         self.producers, self.words = producers, words
         self.fresh, self.memory, self.heeds = fresh, memory, heeds
-        self.start, self.end = start, end
+        self.start, self.end, self.unset = start, end, unset
 
     def lines(self):
         """The declarations, as lines of a plan file."""
@@ -33,7 +34,7 @@ class Setting:
         for name in ('fresh', 'memory', 'heeds'):
             if getattr(self, name):
                 out.append(name)
-        return out
+        return out + ['notices unset'] * self.unset
 
 
 def both_sets(words, verb):
@@ -50,7 +51,7 @@ def hypervisors(words):
     joined = both_sets(words, 'join')
     put = [('put', 'threshold'), ('put', 'delivery')]
     routed, host = ['routed', 'routed'], ['switched', 'routed']
-    yield (Setting(routed, words, True, True, False, 'old', 'hand'),
+    yield (Setting(routed, words, True, True, False, 'old', 'hand', True),
            [('take', 'delivery'), ('write', 'notice')] + lead + core
            + [('look', w) for w in range(words)] + [('take', 'threshold'), ('post',), ('free',)])
     yield Setting(routed, words, True, False, False, 'hand', 'new'), lead + core + put
@@ -64,6 +65,10 @@ def hypervisors(words):
     yield (Setting(host, words, True, True, True, 'old', 'new'),
            [('switch', 0), ('route', 1), ('fence', 1)] + swapped
            + [('put', 'delivery'), ('put', 'threshold')] + joined + [('tell',), ('free',)])
+    yield (Setting(host, words, True, True, True, 'old', 'new', True),
+           [('switch', 0), ('route', 1), ('fence', 1)] + swapped
+           + [('put', 'delivery'), ('put', 'threshold')] + joined
+           + [('write', 'notice'), ('tell',), ('free',)])
 
 
 def all_steps(setting):
@@ -118,6 +123,7 @@ class Machine:
         self.force = ['old'] * len(setting.producers)
         self.flights = []
         self.freed = self.strayed = self.seen = self.told = False
+        self.notices_reach_the_host = not setting.unset
 
     def lets_out(self, identity):
         if not self.s.heeds:
@@ -134,7 +140,8 @@ class Machine:
             self.strayed |= self.freed
             self.old['pending'].add(what)
         else:
-            self.told |= what in self.new['enabled'] and self.lets_out(what[1])
+            if self.notices_reach_the_host and what in self.new['enabled']:
+                self.told |= self.lets_out(what[1])
             self.new['pending'].add(what)
         self.due.add(what)
 
@@ -211,7 +218,7 @@ class Machine:
         self.told |= any(self.out(w) for w in range(self.s.words))
 
     def do_write(self, what):
-        """Where notices go changes nothing: to the host they go already."""
+        self.notices_reach_the_host = True
 
     def do_free(self):
         self.freed = True

@@ -8,7 +8,7 @@ use Rattle.plans_machine.specs.declared.setting.Kind.{Kind}
 use Rattle.plans_machine.specs.declared.setting.Kind.TheVariants.{Routed}
 use Rattle.plans_machine.specs.declared.step.Bank.TheVariants.{Pending, Enabled}
 use Rattle.plans_machine.specs.Setting.{Setting, setting_of, all_below, any_below}
-use Rattle.plans_machine.specs.Rules.{Done, frees, is_turned, is_reached, old_holds, hand_holds, is_moved, is_reported}
+use Rattle.plans_machine.specs.Rules.{Done, frees, writes_notice, is_noticed, is_turned, is_reached, old_holds, hand_holds, is_moved, is_reported}
 use Rattle.plans_judge.specs.declared.table.Table.{Table}
 use Rattle.plans_judge.specs.declared.lead.Lead.{Lead}
 use Rattle.plans_judge.specs.declared.word.Word.{Word}
@@ -103,9 +103,9 @@ standing_step d x n done = refl
 pub stands_more : (old new : Table) (x : Step) (world : World) (producers : List Kind) (done : Done)
     → ((producers : List Kind) (done : Done) → Stands old producers done → world ≡ world_at (setting_of producers old.terms) done)
     → new.terms ≡ old.terms → AllAfter (lead_after x) old.leads.items new.leads.items → AllAfter (word_after world x) old.words.items new.words.items
-    → new.threshold ≡ standing_after x Threshold old.threshold → new.delivery ≡ standing_after x Delivery old.delivery → new.freed ≡ (frees x || old.freed)
+    → new.threshold ≡ standing_after x Threshold old.threshold → new.delivery ≡ standing_after x Delivery old.delivery → new.freed ≡ (frees x || old.freed) → new.noticed ≡ (writes_notice x || old.noticed)
     → Stands old producers done → Stands new producers (x ∷ done)
-stands_more old new x world producers done knows terms leads words threshold delivery freed v =
+stands_more old new x world producers done knows terms leads words threshold delivery freed noticed v =
     let d : Setting = setting_of producers old.terms in
     let is : world ≡ world_at d done = knows producers done v in
     let inside : (w : ℕ) → w < old.terms.words → slice_get new.words.items w ≡ Some (word_at d (x ∷ done) w) =
@@ -118,6 +118,7 @@ stands_more old new x world producers done knows terms leads words threshold del
       threshold = subst (λ (t : Terms). new.threshold ≡ standing_at (setting_of producers t) Threshold (x ∷ done)) (sym terms) (threshold ∙ ap (standing_after x Threshold) v.threshold ∙ standing_step d x Threshold done);
       delivery = subst (λ (t : Terms). new.delivery ≡ standing_at (setting_of producers t) Delivery (x ∷ done)) (sym terms) (delivery ∙ ap (standing_after x Delivery) v.delivery ∙ standing_step d x Delivery done);
       freed = freed ∙ ap (λ b. frees x || b) v.freed;
+      noticed = subst (λ (t : Terms). new.noticed ≡ is_noticed (setting_of producers t) (x ∷ done)) (sym terms) (noticed ∙ ap (λ b. writes_notice x || b) v.noticed);
     }
 
 -- ---- no step
@@ -126,8 +127,8 @@ replicated : {A : Type 0} (n w : ℕ) (y : A) → w < n → slice_get (replicate
 replicated n w y low = slice_get-get_or (replicate n y) w y (let e = length-replicate n y in omega (arith, low, e)) ∙ ap Some (get_or-replicate n w y y low)
 
 pub begins : (t : Table) (producers : List Kind) → t.leads.items ≡ map lead_first producers → t.words.items ≡ replicate t.terms.words (word_first t.terms.is_fresh)
-    → t.threshold ≡ standing_first t.terms.number_from → t.delivery ≡ standing_first t.terms.number_from → t.freed ≡ false → Stands t producers []
-begins t producers leads words threshold delivery freed = record {
+    → t.threshold ≡ standing_first t.terms.number_from → t.delivery ≡ standing_first t.terms.number_from → t.freed ≡ false → t.noticed ≡ t.terms.notices_go → Stands t producers []
+begins t producers leads words threshold delivery freed noticed = record {
   count = ap (λ (l : List Lead). length l) leads ∙ length-map producers lead_first;
   leads = λ p. ap (λ l. slice_get l p) leads ∙ slice_get-map lead_first producers p;
   width = ap (λ (l : List Word). length l) words ∙ length-replicate t.terms.words (word_first t.terms.is_fresh);
@@ -135,4 +136,5 @@ begins t producers leads words threshold delivery freed = record {
   threshold = threshold;
   delivery = delivery;
   freed = freed;
+  noticed = noticed;
 }

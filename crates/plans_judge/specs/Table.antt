@@ -14,7 +14,7 @@ use Rattle.plans_machine.specs.declared.setting.Kind.TheVariants.{Routed, Switch
 use Rattle.plans_machine.specs.declared.setting.Spot.{Spot}
 use Rattle.plans_machine.specs.declared.setting.Spot.TheVariants.{InOld, InHand, InNew}
 use Rattle.plans_machine.specs.Setting.{Setting, setting_of, same_number, same_spot}
-use Rattle.plans_machine.specs.Rules.{turns, fences, switches, takes, fills, blanks, frees, looks, posts, tells, Done, is_turned, is_fenced, old_holds, hand_holds, is_filled, is_blank, has_number, are_heeded, all_led, is_looked, is_reported}
+use Rattle.plans_machine.specs.Rules.{turns, fences, switches, takes, fills, blanks, frees, looks, posts, tells, Done, is_turned, is_fenced, old_holds, hand_holds, is_filled, is_blank, has_number, are_heeded, is_noticed, all_led, is_looked, is_reported}
 use Rattle.plans_judge.specs.declared.lead.Lead.{Lead}
 use Rattle.plans_judge.specs.declared.standing.Standing.{Standing}
 use Rattle.plans_judge.specs.declared.table.Table.{Table}
@@ -112,23 +112,23 @@ word_first is_fresh = record {
   reported = false;
 }
 
--- Whether a word of both sets is moved for good, and what is heeded is in the new place.
+-- Whether a word of both sets is moved for good, and the move is ready for notices.
 abbrev pub word_settled : Bool → Word → Bool
-word_settled heeded word = flags_moved word.pending && (flags_moved word.enabled && heeded)
+word_settled ready word = flags_moved word.pending && (flags_moved word.enabled && ready)
 
 -- Whether a word was looked at once it was settled, with one step more.
 abbrev pub looked_after : Bool → Step → ℕ → Word → Bool
-looked_after heeded x w word = elim (looks w x) [
-  | true ↦ word_settled heeded word || word.looked
+looked_after ready x w word = elim (looks w x) [
+  | true ↦ word_settled ready word || word.looked
   | false ↦ word.looked
 ]
 
 -- Whether it was told of once it was settled, or posted after such a look, with one step more.
 abbrev pub reported_after : Bool → Step → Word → Bool
-reported_after heeded x word = elim (posts x) [
+reported_after ready x word = elim (posts x) [
   | true ↦ word.looked || word.reported
   | false ↦ elim (tells x) [
-    | true ↦ word_settled heeded word || word.reported
+    | true ↦ word_settled ready word || word.reported
     | false ↦ word.reported
   ]
 ]
@@ -138,8 +138,8 @@ abbrev pub word_after : World → Step → ℕ → Word → Word
 word_after world x w word = record {
   pending = flags_after Pending world.still x w word.pending;
   enabled = flags_after Enabled true x w word.enabled;
-  looked = looked_after world.heeded x w word;
-  reported = reported_after world.heeded x word;
+  looked = looked_after world.ready x w word;
+  reported = reported_after world.ready x word;
 }
 
 -- Whether the word in a place of the list passes what an end asks of it: the old place holds
@@ -227,10 +227,13 @@ standing_at d n done = record {
 
 -- ---- the whole move
 
--- What the words turn on: whether nobody stores into the old place any more, and whether what is
--- heeded is in the new one.
+-- What the words turn on: whether nobody stores into the old place any more, and whether the move
+-- is ready for notices: what is heeded is in the new place, and they go to the host.
 abbrev pub world_at : Setting → Done → World
-world_at d done = record { still = all_led d done; heeded = are_heeded d done }
+world_at d done = record {
+  still = all_led d done;
+  ready = are_heeded d done && is_noticed d done;
+}
 
 -- ---- the table
 
@@ -245,3 +248,4 @@ pub record Stands (t : Table) (producers : List Kind) (done : Done) : Type 0 whe
   pub threshold : t.threshold ≡ standing_at (setting_of producers t.terms) Threshold done
   pub delivery : t.delivery ≡ standing_at (setting_of producers t.terms) Delivery done
   pub freed : t.freed ≡ list_any frees done
+  pub noticed : t.noticed ≡ is_noticed (setting_of producers t.terms) done

@@ -28,6 +28,9 @@ pub(crate) struct Table {
     /// The old place was given back.
     freed: bool,
 
+    /// Notices go to the host.
+    noticed: bool,
+
     terms: Terms,
 }
 
@@ -69,6 +72,7 @@ impl Table {
             threshold: Standing::first(terms.number_from),
             delivery: Standing::first(terms.number_from),
             freed: false,
+            noticed: terms.notices_go,
             terms,
         })
     }
@@ -311,7 +315,7 @@ impl Table {
     {
         World {
             still: self.all_led(),
-            heeded: self.are_heeded(),
+            ready: self.are_heeded() && self.noticed,
         }
     }
 
@@ -329,6 +333,17 @@ impl Table {
         self.threshold = self.threshold.after(step, Number::Threshold);
         self.delivery = self.delivery.after(step, Number::Delivery);
         self.freed = frees(step) || self.freed;
+        self.noticed = writes_notice(step) || self.noticed;
+    }
+}
+
+/// Tells whether a step writes where notices go.
+fn writes_notice(step: Step) -> bool
+    ensures { result ≡ rules.writes_notice step }
+{
+    match step {
+        Step::WriteNotice => true,
+        _ => false,
     }
 }
 

@@ -29,10 +29,10 @@ pub(crate) struct Word {
     pub(crate) pending: Flags,
     pub(crate) enabled: Flags,
 
-    /// It was looked at after all was there that a look heeds.
+    /// It was looked at after all was there that a look heeds, and notices went to the host.
     pub(crate) looked: bool,
 
-    /// It was told of once all was there, or posted after such a look, if there was reason to.
+    /// It was told of once that was so, or posted after such a look, if there was reason to.
     pub(crate) reported: bool,
 }
 
@@ -42,8 +42,8 @@ pub(crate) struct World {
     /// Nobody stores into the old place.
     pub(crate) still: bool,
 
-    /// Both numbers are in the new place, if they are heeded there.
-    pub(crate) heeded: bool,
+    /// Both numbers are in the new place, if they are heeded there, and notices go to the host.
+    pub(crate) ready: bool,
 }
 
 /// Tells whether a step takes a word.
@@ -141,31 +141,31 @@ impl Word {
         }
     }
 
-    /// Tells whether the word of both sets is moved for good, and what is heeded is there.
-    fn is_settled(self, heeded: bool) -> bool
-        ensures { result ≡ word_settled heeded self }
+    /// Tells whether the word of both sets is moved for good, and the move is ready for notices.
+    fn is_settled(self, ready: bool) -> bool
+        ensures { result ≡ word_settled ready self }
     {
-        self.pending.is_moved() && self.enabled.is_moved() && heeded
+        self.pending.is_moved() && self.enabled.is_moved() && ready
     }
 
-    /// Tells whether word `word` was looked at after a step, once all was there.
-    fn is_looked_after(self, step: Step, word: usize, heeded: bool) -> bool
-        ensures { result ≡ looked_after heeded step word self }
+    /// Tells whether word `word` was looked at after a step, once it was settled.
+    fn is_looked_after(self, step: Step, word: usize, ready: bool) -> bool
+        ensures { result ≡ looked_after ready step word self }
     {
         if looks(step, word) {
-            self.is_settled(heeded) || self.looked
+            self.is_settled(ready) || self.looked
         } else {
             self.looked
         }
     }
 
     /// Tells whether the host was told of the word after a step, if there is reason to.
-    fn is_reported_after(self, step: Step, heeded: bool) -> bool
-        ensures { result ≡ reported_after heeded step self }
+    fn is_reported_after(self, step: Step, ready: bool) -> bool
+        ensures { result ≡ reported_after ready step self }
     {
         match step {
             Step::Post => self.looked || self.reported,
-            Step::Tell => self.is_settled(heeded) || self.reported,
+            Step::Tell => self.is_settled(ready) || self.reported,
             _ => self.reported,
         }
     }
@@ -177,8 +177,8 @@ impl Word {
         Word {
             pending: self.pending.after(step, Bank::Pending, word, world.still),
             enabled: self.enabled.after(step, Bank::Enabled, word, true),
-            looked: self.is_looked_after(step, word, world.heeded),
-            reported: self.is_reported_after(step, world.heeded),
+            looked: self.is_looked_after(step, word, world.ready),
+            reported: self.is_reported_after(step, world.ready),
         }
     }
 }

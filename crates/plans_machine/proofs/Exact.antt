@@ -785,12 +785,13 @@ beginning d before rest = record {
   flights = [];
   freed = false;
   strayed = false;
+  noticed = true;
   seen = false;
   told = false;
 }
 
 it_begins : (d : Setting) (before rest : Bank → ℕ → Bool) → (d.is_fresh ≡ true → (s : Bank) (i : ℕ) → rest s i ≡ false) → IsStart d (beginning d before rest)
-it_begins d before rest fresh = record { written = λ p e. refl; in_force = λ p e. refl; flights = tt; due = λ s i. refl; hand = λ s i. refl; fresh = fresh; freed = refl; strayed = refl }
+it_begins d before rest fresh = record { written = λ p e. refl; in_force = λ p e. refl; flights = tt; due = λ s i. refl; hand = λ s i. refl; fresh = fresh; freed = refl; strayed = refl; noticed = λ e. refl }
 
 -- A set of one bit is `names` of its number, as it is for a word.
 abbrev nothing : Bank → ℕ → Bool

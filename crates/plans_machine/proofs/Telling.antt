@@ -17,8 +17,8 @@ use Rattle.plans_machine.specs.declared.step.Step.TheVariants.{Route, Fence, Swi
 use Rattle.plans_machine.specs.Setting.{Setting, is_old, names}
 use Rattle.plans_machine.specs.Machine.{lets_out, stands_out, word_stands_out, Flight, Machine, landed, flight_landed, all_landed, flights_of, stepped, route_of, Happening, one_landed, happened, all_happened, steps_in}
 use Rattle.plans_machine.specs.Machine.Happening.{Does, Stores, Sends, Lands, Refetches}
-use Rattle.plans_machine.specs.Safe.{CanHappen, IsTold}
-use Rattle.plans_machine.specs.Rules.{takes, fills, looks, posts, tells, Done, old_holds, hand_holds, is_filled, is_blank, is_moved, is_reached, has_number, heeds_there, is_settled, is_looked, is_reported, lets, lets_end, lets_rest}
+use Rattle.plans_machine.specs.Safe.{CanHappen, IsStart, IsTold}
+use Rattle.plans_machine.specs.Rules.{takes, fills, looks, posts, tells, Done, old_holds, hand_holds, is_filled, is_blank, is_moved, is_reached, has_number, heeds_there, is_noticed, is_settled, is_looked, is_reported, writes_notice, lets, lets_end, lets_rest}
 use Rattle.plans_machine.proofs.BoolLaws.{or_false_right, clash, not_true, and_left, and_right, and_of, or_left, or_right, or_false, or_cases, added_cases, added_stays, all_at, any_at}
 use Rattle.plans_machine.proofs.Safety.{Kept, IsBetween, Invariant, does, between, begins, named}
 
@@ -65,30 +65,34 @@ pub record Settled (d : Setting) (w : ℕ) (done : Done) : Type 0 where
   pub pending : was_moved d Pending w done ≡ true
   pub enabled : was_moved d Enabled w done ≡ true
   pub numbers : numbers_settled d done ≡ true
+  pub notices : is_noticed d done ≡ true
 
 pub record Noted (d : Setting) (done : Done) (z : Machine) : Type 0 where
   pub emptied : (s : Bank) (i : ℕ) → was_moved d s (i / 64) done ≡ true → (z.hand s i ≡ false) × (is_filled d s (i / 64) done ≡ true)
   pub looked : (i : ℕ) → is_looked d (i / 64) done ≡ true → Settled d (i / 64) done × (stands_out d z.new z.new_number i ≡ true → (z.told || z.seen) ≡ true)
   pub reported : (i : ℕ) → i / 64 < d.words → is_reported d (i / 64) done ≡ true → Settled d (i / 64) done × (stands_out d z.new z.new_number i ≡ true → z.told ≡ true)
+  pub noticed : is_noticed d done ≡ true → z.noticed ≡ true
 
 settled_now : (d : Setting) (w : ℕ) (done : Done) → is_settled d w done ≡ true → Settled d w done
 settled_now d w done e =
     let later = and_right (is_moved d Pending w done) _ e in
+    let needed = and_right (is_moved d Enabled w done) _ later in
     record {
       pending = moved_once d Pending w done (and_left (is_moved d Pending w done) _ e);
       enabled = moved_once d Enabled w done (and_left (is_moved d Enabled w done) _ later);
-      numbers = and_right (is_moved d Enabled w done) _ later;
+      numbers = and_left (numbers_settled d done) _ needed;
+      notices = and_right (numbers_settled d done) _ needed;
     }
 
 -- ---- a store lands
 
--- o: in the old place; m: it is this identity; p, e, n: that is pending, enabled, let through; ex, nx: the store's is enabled, let through
-land_out : (o m p e n ex nx told : Bool) → (m ≡ true → (ex && nx) ≡ (e && n)) → ((p && (e && n)) ≡ true → told ≡ true)
-    → (((m && not o) || p) && (e && n)) ≡ true → (told || (not o && (ex && nx))) ≡ true
-land_out true true p e n ex nx told same h out = or_left told _ (h out)
-land_out true false p e n ex nx told same h out = or_left told _ (h out)
-land_out false true p e n ex nx told same h out = or_right told _ (same refl ∙ out)
-land_out false false p e n ex nx told same h out = or_left told _ (h out)
+-- o: in the old place; m: it is this identity; p, e, n: that is pending, enabled, let through; c: notices go to the host; ex, nx: the store's is enabled, let through
+land_out : (o m p e n c ex nx told : Bool) → c ≡ true → (m ≡ true → (ex && nx) ≡ (e && n)) → ((p && (e && n)) ≡ true → told ≡ true)
+    → (((m && not o) || p) && (e && n)) ≡ true → (told || (not o && (c && (ex && nx)))) ≡ true
+land_out true true p e n c ex nx told goes same h out = or_left told _ (h out)
+land_out true false p e n c ex nx told goes same h out = or_left told _ (h out)
+land_out false true p e n c ex nx told goes same h out = or_right told _ (and_of c _ goes (same refl ∙ out))
+land_out false false p e n c ex nx told goes same h out = or_left told _ (h out)
 
 -- what a look saw may stand in between
 past_seen : (told x seen : Bool) → ((told || seen) || x) ≡ true → ((told || x) || seen) ≡ true
@@ -99,8 +103,9 @@ past_seen false x false e = or_left x false e
 noted_land : (d : Setting) (done : Done) (place : Place) (x : ℕ) (z : Machine) → Noted d done z → Noted d done (landed d place x z)
 noted_land d done place x z v = record {
   emptied = v.emptied;
-  looked = λ i e. ((v.looked i e).0, λ out. past_seen z.told _ z.seen (land_out (is_old place) (nat_eq x i) (z.new Pending i) (z.new Enabled i) (lets_out d z.new_number i) (z.new Enabled x) (lets_out d z.new_number x) (z.told || z.seen) (same i) (v.looked i e).1 out));
-  reported = λ i inside e. ((v.reported i inside e).0, land_out (is_old place) (nat_eq x i) (z.new Pending i) (z.new Enabled i) (lets_out d z.new_number i) (z.new Enabled x) (lets_out d z.new_number x) z.told (same i) (v.reported i inside e).1);
+  looked = λ i e. ((v.looked i e).0, λ out. past_seen z.told _ z.seen (land_out (is_old place) (nat_eq x i) (z.new Pending i) (z.new Enabled i) (lets_out d z.new_number i) z.noticed (z.new Enabled x) (lets_out d z.new_number x) (z.told || z.seen) (v.noticed (v.looked i e).0.notices) (same i) (v.looked i e).1 out));
+  reported = λ i inside e. ((v.reported i inside e).0, land_out (is_old place) (nat_eq x i) (z.new Pending i) (z.new Enabled i) (lets_out d z.new_number i) z.noticed (z.new Enabled x) (lets_out d z.new_number x) z.told (v.noticed (v.reported i inside e).0.notices) (same i) (v.reported i inside e).1);
+  noticed = v.noticed;
 }
   where
     same : (i : ℕ) → nat_eq x i ≡ true → (z.new Enabled x && lets_out d z.new_number x) ≡ (z.new Enabled i && lets_out d z.new_number i)
@@ -117,11 +122,11 @@ noted_one d done (Some f) z v = noted_land d done f.place f.identity z v
 noted_between : (d : Setting) (done : Done) (x : Happening) (z : Machine) → IsBetween x → Noted d done z → Noted d done (happened d x z)
 noted_between d done (Does step) z is v = absurd is
 noted_between d done (Stores p by x) z is v = noted_land d done (route_of by p z) x z v
-noted_between d done (Sends p by x) z is v = record { emptied = v.emptied; looked = v.looked; reported = v.reported }
+noted_between d done (Sends p by x) z is v = record { emptied = v.emptied; looked = v.looked; reported = v.reported; noticed = v.noticed }
 noted_between d done (Lands k) z is v =
     let u = noted_one d done (slice_get z.flights k) z v in
-    record { emptied = u.emptied; looked = u.looked; reported = u.reported }
-noted_between d done (Refetches p) z is v = record { emptied = v.emptied; looked = v.looked; reported = v.reported }
+    record { emptied = u.emptied; looked = u.looked; reported = u.reported; noticed = u.noticed }
+noted_between d done (Refetches p) z is v = record { emptied = v.emptied; looked = v.looked; reported = v.reported; noticed = v.noticed }
 
 -- ---- a step that is no fence
 
@@ -228,6 +233,7 @@ settled_stays d w done x memory guard v = record {
   pending = or_right (is_moved d Pending w (x ∷ done)) _ v.pending;
   enabled = or_right (is_moved d Enabled w (x ∷ done)) _ v.enabled;
   numbers = heeded_stays d.heeds _ _ _ _ (λ h. number_there d done x Threshold (and_of _ _ memory h) guard) (λ h. number_there d done x Delivery (and_of _ _ memory h) guard) v.numbers;
+  notices = or_right (writes_notice x) _ v.notices;
 }
 
 lets_same : (h : Bool) (a b : Bool) → (h ≡ true → a ≡ b) → ◌≡◌ {A = Bool} (elim h [ true ↦ a | false ↦ true ]) (elim h [ true ↦ b | false ↦ true ])
@@ -282,6 +288,16 @@ seen_stays d (ZeroNumber Old n) z is e = e
 seen_stays d (ZeroNumber New n) z is e = e
 seen_stays d x z is e = e
 
+-- where notices go is written once and for all
+noticed_stays : (d : Setting) (done : Done) (x : Step) (z : Machine) → IsNoFence x → (is_noticed d done ≡ true → z.noticed ≡ true) → is_noticed d (x ∷ done) ≡ true → (stepped d x z).noticed ≡ true
+noticed_stays d done (Fence p) z is h e = absurd is
+noticed_stays d done WriteNotice z is h e = refl
+noticed_stays d done (Zero Old s w) z is h e = h e
+noticed_stays d done (Zero New s w) z is h e = h e
+noticed_stays d done (ZeroNumber Old n) z is h e = h e
+noticed_stays d done (ZeroNumber New n) z is h e = h e
+noticed_stays d done x z is h e = h e
+
 -- a look, a post, a tell
 place_of : (w i : ℕ) → w ≡ i / 64 → 64 * w + i % 64 ≡ i
 place_of w i e = omega arith
@@ -328,6 +344,7 @@ notes d start done x z memory is guard w v = record {
     | inr (inl now) ↦ (let settled = settled_now d (i / 64) done now.1 in (settled_stays d (i / 64) done x memory guard settled, λ out. told_now d x z i inside now.0 (sym (same_out d start done x z i memory is guard w v settled) ∙ out)))
     | inr (inr before) ↦ (let was = v.reported i inside before in (settled_stays d (i / 64) done x memory guard was.0, λ out. told_stays d x z is (was.1 (sym (same_out d start done x z i memory is guard w v was.0) ∙ out))))
   ];
+  noticed = noticed_stays d done x z is v.noticed;
 }
 
 -- a fence only lands stores
@@ -342,6 +359,7 @@ notes_fence d done p z memory guard v =
       emptied = λ s i e. u.emptied s i (fence_moved (is_moved d s (i / 64) done) _ (moved_once d s (i / 64) done) e);
       looked = λ i e. (settled_stays d (i / 64) done (Fence p) memory guard (u.looked i e).0, (u.looked i e).1);
       reported = λ i inside e. (settled_stays d (i / 64) done (Fence p) memory guard (u.reported i inside e).0, (u.reported i inside e).1);
+      noticed = u.noticed;
     }
 
 notes_any : (d : Setting) (start : Machine) (done : Done) (x : Step) (z : Machine) → d.in_memory ≡ true → Guard d x done → Invariant d start done z → Noted d done z → Noted d (x ∷ done) (stepped d x z)
@@ -378,8 +396,8 @@ hears d start done (Sends p by x ∷ later) z memory can guards w v = hears d st
 hears d start done (Lands k ∷ later) z memory can guards w v = hears d start done later _ memory can.1 guards (between d start done (Lands k) z tt can.0 w) (noted_between d done (Lands k) z tt v)
 hears d start done (Refetches p ∷ later) z memory can guards w v = hears d start done later _ memory can.1 guards (between d start done (Refetches p) z tt can.0 w) (noted_between d done (Refetches p) z tt v)
 
-noted_start : (d : Setting) (z : Machine) → Noted d [] z
-noted_start d z = record { emptied = λ s i e. absurd (false≢true e); looked = λ i e. absurd (false≢true e); reported = λ i inside e. absurd (false≢true e) }
+noted_start : (d : Setting) (z : Machine) → IsStart d z → Noted d [] z
+noted_start d z is = record { emptied = λ s i e. absurd (false≢true e); looked = λ i e. absurd (false≢true e); reported = λ i inside e. absurd (false≢true e); noticed = is.noticed }
 
 in_memory_law : (m all : Bool) → m ≡ true → (elim m [ true ↦ all | false ↦ true ]) ≡ true → all ≡ true
 in_memory_law true all e f = f
@@ -388,5 +406,5 @@ in_memory_law false all e f = absurd (false≢true e)
 -- **A plan into memory that keeps all rules tells the host.**
 pub guarded_is_told : (d : Setting) (plan : List Step) → d.in_memory ≡ true → GuardRest d [] plan → IsTold d plan
 guarded_is_told d plan memory guards start run at_start is i inside out =
-    let heard = hears d start [] run start memory is.others (subst (GuardRest d []) (sym is.steps) guards) (begins d start at_start) (noted_start d start) in
+    let heard = hears d start [] run start memory is.others (subst (GuardRest d []) (sym is.steps) guards) (begins d start at_start) (noted_start d start at_start) in
     (heard.noted.reported i inside (all_at (λ w. is_reported d w heard.done) d.words (i / 64) (in_memory_law d.in_memory _ memory (heard.guard Notice)) inside)).1 out

@@ -10,14 +10,14 @@ use Rattle.plans_machine.specs.declared.step.Number.{Number}
 use Rattle.plans_machine.specs.declared.step.Number.TheVariants.{Threshold, Delivery}
 use Rattle.plans_machine.specs.declared.setting.Spot.TheVariants.{InHand, InNew}
 use Rattle.plans_machine.specs.declared.step.Step.{Step}
-use Rattle.plans_machine.specs.declared.step.Step.TheVariants.{Route, Fence, Switch, Take, Join, ZeroNumber, TakeNumber, PutNumber, Look, Post, Tell, Free}
+use Rattle.plans_machine.specs.declared.step.Step.TheVariants.{Route, Fence, Switch, Take, Join, ZeroNumber, TakeNumber, PutNumber, Look, Post, Tell, WriteNotice, Free}
 use Rattle.plans_machine.specs.Setting.{Setting}
 use Rattle.plans_machine.specs.Machine.{Flight, Machine, stands_out, one_landed, Happening, happened, all_happened, steps_in}
 use Rattle.plans_machine.specs.Machine.By.{Written, InForce}
 use Rattle.plans_machine.specs.Machine.Happening.{Does, Stores, Sends, Lands, Refetches}
 use Rattle.plans_machine.specs.Safe.{CanHappen, IsStart, IsTold}
 use Rattle.plans_machine.specs.Plans.{kvm_producers, kvm_leaves, put_numbers}
-use Rattle.plans_machine.specs.Rows.{to_memory, heeded, all_moved, numbers_taken, looked_early, looked_first, posted_first, told_early, told_shut, shut_again, shut_in_the_end, kvm_told_early}
+use Rattle.plans_machine.specs.Rows.{to_memory, unset, heeded, all_moved, numbers_taken, looked_early, looked_first, posted_first, told_early, looked_last, written_late, written_last, told_shut, shut_again, shut_in_the_end, kvm_told_early}
 
 abbrev if_pending : Bank → Bool → Bool → Bool
 if_pending Pending a b = a
@@ -27,9 +27,9 @@ abbrev nine_or_one : Number → ℕ
 nine_or_one Threshold = 9
 nine_or_one Delivery = 1
 
--- In the old place 3 is pending, 1 and 2 are enabled; in the new one is what `rest` says; threshold is 9 and delivery 1 in the old place, both are 7 in the hand.
-abbrev pub start : (Bank → ℕ → Bool) → Machine
-start rest = record {
+-- In the old place 3 is pending, 1 and 2 are enabled; in the new one is what `rest` says; threshold is 9 and delivery 1 in the old place, both are 7 in the hand; notices go to the host, or not.
+abbrev pub start : Bool → (Bank → ℕ → Bool) → Machine
+start goes rest = record {
   old = λ s i. if_pending s (nat_eq i 3) (nat_eq i 1 || nat_eq i 2);
   new = rest;
   hand = λ s i. false;
@@ -42,6 +42,7 @@ start rest = record {
   flights = [];
   freed = false;
   strayed = false;
+  noticed = goes;
   seen = false;
   told = false;
 }
@@ -49,14 +50,14 @@ start rest = record {
 abbrev pub nothing : Bank → ℕ → Bool
 nothing s i = false
 
-pub starts : (d : Setting) (rest : Bank → ℕ → Bool) → (d.is_fresh ≡ true → (s : Bank) (i : ℕ) → rest s i ≡ false) → IsStart d (start rest)
-starts d rest fresh = record { written = λ p declared. refl; in_force = λ p declared. refl; flights = tt; due = λ s i. refl; hand = λ s i. refl; fresh = fresh; freed = refl; strayed = refl }
+pub starts : (d : Setting) (rest : Bank → ℕ → Bool) → (d.is_fresh ≡ true → (s : Bank) (i : ℕ) → rest s i ≡ false) → IsStart d (start d.notices_go rest)
+starts d rest fresh = record { written = λ p declared. refl; in_force = λ p declared. refl; flights = tt; due = λ s i. refl; hand = λ s i. refl; fresh = fresh; freed = refl; strayed = refl; noticed = λ e. e }
 
 -- a run, all of whose happenings may happen, that leaves 1 untold
 untold_by : (d : Setting) (plan : List Step) (run : List Happening) → d.words ≡ 1 → steps_in run ≡ plan → AllByRecursion (CanHappen d) run
-    → stands_out d (all_happened d run (start nothing)).new (all_happened d run (start nothing)).new_number 1 ≡ true → (all_happened d run (start nothing)).told ≡ false → IsTold d plan → ⊥
+    → stands_out d (all_happened d run (start d.notices_go nothing)).new (all_happened d run (start d.notices_go nothing)).new_number 1 ≡ true → (all_happened d run (start d.notices_go nothing)).told ≡ false → IsTold d plan → ⊥
 untold_by d plan run one steps can out untold told =
-    false≢true (sym untold ∙ told (start nothing) run (starts d nothing (λ e s i. refl)) (record { steps = steps; others = can }) 1 (subst (λ w. 1 / 64 < w) (sym one) (omega arith)) out)
+    false≢true (sym untold ∙ told (start d.notices_go nothing) run (starts d nothing (λ e s i. refl)) (record { steps = steps; others = can }) 1 (subst (λ w. 1 / 64 < w) (sym one) (omega arith)) out)
 
 pub looked_early_leaves_untold : IsTold (to_memory) looked_early → ⊥
 looked_early_leaves_untold = untold_by (to_memory) looked_early (Does (Route 0) ∷ Does (Fence 0) ∷ Stores 0 Written 1 ∷ Does (Take Pending 0) ∷ Does (Join Pending 0) ∷ Does (Look 0) ∷ Does (Take Enabled 0) ∷ Does (Join Enabled 0) ∷ Does Post ∷ []) refl refl (tt, (tt, (omega arith, (tt, (tt, (tt, (tt, (tt, (tt, tt))))))))) refl refl
@@ -72,6 +73,15 @@ told_early_leaves_untold = untold_by (to_memory) told_early (Stores 0 InForce 1 
 
 pub untold_leaves_untold : IsTold (to_memory) all_moved → ⊥
 untold_leaves_untold = untold_by (to_memory) all_moved (Stores 0 InForce 1 ∷ Does (Route 0) ∷ Does (Fence 0) ∷ Does (Take Pending 0) ∷ Does (Join Pending 0) ∷ Does (Take Enabled 0) ∷ Does (Join Enabled 0) ∷ []) refl refl (omega arith, (tt, (tt, (tt, (tt, (tt, (tt, tt))))))) refl refl
+
+pub looked_last_leaves_untold : IsTold unset looked_last → ⊥
+looked_last_leaves_untold = untold_by unset looked_last (Does (Route 0) ∷ Does (Fence 0) ∷ Does (Take Pending 0) ∷ Does (Join Pending 0) ∷ Does (Take Enabled 0) ∷ Does (Join Enabled 0) ∷ Does (Look 0) ∷ Stores 0 InForce 1 ∷ Does Post ∷ []) refl refl (tt, (tt, (tt, (tt, (tt, (tt, (tt, (omega arith, (tt, tt))))))))) refl refl
+
+pub written_late_leaves_untold : IsTold unset written_late → ⊥
+written_late_leaves_untold = untold_by unset written_late (Does (Route 0) ∷ Does (Fence 0) ∷ Does (Take Pending 0) ∷ Does (Join Pending 0) ∷ Does (Take Enabled 0) ∷ Does (Join Enabled 0) ∷ Does (Look 0) ∷ Stores 0 InForce 1 ∷ Does WriteNotice ∷ Does Post ∷ []) refl refl (tt, (tt, (tt, (tt, (tt, (tt, (tt, (omega arith, (tt, (tt, tt)))))))))) refl refl
+
+pub written_last_leaves_untold : IsTold unset written_last → ⊥
+written_last_leaves_untold = untold_by unset written_last (Does (Route 0) ∷ Does (Fence 0) ∷ Does (Take Pending 0) ∷ Does (Join Pending 0) ∷ Does (Take Enabled 0) ∷ Does (Join Enabled 0) ∷ Does Tell ∷ Stores 0 InForce 1 ∷ Does WriteNotice ∷ []) refl refl (tt, (tt, (tt, (tt, (tt, (tt, (tt, (omega arith, (tt, tt))))))))) refl refl
 
 pub shut_again_leaves_untold : IsTold (heeded InNew) shut_again → ⊥
 shut_again_leaves_untold = untold_by (heeded InNew) shut_again (Does (Route 0) ∷ Does (Fence 0) ∷ Does (Take Pending 0) ∷ Does (Join Pending 0) ∷ Does (Take Enabled 0) ∷ Does (Join Enabled 0) ∷ Does (TakeNumber Threshold) ∷ Does (TakeNumber Delivery) ∷ Does (PutNumber Threshold) ∷ Does (PutNumber Delivery) ∷ Does Tell ∷ Does (ZeroNumber New Delivery) ∷ Stores 0 InForce 1 ∷ Does (PutNumber Delivery) ∷ []) refl refl (tt, (tt, (tt, (tt, (tt, (tt, (tt, (tt, (tt, (tt, (tt, (tt, (omega arith, (tt, tt)))))))))))))) refl refl

@@ -39,6 +39,8 @@ pub record Machine : Type 0 where
   -- whether the old place was given back, and whether anything reached it after that
   pub freed : Bool
   pub strayed : Bool
+  -- whether the notices of the new place go to the host
+  pub noticed : Bool
   -- whether a look saw something, and whether the host was told
   pub seen : Bool
   pub told : Bool
@@ -73,14 +75,15 @@ abbrev pub with_one : Bool → ℕ → Sets → Sets
 with_one here x sets t i = ((is_pending t && nat_eq x i) && here) || sets t i
 
 -- What a store for an identity makes of the machine as it lands: in the new place it tells the
--- host, if the identity is enabled there and let through.
+-- host, if notices go there and the identity is enabled in that place and let through.
 abbrev pub landed : Setting → Place → ℕ → Machine → Machine
 landed d place x z = record z {
   old = with_one (is_old place) x z.old;
   new = with_one (not (is_old place)) x z.new;
   due = with_one true x z.due;
   strayed = z.strayed || (is_old place && z.freed);
-  told = z.told || (not (is_old place) && (z.new Enabled x && lets_out d z.new_number x));
+  told = z.told
+      || (not (is_old place) && (z.noticed && (z.new Enabled x && lets_out d z.new_number x)));
 }
 
 -- The same of a store that was in flight.
@@ -170,7 +173,7 @@ stepped d (PutNumber n) z = record z {
 stepped d (Look w) z = record z { seen = z.seen || word_stands_out d z.new z.new_number w }
 stepped d Post z = record z { told = z.told || z.seen }
 stepped d Tell z = record z { told = z.told || any_stands_out d z.new z.new_number }
-stepped d WriteNotice z = z
+stepped d WriteNotice z = record z { noticed = true }
 stepped d Free z = record z { freed = true }
 
 -- ---- what may happen

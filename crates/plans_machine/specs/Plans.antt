@@ -91,6 +91,7 @@ kvm_moves producers words = record {
   is_fresh = false;
   in_memory = false;
   heeds = false;
+  notices_go = true;
   number_from = InOld;
   number_to = InNew;
 }
@@ -103,6 +104,7 @@ kvm_leaves producers words = record {
   is_fresh = true;
   in_memory = true;
   heeds = true;
+  notices_go = true;
   number_from = InOld;
   number_to = InNew;
 }

@@ -9,7 +9,7 @@ use Rattle.plans_machine.specs.declared.setting.Kind.TheVariants.{Routed}
 use Rattle.plans_machine.specs.declared.rule.Rule.{Rule}
 use Rattle.plans_machine.specs.declared.rule.Rule.TheVariants.{Notice}
 use Rattle.plans_machine.specs.declared.step.Step.{Step}
-use Rattle.plans_machine.specs.declared.step.Step.TheVariants.{Route, Fence, Switch, Zero, Take, Join, Put, ZeroNumber, TakeNumber, PutNumber, Look, Post, Tell, Free}
+use Rattle.plans_machine.specs.declared.step.Step.TheVariants.{Route, Fence, Switch, Zero, Take, Join, Put, ZeroNumber, TakeNumber, PutNumber, Look, Post, Tell, WriteNotice, Free}
 use Rattle.plans_machine.specs.Setting.{Setting}
 use Rattle.plans_machine.specs.Safe.{IsTold}
 use Rattle.plans_machine.specs.Rules.{accepts, broken}
@@ -48,6 +48,7 @@ plainly is_fresh = record {
   is_fresh = is_fresh;
   in_memory = false;
   heeds = false;
+  notices_go = true;
   number_from = InOld;
   number_to = InOld;
 }
@@ -59,6 +60,10 @@ with_numbers = record (plainly true) { number_to = InNew }
 -- To memory, with numbers that stay.
 abbrev pub to_memory : Setting
 to_memory = record (plainly true) { in_memory = true }
+
+-- The same with notices that go nowhere at the start.
+abbrev pub unset : Setting
+unset = record to_memory { notices_go = false }
 
 -- With numbers that move to memory, or into the hand, and are heeded there.
 abbrev pub heeded : Spot → Setting
@@ -190,6 +195,22 @@ told_early = lead ++ pending_moved ++ Tell ∷ enables_moved
 abbrev pub told_shut : List Step
 told_shut =
     all_moved ++ numbers_taken ++ PutNumber Threshold ∷ Tell ∷ PutNumber Delivery ∷ []
+
+-- It looks at all once all is there, and posts.
+abbrev pub looked_last : List Step
+looked_last = all_moved ++ Look 0 ∷ Post ∷ []
+
+-- It looks likewise, and writes then where notices go.
+abbrev pub written_late : List Step
+written_late = all_moved ++ Look 0 ∷ WriteNotice ∷ Post ∷ []
+
+-- It writes it once it has told.
+abbrev pub written_last : List Step
+written_last = all_moved ++ Tell ∷ WriteNotice ∷ []
+
+-- It writes it before it looks.
+abbrev pub written_first : List Step
+written_first = all_moved ++ WriteNotice ∷ Look 0 ∷ Post ∷ []
 
 -- It zeroes delivery after the tell, and puts it again.
 abbrev pub shut_again : List Step

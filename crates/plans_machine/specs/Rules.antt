@@ -17,7 +17,7 @@ use Rattle.plans_machine.specs.declared.setting.Kind.TheVariants.{Routed, Switch
 use Rattle.plans_machine.specs.declared.rule.Rule.{Rule}
 use Rattle.plans_machine.specs.declared.rule.Rule.TheVariants.{Routes, Blank, Words, Numbers, Freeing, Notice}
 use Rattle.plans_machine.specs.declared.step.Step.{Step}
-use Rattle.plans_machine.specs.declared.step.Step.TheVariants.{Route, Fence, Switch, Zero, Take, Join, Put, ZeroNumber, TakeNumber, PutNumber, Look, Post, Tell, Free}
+use Rattle.plans_machine.specs.declared.step.Step.TheVariants.{Route, Fence, Switch, Zero, Take, Join, Put, ZeroNumber, TakeNumber, PutNumber, Look, Post, Tell, WriteNotice, Free}
 use Rattle.plans_machine.specs.Setting.{Setting, same_number, same_spot, names, all_below, any_below}
 
 -- ---- what a step does
@@ -74,6 +74,11 @@ posts x = false
 abbrev pub tells : Step → Bool
 tells Tell = true
 tells x = false
+
+-- Whether it writes where notices go.
+abbrev pub writes_notice : Step → Bool
+writes_notice WriteNotice = true
+writes_notice x = false
 
 -- ---- what is reached after steps that are done
 
@@ -202,10 +207,16 @@ are_heeded d done = elim d.heeds [
   | false ↦ true
 ]
 
--- A word of both sets is moved for good, and what is heeded is there.
+-- Notices go to the host: from the start on, or since it was written where they go.
+abbrev pub is_noticed : Setting → Done → Bool
+is_noticed d [] = d.notices_go
+is_noticed d (x ∷ done) = writes_notice x || is_noticed d done
+
+-- A word of both sets is moved for good, what is heeded is there, and notices go to the host.
 abbrev pub is_settled : Setting → ℕ → Done → Bool
 is_settled d w done =
-    is_moved d Pending w done && (is_moved d Enabled w done && are_heeded d done)
+    is_moved d Pending w done
+    && (is_moved d Enabled w done && (are_heeded d done && is_noticed d done))
 
 -- A word was looked at once it was settled.
 abbrev pub is_looked : Setting → ℕ → Done → Bool

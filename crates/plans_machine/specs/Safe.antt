@@ -36,9 +36,10 @@ pub record IsRun (d : Setting) (plan : List Step) (run : List Happening) : Type 
   pub others : AllByRecursion (CanHappen d) run
 
 -- How a run begins. All leads to the old place, and so does what is in flight, of routed producers
--- alone; what stands there is due; the hand is empty, and the old place is not given back. What
--- stands in the old place, and in a new one that is not fresh, the numbers, what is in flight, and
--- what was seen or told before, are free.
+-- alone; what stands there is due; the hand is empty, and the old place is not given back; notices
+-- go to the host where that is declared. What stands in the old place, and in a new one that is not
+-- fresh, the numbers, what is in flight, what was seen or told before, and where notices go that
+-- were not declared to go, are free.
 pub record IsStart (d : Setting) (z : Machine) : Type 0 where
   pub written : (p : ℕ) → IsProducer d p → z.written p ≡ Old
   pub in_force : (p : ℕ) → IsProducer d p → z.in_force p ≡ Old
@@ -49,6 +50,7 @@ pub record IsStart (d : Setting) (z : Machine) : Type 0 where
   pub fresh : d.is_fresh ≡ true → (s : Bank) (i : ℕ) → z.new s i ≡ false
   pub freed : z.freed ≡ false
   pub strayed : z.strayed ≡ false
+  pub noticed : d.notices_go ≡ true → z.noticed ≡ true
 
 -- What a number is in a spot.
 abbrev pub number_in : Spot → Number → Machine → ℕ

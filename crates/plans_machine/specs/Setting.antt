@@ -23,6 +23,8 @@ pub record Setting : Type 0 where
   pub in_memory : Bool
   -- whether a notice there heeds delivery and threshold
   pub heeds : Bool
+  -- whether the notices of the new place go to the host from the start on
+  pub notices_go : Bool
   -- where threshold and delivery are at the start, and where they have to be at the end
   pub number_from : Spot
   pub number_to : Spot
@@ -35,6 +37,7 @@ setting_of producers terms = record {
   is_fresh = terms.is_fresh;
   in_memory = terms.in_memory;
   heeds = terms.heeds;
+  notices_go = terms.notices_go;
   number_from = terms.number_from;
   number_to = terms.number_to;
 }

@@ -32,6 +32,9 @@ pub struct Terms {
     /// Whether a notice there heeds delivery and threshold.
     pub heeds: bool,
 
+    /// Whether the notices of the new place go to the host from the start on.
+    pub notices_go: bool,
+
     /// Where the numbers are at the start.
     pub number_from: Spot,
 

@@ -72,7 +72,7 @@ pub enum Step {
     /// Tells the host, if something stands out anywhere in the new place.
     Tell,
 
-    /// Writes where the notices of the new place go: to the host.
+    /// Writes where the notices of the new place go: to the host, from now on.
     WriteNotice,
 
     /// Gives the old place back.

@@ -203,6 +203,7 @@ begins_well producers terms run fresh may = record {
   fresh = λ e s i. none_new (begins_new run.begin) terms.is_fresh run.case.bank run.case.identity s i fresh e;
   freed = refl;
   strayed = refl;
+  noticed = λ e. e;
 }
 
 extra_steps : (run : Run) (k : ℕ) → steps_in (extra_at run k) ≡ []

@@ -15,6 +15,7 @@ use Rattle.plans_machine.specs.declared.setting.Terms.{Terms}
 use Rattle.plans_machine.specs.Setting.{Setting, setting_of, is_old, names}
 use Rattle.plans_machine.specs.Machine.{Machine, Sets, landed, all_landed, flights_of, all_happened, stepped, with_one}
 use Rattle.plans_machine.specs.Machine.Happening.{Does, Stores}
+use Rattle.plans_machine.specs.Rules.{writes_notice}
 use Rattle.plans_machine.specs.Safe.{IsStart}
 use Rattle.plans_machine.proofs.BoolLaws.{and_left, and_right, and_false_right, not_true, or_false}
 use Rattle.plans_machine.proofs.Exact.{still_none}
@@ -45,8 +46,9 @@ watched_landed : (producers : List Kind) (terms : Terms) (u : UntoldRun) (place 
 watched_landed producers terms u place w z v = record {
   pending = follows_landed (setting_of producers terms) (pending_bit u.identity (producer_of u.store)) place w.pending z v.pending;
   enabled = follows_landed (setting_of producers terms) (enabled_bit u.identity (producer_of u.store)) place w.enabled z v.enabled;
+  noticed = v.noticed;
   seen = v.seen;
-  told = ap₂ (λ a b. a || (not (is_old place) && b)) v.told (ap₂ (λ e l. e && l) v.enabled.new (lets_same producers terms u w z v));
+  told = ap₂ (λ a b. a || (not (is_old place) && b)) v.told (ap₂ (λ n b. n && b) v.noticed (ap₂ (λ e l. e && l) v.enabled.new (lets_same producers terms u w z v)));
   old = alone_landed u.identity (is_old place) z.old v.old;
   new = alone_landed u.identity (not (is_old place)) z.new v.new;
   hand = v.hand;
@@ -76,6 +78,15 @@ told_after producers terms u (steps.Zero New s k) w z inside v = v.told ∙ or_n
 told_after producers terms u (steps.ZeroNumber Old n) w z inside v = v.told ∙ or_nothing w.told
 told_after producers terms u (steps.ZeroNumber New n) w z inside v = v.told ∙ or_nothing w.told
 told_after producers terms u x w z inside v = v.told ∙ or_nothing w.told
+
+noticed_after : (producers : List Kind) (terms : Terms) (u : UntoldRun) (x : Step) (w : Watch) (z : Machine) → IsWatched u w z → (stepped (setting_of producers terms) x z).noticed ≡ (writes_notice x || w.noticed)
+noticed_after producers terms u steps.WriteNotice w z v = refl
+noticed_after producers terms u (steps.Fence p) w z v = ap (λ (y : Machine). y.noticed) (fenced (setting_of producers terms) p z v.flights) ∙ v.noticed
+noticed_after producers terms u (steps.Zero Old s k) w z v = v.noticed
+noticed_after producers terms u (steps.Zero New s k) w z v = v.noticed
+noticed_after producers terms u (steps.ZeroNumber Old n) w z v = v.noticed
+noticed_after producers terms u (steps.ZeroNumber New n) w z v = v.noticed
+noticed_after producers terms u x w z v = v.noticed
 
 old_after : (producers : List Kind) (terms : Terms) (u : UntoldRun) (x : Step) (w : Watch) (z : Machine) → IsWatched u w z → IsAlone u.identity (stepped (setting_of producers terms) x z).old
 old_after producers terms u (steps.Fence p) w z v = λ j other. ap (λ (y : Machine). y.old Pending j) (fenced (setting_of producers terms) p z v.flights) ∙ v.old j other
@@ -111,6 +122,7 @@ watched_step : (producers : List Kind) (terms : Terms) (u : UntoldRun) (x : Step
 watched_step producers terms u x w z inside v = record {
   pending = follows_step (setting_of producers terms) (pending_bit u.identity (producer_of u.store)) x w.pending z v.pending;
   enabled = follows_step (setting_of producers terms) (enabled_bit u.identity (producer_of u.store)) x w.enabled z v.enabled;
+  noticed = noticed_after producers terms u x w z v;
   seen = seen_after producers terms u x w z v;
   told = told_after producers terms u x w z inside v;
   old = old_after producers terms u x w z v;
@@ -121,10 +133,11 @@ watched_step producers terms u x w z inside v = record {
 
 -- ---- a whole run
 
-watched_begun : (u : UntoldRun) → IsWatched u (watch_begun u) (untold_start u)
-watched_begun u = record {
+watched_begun : (producers : List Kind) (terms : Terms) (u : UntoldRun) → IsWatched u (watch_begun terms u) (untold_start (setting_of producers terms) u)
+watched_begun producers terms u = record {
   pending = record { old = itself (is_unstored u.store); new = refl; hand = refl; due = itself (is_unstored u.store); old_number = refl; new_number = refl; hand_number = refl; written = refl; in_force = refl; flights = refl; freed = refl; strayed = refl };
   enabled = record { old = itself true; new = refl; hand = refl; due = itself true; old_number = refl; new_number = refl; hand_number = refl; written = refl; in_force = refl; flights = refl; freed = refl; strayed = refl };
+  noticed = refl;
   seen = refl;
   told = refl;
   old = λ j other. and_false_right (is_unstored u.store) _ (ne_eqb u.identity j other);
@@ -160,18 +173,18 @@ watched_one producers terms u None w z inside v = v
 watched_one producers terms u (Some x) w z inside v = watched_step producers terms u x w z inside v
 
 watched_upto : (producers : List Kind) (terms : Terms) (plan : List Step) (u : UntoldRun) (k : ℕ) → u.identity / 64 < terms.words
-    → IsWatched u (watch_upto terms plan u k) (all_happened (setting_of producers terms) (run_upto plan (run_in u) k) (untold_start u))
-watched_upto producers terms plan u zero inside = watched_begun u
+    → IsWatched u (watch_upto terms plan u k) (all_happened (setting_of producers terms) (run_upto plan (run_in u) k) (untold_start (setting_of producers terms) u))
+watched_upto producers terms plan u zero inside = watched_begun producers terms u
 watched_upto producers terms plan u (suc k) inside =
     let d : Setting = setting_of producers terms in
-    let before : Machine = all_happened d (run_upto plan (run_in u) k) (untold_start u) in
-    subst (IsWatched u (watch_upto terms plan u (suc k))) (sym (all_happened-append d (run_upto plan (run_in u) k) (extra_at (run_in u) k ++ step_at plan k) (untold_start u) ∙ all_happened-append d (extra_at (run_in u) k) (step_at plan k) before))
+    let before : Machine = all_happened d (run_upto plan (run_in u) k) (untold_start (setting_of producers terms) u) in
+    subst (IsWatched u (watch_upto terms plan u (suc k))) (sym (all_happened-append d (run_upto plan (run_in u) k) (extra_at (run_in u) k ++ step_at plan k) (untold_start (setting_of producers terms) u) ∙ all_happened-append d (extra_at (run_in u) k) (step_at plan k) before))
     (watched_one producers terms u (slice_get plan k) _ _ inside (watched_extra producers terms u k _ before (watched_upto producers terms plan u k inside)))
 
 pub watched_whole : (producers : List Kind) (terms : Terms) (plan : List Step) (u : UntoldRun) → u.identity / 64 < terms.words → IsWatched u (watch_end terms plan u) (untold_end (setting_of producers terms) plan u)
 watched_whole producers terms plan u inside =
     let d : Setting = setting_of producers terms in
-    subst (IsWatched u (watch_end terms plan u)) (sym (all_happened-append d (run_upto plan (run_in u) (length plan)) (extra_at (run_in u) (length plan)) (untold_start u)))
+    subst (IsWatched u (watch_end terms plan u)) (sym (all_happened-append d (run_upto plan (run_in u) (length plan)) (extra_at (run_in u) (length plan)) (untold_start (setting_of producers terms) u)))
     (watched_extra producers terms u (length plan) _ _ (watched_upto producers terms plan u (length plan) inside))
 
 watched_more : (terms : Terms) (plan : List Step) (u : UntoldRun) (k : ℕ) (x : Step) → k < length plan
@@ -189,7 +202,7 @@ watched_next terms plan u k p x w r y low e f g h =
 
 -- ---- it leaves the host untold
 
-begins_untold : (d : Setting) (u : UntoldRun) → IsStart d (untold_start u)
+begins_untold : (d : Setting) (u : UntoldRun) → IsStart d (untold_start d u)
 begins_untold d u = record {
   written = λ p is. refl;
   in_force = λ p is. refl;
@@ -199,6 +212,7 @@ begins_untold d u = record {
   fresh = λ e s i. refl;
   freed = refl;
   strayed = refl;
+  noticed = λ e. e;
 }
 
 may_store : (producers : List Kind) (u : UntoldRun) → can_store u.store (length producers) ≡ true → MayStore producers (run_in u) (extra_of u.store) ≡ true
@@ -257,7 +271,7 @@ before_leaves producers terms plan word producer before = either _ _ _ (numbers_
 
 by_leaves : (producers : List Kind) (terms : Terms) (plan : List Step) (word producer : ℕ) → IfFound (LeavesUntold (setting_of producers terms) plan) (stored_by producers terms plan word producer)
 unfolding stored_by
-by_leaves producers terms plan word producer = first _ _ 0 (length plan) (λ k. before_leaves producers terms plan word producer k)
+by_leaves producers terms plan word producer = first _ _ 0 (length plan + 1) (λ k. before_leaves producers terms plan word producer k)
 
 word_leaves : (producers : List Kind) (terms : Terms) (plan : List Step) (word : ℕ) → IfFound (LeavesUntold (setting_of producers terms) plan) (untold_word producers terms plan word)
 unfolding untold_word

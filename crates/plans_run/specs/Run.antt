@@ -50,6 +50,7 @@ start_of d run = record {
   flights = flights_by run.case (first_flight run.extra);
   freed = false;
   strayed = false;
+  noticed = d.notices_go;
   seen = false;
   told = false;
 }

@@ -15,6 +15,7 @@ use Rattle.plans_machine.specs.declared.setting.Spot.TheVariants.{InOld, InHand,
 use Rattle.plans_machine.specs.declared.setting.Terms.{Terms}
 use Rattle.plans_machine.specs.Setting.{Setting, is_old, same_spot}
 use Rattle.plans_machine.specs.Machine.{Machine, Sets, all_happened, stands_out}
+use Rattle.plans_machine.specs.Rules.{writes_notice}
 use Rattle.plans_machine.specs.Safe.{HostKnows, IsRun, IsStart}
 use Rattle.plans_run.specs.declared.trace.Begin.{Begin}
 use Rattle.plans_run.specs.declared.trace.Begin.TheVariants as begins
@@ -98,9 +99,10 @@ stands_first u Pending = is_unstored u.store
 stands_first u Enabled = true
 
 -- The identity is enabled in the old place, and is pending there where no store asks for it; no
--- other one stands anywhere; all leads to the old place.
-abbrev pub untold_start : UntoldRun → Machine
-untold_start u = record {
+-- other one stands anywhere; all leads to the old place; notices go to the host only where that is
+-- declared.
+abbrev pub untold_start : Setting → UntoldRun → Machine
+untold_start d u = record {
   old = λ s i. stands_first u s && nat_eq u.identity i;
   new = λ s i. false;
   hand = λ s i. false;
@@ -113,6 +115,7 @@ untold_start u = record {
   flights = [];
   freed = false;
   strayed = false;
+  noticed = d.notices_go;
   seen = false;
   told = false;
 }
@@ -121,12 +124,12 @@ untold_start u = record {
 
 -- The machine at the end of the run.
 abbrev pub untold_end : Setting → List Step → UntoldRun → Machine
-untold_end d plan u = all_happened d (happenings plan (run_in u)) (untold_start u)
+untold_end d plan u = all_happened d (happenings plan (run_in u)) (untold_start d u)
 
 -- It is a run of the machine from a start, the identity stands out in the new place at its end, and
 -- the host was not told: so the host does not know.
 pub record LeavesUntold (d : Setting) (plan : List Step) (u : UntoldRun) : Type 0 where
-  pub begins : IsStart d (untold_start u)
+  pub begins : IsStart d (untold_start d u)
   pub happens : IsRun d plan (happenings plan (run_in u))
   pub stands : stands_out d (untold_end d plan u).new (untold_end d plan u).new_number u.identity
       ≡ true
@@ -154,12 +157,13 @@ trace_from is_there old_number hand_number new_number = record {
 }
 
 -- All that is followed, at the start.
-abbrev pub watch_begun : UntoldRun → Watch
-watch_begun u = record {
+abbrev pub watch_begun : Terms → UntoldRun → Watch
+watch_begun terms u = record {
   pending = trace_from (is_unstored u.store) (not (is_spot u.threshold InOld))
       (not (is_spot u.threshold InHand)) (not (is_spot u.threshold InNew));
   enabled = trace_from true (same_spot u.delivery InOld) (same_spot u.delivery InHand)
       (same_spot u.delivery InNew);
+  noticed = terms.notices_go;
   seen = false;
   told = false;
 }
@@ -175,13 +179,15 @@ abbrev pub watch_out : Terms → ℕ → Watch → Bool
 watch_out terms identity w = w.pending.new && (w.enabled.new && watch_lets terms identity w)
 
 -- A store of a producer for the identity lands in a place: the host is told, where it then stands
--- out in the new one.
+-- out in the new one, and notices go to the host.
 abbrev pub watch_landed : Terms → ℕ → ℕ → Place → Watch → Watch
 watch_landed terms identity producer place w = record {
   pending = trace_landed (pending_bit identity producer) place w.pending;
   enabled = trace_landed (enabled_bit identity producer) place w.enabled;
+  noticed = w.noticed;
   seen = w.seen;
-  told = w.told || (not (is_old place) && (w.enabled.new && watch_lets terms identity w));
+  told = w.told
+      || (not (is_old place) && (w.noticed && (w.enabled.new && watch_lets terms identity w)));
 }
 
 -- Where a store goes by a route.
@@ -220,6 +226,7 @@ abbrev pub watch_after : Terms → ℕ → ℕ → Step → Watch → Watch
 watch_after terms identity producer step w = record {
   pending = trace_after (pending_bit identity producer) step w.pending;
   enabled = trace_after (enabled_bit identity producer) step w.enabled;
+  noticed = writes_notice step || w.noticed;
   seen = w.seen || watch_sees terms identity step w;
   told = w.told || watch_tells terms identity step w;
 }
@@ -232,7 +239,7 @@ watch_stepped terms u (Some step) w =
 
 -- What is followed with so many steps done.
 abbrev pub watch_upto : Terms → List Step → UntoldRun → ℕ → Watch
-watch_upto terms plan u zero = watch_begun u
+watch_upto terms plan u zero = watch_begun terms u
 watch_upto terms plan u (suc k) =
     watch_stepped terms u (slice_get plan k) (watch_extra terms u k (watch_upto terms plan u k))
 
@@ -267,6 +274,7 @@ IsAlone identity sets = (i : ℕ) → (identity ≡ i → ⊥) → sets Pending 
 pub record IsWatched (u : UntoldRun) (w : Watch) (z : Machine) : Type 0 where
   pub pending : Follows (pending_bit u.identity (producer_of u.store)) w.pending z
   pub enabled : Follows (enabled_bit u.identity (producer_of u.store)) w.enabled z
+  pub noticed : z.noticed ≡ w.noticed
   pub seen : z.seen ≡ w.seen
   pub told : z.told ≡ w.told
   pub old : IsAlone u.identity z.old

@@ -62,10 +62,11 @@ stored_before producers terms plan word producer before =
       route = Written;
     })))
 
--- The first such run with a store of a producer that comes before one of the steps.
+-- The first such run with a store of a producer that comes before one of the steps, or behind the
+-- last one.
 unfoldable pub stored_by : List Kind → Terms → List Step → ℕ → ℕ → Option UntoldRun
 stored_by producers terms plan word producer =
-    first_of (stored_before producers terms plan word producer) 0 (length plan)
+    first_of (stored_before producers terms plan word producer) 0 (length plan + 1)
 
 -- The first such run of a word, without a store or with one.
 unfoldable pub untold_word : List Kind → Terms → List Step → ℕ → Option UntoldRun

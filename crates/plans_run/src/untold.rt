@@ -88,8 +88,8 @@ fn can_store(store: Option<Store>, producers: usize) -> bool
 
 impl UntoldRun {
     /// Gives what is followed at the start.
-    fn begun(self) -> Watch
-        ensures { result ≡ watch_begun self }
+    fn begun(self, terms: Terms) -> Watch
+        ensures { result ≡ watch_begun terms self }
     {
         let is_there = match self.store {
             None => true,
@@ -108,6 +108,7 @@ impl UntoldRun {
                 self.delivery == Spot::InHand,
                 self.delivery == Spot::InNew,
             ),
+            noticed: terms.notices_go,
             seen: false,
             told: false,
         }
@@ -144,7 +145,7 @@ impl UntoldRun {
             → IsWatched self result (untold_end (setting_of producers terms) plan.now self) }
     {
         let producer = producer_of(self.store);
-        let mut watch = self.begun();
+        let mut watch = self.begun(terms);
         for at in 0..plan.len() {
             let reached = self.extra(terms, watch, at);
             watch = reached.after(terms, self.identity, producer, plan[at]);

@@ -110,7 +110,8 @@ fn stored_before(
     untold_with_numbers(producers, terms, plan, word, Some(by_written))
 }
 
-/// Looks for an untold run with a store of a producer between any two steps. `None`: there is none.
+/// Looks for an untold run with a store of a producer before any of the steps, or behind the last
+/// one. `None`: there is none.
 #[tactic(auto, unfolding(crate::specs::UntoldSearch::stored_by))]
 fn stored_by(
     producers: &[Kind],
@@ -123,7 +124,7 @@ fn stored_by(
     ensures untold { IfSome result
         (λ run. LeavesUntold (setting_of producers.now terms) plan.now run) }
 {
-    for before in 0..plan.len() {
+    for before in 0..plan.len() + 1 {
         match stored_before(producers, terms, plan, word, producer, before) {
             Some(run) => return Some(run),
             None => {}

@@ -1,6 +1,7 @@
 //! What a run does to one identity, and what the host is told of it.
 
 ghost use Rattle.std.specs.Prelude.{◌≡◌};
+ghost use Rattle.plans_machine.specs.Rules as rules;
 ghost use Rattle.plans_run.specs.Untold.{enabled_bit, pending_bit, watch_sees, watch_tells, watch_after, watch_landed, watch_lets, watch_out, watch_route};
 ghost use Rattle.plans_run.specs.Trace.{trace_after};
 
@@ -8,11 +9,12 @@ use crate::trace::{Case, Route, Trace};
 use plans_machine::{Bank, Number, Place, Step, Terms};
 
 /// What is followed of an identity: its pending bit and the threshold, its enable and delivery,
-/// whether a look saw it, and whether the host was told.
+/// whether notices go to the host, whether a look saw it, and whether the host was told.
 #[derive(Clone, Copy)]
 pub(crate) struct Watch {
     pub(crate) pending: Trace,
     pub(crate) enabled: Trace,
+    pub(crate) noticed: bool,
     pub(crate) seen: bool,
     pub(crate) told: bool,
 }
@@ -38,6 +40,16 @@ pub(crate) fn enabled_bit(identity: u64, producer: usize) -> Case
         identity,
         number: Number::Delivery,
         producer,
+    }
+}
+
+/// Tells whether a step writes where notices go.
+fn writes_notice(step: Step) -> bool
+    ensures { result ≡ rules.writes_notice step }
+{
+    match step {
+        Step::WriteNotice => true,
+        _ => false,
     }
 }
 
@@ -70,10 +82,12 @@ impl Watch {
     pub(crate) fn landed(self, terms: Terms, identity: u64, producer: usize, place: Place) -> Watch
         ensures { result ≡ watch_landed terms identity producer place self }
     {
-        let is_told = place != Place::Old && self.enabled.new && self.lets(terms, identity);
+        let is_out = self.enabled.new && self.lets(terms, identity);
+        let is_told = place != Place::Old && self.noticed && is_out;
         Watch {
             pending: self.pending.landed(pending_bit(identity, producer), place),
             enabled: self.enabled.landed(enabled_bit(identity, producer), place),
+            noticed: self.noticed,
             seen: self.seen,
             told: self.told || is_told,
         }
@@ -107,6 +121,7 @@ impl Watch {
         Watch {
             pending: self.pending.after(pending_bit(identity, producer), step),
             enabled: self.enabled.after(enabled_bit(identity, producer), step),
+            noticed: writes_notice(step) || self.noticed,
             seen: self.seen || self.sees(terms, identity, step),
             told: self.told || self.tells(terms, identity, step),
         }

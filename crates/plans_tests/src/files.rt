@@ -68,6 +68,47 @@ enabled in the new place, and the host was not told\n"
     Ok(())
 }
 
+/// A plan into memory whose notices go nowhere at the start, up to where all is there.
+const UNSET: &[u8] = b"fresh\nmemory\nnotices unset\nproducer routed\nnumbers old old\nroute 0\n\
+fence 0\ntake pending 0\njoin pending 0\ntake enabled 0\njoin enabled 0\n";
+
+/// What is answered of such a plan with a store behind line 12 that nobody is told of.
+const UNTOLD_BEHIND_LINE_12: &[u8] = b"refused notice in the end\n  run: identity 1 is enabled in \
+the old place at the start; producer 0 stores it behind line 12 by its route in force; in the end \
+it is pending and enabled in the new place, and the host was not told\n";
+
+/// Tells whether such a plan that goes on by other steps is answered so.
+fn is_answered(alloc: Global, steps: &[u8], answer: &[u8]) -> Result<bool, AllocError> {
+    let mut file = Vec::new(alloc);
+    file.extend_from_slice(UNSET)?;
+    file.extend_from_slice(steps)?;
+    let found = answers(alloc, &file)?;
+    Ok(found.text.as_slice() == answer)
+}
+
+#[test]
+fn where_notices_go_nowhere_a_store_behind_the_look_is_untold(rt: HostRuntime) -> Result<(), Fail> {
+    let never = is_answered(rt.alloc(), b"look 0\npost\n", UNTOLD_BEHIND_LINE_12)?;
+    assert!(rt; never);
+    let late = b"look 0\nwrite notice\npost\n";
+    let is_late = is_answered(rt.alloc(), late, UNTOLD_BEHIND_LINE_12)?;
+    assert!(rt; is_late);
+    let first = is_answered(rt.alloc(), b"write notice\nlook 0\npost\n", b"accepted\n")?;
+    assert!(rt; first);
+    Ok(())
+}
+
+#[test]
+fn and_so_is_one_behind_the_last_step(rt: HostRuntime) -> Result<(), Fail> {
+    let never = is_answered(rt.alloc(), b"tell\n", UNTOLD_BEHIND_LINE_12)?;
+    assert!(rt; never);
+    let late = is_answered(rt.alloc(), b"tell\nwrite notice\n", UNTOLD_BEHIND_LINE_12)?;
+    assert!(rt; late);
+    let first = is_answered(rt.alloc(), b"write notice\ntell\n", b"accepted\n")?;
+    assert!(rt; first);
+    Ok(())
+}
+
 /// One that puts a threshold which is heeded after it tells.
 const PUT_LATE: &[u8] = b"fresh\nmemory\nheeds\ntake threshold\ntake delivery\nput delivery\n\
 take pending 0\njoin pending 0\ntake enabled 0\njoin enabled 0\ntell\nput threshold\n";
@@ -145,6 +186,9 @@ fn lines_are_read(rt: HostRuntime) {
     assert!(rt; parse_line(b"write notice") == Reading::Line(Line::Step(Step::WriteNotice)));
     assert!(rt; parse_line(b"write") == Reading::Bad);
     assert!(rt; parse_line(b"write notice 0") == Reading::Bad);
+    assert!(rt; parse_line(b"notices unset # yet") == Reading::Line(Line::NoticesUnset));
+    assert!(rt; parse_line(b"notices") == Reading::Bad);
+    assert!(rt; parse_line(b"notices set") == Reading::Bad);
 }
 
 #[test]
@@ -154,6 +198,7 @@ fn a_plan_that_forgets_its_words_is_refused_in_the_end(rt: HostRuntime) -> Resul
         is_fresh: true,
         in_memory: false,
         heeds: false,
+        notices_go: true,
         number_from: Spot::InOld,
         number_to: Spot::InOld,
     };

@@ -41,6 +41,7 @@ as_after given text (readings.Line (lines.Words n)) r = line_after given text (l
 as_after given text (readings.Line lines.Fresh) r = line_after given text lines.Fresh r
 as_after given text (readings.Line lines.Memory) r = line_after given text lines.Memory r
 as_after given text (readings.Line lines.Heeds) r = line_after given text lines.Heeds r
+as_after given text (readings.Line lines.NoticesUnset) r = line_after given text lines.NoticesUnset r
 as_after given text (readings.Line (lines.Numbers from to)) r = line_after given text (lines.Numbers from to) r
 as_after given text (readings.Line (lines.Producer kind)) r = line_after given text (lines.Producer kind) r
 as_after given text (readings.Line (lines.Step step)) r = line_after given text (lines.Step step) r

@@ -62,14 +62,15 @@ pub record Plan : Type 0 where
   -- where each step was read
   pub places : List Place
 
--- What is declared where nothing is: one word, a place that is no memory and may hold anything, and
--- numbers that move from the old place to the new one.
+-- What is declared where nothing is: one word, a place that is no memory and may hold anything,
+-- notices that go to the host, and numbers that move from the old place to the new one.
 abbrev pub first_terms : Terms
 first_terms = record {
   words = 1;
   is_fresh = false;
   in_memory = false;
   heeds = false;
+  notices_go = true;
   number_from = InOld;
   number_to = InNew;
 }
@@ -99,6 +100,7 @@ terms_with (lines.Words n) terms =
 terms_with lines.Fresh terms = Some (record terms { is_fresh = true })
 terms_with lines.Memory terms = Some (record terms { in_memory = true })
 terms_with lines.Heeds terms = Some (record terms { heeds = true })
+terms_with lines.NoticesUnset terms = Some (record terms { notices_go = false })
 terms_with (lines.Numbers from to) terms = Some (record terms {
   number_from = from;
   number_to = to;

@@ -259,6 +259,17 @@ numbers_at text = do
   to ← spot_named second.0
   at_end second.1 (lines.Numbers from to)
 
+-- The declaration that the word behind `notices` makes.
+abbrev pub unset_named : Text → Option Line
+unset_named word = if bytes_eq word (codes "unset") then Some lines.NoticesUnset else None
+
+-- What follows `notices`.
+unfoldable pub notices_at : Text → Option Line
+notices_at text = do
+  word ← next_word text
+  line ← unset_named word.0
+  at_end word.1 line
+
 -- A line that is one word, by that and the text behind it.
 abbrev pub flag_named : Text → Text → Option Line
 flag_named name text =
@@ -272,7 +283,8 @@ abbrev pub declaration_named : Text → Text → Option Line
 declaration_named name text =
     if bytes_eq name (codes "words") then words_at text
     else if bytes_eq name (codes "producer") then producer_at text
-    else if bytes_eq name (codes "numbers") then numbers_at text else flag_named name text
+    else if bytes_eq name (codes "numbers") then numbers_at text
+    else if bytes_eq name (codes "notices") then notices_at text else flag_named name text
 
 -- A step as a line.
 abbrev pub step_line : Option Step → Option Line

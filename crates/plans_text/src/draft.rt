@@ -45,6 +45,7 @@ fn first_terms() -> Terms
         is_fresh: false,
         in_memory: false,
         heeds: false,
+        notices_go: true,
         number_from: Spot::InOld,
         number_to: Spot::InNew,
     }
@@ -73,6 +74,10 @@ fn terms_with(line: Line, terms: Terms) -> Option<Terms>
         }),
         Line::Heeds => Some(Terms {
             heeds: true,
+            ..terms
+        }),
+        Line::NoticesUnset => Some(Terms {
+            notices_go: false,
             ..terms
         }),
         Line::Numbers(number_from, number_to) => Some(Terms {

@@ -21,6 +21,9 @@ pub enum Line {
     /// `heeds`: a notice heeds delivery and threshold there.
     Heeds,
 
+    /// `notices unset`: the notices of the new place go nowhere at the start.
+    NoticesUnset,
+
     /// `numbers FROM TO`: where threshold and delivery are, and have to be.
     Numbers(Spot, Spot),
 

@@ -249,6 +249,27 @@ fn numbers_at(text: &[u8]) -> Option<Line>
     at_end(rest, Line::Numbers(from, to))
 }
 
+/// Gives the declaration that the word behind `notices` makes. `None`: it makes none.
+fn unset_named(word: &[u8]) -> Option<Line>
+    ensures { result ≡ reading.unset_named word.now }
+{
+    if word == b"unset".as_slice() {
+        Some(Line::NoticesUnset)
+    } else {
+        None
+    }
+}
+
+/// Reads what is declared of notices. `None`: it is nothing.
+#[tactic(auto, unfolding(crate::specs::Reading::notices_at))]
+fn notices_at(text: &[u8]) -> Option<Line>
+    ensures { result ≡ reading.notices_at text.now }
+{
+    let (word, rest) = next_word(text)?;
+    let line = unset_named(word)?;
+    at_end(rest, line)
+}
+
 /// Reads a declaration of one word, or the begin of a plan. `None`: they spell none.
 fn flag_named(name: &[u8], text: &[u8]) -> Option<Line>
     ensures { result ≡ reading.flag_named name.now text.now }
@@ -276,6 +297,8 @@ fn declaration_named(name: &[u8], text: &[u8]) -> Option<Line>
         producer_at(text)
     } else if name == b"numbers".as_slice() {
         numbers_at(text)
+    } else if name == b"notices".as_slice() {
+        notices_at(text)
     } else {
         flag_named(name, text)
     }

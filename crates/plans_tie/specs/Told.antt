@@ -63,7 +63,8 @@ abbrev pub number_at : Spot → End → Spot
 number_at in_file File = in_file
 number_at in_file Memory = InHand
 
--- What is declared for such a move.
+-- What is declared for such a move: where memory is the new place, its notices go nowhere until it
+-- is written where they go.
 abbrev pub told_setting : End → End → ℕ → Setting
 told_setting from to words = record {
   producers = our_producers;
@@ -71,6 +72,7 @@ told_setting from to words = record {
   is_fresh = true;
   in_memory = not (is_file to);
   heeds = false;
+  notices_go = is_file to;
   number_from = number_at InOld from;
   number_to = number_at InNew to;
 }

@@ -53,6 +53,7 @@ shape_setting words = record {
   is_fresh = true;
   in_memory = false;
   heeds = false;
+  notices_go = true;
   number_from = InOld;
   number_to = InOld;
 }
