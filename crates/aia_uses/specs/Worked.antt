@@ -2,6 +2,9 @@
 use Rattle.std.specs.Prelude.{ℕ, zero, suc, [], ◌∷◌, Some}
 use Rattle.aia_regs.specs.declared.access.Csr.TheVariants.{Select, Reg}
 use Rattle.aia_regs.specs.declared.access.Op.TheVariants.{Write}
+use Rattle.aia_home.specs.declared.end.End.TheVariants.{File, Memory}
+use Rattle.aia_home.specs.declared.access.Access.TheVariants.{Fence}
+use Rattle.aia_home.specs.Plans.{plan_step, plan_steps}
 use Rattle.aia_home.specs.Vms.{vcpu}
 use Rattle.aia_model.specs.declared.line.Line.TheVariants as lines
 use Rattle.aia_model.specs.declared.msi.Msi.{Msi}
@@ -22,7 +25,7 @@ made = Accepted (lines.Vm 2 8 0) ∷ Accepted (lines.Machine 1 1 63 1) ∷ []
 abbrev pub enabled : History
 enabled =
     Accepted (lines.GuestCsr 0 0 Reg (Write 2)) ∷ Accepted (lines.GuestCsr 0 0 Select (Write 0xc0))
-    ∷ stepped_on 10 (Began (Arrives (vcpu 0 0) 0) ∷ made)
+    ∷ stepped_on (plan_steps Memory File 1) (Began (Arrives (vcpu 0 0) 0) ∷ made)
 
 -- It is asked for 1.
 abbrev pub asked : History
@@ -36,18 +39,19 @@ selected = Accepted (lines.GuestCsr 0 0 Select (Write 0x80)) ∷ asked
 -- flight to it.
 abbrev pub in_flight : History
 in_flight =
-    Accepted (lines.Send 0 0x28000000 1) ∷ stepped_on 3 (Began (Leaves (vcpu 0 0)) ∷ enabled)
+    Accepted (lines.Send 0 0x28000000 1)
+    ∷ stepped_on (plan_step File Memory 1 Fence) (Began (Leaves (vcpu 0 0)) ∷ enabled)
 
 -- It left for memory while it was asked for 1, and is parked; then it runs from there.
 abbrev pub parked_asked : History
-parked_asked = stepped_on 13 (Began (Leaves (vcpu 0 0)) ∷ asked)
+parked_asked = stepped_on (plan_steps File Memory 1) (Began (Leaves (vcpu 0 0)) ∷ asked)
 
 abbrev pub entered : History
 entered = Accepted (lines.Enter 0 0) ∷ parked_asked
 
 -- It is parked, and was asked for nothing.
 abbrev pub parked : History
-parked = stepped_on 13 (Began (Leaves (vcpu 0 0)) ∷ enabled)
+parked = stepped_on (plan_steps File Memory 1) (Began (Leaves (vcpu 0 0)) ∷ enabled)
 
 -- It is on its way to memory, and was asked for 1 before.
 abbrev pub moving : History
