@@ -29,7 +29,8 @@ for edit in "crates/$2/must-fail"/*.edit; do
   *_killed) said='NOT TRIED: its check was killed' ;;
   *_long) echo $$ > "@FOLDER@/pid"; exec sleep 1000 ;;
   *_silent) continue ;;
-  *) said='refused, as it must be: src/lib.rt:2:5: error: `returns`' ;;
+  *_gone) said='refused, as it must be (only because a proof file names it): proofs/x' ;;
+  *) said='refused, as it must be: note: src/lib.rt:2:5: it is not proved (`returns`); ..' ;;
   esac
   echo "rt: must-fail $2/$name.edit: $said"
 done
@@ -102,7 +103,7 @@ def wider_goes_on(trial):
     tree = Tree(trial, "refused")
     tree.plant("one", "two")
     tree.plant("three", crate="high")
-    said = tree.sees(0, ["low/one: refused: src/lib.rt:2:5: error: `returns`\n", "low/two: refused",
+    said = tree.sees(0, ["low/one: refused: src/lib.rt:2:5 (`returns`)\n", "low/two: refused",
                          "high/three: refused", "3 refused, 0 LET THROUGH, 0 not tried\n"])
     trial.sees(said.count("\n") == 4, f"wider prints {said}")
     trial.sees(tree.given() == ["low/one", "low/two", "high/three"], "wider gives rt other edits")
@@ -133,17 +134,17 @@ def wider_tells(trial):
     tree.sees(1, ["low/is_proved: LET THROUGH: ", "low: 1 edit refused before\n"])
     trial.sees(not tree.given(), "wider tries again what was let through")
     tree = Tree(trial, "untried")
-    tree.plant("fine", "is_bad", "is_killed", "is_silent")
+    tree.plant("fine", "is_bad", "is_gone", "is_killed", "is_silent")
     tree.plant("has_no_place", crate="high", old="nosuch")
-    for _ in range(2):
-        tree.sees(2, ["low/is_bad: not tried: BAD EDIT: the prover cannot read",
+    for gone in (["low/is_gone: refused: (only because a proof file names it): proofs/x\n"], []):
+        tree.sees(2, ["low/is_bad: not tried: BAD EDIT: the prover cannot read", *gone,
                       "low/is_killed: not tried: NOT TRIED: its check was killed",
                       "low/is_silent: not tried: rt ended with status 1 and said nothing of it:"
                       " rt: the end\n",
                       "high/has_no_place: not tried: its old text stands 0 times",
-                      "1 refused, 0 LET THROUGH, 4 not tried\n"])
-    trial.sees(tree.given() == ["low/fine", "low/is_bad", "low/is_killed", "low/is_silent",
-                                "low/is_bad", "low/is_killed", "low/is_silent"],
+                      "2 refused, 0 LET THROUGH, 4 not tried\n"])
+    trial.sees(tree.given() == ["low/fine", "low/is_bad", "low/is_gone", "low/is_killed",
+                                "low/is_silent", "low/is_bad", "low/is_killed", "low/is_silent"],
                "wider tries others than what is left")
     tree.sees(2, ["high/has_no_place: can't be made: its old text", "of which 1 can't"], "--list",
               "high")
