@@ -205,6 +205,22 @@ def planted_bugs(trial):
         trial.sees(len(found) == number, f"of {other} beside another is said {found}")
 
 
+def wrong_bodies(trial):
+    """Wrong bodies that edits plant, and that none plants, and a line that names no edit."""
+    stood = strength.WRONG_BODIES
+    there = next(f"{edit.crate}/{edit.name}" for edit in strength.edits(strength.WIDER))
+    for line, number in ((f"a bug: {there}", 0), (f"# none\n\na bug: of two: {there}, {there}", 0),
+                         (f"a bug: {there}, aia_pool/nosuch", 1), ("a bug: nosuch/nosuch", 1),
+                         ("a bug", None), (f"{there}", None), ("a bug: aia_pool", None)):
+        strength.WRONG_BODIES = trial.file("wrong-bodies", f"{line}\n")
+        try:
+            found = len(list(strength.unplanted()))
+        except SystemExit:
+            found = None
+        trial.sees(found == number, f"of the wrong bodies {line!r} is said {found}")
+    strength.WRONG_BODIES = stood
+
+
 def written_proofs(trial):
     """In which function a line stands, and whether that has a proof written by hand."""
     text = ("const A: u32 = 1;\n\nimpl<T: Kind<u8>> Iterator for Some<'_, T> {\n"
@@ -228,4 +244,4 @@ def written_proofs(trial):
 
 
 PARTS = (wider_goes_on, wider_tells, wider_is_bounded, wider_refuses_words, planted_bugs,
-         written_proofs)
+         wrong_bodies, written_proofs)
