@@ -3,6 +3,7 @@ what docs/make/strength.py tells of edits: each function takes its Trial."""
 
 import os
 import shutil
+import signal
 import sys
 from pathlib import Path
 
@@ -74,12 +75,12 @@ class Tree:
         self.noted.unlink(missing_ok=True)
         return [line.split()[0] for line in lines if line]
 
-    def run(self, *words, path=None):
-        """Runs the tool with words; gives how it ended."""
+    def run(self, *words, path=None, before=()):
+        """Runs the tool with words, by a command before it; gives how it ended."""
         temporary = self.folder / "tmp"
         temporary.mkdir(exist_ok=True)
         path = path or f"{self.folder}/bin:{os.environ['PATH']}"
-        ran = self.trial.run("env", f"PATH={path}", f"TMPDIR={temporary}", self.folder
+        ran = self.trial.run("env", f"PATH={path}", f"TMPDIR={temporary}", *before, self.folder
                              / "suite/wider", "--kept", self.kept, *words, seconds=40)
         self.trial.sees(not any(temporary.iterdir()), f"wider {words} leaves a folder")
         return ran
@@ -151,16 +152,29 @@ def wider_tells(trial):
 
 
 def wider_is_bounded(trial):
-    """A call that takes too long, which is stopped with all that it has started, and no minutes."""
+    """A call that takes too long, which is stopped with all that it has started; no minutes; and
+    the tool stopped by a signal."""
     tree = Tree(trial, "bounded")
     tree.plant("fine", "takes_long")
     tree.sees(2, ["low/fine: refused: ", "low/takes_long: not tried: it took too long",
                   "1 refused, 0 LET THROUGH, 1 not tried\n"], "--seconds", "2", "--at-once", "1")
-    pid = (tree.folder / "pid").read_text(encoding="ascii").strip()
-    trial.sees(not Path(f"/proc/{pid}").exists(), "wider leaves rt behind")
+    sees_no_rt(trial, tree)
     tree.given()
     tree.sees(2, ["0 LET THROUGH, 0 not tried, 1 left for another run"], "--minutes", "0")
     trial.sees(not tree.given(), "wider begins a call though the minutes are over")
+    ran = tree.run(before=("timeout", "--preserve-status", "-s", "TERM", "5"))
+    trial.sees(ran.status == 128 + signal.SIGTERM and b"takes_long" not in ran.output,
+               f"wider, stopped by a signal, ends with {ran.status}: {ran.output}")
+    sees_no_rt(trial, tree)
+
+
+def sees_no_rt(trial, tree):
+    """Sees that the rt that takes long was ended, if it was started."""
+    path = tree.folder / "pid"
+    if path.exists():
+        pid = path.read_text(encoding="ascii").strip()
+        trial.sees(not Path(f"/proc/{pid}").exists(), "wider leaves rt behind")
+        path.unlink()
 
 
 def wider_refuses_words(trial):
