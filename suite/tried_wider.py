@@ -3,6 +3,7 @@ what docs/make/strength.py tells of edits: each function takes its Trial."""
 
 import os
 import shutil
+import signal
 import sys
 from pathlib import Path
 
@@ -29,7 +30,8 @@ for edit in "crates/$2/must-fail"/*.edit; do
   *_killed) said='NOT TRIED: its check was killed' ;;
   *_long) echo $$ > "@FOLDER@/pid"; exec sleep 1000 ;;
   *_silent) continue ;;
-  *) said='refused, as it must be: src/lib.rt:2:5: error: `returns`' ;;
+  *_gone) said='refused, as it must be (only because a proof file names it): proofs/x' ;;
+  *) said='refused, as it must be: note: src/lib.rt:2:5: it is not proved (`returns`); ..' ;;
   esac
   echo "rt: must-fail $2/$name.edit: $said"
 done
@@ -73,12 +75,12 @@ class Tree:
         self.noted.unlink(missing_ok=True)
         return [line.split()[0] for line in lines if line]
 
-    def run(self, *words, path=None):
-        """Runs the tool with words; gives how it ended."""
+    def run(self, *words, path=None, before=()):
+        """Runs the tool with words, by a command before it; gives how it ended."""
         temporary = self.folder / "tmp"
         temporary.mkdir(exist_ok=True)
         path = path or f"{self.folder}/bin:{os.environ['PATH']}"
-        ran = self.trial.run("env", f"PATH={path}", f"TMPDIR={temporary}", self.folder
+        ran = self.trial.run("env", f"PATH={path}", f"TMPDIR={temporary}", *before, self.folder
                              / "suite/wider", "--kept", self.kept, *words, seconds=40)
         self.trial.sees(not any(temporary.iterdir()), f"wider {words} leaves a folder")
         return ran
@@ -102,7 +104,7 @@ def wider_goes_on(trial):
     tree = Tree(trial, "refused")
     tree.plant("one", "two")
     tree.plant("three", crate="high")
-    said = tree.sees(0, ["low/one: refused: src/lib.rt:2:5: error: `returns`\n", "low/two: refused",
+    said = tree.sees(0, ["low/one: refused: src/lib.rt:2:5 (`returns`)\n", "low/two: refused",
                          "high/three: refused", "3 refused, 0 LET THROUGH, 0 not tried\n"])
     trial.sees(said.count("\n") == 4, f"wider prints {said}")
     trial.sees(tree.given() == ["low/one", "low/two", "high/three"], "wider gives rt other edits")
@@ -133,33 +135,46 @@ def wider_tells(trial):
     tree.sees(1, ["low/is_proved: LET THROUGH: ", "low: 1 edit refused before\n"])
     trial.sees(not tree.given(), "wider tries again what was let through")
     tree = Tree(trial, "untried")
-    tree.plant("fine", "is_bad", "is_killed", "is_silent")
+    tree.plant("fine", "is_bad", "is_gone", "is_killed", "is_silent")
     tree.plant("has_no_place", crate="high", old="nosuch")
-    for _ in range(2):
-        tree.sees(2, ["low/is_bad: not tried: BAD EDIT: the prover cannot read",
+    for gone in (["low/is_gone: refused: (only because a proof file names it): proofs/x\n"], []):
+        tree.sees(2, ["low/is_bad: not tried: BAD EDIT: the prover cannot read", *gone,
                       "low/is_killed: not tried: NOT TRIED: its check was killed",
                       "low/is_silent: not tried: rt ended with status 1 and said nothing of it:"
                       " rt: the end\n",
                       "high/has_no_place: not tried: its old text stands 0 times",
-                      "1 refused, 0 LET THROUGH, 4 not tried\n"])
-    trial.sees(tree.given() == ["low/fine", "low/is_bad", "low/is_killed", "low/is_silent",
-                                "low/is_bad", "low/is_killed", "low/is_silent"],
+                      "2 refused, 0 LET THROUGH, 4 not tried\n"])
+    trial.sees(tree.given() == ["low/fine", "low/is_bad", "low/is_gone", "low/is_killed",
+                                "low/is_silent", "low/is_bad", "low/is_killed", "low/is_silent"],
                "wider tries others than what is left")
     tree.sees(2, ["high/has_no_place: can't be made: its old text", "of which 1 can't"], "--list",
               "high")
 
 
 def wider_is_bounded(trial):
-    """A call that takes too long, which is stopped with all that it has started, and no minutes."""
+    """A call that takes too long, which is stopped with all that it has started; no minutes; and
+    the tool stopped by a signal."""
     tree = Tree(trial, "bounded")
     tree.plant("fine", "takes_long")
     tree.sees(2, ["low/fine: refused: ", "low/takes_long: not tried: it took too long",
                   "1 refused, 0 LET THROUGH, 1 not tried\n"], "--seconds", "2", "--at-once", "1")
-    pid = (tree.folder / "pid").read_text(encoding="ascii").strip()
-    trial.sees(not Path(f"/proc/{pid}").exists(), "wider leaves rt behind")
+    sees_no_rt(trial, tree)
     tree.given()
     tree.sees(2, ["0 LET THROUGH, 0 not tried, 1 left for another run"], "--minutes", "0")
     trial.sees(not tree.given(), "wider begins a call though the minutes are over")
+    ran = tree.run(before=("timeout", "--preserve-status", "-s", "TERM", "5"))
+    trial.sees(ran.status == 128 + signal.SIGTERM and b"takes_long" not in ran.output,
+               f"wider, stopped by a signal, ends with {ran.status}: {ran.output}")
+    sees_no_rt(trial, tree)
+
+
+def sees_no_rt(trial, tree):
+    """Sees that the rt that takes long was ended, if it was started."""
+    path = tree.folder / "pid"
+    if path.exists():
+        pid = path.read_text(encoding="ascii").strip()
+        trial.sees(not Path(f"/proc/{pid}").exists(), "wider leaves rt behind")
+        path.unlink()
 
 
 def wider_refuses_words(trial):
@@ -204,6 +219,22 @@ def planted_bugs(trial):
         trial.sees(len(found) == number, f"of {other} beside another is said {found}")
 
 
+def wrong_bodies(trial):
+    """Wrong bodies that edits plant, and that none plants, and a line that names no edit."""
+    stood = strength.WRONG_BODIES
+    there = next(f"{edit.crate}/{edit.name}" for edit in strength.edits(strength.WIDER))
+    for line, number in ((f"a bug: {there}", 0), (f"# none\n\na bug: of two: {there}, {there}", 0),
+                         (f"a bug: {there}, aia_pool/nosuch", 1), ("a bug: nosuch/nosuch", 1),
+                         ("a bug", None), (f"{there}", None), ("a bug: aia_pool", None)):
+        strength.WRONG_BODIES = trial.file("wrong-bodies", f"{line}\n")
+        try:
+            found = len(list(strength.unplanted()))
+        except SystemExit:
+            found = None
+        trial.sees(found == number, f"of the wrong bodies {line!r} is said {found}")
+    strength.WRONG_BODIES = stood
+
+
 def written_proofs(trial):
     """In which function a line stands, and whether that has a proof written by hand."""
     text = ("const A: u32 = 1;\n\nimpl<T: Kind<u8>> Iterator for Some<'_, T> {\n"
@@ -227,4 +258,4 @@ def written_proofs(trial):
 
 
 PARTS = (wider_goes_on, wider_tells, wider_is_bounded, wider_refuses_words, planted_bugs,
-         written_proofs)
+         wrong_bodies, written_proofs)

@@ -167,8 +167,9 @@ def table():
         by = told.get((crate, edit.name), "`?`")
         by += star(edit, by)
         out.append(f"| [{words}](../{edit.path()}) | {files}: {turns} | {into} | {by} |")
-    crates = len({edit.crate for edit in edits()})
-    head = f"{len(edits())} edits stand today, in {crates} crates."
+    sets = [(len(some), len({edit.crate for edit in some})) for some in (edits(), edits(WIDER))]
+    head = "{} edits stand today, in {} crates; the wider set has {} more, in {}.".format(
+        *sets[0], *sets[1])
     return "\n".join([BEGIN, head, *out, END])
 
 
