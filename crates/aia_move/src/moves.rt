@@ -92,8 +92,6 @@ impl<K: Kind> Move<K, First> {
     }
 
     /// Makes the last such step.
-    // Out of line, as its like: in one body a step clears the room that all of them may take.
-    #[inline(never)]
     pub(crate) fn step_on(mut self, fabric: &mut Fabric) -> Move<K, Closing>
         requires fits { MoveFits fabric.old self }
         requires phase { IsIn FirstPhase (width fabric.old) self }
@@ -101,7 +99,7 @@ impl<K: Kind> Move<K, First> {
         ensures goes { OnceLanded fabric.old self (λ landed. GoesOn landed self fabric.new result) }
         ensures phase { IsIn ClosingPhase (width fabric.new) result }
     {
-        self.advance(fabric);
+        self.end_phase(fabric);
         self.into_phase()
     }
 }
@@ -128,7 +126,6 @@ impl<K: Kind> Move<K, Closing> {
     }
 
     /// Makes the last such step.
-    #[inline(never)]
     pub(crate) fn step_on(mut self, fabric: &mut Fabric) -> Closed<Move<K, Aim>, Move<K, Drain>>
         requires fits { MoveFits fabric.old self }
         requires phase { IsIn ClosingPhase (width fabric.old) self }
@@ -138,7 +135,7 @@ impl<K: Kind> Move<K, Closing> {
         ensures phase { MatchClosed result IsAtAims (IsInDrain (width fabric.new)) }
     {
         let _words = fabric.words();
-        self.advance(fabric);
+        self.end_phase(fabric);
         self.closed()
     }
 }
@@ -197,7 +194,6 @@ impl<K: Kind> Move<K, Drain> {
     }
 
     /// Makes the last such step.
-    #[inline(never)]
     pub(crate) fn step_on(mut self, fabric: &mut Fabric) -> Move<K, Enable>
         requires fits { MoveFits fabric.old self }
         requires phase { IsInDrain (width fabric.old) self }
@@ -205,7 +201,7 @@ impl<K: Kind> Move<K, Drain> {
         ensures goes { GoesOn fabric.old self fabric.new result }
         ensures phase { IsIn EnablePhase (width fabric.new) result }
     {
-        self.advance(fabric);
+        self.end_phase(fabric);
         self.into_phase()
     }
 }
@@ -230,7 +226,6 @@ impl<K: Kind> Move<K, Enable> {
     }
 
     /// Makes the last such step.
-    #[inline(never)]
     pub(crate) fn step_on(mut self, fabric: &mut Fabric) -> Move<K, K::After>
         requires fits { MoveFits fabric.old self }
         requires phase { IsIn EnablePhase (width fabric.old) self }
@@ -239,14 +234,14 @@ impl<K: Kind> Move<K, Enable> {
         ensures phase { IsIn K.after (width fabric.new) result }
     {
         let _words = fabric.words();
-        self.advance(fabric);
+        self.end_phase(fabric);
         self.into_phase()
     }
 }
 
 impl<K: Kind> Move<K, Look> {
-    /// Looks at a word of both sets of the slot, in a leave alone. Why here: each word is watched,
-    /// so that a look misses only what the host is told of; it finds what had come before.
+    /// Looks at a word of both sets of the slot, in a leave alone. Why here: each word is watched, so that a look
+    /// misses only what the host is told of; it finds what had come before.
     pub fn step(mut self, fabric: &mut Fabric) -> Turn<Self, Move<K, Last>>
         requires fits { MoveFits fabric.old self }
         requires phase { IsIn LookPhase (width fabric.old) self }
@@ -263,7 +258,6 @@ impl<K: Kind> Move<K, Look> {
     }
 
     /// Makes the last such step.
-    #[inline(never)]
     pub(crate) fn step_on(mut self, fabric: &mut Fabric) -> Move<K, Last>
         requires fits { MoveFits fabric.old self }
         requires phase { IsIn LookPhase (width fabric.old) self }
@@ -271,7 +265,7 @@ impl<K: Kind> Move<K, Look> {
         ensures goes { GoesOn fabric.old self fabric.new result }
         ensures phase { IsIn LastPhase (width fabric.new) result }
     {
-        self.advance(fabric);
+        self.end_phase(fabric);
         self.into_phase()
     }
 }
@@ -297,7 +291,6 @@ impl<K: Kind> Move<K, Last> {
     }
 
     /// Makes the last such step, with which the move ends.
-    #[inline(never)]
     pub(crate) fn step_on(mut self, fabric: &mut Fabric) -> Outcome
         requires fits { MoveFits fabric.old self }
         requires last { IsLastOf LastPhase (width fabric.old) self }
@@ -327,6 +320,18 @@ impl<K: Kind, P: AccessPhase> Move<K, P> {
             self.advance(fabric);
         }
         stays
+    }
+
+    /// Makes such an access as `advance`, out of line: what comes to another phase stays small, so
+    /// that the plan is not copied for it.
+    #[inline(never)]
+    fn end_phase(&mut self, fabric: &mut Fabric)
+        requires fits { MoveFits fabric.old self.old }
+        requires phase { NextStepIsOf (Some P.phase) (width fabric.old) self.old }
+        requires more { steps_done self.old.home + 1 < begins (width fabric.old) self.old.home AllDone }
+        ensures { GoesOnIn P.phase fabric.old self.old fabric.new self.new }
+    {
+        self.advance(fabric);
     }
 
     /// Makes the next access of the plan, which is not the last one.
