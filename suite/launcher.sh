@@ -76,15 +76,16 @@ calls_of_header() {
   sed -n 's/^[a-z].*[ *]\(aia_[a-z0-9_]*\)(.*/\1/p' "$top/include/aia.h"
 }
 
-# Prints how far a build is by its log: the crate that was named last, among those of a list.
+# Prints how far a build is by its log: the crate that was named last, among those of a list. None
+# is named while rt looks at what was proved before.
 progress_of() { # LOG LIST
   awk -v begun="$build_begun" -v now="$SECONDS" -v name="$name" '
-    BEGIN { at = 1 }
     NR == FNR { place[$1] = ++count; next }
     /^crate [a-z0-9_]+:/ { sub(/:.*/, "", $2); if ($2 in place) at = place[$2] + 1 }
     /^rt: chose --jobs [0-9]+ for / { if ($NF in place) at = place[$NF] }
     END {
-      how = at > count ? "all " count " crates are proved, and it is compiled" \
+      how = !at ? "looks at what is proved" \
+          : at > count ? "all " count " crates are proved, and it is compiled" \
                        : "crate " at " of " count
       printf "%s: %s, %d min so far", name, how, (now - begun) / 60
     }' "$2" "$1"

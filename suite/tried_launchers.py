@@ -197,7 +197,8 @@ def launchers_build(trial):
         said = ran.errors.splitlines()
         trial.sees(ran.status == 0 and " minutes of processor time" in said[0],
                    f"{launcher} says before a first build {said[:1]}")
-        goes = r"crate \d+ of \d+|all \d+ crates are proved, and it is compiled"
+        goes = (r"looks at what is proved|crate \d+ of \d+|all \d+ crates are proved, and it is"
+                " compiled")
         is_quiet = all(re.fullmatch(rf"{launcher}: ({goes}), 0 min so far", line)
                        for line in said[1:])
         trial.sees(is_quiet and len(said) > 2, f"{launcher} builds with {said[1:]}")
