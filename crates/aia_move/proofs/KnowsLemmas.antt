@@ -37,9 +37,8 @@ use Rattle.aia_world.proofs.PlaceLemmas.{slot_found, host_page, named_guest}
 use Rattle.aia_world.proofs.StoreViews.{file_store-places, slot_store-places}
 use Rattle.aia_world.proofs.ViewLemmas.{posts-places, slot_low}
 use Rattle.aia_world.proofs.WholeLemmas.{notice_hart_there}
-use Rattle.aia_move.specs.declared.plan.Plan.{Plan}
 use Rattle.aia_moving.specs.Move.{Moving, mover, width, MoveFits}
-use Rattle.aia_move.specs.Plan.{moving_of}
+use Rattle.aia_move.specs.PlanState.{PlanState, moving_of}
 use Rattle.aia_moving.specs.Touches.{SameMachine}
 use Rattle.aia_move.specs.Knows.{Knows}
 use Rattle.aia_moving.proofs.StepLemmas.{fits_still}
@@ -58,7 +57,7 @@ own_machine w u g place t = record {
   guests = ap (λ (x : World). x.imsic.guests) t.rest;
 }
 
-module _ (w u : World) (plan : Plan) (reach : Option Place) (saw : Bool) (same : SameMachine w u) where
+module _ (w u : World) (plan : PlanState) (reach : Option Place) (saw : Bool) (same : SameMachine w u) where
   abbrev m : Moving
   m = moving_of plan
 
@@ -81,7 +80,7 @@ Lands w u g None offset value = StoresInSlot w u (Some (slot_of w.vms g)) (Super
 held_there : (w : World) (m : Moving) → MoveFits w m → (p : Place) → holds p m.home ≡ true → IsThere w.imsic (spot_of p)
 held_there w m fits p held = elim (either_file p m.home held) [ inl own ↦ fits.own p own | inr next ↦ fits.next p next ]
 
-module _ (w u : World) (plan : Plan) (reach : Option Place) (file : InterruptFile) (saw : Bool) (offset value : ℕ) (whole : IsWhole w) (apart : AreApart (moving_of plan).home) (within : IsWithin w.n (width w) file) (knows : Knows w plan reach file saw) where
+module _ (w u : World) (plan : PlanState) (reach : Option Place) (file : InterruptFile) (saw : Bool) (offset value : ℕ) (whole : IsWhole w) (apart : AreApart (moving_of plan).home) (within : IsWithin w.n (width w) file) (knows : Knows w plan reach file saw) where
   abbrev mv : Moving
   mv = moving_of plan
 
@@ -135,7 +134,7 @@ module _ (w u : World) (plan : Plan) (reach : Option Place) (file : InterruptFil
       lands_knows reach may (entry_lands reach may (subst (λ (r : Route). Reaches r w u offset value) route reaches))
 
 -- one that was in flight, where the entry led as it was sent
-pub flight_knows : (w u : World) (plan : Plan) (reach place : Option Place) (file : InterruptFile) (saw : Bool) (offset value : ℕ) → IsWhole w → AreApart (moving_of plan).home → IsWithin w.n (width w) file → Knows w plan reach file saw
+pub flight_knows : (w u : World) (plan : PlanState) (reach place : Option Place) (file : InterruptFile) (saw : Bool) (offset value : ℕ) → IsWhole w → AreApart (moving_of plan).home → IsWithin w.n (width w) file → Knows w plan reach file saw
     → MayReach (moving_of plan).home place → ReachesBy (leads_to (moving_of plan).who.found.slot (moving_of plan).who.found.notice place) w u offset value → Knows u plan reach (landed offset value file) saw
 flight_knows w u plan reach place file saw offset value whole apart within knows may reaches =
     let m = moving_of plan in
@@ -146,7 +145,7 @@ flight_knows w u plan reach place file saw offset value whole apart within knows
     (entry_lands w u plan reach file saw offset value whole apart within knows place land (by_entry place (slot_of w.vms (mover m)) (notice_hart w.vms (mover m)) w u offset value own))
 
 -- a peer's, where its G-stage record in force leads
-pub peer_knows : (w u : World) (plan : Plan) (reach : Option Place) (file : InterruptFile) (saw : Bool) (value : ℕ) → IsWhole w → AreApart (moving_of plan).home → IsWithin w.n (width w) file → Knows w plan reach file saw
+pub peer_knows : (w u : World) (plan : PlanState) (reach : Option Place) (file : InterruptFile) (saw : Bool) (value : ℕ) → IsWhole w → AreApart (moving_of plan).home → IsWithin w.n (width w) file → Knows w plan reach file saw
     → ReachesByRecord (stage_of w (mover (moving_of plan))).in_force w u (mover (moving_of plan)) value → Knows u plan reach (landed 0 value file) saw
 peer_knows w u plan reach file saw value whole apart within knows relays =
     let m = moving_of plan in
@@ -160,14 +159,14 @@ peer_knows w u plan reach file saw value whole apart within knows relays =
 
 -- ---- a store for another virtual hart, and one of the host
 
-pub others_know : (w u : World) (plan : Plan) (reach : Option Place) (file : InterruptFile) (saw : Bool) (g : Vcpu) (place : Option Place) → Knows w plan reach file saw
+pub others_know : (w u : World) (plan : PlanState) (reach : Option Place) (file : InterruptFile) (saw : Bool) (g : Vcpu) (place : Option Place) → Knows w plan reach file saw
     → is_vcpu_in w.vms g ≡ true → g ≢ mover (moving_of plan) → TouchesOwn w u g place → ((p : Place) → holds p (moving_of plan).home ≡ true → place ≢ Some p) → Knows u plan reach file saw
 others_know w u plan reach file saw g place knows there other t elsewhere =
     let m = moving_of plan in
     knows_by w u plan reach saw (own_machine w u g place t) file file knows (places_of w (mover m) m.home)
     (others_stay w u g (mover m) place m.home there knows.fits.there (λ e. other (sym e)) t (λ p held. (held_there w m knows.fits p held, elsewhere p held))) knows.holds
 
-pub host_knows : (w u : World) (plan : Plan) (reach : Option Place) (file : InterruptFile) (saw : Bool) (spot : Spot) (offset value : ℕ) → Knows w plan reach file saw
+pub host_knows : (w u : World) (plan : PlanState) (reach : Option Place) (file : InterruptFile) (saw : Bool) (spot : Spot) (offset value : ℕ) → Knows w plan reach file saw
     → IsThere w.imsic spot → ((p : Place) → spot ≢ spot_of p) → StoresIn w u spot offset value → Knows u plan reach file saw
 host_knows w u plan reach file saw spot offset value knows here no_guest s =
     knows_by w u plan reach saw machine file file knows (places_of w (mover (moving_of plan)) (moving_of plan).home) seen knows.holds

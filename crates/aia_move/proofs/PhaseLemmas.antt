@@ -1,10 +1,11 @@
 -- The phases of a plan: where its steps aim passed sources, and what they leave; which phase comes
 -- after a step; what a step makes, and one in place, by the phase that the plan is in.
 use Rattle.std.proofs.Common.{◌≡◌, ◌≢◌, ℕ, ◌+◌, ◌<◌, ◌≤◌, Bool, true, false, ◌&&◌, if◌then◌else◌, nat_lt, refl, sym, ap, ◌∙◌, subst, arith, Option, Some, None, ◌/◌}
-use Rattle.std.specs.Prelude.{is_none}
-use Rattle.std.proofs.lemmas.Bool.{eq-eqb, ne_eqb}
+use Rattle.std.specs.Prelude.{is_none, not}
+use Rattle.std.proofs.lemmas.Bool.{eq-eqb, eqb-true, ne_eqb, and_parts, false≢true, ltb-true, ltb-false}
 use Rattle.aia_home.specs.declared.end.End.{End}
-use Rattle.aia_home.specs.Home.{is_file, old_end, new_end, Home, is_moving, one_more}
+use Rattle.aia_home.specs.Home.{old_end, new_end, is_file, Home, is_moving, one_more}
+use Rattle.aia_home.specs.Home.Way.{Outward, Inward, Across}
 use Rattle.aia_home.specs.Home.Home.{OnWay}
 use Rattle.aia_home.specs.declared.end.End.TheVariants.{File, Memory}
 use Rattle.aia_home.specs.Plans.{steps_done, is_last_made, is_at_last}
@@ -12,22 +13,24 @@ use Rattle.aia_home.specs.declared.access.Access.{Access}
 use Rattle.aia_home.specs.Phases.{Phase, following, phase_begins, begins, after_shared}
 use Rattle.aia_home.specs.Phases.Phase.{FirstPhase, ClosingPhase, DrainPhase, EnablePhase, LookPhase, LastPhase, AllDone}
 use Rattle.aia_home.specs.BySteps.{own_file, next_file}
-use Rattle.aia_home.specs.Aims.{aims_done, aims_step, is_aiming, aimed}
+use Rattle.aia_home.specs.Aims.{aims_done, aims_step, is_aiming, aimed, aimed_further}
 use Rattle.aia_home.specs.Routes.{is_at_fence}
 use Rattle.aia_world.specs.World.{World}
 use Rattle.aia_moving.specs.declared.turn.Closed.{Closed}
 use Rattle.aia_moving.specs.declared.turn.Closed.TheVariants as closed
 use Rattle.aia_moving.specs.Move.{Moving, width, MoveFits}
-use Rattle.aia_moving.specs.Targets.{aims, has_unaimed, one_aimed, aim_if}
-use Rattle.aia_moving.specs.Turns.{IsIn, IsAtAims, GoesOn, AimsOn, MatchClosed}
+use Rattle.aia_moving.specs.Targets.{aims, pass_count, has_unaimed, one_aimed, aim_if, next_aim}
+use Rattle.aia_moving.specs.declared.turn.Outcome.{Outcome}
+use Rattle.aia_moving.specs.Turns.{IsIn, IsAtAims, GoesOn, AimsOn, EndsAs, MatchClosed}
 use Rattle.aia_moving.specs.Landings.{OnceLanded}
 use Rattle.aia_home.proofs.PhaseLemmas.{looks_begin, sets_first}
+use Rattle.aia_home.proofs.RouteLemmas.{unlast}
 use Rattle.aia_moving.proofs.PhaseSteps.{middle, begins_on, past_fence}
 use Rattle.aia_moving.proofs.LandingLemmas.{none_lands}
-use Rattle.aia_move.specs.declared.plan.Plan.{Plan}
-use Rattle.aia_move.specs.declared.plan.Plan.TheVariants.{LeaveDrain}
-use Rattle.aia_move.specs.declared.plan.Next.{Next}
-use Rattle.aia_move.specs.Plan.{moving_of, is_in_aim, IsInDrain, NextStepIsOf, IsInPhase, IsLastOf, phase_of, StepsTo, Advances, StepsByPhase, InPlaceByPhase, EndsPhaseOrAims, StepsInPlace, GoesOnIn}
+use Rattle.aia_move.specs.declared.plan.Next.TheVariants.{Finished}
+use Rattle.aia_move.specs.PlanState.{PlanState, moving_of, phase_of}
+use Rattle.aia_move.specs.Stages.{past_phase, is_last}
+use Rattle.aia_move.specs.Plan.{is_in_aim, IsInDrain, NextStepIsOf, IsInPhase, IsLastOf, next_phase, StepsTo, GoesTo, GoesInPlace, GoesInPhase, GoesOnIn}
 
 -- ---- when a step aims
 
@@ -74,12 +77,12 @@ step_aims (Some LookPhase) words m some is = no_aim_in_look words m some is
 step_aims (Some LastPhase) words m some is = no_aim_in_last words m some is
 step_aims (Some phase) words m some is = absurd (omega (arith, is.0, is.1))
 
-pub phase_aims : (words : ℕ) (plan : Plan) → 1 ≤ words → IsInPhase words plan → aims (moving_of plan) ≡ is_in_aim plan
+pub phase_aims : (words : ℕ) (plan : PlanState) → 1 ≤ words → IsInPhase words plan → aims (moving_of plan) ≡ is_in_aim plan
 phase_aims words plan = step_aims (phase_of plan) words (moving_of plan)
 
--- a leave that takes words of the pending set, where no source is left to aim
-pub leave_drains : (words : ℕ) (m : Moving) → IsIn DrainPhase words m → aims m ≡ false → IsInPhase words (LeaveDrain m)
-leave_drains words m is none = record { phase = is; aimed = none }
+-- a plan that takes words of the pending set, where no source is left to aim
+pub drains : (words : ℕ) (m : Moving) → IsIn DrainPhase words m → aims m ≡ false → IsInPhase words (record { moving = m; phase = Some DrainPhase })
+drains words m is none = record { phase = is; aimed = none }
 
 -- ---- what an aim leaves
 
@@ -191,19 +194,6 @@ no_fence phase words m other is = absurd (omega (arith, is.0, is.1))
 
 -- ---- what a step makes
 
-module _ (w u : World) where
-  lands_none : (phase : Phase) (m : Moving) (made : World → Type 0) → phase ≢ FirstPhase → NextStepIsOf (Some phase) (width w) m → made w → OnceLanded w m made
-  lands_none phase m made other is = none_lands w m made (no_fence phase (width w) m other is)
-
-  step_to : (phase : Option Phase) (m : Moving) (next : Next) → NextStepIsOf phase (width w) m → StepsByPhase phase w m u next → StepsTo (aim_if (is_none phase) m) w m u next
-  step_to None m next is goes = goes
-  step_to (Some FirstPhase) m next is goes = goes
-  step_to (Some phase) m next is goes = lands_none phase m (λ landed. Advances landed m u next) (λ e. cc) is goes
-
-  pub steps_to : (plan : Plan) (next : Next) → IsInPhase (width w) plan → StepsByPhase (phase_of plan) w (moving_of plan) u next
-      → StepsTo (aim_if (is_in_aim plan) (moving_of plan)) w (moving_of plan) u next
-  steps_to plan next = step_to (phase_of plan) (moving_of plan) next
-
 -- of a step that goes on, by its phase
 module _ (w u : World) where
   pub goes_on_in : (phase : Phase) (m t : Moving) → NextStepIsOf (Some phase) (width w) m → OnceLanded w m (λ landed. GoesOn landed m u t) → GoesOnIn phase w m u t
@@ -235,43 +225,183 @@ within_plan phase words (OnWay way at) = by_end phase (old_end way) (new_end way
     by_end phase from to = omega arith
 within_plan phase words there = omega arith
 
--- ---- a step in place
+-- a plan has a step more, in each phase
+pub in_plan : (phase : Option Phase) (words : ℕ) (m : Moving) → is_none phase ≡ false → NextStepIsOf phase words m → steps_done m.home < begins words m.home AllDone
+in_plan None words m some is = absurd (cc)
+in_plan (Some DrainPhase) words m some is = omega (arith, is.phase.1, within_plan DrainPhase words m.home)
+in_plan (Some phase) words m some is = omega (arith, is.1, within_plan phase words m.home)
 
-module _ (w u : World) (plan later : Plan) (words : ℕ) (value : words ≡ width w) (some : 1 ≤ words) (before : IsInPhase (width w) plan) (after : IsInPhase (width u) later)
-    (same : phase_of later ≡ phase_of plan) (still : moving_of later ≡ moving_of plan → later ≡ plan) where
-  abbrev m : Moving
-  m = moving_of plan
+-- a step of a phase, by whether the one after it is of the phase too
+pub in_phase : (w u : World) (phase : Phase) (m t : Moving) (stays : Bool) → NextStepIsOf (Some phase) (width w) m → OnceLanded w m (λ landed. GoesOn landed m u t)
+    → stays ≡ nat_lt (steps_done m.home + 1) (begins (width w) m.home (following phase)) → GoesInPhase phase stays w m u t
+in_phase w u phase m t true is once e =
+    let goes = goes_on_in w u phase m t is once in
+    (goes, stays_in w u phase m t is goes (ltb-true _ _ (sym e)))
+in_phase w u phase m t false is once e = (goes_on_in w u phase m t is once, last_of phase (width w) m is (ltb-false _ _ (sym e)))
 
-  abbrev t : Moving
-  t = moving_of later
+-- ---- the phase that a plan comes to
 
-  -- a step was made, once what lands before it had
-  made : is_in_aim plan ≡ false → OnceLanded w m (λ landed. GoesOn landed m u t) → StepsInPlace true w plan u later
-  made accesses once = (
-    ap (λ b. aim_if b m) (phase_aims (width w) plan (subst (λ n. 1 ≤ n) value some) before ∙ accesses),
-    record { landed = once.landed; first = once.first; then = once.then.goes },
-    once.then.fits,
-    after,
-    same,
-  )
+module _ (w u : World) (m t : Moving) (some : 1 ≤ width w) (once : OnceLanded w m (λ landed. GoesOn landed m u t)) where
+  wide : width u ≡ width w
+  wide = once.then.width ∙ ap (λ n. (n + 1) / 64) once.first.same.n
 
-  -- and none was
-  stayed : (phase : Option Phase) → phase_of plan ≡ phase → (u ≡ w) → t ≡ m → EndsPhaseOrAims phase (width w) m → StepsInPlace false w plan u later
-  stayed phase seen world moved ends = (world, still moved, subst (λ p. EndsPhaseOrAims p (width w) m) (sym seen) ends)
+  begun : (phase : Phase) → begins (width u) t.home phase ≡ begins (width w) m.home phase
+  begun phase = begins_still once.landed u m t phase once.then ∙ ap (λ n. begins ((n + 1) / 64) m.home phase) once.first.same.n
 
-  by_phase : (phase : Option Phase) → phase_of plan ≡ phase → (done : Bool) → InPlaceByPhase phase done w m u t → StepsInPlace done w plan u later
-  by_phase None seen done goes = subst (λ b. StepsInPlace b w plan u later) (sym goes.0) (stayed None seen goes.1 goes.2 (subst (λ p. NextStepIsOf p (width w) m) seen before))
-  by_phase (Some FirstPhase) seen true goes = made (ap is_none seen) goes
-  by_phase (Some FirstPhase) seen false goes = stayed _ seen goes.0 goes.1 goes.2
-  by_phase (Some phase) seen true goes =
-      made (ap is_none seen) (lands_none w u phase m (λ landed. GoesOn landed m u t) (λ e. cc) (subst (λ p. NextStepIsOf p (width w) m) seen before) goes)
-  by_phase (Some phase) seen false goes = stayed _ seen goes.0 goes.1 goes.2
+  still : is_moving m.home ≡ true → is_moving t.home ≡ true
+  still moves = ap is_moving once.then.goes.home ∙ still_moves m.home moves
 
-  pub steps_in_place : (done : Bool) → InPlaceByPhase (phase_of plan) done w m u t → StepsInPlace done w plan u later
-  steps_in_place done = by_phase (phase_of plan) refl done
+  -- with the last step of its phase, which is not that of the plan
+  pub comes_to : (phase : Phase) → NextStepIsOf (Some phase) (width w) m → IsLastOf phase (width w) m → steps_done m.home + 1 < begins (width w) m.home AllDone → NextStepIsOf (next_phase t (Some phase)) (width u) t
+  comes_to FirstPhase is last more =
+      let moves = moves_in FirstPhase (width w) m.home is in
+      let mid = middle (width u) t.home (still moves) in
+      let steps = once.then.steps in
+      let at = begun ClosingPhase in
+      (omega (arith, at, steps, last), omega (arith, at, steps, last, mid.closes))
+  comes_to ClosingPhase is last more =
+      let here = still (moves_in ClosingPhase (width w) m.home is) in
+      let at : steps_done t.home ≡ begins (width u) t.home DrainPhase = omega (arith, begun DrainPhase, once.then.steps, last) in
+      past (has_unaimed t) refl here at
+    where
+      past : (b : Bool) → has_unaimed t ≡ b → is_moving t.home ≡ true → steps_done t.home ≡ begins (width u) t.home DrainPhase → NextStepIsOf (if b then None else Some DrainPhase) (width u) t
+      past true left here at = at_aims (width u) t here at left
+      past false left here at = drain_begins (width u) t here (omega (arith, wide, some)) at left
+  comes_to DrainPhase is last more =
+      let mid = middle (width u) t.home (still (moves_in DrainPhase (width w) m.home is.phase)) in
+      let steps = once.then.steps in
+      let at = begun EnablePhase in
+      (omega (arith, at, steps, last), omega (arith, at, steps, last, mid.ends, wide, some))
+  comes_to EnablePhase is last more =
+      let here = still (moves_in EnablePhase (width w) m.home is) in
+      let at = begun LookPhase in
+      after t.home refl (is_after (after_shared t.home) (width u) t here refl (omega (arith, wide, some)) (omega (arith, at, once.then.steps, last)))
+    where
+      after : (there : Home) → there ≡ t.home → IsIn (after_shared there) (width u) t → NextStepIsOf (Some (after_shared there)) (width u) t
+      after (OnWay (Outward from) at) e is = is
+      after (OnWay way at) e is = is
+      after there e is = is
+  comes_to LookPhase is last more =
+      let steps = once.then.steps in
+      let at = begun LastPhase in
+      let done = begun AllDone in
+      (omega (arith, at, steps, last), omega (arith, done, steps, more))
+  comes_to LastPhase is last more = absurd (omega (arith, last, more))
+  comes_to phase is last more = absurd (omega (arith, is.0, is.1))
+
+  -- after any step of a phase, by whether one more of it is left
+  pub then_in : (phase : Option Phase) (stays : Bool) → is_none phase ≡ false → NextStepIsOf phase (width w) m
+      → (stays ≡ true → steps_done m.home + 1 < begins (width w) m.home (past_phase phase)) → (stays ≡ false → begins (width w) m.home (past_phase phase) ≤ steps_done m.home + 1)
+      → steps_done m.home + 1 < begins (width w) m.home AllDone → (after : Option Phase) → after ≡ (if stays then phase else next_phase t phase) → NextStepIsOf after (width u) t
+  then_in phase stays some_phase is low high more after e = subst (λ p. NextStepIsOf p (width u) t) (sym e) (by_phase phase stays some_phase is low high more)
+    where
+      by_phase : (phase : Option Phase) (stays : Bool) → is_none phase ≡ false → NextStepIsOf phase (width w) m
+          → (stays ≡ true → steps_done m.home + 1 < begins (width w) m.home (past_phase phase)) → (stays ≡ false → begins (width w) m.home (past_phase phase) ≤ steps_done m.home + 1)
+          → steps_done m.home + 1 < begins (width w) m.home AllDone → NextStepIsOf (if stays then phase else next_phase t phase) (width u) t
+      by_phase None stays some_phase is low high more = absurd (cc)
+      by_phase (Some phase) true some_phase is low high more = stays_in w u phase m t is (goes_on_in w u phase m t is once) (low refl)
+      by_phase (Some phase) false some_phase is low high more = comes_to phase is (last_of phase (width w) m is (high refl)) more
+
+-- with an aim
+pub phase_none : (phase : Option Phase) → is_none phase ≡ true → phase ≡ None
+phase_none None is = refl
+phase_none (Some phase) is = absurd (cc)
+
+pub aims_to : (w : World) (m t : Moving) → 1 ≤ width w → IsAtAims m → AimsOn w m t → NextStepIsOf (next_phase t None) (width w) t
+aims_to w m t some aiming on = by_home m.home refl aiming
+  where
+    moved : t.home ≡ aimed m.home
+    moved = ap (λ (x : Moving). x.home) on.moved
+
+    past : (b : Bool) → has_unaimed t ≡ b → is_moving t.home ≡ true → steps_done t.home ≡ begins (width w) t.home DrainPhase → NextStepIsOf (if b then None else Some DrainPhase) (width w) t
+    past true left here at = at_aims (width w) t here at left
+    past false left here at = drain_begins (width w) t here some at left
+
+    by_home : (there : Home) → m.home ≡ there → is_aiming (pass_count m.who) there ≡ true → NextStepIsOf (next_phase t None) (width w) t
+    by_home (OnWay way at) e is =
+        let here : t.home ≡ OnWay way (aimed_further at) = moved ∙ ap aimed e in
+        let steps : at.steps ≡ aims_step (OnWay way at) = eqb-true _ _ (and_parts _ _ is).0 in
+        past (has_unaimed t) refl (ap is_moving here) (subst (λ there. steps_done there ≡ begins (width w) there DrainPhase) (sym here) (omega (arith, steps)))
+    by_home there e is = absurd (cc)
 
 -- ---- the last step
+
+-- a phase but the last one ends before the plan does
+ends_before : (phase : Phase) (words : ℕ) (there : Home) → is_moving there ≡ true → (phase ≡ LastPhase → ⊥) → (phase ≡ AllDone → ⊥) → begins words there (following phase) < begins words there AllDone
+ends_before phase words (OnWay way at) moves other done = by_end phase (old_end way) (new_end way) other done
+  where
+    by_end : (phase : Phase) (from to : End) → (phase ≡ LastPhase → ⊥) → (phase ≡ AllDone → ⊥) → phase_begins from to words (following phase) < phase_begins from to words AllDone
+    by_end FirstPhase from File other done = omega arith
+    by_end FirstPhase from Memory other done = omega arith
+    by_end ClosingPhase from File other done = omega arith
+    by_end ClosingPhase from Memory other done = omega arith
+    by_end DrainPhase from File other done = omega arith
+    by_end DrainPhase from Memory other done = omega arith
+    by_end EnablePhase from File other done = omega arith
+    by_end EnablePhase from Memory other done = omega arith
+    by_end LookPhase from File other done = omega arith
+    by_end LookPhase from Memory other done = omega arith
+    by_end LastPhase from to other done = absurd (other refl)
+    by_end AllDone from to other done = absurd (done refl)
+ends_before phase words there moves other done = absurd (cc)
+
+-- a step of a phase that is not the last one of the plan
+pub not_last : (phase : Option Phase) (stays : Bool) (words : ℕ) (m : Moving) → is_none phase ≡ false → NextStepIsOf phase words m
+    → (stays ≡ true → steps_done m.home + 1 < begins words m.home (past_phase phase)) → (not stays && is_last phase) ≡ false → steps_done m.home + 1 < begins words m.home AllDone
+not_last None stays words m some is low other = absurd (cc)
+not_last (Some phase) true words m some is low other = omega (arith, low refl, within_plan phase words m.home)
+not_last (Some FirstPhase) false words m some is low other = omega (arith, is.1, ends_before FirstPhase words m.home (moves_in FirstPhase words m.home is) (λ e. cc) (λ e. cc))
+not_last (Some ClosingPhase) false words m some is low other = omega (arith, is.1, ends_before ClosingPhase words m.home (moves_in ClosingPhase words m.home is) (λ e. cc) (λ e. cc))
+not_last (Some DrainPhase) false words m some is low other = omega (arith, is.phase.1, ends_before DrainPhase words m.home (moves_in DrainPhase words m.home is.phase) (λ e. cc) (λ e. cc))
+not_last (Some EnablePhase) false words m some is low other = omega (arith, is.1, ends_before EnablePhase words m.home (moves_in EnablePhase words m.home is) (λ e. cc) (λ e. cc))
+not_last (Some LookPhase) false words m some is low other = omega (arith, is.1, ends_before LookPhase words m.home (moves_in LookPhase words m.home is) (λ e. cc) (λ e. cc))
+not_last (Some LastPhase) false words m some is low other = absurd (cc)
+not_last (Some AllDone) false words m some is low other = absurd (omega (arith, is.0, is.1))
 
 pub at_last : (words : ℕ) (there : Home) → steps_done there + 1 ≡ begins words there AllDone → is_at_last words there ≡ true
 at_last words (OnWay way at) e = eq-eqb _ _ e
 at_last words there e = absurd (omega (arith, e))
+
+pub last_step : (words : ℕ) (there : Home) → is_at_last words there ≡ true → steps_done there + 1 ≡ begins words there AllDone
+last_step words (OnWay way at) e = eqb-true _ _ e
+last_step words there e = absurd (cc)
+
+-- the step of the last phase after which none is left
+pub is_last_step : (phase : Option Phase) (stays : Bool) (words : ℕ) (m : Moving) → NextStepIsOf phase words m → (stays ≡ false → begins words m.home (past_phase phase) ≤ steps_done m.home + 1)
+    → (not stays && is_last phase) ≡ true → is_at_last words m.home ≡ true
+is_last_step (Some LastPhase) false words m is high ends = at_last words m.home (omega (arith, is.1, high refl))
+is_last_step (Some LastPhase) true words m is high ends = absurd (cc)
+is_last_step phase stays words m is high ends = absurd (false≢true (and_parts (not stays) (is_last phase) ends).1)
+
+-- it aims nothing, and no store in flight lands before it
+pub last_aims_none : (words : ℕ) (m : Moving) → is_at_last words m.home ≡ true → aims m ≡ false
+last_aims_none words m last = none_aims words _ m.home (λ moves e. far m.home moves (last_step words m.home last) e)
+  where
+    far : (there : Home) → is_moving there ≡ true → steps_done there + 1 ≡ begins words there AllDone → steps_done there ≡ begins words there DrainPhase → ⊥
+    far (OnWay (Outward from) at) moves ends here = omega (arith, ends, here)
+    far (OnWay (Inward to) at) moves ends here = omega (arith, ends, here)
+    far (OnWay (Across from to) at) moves ends here = omega (arith, ends, here)
+    far there moves ends here = absurd (cc)
+
+no_fence_last : (words : ℕ) (there : Home) → is_at_last words there ≡ true → is_at_fence there ≡ false
+no_fence_last words there last = by_fence (is_at_fence there) refl
+  where
+    by_fence : (b : Bool) → is_at_fence there ≡ b → is_at_fence there ≡ false
+    by_fence true at = absurd (false≢true (sym (unlast words there at) ∙ last))
+    by_fence false other = other
+
+pub finishes : (w u : World) (m : Moving) (o : Outcome) → is_at_last (width w) m.home ≡ true → EndsAs w m u o → StepsTo (next_aim m) w m u (Finished o)
+finishes w u m o last ends = subst (λ b. StepsTo (aim_if b m) w m u (Finished o)) (sym (last_aims_none (width w) m last)) (none_lands w m (λ landed. EndsAs landed m u o) (no_fence_last (width w) m.home last) ends)
+
+-- ---- a step in place
+
+-- an access
+pub goes_access : (w u : World) (m t : Moving) (phase : Option Phase) → 1 ≤ width w → NextStepIsOf phase (width w) m → is_none phase ≡ false → OnceLanded w m (λ landed. GoesOn landed m u t) → GoesInPlace true w m u t
+goes_access w u m t phase some is accesses once = (
+  subst (λ b. GoesTo (aim_if b m) w m u t) (sym (step_aims phase (width w) m some is ∙ accesses)) (record { landed = once.landed; first = once.first; then = once.then.goes }),
+  once.then.fits,
+)
+
+-- an aim
+pub goes_aiming : (w : World) (m t : Moving) → IsAtAims m → AimsOn w m t → GoesInPlace true w m w t
+goes_aiming w m t aiming on = (subst (λ b. GoesTo (aim_if b m) w m w t) (sym aiming) (record { world = refl; moved = on.moved }), on.fits)

@@ -5,14 +5,14 @@ use Rattle.aia_home.specs.declared.place.Place.{Place}
 use Rattle.aia_places.specs.Holds.{Holds}
 use Rattle.aia_world.specs.World.{World}
 use Rattle.aia_world.specs.Changes.{places_of}
-use Rattle.aia_move.specs.declared.plan.Plan.{Plan}
 use Rattle.aia_moving.specs.Move.{mover, width, MoveFits}
-use Rattle.aia_move.specs.Plan.{moving_of, IsInPhase}
+use Rattle.aia_move.specs.PlanState.{PlanState, moving_of}
+use Rattle.aia_move.specs.Plan.{IsInPhase}
 
 -- Its next step can be made, and is a step of its phase; and the places of the virtual hart that is
 -- moved hold an interrupt file. `reach`: where its entry in force leads; `saw`: a look of the leave
 -- under way saw something.
-pub record Knows (w : World) (plan : Plan) (reach : Option Place) (file : InterruptFile)
+pub record Knows (w : World) (plan : PlanState) (reach : Option Place) (file : InterruptFile)
     (saw : Bool) : Type 0 where
   pub fits : MoveFits w (moving_of plan)
   pub phase : IsInPhase (width w) plan

@@ -1,2 +1,4 @@
+pub mod PlanState
+pub mod Stages
 pub mod Plan
 pub mod Knows

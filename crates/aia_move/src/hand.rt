@@ -11,9 +11,10 @@ ghost use Rattle.aia_places.specs.Holds.{meets};
 ghost use Rattle.aia_world.specs.Changes.{PutsRegister, spot_of, with_entry_word};
 ghost use Rattle.aia_moving.specs.Move.{IsWho, place_at, spot_in, width};
 ghost use Rattle.aia_moving.specs.Accesses.{Executes, HasFile, WordFits, moved};
+ghost use Rattle.aia_move.specs.Plan.{kept_hand};
 
 use crate::kind::spot;
-use crate::{Access, Who};
+use crate::{Access, KeptNumbers, Who};
 use aia_entry::{basic, mrif};
 use aia_fabric::{At, Fabric};
 use aia_pool::FileLease;
@@ -56,6 +57,18 @@ impl Model for Hand {
 
 #[tactic(auto, using(aia_moving::proofs::WhoLemmas::small_who, aia_moving::proofs::WhoLemmas::small_file, aia_moving::proofs::WhoLemmas::posts_if))]
 impl Hand {
+    /// Carries the numbers that were kept, and no word.
+    pub fn of(kept: KeptNumbers) -> Hand
+        ensures { result ≡ kept_hand kept }
+    {
+        Hand {
+            word: 0,
+            delivery: kept.delivery,
+            threshold: kept.threshold,
+            seen: false,
+        }
+    }
+
     /// Makes an access of the move of who is moved from its old place to its new one, both there: a
     /// guest file each, or `None`: its slot of memory. A number is taken or put at a guest file
     /// alone; a word is one of the files' words, and one that is put as word 0 has no identity 0.

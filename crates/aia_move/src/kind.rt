@@ -17,16 +17,13 @@ use aia_home::End;
 use aia_imsic::Spot;
 use aia_pool::FileLease;
 
-/// A virtual hart that leaves its guest file: its interrupts go to its slot of memory. A step is
-/// one access, or one aim in the phase of aims, and says which phase comes next.
+/// A virtual hart that leaves its guest file: its interrupts go to its slot of memory.
 pub type Leave<P> = Move<ToMemory, P>;
 
-/// A virtual hart that arrives in a guest file: its interrupts go there from its slot of memory. A
-/// step is one access, or one aim in the phase of aims, and says which phase comes next.
+/// A virtual hart that arrives in a guest file: its interrupts go there from its slot of memory.
 pub type Arrive<P> = Move<ToFile, P>;
 
-/// A virtual hart that shifts from one guest file to another: its interrupts go there with it. A
-/// step is one access, or one aim in the phase of aims, and says which phase comes next.
+/// A virtual hart that shifts from one guest file to another: its interrupts go there with it.
 pub type Shift<P> = Move<ToOtherFile, P>;
 
 /// A kind of move: what it leaves, and where it leads.

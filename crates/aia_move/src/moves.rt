@@ -1,22 +1,26 @@
-ghost use Rattle.std.specs.Prelude.{◌≡◌, ℕ, ◌+◌, ◌<◌, ◌≤◌, true, false, Some, ⊤};
-ghost use Rattle.aia_home.specs.Home.{at_first};
-ghost use Rattle.aia_home.specs.Home.Home.{OnWay};
-ghost use Rattle.aia_home.specs.Plans.{steps_done};
+ghost use Rattle.std.specs.Prelude.{◌≡◌, ℕ, ◌+◌, ◌<◌, ◌≤◌, nat_lt, true, false, if◌then◌else◌, Some, ⊤};
+ghost use Rattle.aia_imsic.specs.Imsic.{IsThere};
+ghost use Rattle.aia_home.specs.Home.Way.{Outward, Inward, Across};
+ghost use Rattle.aia_home.specs.Plans.{steps_done, is_at_last};
 ghost use Rattle.aia_home.specs.Phases.{begins, following};
-ghost use Rattle.aia_home.specs.Phases.Phase.{FirstPhase, ClosingPhase, DrainPhase, EnablePhase, LookPhase, LastPhase, AllDone};
-ghost use Rattle.aia_moving.specs.Move.{MoveFits, width};
-ghost use Rattle.aia_moving.specs.Targets.{ArePasses, aim_of, has_unaimed};
+ghost use Rattle.aia_home.specs.Phases.Phase.{FirstPhase, ClosingPhase, EnablePhase, LookPhase, LastPhase, AllDone};
+ghost use Rattle.aia_world.specs.World.{World};
+ghost use Rattle.aia_world.specs.Changes.{spot_of};
+ghost use Rattle.aia_moving.specs.Move.{IsWho, MoveFits, width};
+ghost use Rattle.aia_moving.specs.Targets.{ArePasses, AimsAs, aim_of, next_aim, has_unaimed};
 ghost use Rattle.aia_moving.specs.Accesses.{ExecutesNext};
 ghost use Rattle.aia_moving.specs.Landings.{OnceLanded};
 ghost use Rattle.aia_moving.specs.Turns.{IsIn, IsAtAims, GoesOn, AimsOn, EndsAs, MatchTurn, MatchClosed};
-ghost use Rattle.aia_move.specs.Plan.{IsInDrain, NextStepIsOf, GoesOnIn, GoesInPlace, IsLastOf};
+ghost use Rattle.aia_move.specs.Stages.{phase_at, past_phase};
+ghost use Rattle.aia_move.specs.Plan.{IsInDrain, NextStepIsOf, begun, empty_hand, kept_hand, GoesInPhase, GoesInPlace, next_phase};
 
 use crate::hand::Hand;
-use crate::kind::{Kind, end_of};
-use crate::phase::{AccessPhase, Aim, Closing, Drain, Enable, First, Last, Look};
-use crate::{Closed, Outcome, Targets, Turn, Who};
+use crate::kind::{Kind, ToFile, ToMemory, ToOtherFile, end_of};
+use crate::phase::{AccessPhase, Aim, Closing, Drain, Enable, First, Last, Look, Stage};
+use crate::{Arrive, Closed, KeptNumbers, Leave, Outcome, Shift, Targets, Turn, Who};
 use aia_fabric::Fabric;
 use aia_home::access_at;
+use aia_pool::FileLease;
 use aia_regs::limits::FIRST_PASS_IDENTITY;
 use std::marker::{Model, PhantomData};
 
@@ -34,7 +38,6 @@ pub struct Move<K: Kind, P> {
     aims: usize,
     /// What it carries.
     hand: Hand,
-    /// The phase.
     phase: PhantomData<P>,
 }
 
@@ -51,25 +54,43 @@ impl<K: Kind, P> Model for Move<K, P> {
     } };
 }
 
-impl<K: Kind> Move<K, First> {
-    /// Begins, with this in the hand: no step is done.
-    pub(crate) fn new(kind: K, who: Who, hand: Hand) -> Move<K, First>
-        ensures { result ≡ record {
-          who = who;
-          home = OnWay (K.way kind) at_first;
-          hand = hand;
-        } }
+#[tactic(auto, using(aia_moving::proofs::WhoLemmas::begins_fit))]
+impl Leave<First> {
+    /// Begins to move a virtual hart from a guest file to memory, as [`crate::Plan::leave`] does.
+    pub fn begin(file: FileLease, who: Who) -> Leave<First>
+        ensures begins { result ≡ begun who (Outward file) empty_hand }
+        ensures fits { (w : World) → IsWho w who → IsThere w.imsic (spot_of file)
+            → MoveFits w result }
     {
-        Move {
-            kind,
-            who,
-            done: 0,
-            aims: 0,
-            hand,
-            phase: PhantomData,
-        }
+        Move::new(ToMemory { file }, who, Hand::default())
     }
+}
 
+#[tactic(auto, using(aia_moving::proofs::WhoLemmas::begins_fit))]
+impl Arrive<First> {
+    /// Begins to move a virtual hart from memory to a guest file, as [`crate::Plan::arrive`] does.
+    pub fn begin(file: FileLease, who: Who, kept: KeptNumbers) -> Arrive<First>
+        ensures begins { result ≡ begun who (Inward file) (kept_hand kept) }
+        ensures fits { (w : World) → IsWho w who → IsThere w.imsic (spot_of file)
+            → MoveFits w result }
+    {
+        Move::new(ToFile { file }, who, Hand::of(kept))
+    }
+}
+
+#[tactic(auto, using(aia_moving::proofs::WhoLemmas::begins_fit))]
+impl Shift<First> {
+    /// Begins to move a virtual hart from one guest file to another, as [`crate::Plan::shift`] does.
+    pub fn begin(old: FileLease, new: FileLease, who: Who) -> Shift<First>
+        ensures begins { result ≡ begun who (Across old new) empty_hand }
+        ensures fits { (w : World) → IsWho w who → IsThere w.imsic (spot_of old)
+            → IsThere w.imsic (spot_of new) → MoveFits w result }
+    {
+        Move::new(ToOtherFile { from: old, to: new }, who, Hand::default())
+    }
+}
+
+impl<K: Kind> Move<K, First> {
     /// Takes eidelivery of the file that is left, where one is; writes the entry, word 1 first
     /// where the move leads to memory, so that it leads to the new place; and puts it in force,
     /// once all stores in flight of the VM have landed, so that none comes to the old place later.
@@ -84,23 +105,11 @@ impl<K: Kind> Move<K, First> {
         ensures phase { MatchTurn result (IsIn FirstPhase (width fabric.new))
             (IsIn ClosingPhase (width fabric.new)) }
     {
-        if self.step_in_place(fabric) {
+        if self.step_in(fabric) {
             Turn::Stay(self)
         } else {
-            Turn::On(self.step_on(fabric))
+            Turn::On(self.into_phase())
         }
-    }
-
-    /// Makes the last such step.
-    pub(crate) fn step_on(mut self, fabric: &mut Fabric) -> Move<K, Closing>
-        requires fits { MoveFits fabric.old self }
-        requires phase { IsIn FirstPhase (width fabric.old) self }
-        requires last { IsLastOf FirstPhase (width fabric.old) self }
-        ensures goes { OnceLanded fabric.old self (λ landed. GoesOn landed self fabric.new result) }
-        ensures phase { IsIn ClosingPhase (width fabric.new) result }
-    {
-        self.end_phase(fabric);
-        self.into_phase()
     }
 }
 
@@ -118,25 +127,12 @@ impl<K: Kind> Move<K, Closing> {
         ensures phase { MatchTurn result (IsIn ClosingPhase (width fabric.new))
             (λ next. MatchClosed next IsAtAims (IsInDrain (width fabric.new))) }
     {
-        if self.step_in_place(fabric) {
+        let _words = fabric.words();
+        if self.step_in(fabric) {
             Turn::Stay(self)
         } else {
-            Turn::On(self.step_on(fabric))
+            Turn::On(self.closed())
         }
-    }
-
-    /// Makes the last such step.
-    pub(crate) fn step_on(mut self, fabric: &mut Fabric) -> Closed<Move<K, Aim>, Move<K, Drain>>
-        requires fits { MoveFits fabric.old self }
-        requires phase { IsIn ClosingPhase (width fabric.old) self }
-        requires last { IsLastOf ClosingPhase (width fabric.old) self }
-        ensures goes { MatchClosed result (GoesOn fabric.old self fabric.new)
-            (GoesOn fabric.old self fabric.new) }
-        ensures phase { MatchClosed result IsAtAims (IsInDrain (width fabric.new)) }
-    {
-        let _words = fabric.words();
-        self.end_phase(fabric);
-        self.closed()
     }
 }
 
@@ -159,15 +155,7 @@ impl<K: Kind> Move<K, Aim> {
         ensures phase { MatchTurn result IsAtAims (IsInDrain (width fabric.now)) }
     {
         let _words = fabric.words();
-        let pass = self.who.passes[self.aims];
-        match self.kind.new_file() {
-            Some(file) => targets.aim(pass.source, file.hart(), file.file(), pass.identity),
-            None => {
-                let identity = FIRST_PASS_IDENTITY + pass.number;
-                targets.aim(pass.source, self.who.found.notice, 0, identity);
-            }
-        }
-        self.aims += 1;
+        self.aim(fabric, targets);
         match self.closed() {
             Closed::Aim(state) => Turn::Stay(state),
             Closed::Aimed(state) => Turn::On(state),
@@ -186,23 +174,11 @@ impl<K: Kind> Move<K, Drain> {
         ensures phase { MatchTurn result (IsInDrain (width fabric.new))
             (IsIn EnablePhase (width fabric.new)) }
     {
-        if self.step_in_place(fabric) {
+        if self.step_in(fabric) {
             Turn::Stay(self)
         } else {
-            Turn::On(self.step_on(fabric))
+            Turn::On(self.into_phase())
         }
-    }
-
-    /// Makes the last such step.
-    pub(crate) fn step_on(mut self, fabric: &mut Fabric) -> Move<K, Enable>
-        requires fits { MoveFits fabric.old self }
-        requires phase { IsInDrain (width fabric.old) self }
-        requires last { IsLastOf DrainPhase (width fabric.old) self }
-        ensures goes { GoesOn fabric.old self fabric.new result }
-        ensures phase { IsIn EnablePhase (width fabric.new) result }
-    {
-        self.end_phase(fabric);
-        self.into_phase()
     }
 }
 
@@ -218,30 +194,18 @@ impl<K: Kind> Move<K, Enable> {
         ensures phase { MatchTurn result (IsIn EnablePhase (width fabric.new))
             (IsIn K.after (width fabric.new)) }
     {
-        if self.step_in_place(fabric) {
+        let _words = fabric.words();
+        if self.step_in(fabric) {
             Turn::Stay(self)
         } else {
-            Turn::On(self.step_on(fabric))
+            Turn::On(self.into_phase())
         }
-    }
-
-    /// Makes the last such step.
-    pub(crate) fn step_on(mut self, fabric: &mut Fabric) -> Move<K, K::After>
-        requires fits { MoveFits fabric.old self }
-        requires phase { IsIn EnablePhase (width fabric.old) self }
-        requires last { IsLastOf EnablePhase (width fabric.old) self }
-        ensures goes { GoesOn fabric.old self fabric.new result }
-        ensures phase { IsIn K.after (width fabric.new) result }
-    {
-        let _words = fabric.words();
-        self.end_phase(fabric);
-        self.into_phase()
     }
 }
 
 impl<K: Kind> Move<K, Look> {
-    /// Looks at a word of both sets of the slot, in a leave alone. Why here: each word is watched, so that a look
-    /// misses only what the host is told of; it finds what had come before.
+    /// Looks at a word of both sets of the slot, in a leave alone. Why here: each word is watched,
+    /// so that a look misses only what the host is told of; it finds what had come before.
     pub fn step(mut self, fabric: &mut Fabric) -> Turn<Self, Move<K, Last>>
         requires fits { MoveFits fabric.old self }
         requires phase { IsIn LookPhase (width fabric.old) self }
@@ -250,23 +214,11 @@ impl<K: Kind> Move<K, Look> {
         ensures phase { MatchTurn result (IsIn LookPhase (width fabric.new))
             (IsIn LastPhase (width fabric.new)) }
     {
-        if self.step_in_place(fabric) {
+        if self.step_in(fabric) {
             Turn::Stay(self)
         } else {
-            Turn::On(self.step_on(fabric))
+            Turn::On(self.into_phase())
         }
-    }
-
-    /// Makes the last such step.
-    pub(crate) fn step_on(mut self, fabric: &mut Fabric) -> Move<K, Last>
-        requires fits { MoveFits fabric.old self }
-        requires phase { IsIn LookPhase (width fabric.old) self }
-        requires last { IsLastOf LookPhase (width fabric.old) self }
-        ensures goes { GoesOn fabric.old self fabric.new result }
-        ensures phase { IsIn LastPhase (width fabric.new) result }
-    {
-        self.end_phase(fabric);
-        self.into_phase()
     }
 }
 
@@ -283,71 +235,64 @@ impl<K: Kind> Move<K, Last> {
         ensures phase { MatchTurn result
             (IsIn LastPhase (width fabric.new)) (λ o. ⊤) }
     {
-        if self.step_in_place(fabric) {
+        let _words = fabric.words();
+        if self.stays(fabric, Stage::Last) {
+            self.step_in(fabric);
             Turn::Stay(self)
         } else {
-            Turn::On(self.step_on(fabric))
+            self.access(fabric);
+            Turn::On(self.kind.end(self.hand))
         }
-    }
-
-    /// Makes the last such step, with which the move ends.
-    pub(crate) fn step_on(mut self, fabric: &mut Fabric) -> Outcome
-        requires fits { MoveFits fabric.old self }
-        requires last { IsLastOf LastPhase (width fabric.old) self }
-        ensures { EndsAs fabric.old self fabric.new result }
-    {
-        let _words = fabric.words();
-        self.access(fabric);
-        self.kind.end(self.hand)
     }
 }
 
 /// What the phases share.
 impl<K: Kind, P: AccessPhase> Move<K, P> {
-    /// Makes the next step in place, where it is not the last one of its phase, and tells whether
-    /// it made one.
-    pub(crate) fn step_in_place(&mut self, fabric: &mut Fabric) -> bool
+    /// Makes the next step, which is not the last one of the plan, and tells whether the one after
+    /// it is of its phase too.
+    fn step_in(&mut self, fabric: &mut Fabric) -> bool
         requires fits { MoveFits fabric.old self.old }
         requires phase { NextStepIsOf (Some P.phase) (width fabric.old) self.old }
-        ensures goes { GoesInPlace P.phase result fabric.old self.old fabric.new self.new }
-        ensures phase { NextStepIsOf (Some P.phase) (width fabric.new) self.new }
+        requires more { steps_done self.old.home + 1
+            < begins (width fabric.old) self.old.home AllDone }
+        ensures { GoesInPhase P.phase result fabric.old self.old fabric.new self.new }
+    {
+        let _words = fabric.words();
+        let stays = self.stays(fabric, P::stage());
+        self.access(fabric);
+        self.done += 1;
+        stays
+    }
+}
+
+/// What the phases share with a plan, whose phase is a value.
+impl<K: Kind, P> Move<K, P> {
+    /// Begins, with this in the hand: no step is done.
+    pub(crate) fn new(kind: K, who: Who, hand: Hand) -> Move<K, P>
+        ensures { result ≡ begun who (K.way kind) hand }
+    {
+        Move {
+            kind,
+            who,
+            done: 0,
+            aims: 0,
+            hand,
+            phase: PhantomData,
+        }
+    }
+
+    /// Tells whether the next step is not the last one of this phase.
+    fn stays(&self, fabric: &Fabric, stage: Stage) -> bool
+        requires { steps_done self.now.home < begins (width fabric.now) self.now.home AllDone }
+        ensures { result ≡ nat_lt (steps_done self.now.home + 1)
+            (begins (width fabric.now) self.now.home (past_phase (phase_at stage))) }
     {
         let words = fabric.words();
         let from = end_of(self.kind.old_file());
         let to = end_of(self.kind.new_file());
-        let stays = self.done + 1 < P::end(from, to, words);
-        if stays {
-            self.advance(fabric);
-        }
-        stays
+        self.done + 1 < stage.end(from, to, words)
     }
 
-    /// Makes such an access as `advance`, out of line: what comes to another phase stays small, so
-    /// that the plan is not copied for it.
-    #[inline(never)]
-    fn end_phase(&mut self, fabric: &mut Fabric)
-        requires fits { MoveFits fabric.old self.old }
-        requires phase { NextStepIsOf (Some P.phase) (width fabric.old) self.old }
-        requires more { steps_done self.old.home + 1 < begins (width fabric.old) self.old.home AllDone }
-        ensures { GoesOnIn P.phase fabric.old self.old fabric.new self.new }
-    {
-        self.advance(fabric);
-    }
-
-    /// Makes the next access of the plan, which is not the last one.
-    fn advance(&mut self, fabric: &mut Fabric)
-        requires fits { MoveFits fabric.old self.old }
-        requires phase { NextStepIsOf (Some P.phase) (width fabric.old) self.old }
-        requires more { steps_done self.old.home + 1 < begins (width fabric.old) self.old.home AllDone }
-        ensures { GoesOnIn P.phase fabric.old self.old fabric.new self.new }
-    {
-        let _words = fabric.words();
-        self.access(fabric);
-        self.done += 1;
-    }
-}
-
-impl<K: Kind, P> Move<K, P> {
     /// Makes the next access of the plan, and counts it not yet.
     fn access(&mut self, fabric: &mut Fabric)
         requires fits { MoveFits fabric.old self.old }
@@ -359,6 +304,35 @@ impl<K: Kind, P> Move<K, P> {
         let new = self.kind.new_file();
         let access = access_at(end_of(old), end_of(new), words, self.done);
         self.hand.make(fabric, &self.who, old, new, access);
+    }
+
+    /// Aims the next passed source at the new place.
+    fn aim<T: Targets>(&mut self, fabric: &Fabric, targets: &mut T)
+        requires fits { MoveFits fabric.now self.old }
+        requires aims { IsAtAims self.old }
+        requires harts { fabric.now.imsic.harts ≡ (T.map targets.old).harts }
+        requires passes { ArePasses self.old.who }
+        ensures aims { T.aimed targets.old (aim_of self.old).source (aim_of self.old).target
+            targets.new }
+        ensures goes { AimsOn fabric.now self.old self.new }
+    {
+        let _words = fabric.words();
+        let pass = self.who.passes[self.aims];
+        match self.kind.new_file() {
+            Some(file) => targets.aim(pass.source, file.hart(), file.file(), pass.identity),
+            None => {
+                let identity = FIRST_PASS_IDENTITY + pass.number;
+                targets.aim(pass.source, self.who.found.notice, 0, identity);
+            }
+        }
+        self.aims += 1;
+    }
+
+    /// Tells whether a passed source is still to be aimed.
+    fn has_unaimed(&self) -> bool
+        ensures { result ≡ has_unaimed self.now }
+    {
+        self.aims < self.who.passes.len()
     }
 
     /// Comes to another phase, with all that it has; where that is the one after those that all
@@ -384,10 +358,73 @@ impl<K: Kind, P> Move<K, P> {
         ensures { MatchClosed result (λ t. (t ≡ self) × (has_unaimed t ≡ true))
             (λ t. (t ≡ self) × (has_unaimed t ≡ false)) }
     {
-        if self.aims < self.who.passes.len() {
+        if self.has_unaimed() {
             Closed::Aim(self.into_phase())
         } else {
             Closed::Aimed(self.into_phase())
         }
+    }
+}
+
+/// What a plan makes of a move whose phase is a value.
+impl<K: Kind> Move<K, ()> {
+    /// Makes the next step of the plan where it lies, but the last one, and comes to the next phase
+    /// with the last step of its own; tells whether it made one.
+    pub(crate) fn go_on<T: Targets>(
+        &mut self,
+        stage: &mut Stage,
+        fabric: &mut Fabric,
+        targets: &mut T,
+    ) -> bool
+        requires fits { MoveFits fabric.old self.old }
+        requires phase { NextStepIsOf (phase_at stage.old) (width fabric.old) self.old }
+        requires harts { fabric.old.imsic.harts ≡ (T.map targets.old).harts }
+        requires passes { ArePasses self.old.who }
+        ensures goes { GoesInPlace result fabric.old self.old fabric.new self.new }
+        ensures aims { AimsAs T.aimed (next_aim self.old) targets.old targets.new }
+        ensures phase { NextStepIsOf (phase_at stage.new) (width fabric.new) self.new }
+        ensures still { result ≡ false → stage.new ≡ stage.old }
+    {
+        let _words = fabric.words();
+        if stage.aims() {
+            self.aim(fabric, targets);
+            *stage = self.next(*stage, false);
+            return true;
+        }
+        let stays = self.stays(fabric, *stage);
+        if stage.ends(stays) {
+            return false;
+        }
+        self.access(fabric);
+        self.done += 1;
+        *stage = self.next(*stage, stays);
+        true
+    }
+
+    /// Tells in which phase the plan is after a step of this one: in the same, where it stays.
+    fn next(&self, stage: Stage, stays: bool) -> Stage
+        ensures { phase_at result
+            ≡ (if stays then phase_at stage else next_phase self.now (phase_at stage)) }
+    {
+        match stage {
+            _ if stays => stage,
+            Stage::First => Stage::Closing,
+            Stage::Closing | Stage::Aim if self.has_unaimed() => Stage::Aim,
+            Stage::Closing | Stage::Aim => Stage::Drain,
+            Stage::Drain => Stage::Enable,
+            Stage::Enable if self.kind.new_file().is_none() => Stage::Look,
+            Stage::Enable | Stage::Look | Stage::Last => Stage::Last,
+        }
+    }
+
+    /// Makes the last access of the plan, with which the move ends.
+    pub(crate) fn finish(mut self, fabric: &mut Fabric) -> Outcome
+        requires fits { MoveFits fabric.old self }
+        requires last { is_at_last (width fabric.old) self.home ≡ true }
+        ensures { EndsAs fabric.old self fabric.new result }
+    {
+        let _words = fabric.words();
+        self.access(fabric);
+        self.kind.end(self.hand)
     }
 }

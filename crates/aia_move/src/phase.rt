@@ -1,7 +1,8 @@
-ghost use Rattle.std.specs.Prelude.{◌≡◌, ◌≤◌};
+ghost use Rattle.std.specs.Prelude.{◌≡◌, ◌≤◌, ◌&&◌, not, is_none, Some};
 ghost use Rattle.aia_regs.specs.declared.limits.TheConstants.{FILE_WORDS};
-ghost use Rattle.aia_home.specs.Phases.{Phase, following, phase_begins};
+ghost use Rattle.aia_home.specs.Phases.{Phase, phase_begins};
 ghost use Rattle.aia_home.specs.Phases.Phase.{FirstPhase, ClosingPhase, DrainPhase, EnablePhase, LookPhase, LastPhase};
+ghost use Rattle.aia_move.specs.Stages.{phase_at, past_phase, is_last};
 
 use aia_home::{End, before_entry, plan_steps, word_steps};
 
@@ -9,10 +10,9 @@ use aia_home::{End, before_entry, plan_steps, word_steps};
 pub trait AccessPhase {
     ghost phase: { Phase };
 
-    /// Tells how many steps come before the phase that follows, in files of `words` words.
-    fn end(from: End, to: End, words: u32) -> u32
-        requires { words ≤ FILE_WORDS }
-        ensures { result ≡ phase_begins from to words (following phase) };
+    /// Gives the phase as a value.
+    fn stage() -> Stage
+        ensures { phase_at result ≡ Some phase };
 }
 
 /// The phase up to the fence of the entry, and with it.
@@ -22,8 +22,8 @@ pub struct First;
 impl AccessPhase for First {
     ghost phase = { FirstPhase };
 
-    fn end(from: End, to: End, _words: u32) -> u32 {
-        before_entry(from, to) + 2
+    fn stage() -> Stage {
+        Stage::First
     }
 }
 
@@ -34,8 +34,8 @@ pub struct Closing;
 impl AccessPhase for Closing {
     ghost phase = { ClosingPhase };
 
-    fn end(from: End, to: End, _words: u32) -> u32 {
-        before_entry(from, to) + 4
+    fn stage() -> Stage {
+        Stage::Closing
     }
 }
 
@@ -50,8 +50,8 @@ pub struct Drain;
 impl AccessPhase for Drain {
     ghost phase = { DrainPhase };
 
-    fn end(from: End, to: End, words: u32) -> u32 {
-        Closing::end(from, to, words) + 2 * words
+    fn stage() -> Stage {
+        Stage::Drain
     }
 }
 
@@ -62,8 +62,8 @@ pub struct Enable;
 impl AccessPhase for Enable {
     ghost phase = { EnablePhase };
 
-    fn end(from: End, to: End, words: u32) -> u32 {
-        Drain::end(from, to, words) + 2 * words
+    fn stage() -> Stage {
+        Stage::Enable
     }
 }
 
@@ -74,8 +74,8 @@ pub struct Look;
 impl AccessPhase for Look {
     ghost phase = { LookPhase };
 
-    fn end(from: End, to: End, words: u32) -> u32 {
-        Closing::end(from, to, words) + word_steps(to, words)
+    fn stage() -> Stage {
+        Stage::Look
     }
 }
 
@@ -86,7 +86,52 @@ pub struct Last;
 impl AccessPhase for Last {
     ghost phase = { LastPhase };
 
-    fn end(from: End, to: End, words: u32) -> u32 {
-        plan_steps(from, to, words)
+    fn stage() -> Stage {
+        Stage::Last
+    }
+}
+
+/// The phase that a plan is in.
+#[derive(Clone, Copy, Debug, PartialEq, Eq)]
+pub enum Stage {
+    First,
+    Closing,
+    Aim,
+    Drain,
+    Enable,
+    Look,
+    Last,
+}
+
+impl Stage {
+    /// Tells whether its steps aim passed sources.
+    pub fn aims(self) -> bool
+        ensures { result ≡ is_none (phase_at self) }
+    {
+        matches!(self, Stage::Aim)
+    }
+
+    /// Tells whether the next step is a plan's last one, by whether its phase goes on after it.
+    pub fn ends(self, stays: bool) -> bool
+        ensures { result ≡ (not stays && is_last (phase_at self)) }
+    {
+        !stays && matches!(self, Stage::Last)
+    }
+
+    /// Tells how many steps come before the phase that follows, in files of `words` words. The
+    /// phase of aims has none of its own.
+    pub fn end(self, from: End, to: End, words: u32) -> u32
+        requires { words ≤ FILE_WORDS }
+        ensures { result ≡ phase_begins from to words (past_phase (phase_at self)) }
+    {
+        let entry = before_entry(from, to);
+        match self {
+            Stage::First => entry + 2,
+            Stage::Closing | Stage::Aim => entry + 4,
+            Stage::Drain => entry + 4 + 2 * words,
+            Stage::Enable => entry + 4 + 4 * words,
+            Stage::Look => entry + 4 + word_steps(to, words),
+            Stage::Last => plan_steps(from, to, words),
+        }
     }
 }

@@ -1,11 +1,14 @@
-use Rattle.std.proofs.Common.{ap, ◌∙◌, subst}
+use Rattle.std.proofs.Common.{ap, ◌∙◌, subst, arith}
 use Rattle.aia_home.specs.Home.{Home}
 use Rattle.aia_places.specs.Holds.{Hand}
 use Rattle.aia_moving.specs.Move.{Moving, width}
 use Rattle.aia_moving.specs.Turns.{GivesBack}
 use Rattle.aia_moving.proofs.StepLemmas.{executed_last}
-use Rattle.aia_move.proofs.PhaseLemmas.{at_last}
-use Rattle.aia_move.proofs.moves.Move+K+Last.step_on.Goals as goal
+use Rattle.aia_move.proofs.PhaseLemmas.{last_step}
+use Rattle.aia_move.proofs.moves.Move+K+unit.finish.Goals as goal
+
+pub access-requires-clause-more : goal.access-requires-clause-more
+access-requires-clause-more g c = omega (arith, last_step (width c.args.fabric.now) c.args.self.home c.requires.last)
 
 pub returns : goal.returns
 returns g c =
@@ -13,7 +16,7 @@ returns g c =
     let s = c.args.self in
     let x = c.access.new.self in
     let l = c.self.inside in
-    let ends = executed_last w c.access.new.fabric s x c.access.ensures (at_last (width w) s.home c.requires.last) in
+    let ends = executed_last w c.access.new.fabric s x c.access.ensures c.requires.last in
     record {
       ends = ends.0;
       gives = subst (λ (h : Hand). GivesBack c.end.result s.home h) (ap (λ (y : Moving). y.hand) c.self.view_is ∙ ends.1)
