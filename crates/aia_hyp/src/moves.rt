@@ -6,7 +6,8 @@ ghost use Rattle.aia_pool.specs.Leases.{Leases};
 ghost use Rattle.aia_model.specs.declared.line.Line.TheVariants.{Step};
 ghost use Rattle.aia_model.specs.declared.line.Line.TheVariants as lines;
 ghost use Rattle.aia_model.specs.declared.answer.Answer.TheVariants.{Okay};
-ghost use Rattle.aia_move.specs.Plan.{moving_of, IsInPhase};
+ghost use Rattle.aia_move.specs.PlanState.{moving_of};
+ghost use Rattle.aia_move.specs.Plan.{IsInPhase};
 ghost use Rattle.aia_moving.specs.Move.{MoveFits, width};
 ghost use Rattle.aia_model.specs.Event.{History};
 ghost use Rattle.aia_model.specs.Event.Event.{Stepped};
@@ -135,37 +136,21 @@ impl Core {
         ensures found { IsFound self.new.world found }
         ensures harts { self.new.world.imsic.harts ≡ (T.map targets.new).harts }
     {
-        if self.step_in_place(found) {
+        if self.step_in_place(found, targets) {
             return false;
         }
-        self.step_out(found, targets)
+        self.finish_move(found);
+        true
     }
 
-    /// Makes such a step in place, in the record of the virtual hart, where its plan makes one so;
-    /// tells whether it made one, which is no aim and not the last step.
-    fn step_in_place(&mut self, found: Found) -> bool
+    /// Makes such a step in place, in the record of the virtual hart, where it is not the last one
+    /// of the move; tells whether it made one.
+    fn step_in_place<T: Targets>(&mut self, found: Found, targets: &mut T) -> bool
         requires found { IsFound self.old.world found }
         requires moving { is_moving (home_in (record_of self.old (vcpu found.vm found.number)).stay)
             ≡ true }
-        ensures makes { MoveInPlace self.old self.new (vcpu found.vm found.number) result }
-        ensures found { IsFound self.new.world found }
-        ensures harts { self.new.world.imsic.harts ≡ self.old.world.imsic.harts }
-    {
-        let _whole = self.fabric.words();
-        let made = carry_on(&mut self.vcpus, found.slot, &mut self.fabric);
-        let _whole = self.fabric.words();
-        made
-    }
-
-    /// Makes such a step with the plan out of its record, where none is made in place: it is the
-    /// last one of its phase, or aims.
-    fn step_out<T: Targets>(&mut self, found: Found, targets: &mut T) -> bool
-        requires found { IsFound self.old.world found }
-        requires moving { is_moving (home_in (record_of self.old (vcpu found.vm found.number)).stay)
-            ≡ true }
-        requires last { EndsItsPhase self.old (vcpu found.vm found.number) }
         requires harts { self.old.world.imsic.harts ≡ (T.map targets.old).harts }
-        ensures goes { MoveGoes self.old self.new (vcpu found.vm found.number) result }
+        ensures makes { MoveInPlace self.old self.new (vcpu found.vm found.number) result }
         ensures aims { (h : History) → CoreStands self.old h
             → AimsBy T.aimed (aimed_by h (Stepped (vcpu found.vm found.number))) targets.old
             targets.new }
@@ -174,14 +159,29 @@ impl Core {
     {
         let _whole = self.fabric.words();
         let _few = self.passes.count();
+        let made = carry_on(&mut self.vcpus, found.slot, &mut self.fabric, targets);
+        let _whole = self.fabric.words();
+        made
+    }
+
+    /// Makes the last step of the move of a virtual hart, and puts it where the move leads.
+    fn finish_move(&mut self, found: Found)
+        requires found { IsFound self.old.world found }
+        requires moving { is_moving (home_in (record_of self.old (vcpu found.vm found.number)).stay)
+            ≡ true }
+        requires last { IsAtItsLast self.old (vcpu found.vm found.number) }
+        ensures goes { MoveGoes self.old self.new (vcpu found.vm found.number) true }
+        ensures found { IsFound self.new.world found }
+        ensures harts { self.new.world.imsic.harts ≡ self.old.world.imsic.harts }
+    {
+        let _whole = self.fabric.words();
         let Stay::Moving(plan) = swap_stay(&mut self.vcpus, found.slot, nowhere()) else {
             unreachable!()
         };
-        let next = plan.step_on(&mut self.fabric, targets);
+        let outcome = plan.finish(&mut self.fabric);
         let _whole = self.fabric.words();
-        let (new, last) = after_step(next, &mut self.pool);
+        let new = stay_at_end(outcome, &mut self.pool);
         swap_stay(&mut self.vcpus, found.slot, new);
-        last
     }
 }
 
@@ -223,16 +223,28 @@ fn swap_stay(vcpus: &mut Vec<VcpuRecord>, slot: u32, stay: Stay) -> Stay
     std::mem::replace(&mut vcpus[slot as usize].stay, stay)
 }
 
-/// Makes the next step of the move of a virtual hart in its record, where its plan makes one in
-/// place, and tells whether it made one.
-fn carry_on(vcpus: &mut Vec<VcpuRecord>, slot: u32, fabric: &mut Fabric) -> bool
+/// Makes the next step of the move of a virtual hart in its record, where it is not the last one,
+/// and tells whether it made one.
+fn carry_on<T: Targets>(
+    vcpus: &mut Vec<VcpuRecord>,
+    slot: u32,
+    fabric: &mut Fabric,
+    targets: &mut T,
+) -> bool
     requires low { slot < length vcpus.old.items }
-    requires knows { (plan : Plan)
+    requires knows { (plan : PlanState)
         → (slice_index_or vcpus.old.items slot no_record).stay ≡ Stay.Moving plan
         → MoveFits fabric.old (moving_of plan) × IsInPhase (width fabric.old) plan }
+    requires passes { (plan : PlanState)
+        → (slice_index_or vcpus.old.items slot no_record).stay ≡ Stay.Moving plan
+        → ArePasses (moving_of plan).who }
+    requires harts { fabric.old.imsic.harts ≡ (T.map targets.old).harts }
     ensures makes { StaysInPlace result
         fabric.old (slice_index_or vcpus.old.items slot no_record).stay
         fabric.new (slice_index_or vcpus.new.items slot no_record).stay }
+    ensures aims { (plan : PlanState)
+        → (slice_index_or vcpus.old.items slot no_record).stay ≡ Stay.Moving plan
+        → AimsAs T.aimed (next_aim (moving_of plan)) targets.old targets.new }
     ensures rest { vcpus.new.items ≡ slice_set vcpus.old.items slot
         (record (slice_index_or vcpus.old.items slot no_record) {
           stay = (slice_index_or vcpus.new.items slot no_record).stay;
@@ -240,7 +252,7 @@ fn carry_on(vcpus: &mut Vec<VcpuRecord>, slot: u32, fabric: &mut Fabric) -> bool
     ensures room { vec_capacity vcpus.new ≡ vec_capacity vcpus.old }
 {
     match &mut vcpus[slot as usize].stay {
-        Stay::Moving(plan) => plan.step_in_place(fabric),
+        Stay::Moving(plan) => plan.step_in_place(fabric, targets),
         Stay::InMemory(..) | Stay::Resident(_) => false,
     }
 }
@@ -307,24 +319,21 @@ fn shift(old: Stay, who: Who, hart: u32, pool: &mut Pool) -> (Stay, Result<(), R
     }
 }
 
-/// Tells where a virtual hart is after a step of its plan, and whether its move is at its end; the
-/// guest file that it left then comes back.
-fn after_step(next: Next, pool: &mut Pool) -> (Stay, bool)
-    requires { IsOutThere pool.old (back_then next) }
-    ensures stay { result.0 ≡ stay_then next }
-    ensures back { pool.new ≡ with_back (back_then next) pool.old }
-    ensures last { result.1 ≡ is_finished next }
+/// Tells where a virtual hart is at the end of its move; the guest file that it left comes back.
+fn stay_at_end(outcome: Outcome, pool: &mut Pool) -> Stay
+    requires { IsOutThere pool.old (back_of outcome) }
+    ensures stay { result ≡ stay_after outcome }
+    ensures back { pool.new ≡ with_back (back_of outcome) pool.old }
 {
-    match next {
-        Next::Again(plan) => (Stay::Moving(plan), false),
-        Next::Finished(Outcome::Left(from, kept)) => {
+    match outcome {
+        Outcome::Left(from, kept) => {
             pool.give(from);
-            (Stay::InMemory(Rest::Parked, kept), true)
+            Stay::InMemory(Rest::Parked, kept)
         }
-        Next::Finished(Outcome::Arrived(to)) => (Stay::Resident(to), true),
-        Next::Finished(Outcome::Shifted(from, to)) => {
+        Outcome::Arrived(to) => Stay::Resident(to),
+        Outcome::Shifted(from, to) => {
             pool.give(from);
-            (Stay::Resident(to), true)
+            Stay::Resident(to)
         }
     }
 }

@@ -1,5 +1,5 @@
 -- A step of a move that aims a passed source, in a core that stands for a history.
-use Rattle.std.proofs.Common.{◌/◌, ◌≡◌, ℕ, ◌+◌, ◌≤◌, Bool, true, false, ◌&&◌, ◌||◌, cond, nat_eq, nat_lt, get_or, List, ◌∷◌, length, Some, None, inl, inr, refl, sym, ap, subst, ◌∙◌, arith}
+use Rattle.std.proofs.Common.{◌/◌, ◌≡◌, ℕ, ◌+◌, ◌≤◌, Bool, true, false, ◌&&◌, ◌||◌, cond, nat_eq, get_or, List, ◌∷◌, length, Some, None, inl, inr, refl, sym, ap, subst, ◌∙◌, arith}
 use Rattle.std.proofs.Math.ListN.{set}
 use Rattle.std.proofs.lemmas.Bool.{cases_Bool, cond-true, and_parts, eqb-true, ne_eqb, lt-ltb, false≢true}
 use Rattle.std.proofs.lemmas.Bool.Decides.{nat_tests}
@@ -30,9 +30,9 @@ use Rattle.aia_pool.specs.Leases.{Leases, is_out}
 use Rattle.aia_world.specs.World.{World, no_stage}
 use Rattle.aia_world.specs.Changes.{spot_of, places_of}
 use Rattle.aia_moving.specs.declared.who.Who.{Who}
-use Rattle.aia_move.specs.declared.plan.Plan.{Plan}
 use Rattle.aia_moving.specs.Move.{Moving, mover, width, MoveFits}
-use Rattle.aia_move.specs.Plan.{moving_of, IsInPhase, GoesAiming}
+use Rattle.aia_move.specs.PlanState.{PlanState, moving_of}
+use Rattle.aia_move.specs.Plan.{IsInPhase, GoesAiming}
 use Rattle.aia_move.proofs.MoveKept.{aims_kept}
 use Rattle.aia_move.proofs.MachineLemmas.{no_accesses}
 use Rattle.aia_model.specs.Event.Event.{Stepped}
@@ -105,7 +105,7 @@ aim_leads passes there e = absurd (cc)
 -- ---- the step
 
 -- the plan of a virtual hart has aimed its next pass, and the virtual hart has a new record
-pub record AimOf (x y : CoreState) (h : History) (g : Vcpu) (plan later : Plan) (r : VcpuRecord) : Type 0 where
+pub record AimOf (x y : CoreState) (h : History) (g : Vcpu) (plan later : PlanState) (r : VcpuRecord) : Type 0 where
   pub first : NoneAtFence h (Stepped g)
   pub stands : CoreStands x h
   pub some : 1 ≤ file_words h
@@ -123,7 +123,7 @@ pub record AimOf (x y : CoreState) (h : History) (g : Vcpu) (plan later : Plan) 
   pub select : r.select ≡ (record_of x g).select
   pub majors : r.majors ≡ (record_of x g).majors
 
-module _ (x y : CoreState) (h : History) (g : Vcpu) (plan later : Plan) (r : VcpuRecord) (a : AimOf x y h g plan later r) where
+module _ (x y : CoreState) (h : History) (g : Vcpu) (plan later : PlanState) (r : VcpuRecord) (a : AimOf x y h g plan later r) where
   stood : VcpuStands x h g
   stood = a.stands.vcpus g a.there
 

@@ -13,9 +13,9 @@ use Rattle.aia_home.specs.Home.Way.{Inward, Across}
 use Rattle.aia_pool.specs.Leases.{least_free, with_out}
 use Rattle.aia_moving.specs.declared.who.Who.{Who}
 use Rattle.aia_moving.specs.declared.who.KeptNumbers.{KeptNumbers}
-use Rattle.aia_move.specs.declared.plan.Plan.{Plan}
 use Rattle.aia_moving.specs.Move.{Moving, IsWho}
-use Rattle.aia_move.specs.Plan.{moving_of, IsInPhase}
+use Rattle.aia_move.specs.PlanState.{PlanState, moving_of}
+use Rattle.aia_move.specs.Plan.{IsInPhase, empty_hand}
 use Rattle.aia_model.specs.declared.answer.Answer.{Answer}
 use Rattle.aia_model.specs.declared.answer.Answer.TheVariants.{Okay, Refused}
 use Rattle.aia_model.specs.declared.refusal.Refusal.{Refusal}
@@ -39,7 +39,7 @@ use Rattle.aia_standing.specs.declared.vcpu.Stay.TheVariants as stays
 use Rattle.aia_standing.specs.declared.vcpu.VcpuRecord.{VcpuRecord}
 use Rattle.aia_standing.specs.Core.{CoreState, no_record, record_of, home_in, parked_at}
 use Rattle.aia_model.specs.Move.{wanted_move}
-use Rattle.aia_standing.specs.Moves.{empty_hand, Refuses, BeginsIn, LeaveBegins, ArriveFrom, ArriveBegins, ShiftBegins, WantBegins, move_begun, MoveBegins}
+use Rattle.aia_standing.specs.Moves.{Refuses, BeginsIn, LeaveBegins, ArriveFrom, ArriveBegins, ShiftBegins, WantBegins, move_begun, MoveBegins}
 use Rattle.aia_standing.specs.Stands.{PlanStands, CoreStands, StandsForSome}
 use Rattle.std.specs.Prelude.{Result, Ok, Err}
 use Rattle.aia_home.specs.declared.rest.Rest.TheVariants.{Parked}
@@ -98,7 +98,7 @@ module _ (x y : CoreState) (who : Who) (given : Answer) (h : History) (stands : 
       (Some (Refused word), is, r.0, subst (λ (z : CoreState). CoreStands z h) (sym same) stands, λ w e. same)
 
   -- its plan is kept
-  planned : (plan : Plan) → Put x y who (stays.Moving plan) → ((words : ℕ) → IsInPhase words plan) → Given x y h (vcpu who.found.vm who.found.number) who plan (at_stay (record_of x (vcpu who.found.vm who.found.number)) (stays.Moving plan))
+  planned : (plan : PlanState) → Put x y who (stays.Moving plan) → ((words : ℕ) → IsInPhase words plan) → Given x y h (vcpu who.found.vm who.found.number) who plan (at_stay (record_of x (vcpu who.found.vm who.found.number)) (stays.Moving plan))
   planned plan p phase = record {
     stands = stands;
     there = is_there (stays.Moving plan) p;
@@ -126,7 +126,7 @@ module _ (x y : CoreState) (who : Who) (given : Answer) (h : History) (stands : 
       ∙ (λ k. cond (not (inside k)) (Some (Refused words.Range)) (cond (is_moving (there k)) (Some (Refused words.Busy)) (cond (rests_in_memory (there k)) (Some (Refused words.Parked)) None)))
 
   -- what is being moved has its home on the move
-  on_the_move : (new : Stay) (plan : Plan) → Put x y who new → (record_of x (vcpu who.found.vm who.found.number)).stay ≡ stays.Moving plan → is_moving (moving_of plan).home ≡ true
+  on_the_move : (new : Stay) (plan : PlanState) → Put x y who new → (record_of x (vcpu who.found.vm who.found.number)).stay ≡ stays.Moving plan → is_moving (moving_of plan).home ≡ true
   on_the_move new plan p was = let planned : PlanStands x.world g (stays.Moving plan) = subst (PlanStands x.world g) was (stands.vcpus g (is_there new p)).plan in planned.3
 
   leave_answered : (new old : Stay) → Put x y who new → (record_of x (vcpu who.found.vm who.found.number)).stay ≡ old → LeaveBegins who old new x.leases y.leases given → Answered x y h who.found.vm who.found.number wants.Leave given
@@ -167,7 +167,7 @@ module _ (x y : CoreState) (who : Who) (given : Answer) (h : History) (stands : 
   -- it takes a guest file of a hart, where one is free, and is refused where none is
   taken_in : (want : Want) (new old : Stay) (hart : ℕ) (moving : Place → Moving) (o : Option ℕ) → Put x y who new → (record_of x (vcpu who.found.vm who.found.number)).stay ≡ old → hart < x.leases.harts → least_free x.leases hart ≡ o
       → refusal h (lines.Move who.found.vm who.found.number want) ≡ cond (is_none o) (Some (Refused words.NoFile)) None
-      → ((plan : Plan) (to : Place) → Given x y h (vcpu who.found.vm who.found.number) who plan (at_stay (record_of x (vcpu who.found.vm who.found.number)) (stays.Moving plan)) → IsFreeAt x h hart to → y.leases ≡ with_out x.leases to true → moving_of plan ≡ moving to
+      → ((plan : PlanState) (to : Place) → Given x y h (vcpu who.found.vm who.found.number) who plan (at_stay (record_of x (vcpu who.found.vm who.found.number)) (stays.Moving plan)) → IsFreeAt x h hart to → y.leases ≡ with_out x.leases to true → moving_of plan ≡ moving to
       → CoreStands y (Began (wanted_move (vcpu who.found.vm who.found.number) want) ∷ h))
       → BeginsIn o hart moving old new x.leases y.leases given → Answered x y h who.found.vm who.found.number want given
   taken_in want new old hart moving None p was low found is begun b = refused want words.NoFile new old p was b is

@@ -22,9 +22,9 @@ use Rattle.aia_pool.specs.Leases.{with_out}
 use Rattle.aia_world.specs.Changes.{spot_of, places_of}
 use Rattle.aia_moving.specs.declared.who.Who.{Who}
 use Rattle.aia_moving.specs.declared.who.KeptNumbers.{KeptNumbers}
-use Rattle.aia_move.specs.declared.plan.Plan.{Plan}
 use Rattle.aia_moving.specs.Move.{Moving, width, IsWho}
-use Rattle.aia_move.specs.Plan.{moving_of, IsInPhase}
+use Rattle.aia_move.specs.PlanState.{PlanState, moving_of}
+use Rattle.aia_move.specs.Plan.{IsInPhase}
 use Rattle.aia_model.specs.Move.{Move, mover}
 use Rattle.aia_model.specs.Move.Move.{Arrives, Leaves, Shifts}
 use Rattle.aia_model.specs.Event.{History, greatest_identity_of, file_words}
@@ -50,7 +50,7 @@ use Rattle.aia_standing.proofs.MoveBegins.{with_taken, is_taken, IsFreeIn, begun
 
 -- A core whose virtual hart has begun a move, of which the plan is kept now; nothing else is
 -- changed, but for the leases.
-pub record Given (x y : CoreState) (h : History) (g : Vcpu) (who : Who) (plan : Plan) (r : VcpuRecord) : Type 0 where
+pub record Given (x y : CoreState) (h : History) (g : Vcpu) (who : Who) (plan : PlanState) (r : VcpuRecord) : Type 0 where
   pub stands : CoreStands x h
   pub there : has_vcpu h g ≡ true
   pub world : y.world ≡ x.world
@@ -95,7 +95,7 @@ or_nothing true = refl
 or_nothing false = refl
 
 -- the move of one begins at a way, and its places hold what they held
-begun_at : (x y : CoreState) (h : History) (move : Move) (who : Who) (plan : Plan) (r : VcpuRecord) (way : Way) (hand : Hand) (taken : Option Place) → Given x y h (mover move) who plan r → y.leases ≡ with_taken taken x.leases → IsFreeIn x h taken
+begun_at : (x y : CoreState) (h : History) (move : Move) (who : Who) (plan : PlanState) (r : VcpuRecord) (way : Way) (hand : Hand) (taken : Option Place) → Given x y h (mover move) who plan r → y.leases ≡ with_taken taken x.leases → IsFreeIn x h taken
     → moving_of plan ≡ record { who = who; home = OnWay way at_first; hand = hand } → home (Began move ∷ h) (mover move) ≡ OnWay way at_first → ((q : Place) → holds q (OnWay way at_first) ≡ (holds q (home h (mover move)) || is_taken q taken)) → HasApart way
     → Holds (file_words h) (slot_of (vms_of h) (mover move)) (notice_hart (vms_of h) (mover move)) (in_force_of h (mover move)) (places_of x.world (mover move) (OnWay way at_first)) (OnWay way at_first) hand (guest_file h (mover move)) (a_look_saw (Began move ∷ h) (mover move))
     → CoreStands y (Began move ∷ h)
@@ -135,7 +135,7 @@ begun_at x y h move who plan r way hand taken b leases free begins after holding
 
 -- ---- a leave
 
-pub leave_begun : (x y : CoreState) (h : History) (g : Vcpu) (who : Who) (plan : Plan) (r : VcpuRecord) (from : Place) → Given x y h g who plan r → y.leases ≡ x.leases → (record_of x g).stay ≡ stays.Resident from
+pub leave_begun : (x y : CoreState) (h : History) (g : Vcpu) (who : Who) (plan : PlanState) (r : VcpuRecord) (from : Place) → Given x y h g who plan r → y.leases ≡ x.leases → (record_of x g).stay ≡ stays.Resident from
     → moving_of plan ≡ record { who = who; home = OnWay (Outward from) at_first; hand = record { word = 0; delivery = 0; threshold = 0; seen = false } } → CoreStands y (Began (Leaves g) ∷ h)
 leave_begun x y h g who plan r from b leases was begins =
     let hand : Hand = record { word = 0; delivery = 0; threshold = 0; seen = false } in
@@ -149,7 +149,7 @@ leave_begun x y h g who plan r from b leases was begins =
 
 -- ---- an arrival
 
-pub arrive_begun : (x y : CoreState) (h : History) (g : Vcpu) (hart : ℕ) (who : Who) (plan : Plan) (r : VcpuRecord) (to : Place) (kept : KeptNumbers) → Given x y h g who plan r → IsFreeAt x h hart to → y.leases ≡ with_out x.leases to true
+pub arrive_begun : (x y : CoreState) (h : History) (g : Vcpu) (hart : ℕ) (who : Who) (plan : PlanState) (r : VcpuRecord) (to : Place) (kept : KeptNumbers) → Given x y h g who plan r → IsFreeAt x h hart to → y.leases ≡ with_out x.leases to true
     → (record_of x g).stay ≡ stays.InMemory Parked kept → moving_of plan ≡ record { who = who; home = OnWay (Inward to) at_first; hand = record { word = 0; delivery = kept.delivery; threshold = kept.threshold; seen = false } } → CoreStands y (Began (Arrives g hart) ∷ h)
 arrive_begun x y h g hart who plan r to kept b free leases was begins =
     let hand : Hand = record { word = 0; delivery = kept.delivery; threshold = kept.threshold; seen = false } in
@@ -165,7 +165,7 @@ arrive_begun x y h g hart who plan r to kept b free leases was begins =
 
 -- ---- a shift
 
-pub shift_begun : (x y : CoreState) (h : History) (g : Vcpu) (hart : ℕ) (who : Who) (plan : Plan) (r : VcpuRecord) (from to : Place) → Given x y h g who plan r → IsFreeAt x h hart to → y.leases ≡ with_out x.leases to true
+pub shift_begun : (x y : CoreState) (h : History) (g : Vcpu) (hart : ℕ) (who : Who) (plan : PlanState) (r : VcpuRecord) (from to : Place) → Given x y h g who plan r → IsFreeAt x h hart to → y.leases ≡ with_out x.leases to true
     → (record_of x g).stay ≡ stays.Resident from → moving_of plan ≡ record { who = who; home = OnWay (Across from to) at_first; hand = record { word = 0; delivery = 0; threshold = 0; seen = false } } → CoreStands y (Began (Shifts g hart) ∷ h)
 shift_begun x y h g hart who plan r from to b free leases was begins =
     let hand : Hand = record { word = 0; delivery = 0; threshold = 0; seen = false } in

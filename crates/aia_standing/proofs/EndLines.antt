@@ -24,11 +24,10 @@ use Rattle.aia_pool.specs.Leases.{Leases, is_out, with_out}
 use Rattle.aia_world.specs.Whole.{IsWhole}
 use Rattle.aia_world.specs.Changes.{spot_of, places_of}
 use Rattle.aia_world.proofs.WholeLemmas.{width_at}
-use Rattle.aia_move.specs.declared.plan.Plan.{Plan}
 use Rattle.aia_moving.specs.declared.turn.Outcome.{Outcome}
 use Rattle.aia_moving.specs.declared.turn.Outcome.TheVariants.{Left, Arrived, Shifted}
 use Rattle.aia_moving.specs.Move.{mover, width}
-use Rattle.aia_move.specs.Plan.{moving_of}
+use Rattle.aia_move.specs.PlanState.{PlanState, moving_of}
 use Rattle.aia_moving.specs.Turns.{GivesBack, EndsAs}
 use Rattle.aia_move.proofs.MoveKept.{ends_kept, ends_empty}
 use Rattle.aia_model.specs.Event.{History, greatest_identity_of}
@@ -170,14 +169,14 @@ rested o there hand words slot hart reach v file saw g h = absurd g
 
 -- the plan has made its last access, and the virtual hart is at rest; the file that it left is
 -- given back
-pub record EndsOf (x y : CoreState) (h : History) (g : Vcpu) (plan : Plan) (o : Outcome) (r : VcpuRecord) : Type 0 where
+pub record EndsOf (x y : CoreState) (h : History) (g : Vcpu) (plan : PlanState) (o : Outcome) (r : VcpuRecord) : Type 0 where
   pub step_of : StepOf x y h g plan r (moving_of plan).hand
   pub whole_then : IsWhole y.world
   pub leases : y.leases ≡ with_back (back_of o) x.leases
   pub stay : r.stay ≡ stay_after o
   pub ends : EndsAs x.world (moving_of plan) y.world o
 
-module _ (x y : CoreState) (h : History) (g : Vcpu) (plan : Plan) (o : Outcome) (r : VcpuRecord) (b : EndsOf x y h g plan o r) where
+module _ (x y : CoreState) (h : History) (g : Vcpu) (plan : PlanState) (o : Outcome) (r : VcpuRecord) (b : EndsOf x y h g plan o r) where
   abbrev hand : Hand
   hand = (moving_of plan).hand
 

@@ -39,7 +39,8 @@ use Rattle.aia_world.specs.World.{no_stage}
 use Rattle.aia_world.specs.Changes.{spot_of, places_of}
 use Rattle.aia_world.specs.Whole.{IsWhole, IsVm}
 use Rattle.aia_moving.specs.Move.{MoveFits}
-use Rattle.aia_move.proofs.PhaseLemmas.{leave_drains}
+use Rattle.aia_move.specs.Plan.{empty_hand}
+use Rattle.aia_move.proofs.PhaseLemmas.{drains}
 use Rattle.aia_entry.specs.Translation.{is_mask}
 use Rattle.aia_model.specs.Act.{newest}
 use Rattle.aia_regs.specs.DomainRegisters.{domain_register_of}
@@ -61,7 +62,6 @@ use Rattle.aia_world.specs.declared.flying.Flying.{Flying}
 use Rattle.aia_home.specs.Aims.{AreAimed}
 use Rattle.aia_model.specs.Aim.{AllAreAimed}
 use Rattle.aia_model.specs.Passes.{passes_of, passes_to, passes_for}
-use Rattle.aia_standing.specs.Moves.{empty_hand}
 use Rattle.aia_standing.specs.Passes.{IsToOne, PassesKept, own_passes}
 use Rattle.aia_model.specs.HomeOf.{home, guest_place}
 use Rattle.aia_model.specs.Notice.{a_look_saw, notices_sent, look_saw}
@@ -496,7 +496,7 @@ leaver_stands = record {
   select = sym leaver_select;
   majors = shown_at_first ∙ sym (no_majors_written leaver);
   two_files = subst AreApart (sym leaver_home) tt;
-  plan = (leave_fits, leave_drains 1 leave_under_way (omega arith, omega arith) refl, refl, refl);
+  plan = (leave_fits, drains 1 leave_under_way (omega arith, omega arith) refl, refl, refl);
   passes = ap (own_passes 0 leaver) (sym passed_one);
   holds = subst IsHeld (λ k. record {
     words = 1;

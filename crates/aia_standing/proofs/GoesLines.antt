@@ -11,9 +11,9 @@ use Rattle.aia_places.specs.Stores.{AreApart}
 use Rattle.aia_pool.specs.Leases.{Leases, is_out}
 use Rattle.aia_world.specs.Changes.{places_of}
 use Rattle.aia_moving.specs.declared.who.Who.{Who}
-use Rattle.aia_move.specs.declared.plan.Plan.{Plan}
 use Rattle.aia_moving.specs.Move.{mover, width, MoveFits, Goes}
-use Rattle.aia_move.specs.Plan.{moving_of, IsInPhase}
+use Rattle.aia_move.specs.PlanState.{PlanState, moving_of}
+use Rattle.aia_move.specs.Plan.{IsInPhase}
 use Rattle.aia_move.proofs.MoveKept.{goes_kept}
 use Rattle.aia_model.specs.Event.{History}
 use Rattle.aia_model.specs.Event.Event.{Stepped}
@@ -49,7 +49,7 @@ one_more_apart (OnWay way at) p = p
 one_more_apart there p = tt
 
 -- the plan has made its next access, and has a later step to make
-pub record GoesOf (x y : CoreState) (h : History) (g : Vcpu) (plan later : Plan) (r : VcpuRecord) : Type 0 where
+pub record GoesOf (x y : CoreState) (h : History) (g : Vcpu) (plan later : PlanState) (r : VcpuRecord) : Type 0 where
   pub step_of : StepOf x y h g plan r (moving_of later).hand
   pub leases : y.leases ≡ x.leases
   pub stay : r.stay ≡ stays.Moving later
@@ -57,7 +57,7 @@ pub record GoesOf (x y : CoreState) (h : History) (g : Vcpu) (plan later : Plan)
   pub fits : MoveFits y.world (moving_of later)
   pub phase : IsInPhase (width y.world) later
 
-module _ (x y : CoreState) (h : History) (g : Vcpu) (plan later : Plan) (r : VcpuRecord) (b : GoesOf x y h g plan later r) where
+module _ (x y : CoreState) (h : History) (g : Vcpu) (plan later : PlanState) (r : VcpuRecord) (b : GoesOf x y h g plan later r) where
   abbrev hand : Hand
   hand = (moving_of later).hand
 

@@ -19,9 +19,9 @@ use Rattle.aia_places.specs.Stores.{AreApart}
 use Rattle.aia_pool.specs.Leases.{Leases, is_out, with_out}
 use Rattle.aia_world.specs.World.{World, no_stage}
 use Rattle.aia_world.specs.Changes.{spot_of, places_of}
-use Rattle.aia_move.specs.declared.plan.Plan.{Plan}
 use Rattle.aia_moving.specs.Move.{mover, width, MoveFits, IsWho}
-use Rattle.aia_move.specs.Plan.{moving_of, IsInPhase}
+use Rattle.aia_move.specs.PlanState.{PlanState, moving_of}
+use Rattle.aia_move.specs.Plan.{IsInPhase}
 use Rattle.aia_model.specs.Move.{Move}
 use Rattle.aia_model.specs.Move.Move.{Arrives, Leaves, Shifts}
 use Rattle.aia_model.specs.Move as moves
@@ -90,7 +90,7 @@ IsFreeIn x h (Some p) = IsThere x.world.imsic (spot_of p) × (is_held h p ≡ fa
 
 -- ---- what a beginning is
 
-pub record Begins (x y : CoreState) (h : History) (move : Move) (plan : Plan) (r : VcpuRecord) (taken : Option Place) : Type 0 where
+pub record Begins (x y : CoreState) (h : History) (move : Move) (plan : PlanState) (r : VcpuRecord) (taken : Option Place) : Type 0 where
   pub stands : CoreStands x h
   pub there : has_vcpu h (moves.mover move) ≡ true
   pub world : y.world ≡ x.world
@@ -122,7 +122,7 @@ either : (a b : Bool) → (a || b) ≡ true → (a ≡ true) ⊎ (b ≡ true)
 either true b e = inl refl
 either false b e = inr e
 
-module _ (x y : CoreState) (h : History) (move : Move) (plan : Plan) (r : VcpuRecord) where
+module _ (x y : CoreState) (h : History) (move : Move) (plan : PlanState) (r : VcpuRecord) where
   abbrev event : Event
   event = Began move
 
@@ -266,5 +266,5 @@ module _ (x y : CoreState) (h : History) (move : Move) (plan : Plan) (r : VcpuRe
       count_with (Some p) = length-set x.leases.out _ true
 
 -- the core then stands for the history with the beginning
-pub begun_stands : (x y : CoreState) (h : History) (move : Move) (plan : Plan) (r : VcpuRecord) (taken : Option Place) → Begins x y h move plan r taken → CoreStands y (Began move ∷ h)
+pub begun_stands : (x y : CoreState) (h : History) (move : Move) (plan : PlanState) (r : VcpuRecord) (taken : Option Place) → Begins x y h move plan r taken → CoreStands y (Began move ∷ h)
 begun_stands x y h move plan r taken b = moved_on x y h (Began move) (moves.mover move) (begun_changes x y h move plan r taken b) b.stands

@@ -22,12 +22,12 @@ use Rattle.aia_world.proofs.WholeLemmas.{vcpu_entry}
 use Rattle.aia_world.specs.declared.found.Found.{Found}
 use Rattle.aia_moving.specs.declared.who.Who.{Who}
 use Rattle.aia_standing.specs.Passes.{own_passes}
-use Rattle.aia_move.specs.declared.plan.Plan.{Plan}
 use Rattle.aia_move.specs.declared.plan.Next.{Next}
 use Rattle.aia_move.specs.declared.plan.Next.TheVariants.{Again, Finished}
 use Rattle.aia_moving.specs.declared.turn.Outcome.{Outcome}
 use Rattle.aia_moving.specs.Move.{Moving, mover, width, MoveFits, MakesNext, Goes}
-use Rattle.aia_move.specs.Plan.{moving_of, IsInPhase, MatchNext, GoesAiming, StepsTo}
+use Rattle.aia_move.specs.PlanState.{PlanState, moving_of}
+use Rattle.aia_move.specs.Plan.{IsInPhase, MatchNext, GoesAiming, StepsTo}
 use Rattle.aia_moving.specs.Turns.{EndsAs, GivesBack}
 use Rattle.aia_moving.proofs.LandingLemmas.{landed_whole}
 use Rattle.aia_model.specs.declared.answer.Answer.{Answer}
@@ -138,7 +138,7 @@ aims_stay (OnWay way at) = refl
 aims_stay there = refl
 
 -- the plan that is kept can make its next step
-pub plan_known : (x : CoreState) (who : Found) (plan : Plan) → StandsForSome x → IsFound x.world who → stays.Moving plan ≡ (get_or x.vcpus who.slot no_record).stay → MoveFits x.world (moving_of plan) × IsInPhase (width x.world) plan
+pub plan_known : (x : CoreState) (who : Found) (plan : PlanState) → StandsForSome x → IsFound x.world who → stays.Moving plan ≡ (get_or x.vcpus who.slot no_record).stay → MoveFits x.world (moving_of plan) × IsInPhase (width x.world) plan
 plan_known x who plan some is was =
     let g = vcpu who.vm who.number in
     let inside : has_vcpu some.past g ≡ true = subst (λ (vs : List Vm). is_vcpu_in vs g ≡ true) some.stands.vms is.there in
@@ -157,10 +157,10 @@ pub record AccessGoes (old new : CoreState) (g : Vcpu) (last : Bool) : Type 0 wh
   pub at_last : (h : History) → NoneAtFence h (Stepped g) → CoreStands old h → last ≡ is_at_last (file_words h) (home h g)
   pub moving : last ≡ false → is_moving (home_in (record_of new g).stay) ≡ true
   pub fewer : last ≡ false → left_in new g < left_in old g
-  pub makes : (plan : Plan) → (record_of old g).stay ≡ stays.Moving plan → OneMade old.world (moving_of plan) new.world
+  pub makes : (plan : PlanState) → (record_of old g).stay ≡ stays.Moving plan → OneMade old.world (moving_of plan) new.world
 
 -- What a step's calls say, once what lands before it has landed.
-pub record Made (x y : CoreState) (who : Found) (plan : Plan) (next : Next) : Type 0 where
+pub record Made (x y : CoreState) (who : Found) (plan : PlanState) (next : Next) : Type 0 where
   pub swapped : Swapped x y who (stays.Moving plan) (stay_then next)
   pub first : NoneAtFence swapped.some.past (Stepped (vcpu who.vm who.number))
   pub unaimed : aims (moving_of plan) ≡ false
@@ -171,7 +171,7 @@ pub record Made (x y : CoreState) (who : Found) (plan : Plan) (next : Next) : Ty
   pub fits : MatchNext next (λ p. MoveFits y.world (moving_of p)) (λ o. Unit {0})
   pub phase : MatchNext next (λ p. IsInPhase (width y.world) p) (λ o. Unit {0})
 
-module _ (x y : CoreState) (who : Found) (plan : Plan) where
+module _ (x y : CoreState) (who : Found) (plan : PlanState) where
   abbrev its : Vcpu
   its = vcpu who.vm who.number
 
@@ -184,7 +184,7 @@ module _ (x y : CoreState) (who : Found) (plan : Plan) where
   none_aimed : (next : Next) (h : History) → CoreStands x h → Made x y who plan next → is_aiming (passes_for h (vcpu who.vm who.number)) (home h (vcpu who.vm who.number)) ≡ false
   none_aimed next h stands c = sym (aims_alike x h its plan stands (its_there h stands c.swapped.is_who) (sym (was_at x y who (stays.Moving plan) (stay_then next) c.swapped))) ∙ c.unaimed
 
-  goes_on : (later : Plan) (h : History) → NoneAtFence h (Stepped (vcpu who.vm who.number)) → CoreStands x h → Made x y who plan (Again later) → GoesOf x y h (vcpu who.vm who.number) plan later (its_record (stays.Moving later))
+  goes_on : (later : PlanState) (h : History) → NoneAtFence h (Stepped (vcpu who.vm who.number)) → CoreStands x h → Made x y who plan (Again later) → GoesOf x y h (vcpu who.vm who.number) plan later (its_record (stays.Moving later))
   goes_on later h first stands c = record {
     step_of = record {
       first = first;
@@ -233,8 +233,8 @@ module _ (x y : CoreState) (who : Found) (plan : Plan) where
   at_last_by h r hand b s e = sym e ∙ (λ k. is_at_last (steps.same_words x y h its plan r hand s k) (steps.same_home x y h its plan r hand s k))
 
   -- the plan of its record is the one that was taken out of it
-  same_plan : (other : Plan) → stays.Moving plan ≡ stays.Moving other → OneMade x.world (moving_of plan) y.world → OneMade x.world (moving_of other) y.world
-  same_plan other e one = let same : plan ≡ other = cc in subst (λ (p : Plan). OneMade x.world (moving_of p) y.world) same one
+  same_plan : (other : PlanState) → stays.Moving plan ≡ stays.Moving other → OneMade x.world (moving_of plan) y.world → OneMade x.world (moving_of other) y.world
+  same_plan other e one = let same : plan ≡ other = cc in subst (λ (p : PlanState). OneMade x.world (moving_of p) y.world) same one
 
   pub step_goes : (next : Next) → Made x y who plan next → AccessGoes x y (vcpu who.vm who.number) (is_finished next)
   step_goes (Again later) c =
@@ -266,14 +266,14 @@ module _ (x y : CoreState) (who : Found) (plan : Plan) where
 -- ---- before that, what lands first
 
 -- the plan of a virtual hart that is there is its own, and is where the history has it
-its_own : (x : CoreState) (h : History) (g : Vcpu) (plan : Plan) → CoreStands x h → has_vcpu h g ≡ true → (record_of x g).stay ≡ stays.Moving plan → (mover (moving_of plan) ≡ g) × ((moving_of plan).home ≡ home h g)
+its_own : (x : CoreState) (h : History) (g : Vcpu) (plan : PlanState) → CoreStands x h → has_vcpu h g ≡ true → (record_of x g).stay ≡ stays.Moving plan → (mover (moving_of plan) ≡ g) × ((moving_of plan).home ≡ home h g)
 its_own x h g plan stands there was =
     let stood = stands.vcpus g there in
     let planned : PlanStands x.world g (stays.Moving plan) = subst (PlanStands x.world g) was stood.plan in
     (planned.2, sym (ap home_in was) ∙ stood.same_home)
 
 -- What stands before the calls of a step: whose plan it is, and what lands first.
-pub record IsFirst (x : CoreState) (landed : World) (who : Found) (plan : Plan) : Type 0 where
+pub record IsFirst (x : CoreState) (landed : World) (who : Found) (plan : PlanState) : Type 0 where
   pub is_who : IsFound x.world who
   pub was : (record_of x (vcpu who.vm who.number)).stay ≡ stays.Moving plan
   pub low : who.vm < length x.world.vms
@@ -282,7 +282,7 @@ pub record IsFirst (x : CoreState) (landed : World) (who : Found) (plan : Plan) 
 pub vm_low : (x : CoreState) (who : Found) → IsWhole x.world → IsFound x.world who → who.vm < length x.world.vms
 vm_low x who whole is = (vcpu_entry x.world who.vm who.number whole is.there).0
 
-pub landed_stands : (x : CoreState) (landed : World) (who : Found) (plan : Plan) → IsFirst x landed who plan → (h : History) → CoreStands x h → CoreStands (once_landed x landed) (landed_first (vcpu who.vm who.number) h)
+pub landed_stands : (x : CoreState) (landed : World) (who : Found) (plan : PlanState) → IsFirst x landed who plan → (h : History) → CoreStands x h → CoreStands (once_landed x landed) (landed_first (vcpu who.vm who.number) h)
 landed_stands x landed who plan c h stands =
     let g = vcpu who.vm who.number in
     let there : has_vcpu h g ≡ true = subst (λ (vs : List Vm). is_vcpu_in vs g ≡ true) stands.vms c.is_who.there in
@@ -291,14 +291,14 @@ landed_stands x landed who plan c h stands =
     subst (λ (z : Vcpu). CoreStands (once_landed x landed) (landed_first z h)) own.0
     (first_stands x landed (moving_of plan) h low (own.1 ∙ ap (home h) (sym own.0)) c.first stands)
 
-abbrev pub landed_some : (x : CoreState) (landed : World) (who : Found) (plan : Plan) → IsFirst x landed who plan → StandsForSome x → StandsForSome (once_landed x landed)
+abbrev pub landed_some : (x : CoreState) (landed : World) (who : Found) (plan : PlanState) → IsFirst x landed who plan → StandsForSome x → StandsForSome (once_landed x landed)
 landed_some x landed who plan c some = record {
   past = landed_first (vcpu who.vm who.number) some.past;
   happens = first_happens (vcpu who.vm who.number) some.past some.happens;
   stands = landed_stands x landed who plan c some.past some.stands;
 }
 
-pub landed_who : (x : CoreState) (landed : World) (who : Found) (plan : Plan) → IsFirst x landed who plan → IsFound landed who
+pub landed_who : (x : CoreState) (landed : World) (who : Found) (plan : PlanState) → IsFirst x landed who plan → IsFound landed who
 landed_who x landed who plan c =
     let vms = c.first.same.vms in
     record {
@@ -307,7 +307,7 @@ landed_who x landed who plan c =
       notice = c.is_who.notice ∙ ap (λ vs. notice_hart vs (vcpu who.vm who.number)) (sym vms);
     }
 
-pub landed_goes : (x : CoreState) (landed : World) (y : CoreState) (who : Found) (plan : Plan) (last : Bool) → aims (moving_of plan) ≡ false → IsFirst x landed who plan → AccessGoes (once_landed x landed) y (vcpu who.vm who.number) last → MoveGoes x y (vcpu who.vm who.number) last
+pub landed_goes : (x : CoreState) (landed : World) (y : CoreState) (who : Found) (plan : PlanState) (last : Bool) → aims (moving_of plan) ≡ false → IsFirst x landed who plan → AccessGoes (once_landed x landed) y (vcpu who.vm who.number) last → MoveGoes x y (vcpu who.vm who.number) last
 landed_goes x landed y who plan last unaimed c a =
     let g = vcpu who.vm who.number in
     let same : record_of (once_landed x landed) g ≡ record_of x g = ap (λ vs. get_or x.vcpus (slot_of vs g) no_record) c.first.same.vms in
@@ -320,9 +320,9 @@ landed_goes x landed y who plan last unaimed c a =
       moving = a.moving;
       makes = λ other e.
           let is : plan ≡ other = let both : stays.Moving plan ≡ stays.Moving other = sym c.was ∙ e in cc in
-          subst (λ b. MakesOneBy (aim_if b (moving_of other)) x.world (moving_of other) y.world) (sym unaimed ∙ ap (λ (p : Plan). aims (moving_of p)) is) (record {
+          subst (λ b. MakesOneBy (aim_if b (moving_of other)) x.world (moving_of other) y.world) (sym unaimed ∙ ap (λ (p : PlanState). aims (moving_of p)) is) (record {
             landed = landed;
-            first = subst (λ (p : Plan). moves.LandsFirst x.world (moving_of p) landed) is c.first;
+            first = subst (λ (p : PlanState). moves.LandsFirst x.world (moving_of p) landed) is c.first;
             then = a.makes other (ap (λ (r : VcpuRecord). r.stay) same ∙ e);
           });
       fewer = λ e. subst (λ n. left_in y g < n) left (a.fewer e);
@@ -339,7 +339,7 @@ left_aimed words (OnWay way at) = refl
 left_aimed words there = refl
 
 -- What a step's calls say that aims a passed source.
-pub record Aims (x y : CoreState) (who : Found) (plan later : Plan) : Type 0 where
+pub record Aims (x y : CoreState) (who : Found) (plan later : PlanState) : Type 0 where
   pub swapped : Swapped x y who (stays.Moving plan) (stays.Moving later)
   pub some : 1 ≤ width x.world
   pub aiming : aims (moving_of plan) ≡ true
@@ -348,7 +348,7 @@ pub record Aims (x y : CoreState) (who : Found) (plan later : Plan) : Type 0 whe
   pub fits : MoveFits y.world (moving_of later)
   pub phase : IsInPhase (width y.world) later
 
-module _ (x y : CoreState) (who : Found) (plan later : Plan) (c : Aims x y who plan later) where
+module _ (x y : CoreState) (who : Found) (plan later : PlanState) (c : Aims x y who plan later) where
   abbrev mine : Vcpu
   mine = vcpu who.vm who.number
 
@@ -409,13 +409,13 @@ module _ (x y : CoreState) (who : Found) (plan later : Plan) (c : Aims x y who p
         fewer = λ e. subst (λ n. n < left_in x mine) (sym then_left) (subst (λ s. steps_left (width x.world) (moving_of plan).home + (passes_to mine x.passes - suc (aims_done (moving_of plan).home)) < steps_left (width x.world) (home_in s) + (passes_to mine x.passes - aims_done (home_in s))) (sym was_moving) (omega (arith, below)));
         makes = λ other e.
             let is : plan ≡ other = let both : stays.Moving plan ≡ stays.Moving other = sym was_moving ∙ e in cc in
-            subst (λ b. MakesOneBy (aim_if b (moving_of other)) x.world (moving_of other) y.world) (sym c.aiming ∙ ap (λ (p : Plan). aims (moving_of p)) is) c.goes.world;
+            subst (λ b. MakesOneBy (aim_if b (moving_of other)) x.world (moving_of other) y.world) (sym c.aiming ∙ ap (λ (p : PlanState). aims (moving_of p)) is) c.goes.world;
       }
 
 -- ---- a step, of either kind
 
 -- What a step's calls say.
-pub record StepCalls (x y : CoreState) (who : Found) (plan : Plan) (next : Next) : Type 0 where
+pub record StepCalls (x y : CoreState) (who : Found) (plan : PlanState) (next : Next) : Type 0 where
   pub is_who : IsFound x.world who
   pub some : StandsForSome x
   pub was : stays.Moving plan ≡ (get_or x.vcpus who.slot no_record).stay
@@ -433,7 +433,7 @@ pub record StepCalls (x y : CoreState) (who : Found) (plan : Plan) (next : Next)
   pub fits : MatchNext next (λ p. MoveFits y.world (moving_of p)) (λ o. Unit {0})
   pub phase : MatchNext next (λ p. IsInPhase (width y.world) p) (λ o. Unit {0})
 
-module _ (x y : CoreState) (who : Found) (plan : Plan) where
+module _ (x y : CoreState) (who : Found) (plan : PlanState) where
   -- it aims
   by_aim : (next : Next) → StepCalls x y who plan next → aims (moving_of plan) ≡ true → MatchNext next (λ p. GoesAiming x.world (moving_of plan) y.world (moving_of p)) (λ o. ⊥) → MoveGoes x y (vcpu who.vm who.number) (is_finished next)
   by_aim (Again later) c aiming goes = aim_goes x y who plan later (record {
@@ -502,7 +502,7 @@ goes_still x y who last goes some is moving =
 -- ---- the file that comes back
 
 -- it is one that is there, and out
-pub back_known : (x : CoreState) (u : World) (who : Found) (plan : Plan) (next : Next) → StandsForSome x → IsFound x.world who → stays.Moving plan ≡ (get_or x.vcpus who.slot no_record).stay
+pub back_known : (x : CoreState) (u : World) (who : Found) (plan : PlanState) (next : Next) → StandsForSome x → IsFound x.world who → stays.Moving plan ≡ (get_or x.vcpus who.slot no_record).stay
     → StepsTo (next_aim (moving_of plan)) x.world (moving_of plan) u next → IsOutThere x.leases (back_then next)
 back_known x u who plan (Again later) some is was c = tt
 back_known x u who plan (Finished o) some is was c = by_kind (aims (moving_of plan)) (subst (λ b. StepsTo (aim_if b (moving_of plan)) x.world (moving_of plan) u (Finished o)) refl c)

@@ -9,7 +9,6 @@ use Rattle.aia_places.specs.Places.{leads_to}
 use Rattle.aia_entry.specs.Tables.{table_of, entry_in_force}
 use Rattle.aia_world.specs.World.{stage_of}
 use Rattle.aia_world.specs.Changes.{places_of}
-use Rattle.aia_move.specs.declared.plan.Plan.{Plan}
 use Rattle.aia_model.specs.declared.line.Line.TheVariants as lines
 use Rattle.aia_model.specs.declared.line.Line.{Line}
 use Rattle.aia_model.specs.GuestFile.{guest_file}
@@ -19,7 +18,7 @@ use Rattle.aia_model.specs.Histories.{MayHappen}
 use Rattle.aia_model.specs.Event.Event.{Delivered}
 use Rattle.aia_world.specs.declared.found.Found.{Found}
 use Rattle.aia_moving.specs.Move.{mover, width}
-use Rattle.aia_move.specs.Plan.{moving_of}
+use Rattle.aia_move.specs.PlanState.{PlanState, moving_of}
 use Rattle.aia_model.specs.declared.answer.Answer.{Answer}
 use Rattle.aia_model.specs.declared.msi.Msi.{Msi}
 use Rattle.aia_model.specs.declared.answer.Answer.TheVariants.{Refused}
@@ -105,7 +104,7 @@ no_step x vm number outside = refused x (Step vm number) (Refused Range) (λ h s
 
 -- ---- what a plan knows
 
-knows : (x : CoreState) (h : History) (g : Vcpu) (plan : Plan) → CoreStands x h → has_vcpu h g ≡ true → (record_of x g).stay ≡ stays.Moving plan → KnowsIts x h g plan
+knows : (x : CoreState) (h : History) (g : Vcpu) (plan : PlanState) → CoreStands x h → has_vcpu h g ≡ true → (record_of x g).stay ≡ stays.Moving plan → KnowsIts x h g plan
 knows x h g plan stands there is =
     let stood = stands.vcpus g there in
     let planned : PlanStands x.world g (stays.Moving plan) = subst (PlanStands x.world g) is stood.plan in
@@ -134,10 +133,10 @@ knows x h g plan stands there is =
       };
     }
 
-pub knows_after : (x y : CoreState) (line : Line) (given : Answer) (h : History) (g : Vcpu) (plan : Plan) → CoreTakes x y line given → CoreStands x h → has_vcpu (line_served (refusal h line) h line) g ≡ true → (record_of y g).stay ≡ stays.Moving plan → KnowsIts y (line_served (refusal h line) h line) g plan
+pub knows_after : (x y : CoreState) (line : Line) (given : Answer) (h : History) (g : Vcpu) (plan : PlanState) → CoreTakes x y line given → CoreStands x h → has_vcpu (line_served (refusal h line) h line) g ≡ true → (record_of y g).stay ≡ stays.Moving plan → KnowsIts y (line_served (refusal h line) h line) g plan
 knows_after x y line given h g plan takes stands there is = knows y (line_served (refusal h line) h line) g plan (takes.stands h stands) there is
 
-pub knows_heard : (x y : CoreState) (msi : Msi) (h : History) (g : Vcpu) (plan : Plan) → CoreHears x y msi → CoreStands x h → MayHappen h (Delivered msi) → has_vcpu (msi_taken msi h) g ≡ true → (record_of y g).stay ≡ stays.Moving plan → KnowsIts y (msi_taken msi h) g plan
+pub knows_heard : (x y : CoreState) (msi : Msi) (h : History) (g : Vcpu) (plan : PlanState) → CoreHears x y msi → CoreStands x h → MayHappen h (Delivered msi) → has_vcpu (msi_taken msi h) g ≡ true → (record_of y g).stay ≡ stays.Moving plan → KnowsIts y (msi_taken msi h) g plan
 knows_heard x y msi h g plan hears stands may there is = knows y (msi_taken msi h) g plan (hears h stands may) there is
 
 pub in_force : (x : CoreState) (h : History) (g : Vcpu) → CoreStands x h → has_vcpu h g ≡ true → (entry_in_force (table_of x.world.tables g.vm) g.number ≡ leads_to (slot_of (vms_of h) g) (notice_hart (vms_of h) g) (in_force_of h g)) × ((stage_of x.world g).in_force ≡ peers_reach (home h g))

@@ -17,9 +17,8 @@ use Rattle.aia_places.specs.Stores.{AreApart}
 use Rattle.aia_pool.specs.Leases.{is_out}
 use Rattle.aia_world.specs.Whole.{IsWhole}
 use Rattle.aia_world.specs.Changes.{spot_of, places_of}
-use Rattle.aia_move.specs.declared.plan.Plan.{Plan}
 use Rattle.aia_moving.specs.Move.{Moving, mover, width, MoveFits, MakesNext}
-use Rattle.aia_move.specs.Plan.{moving_of}
+use Rattle.aia_move.specs.PlanState.{PlanState, moving_of}
 use Rattle.aia_moving.specs.Touches.{Touches, sends}
 use Rattle.aia_moving.proofs.TouchLemmas.{step_touches, view_stays}
 use Rattle.aia_model.specs.Event.{History, greatest_identity_of, file_words}
@@ -53,7 +52,7 @@ use Rattle.aia_standing.proofs.MoveChanges.{stepped_move, held_as, MoveChanges}
 -- ---- what a call says of a step
 
 -- The plan of a virtual hart has made its next access, and the virtual hart has a new record.
-pub record StepOf (x y : CoreState) (h : History) (g : Vcpu) (plan : Plan) (r : VcpuRecord) (hand : Hand) : Type 0 where
+pub record StepOf (x y : CoreState) (h : History) (g : Vcpu) (plan : PlanState) (r : VcpuRecord) (hand : Hand) : Type 0 where
   pub first : NoneAtFence h (Stepped g)
   pub unaimed : is_aiming (passes_for h g) (home h g) ≡ false
   pub stands : CoreStands x h
@@ -67,7 +66,7 @@ pub record StepOf (x y : CoreState) (h : History) (g : Vcpu) (plan : Plan) (r : 
   pub select : r.select ≡ (record_of x g).select
   pub majors : r.majors ≡ (record_of x g).majors
 
-module _ (x y : CoreState) (h : History) (g : Vcpu) (plan : Plan) (r : VcpuRecord) (hand : Hand) (s : StepOf x y h g plan r hand) where
+module _ (x y : CoreState) (h : History) (g : Vcpu) (plan : PlanState) (r : VcpuRecord) (hand : Hand) (s : StepOf x y h g plan r hand) where
   abbrev m : Moving
   m = moving_of plan
 

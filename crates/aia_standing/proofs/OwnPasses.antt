@@ -9,9 +9,8 @@ use Rattle.aia_regs.specs.declared.limits.TheConstants.{IDENTITIES, PASSES}
 use Rattle.aia_home.specs.Vms.{Vcpu, is_vcpu, notice_hart}
 use Rattle.aia_home.specs.BySteps.{new_file}
 use Rattle.aia_home.specs.Aims.{aims_done, is_aiming, target_to}
-use Rattle.aia_move.specs.declared.plan.Plan.{Plan}
 use Rattle.aia_moving.specs.declared.who.Pass as plans
-use Rattle.aia_move.specs.Plan.{moving_of}
+use Rattle.aia_move.specs.PlanState.{PlanState, moving_of}
 use Rattle.aia_moving.specs.Targets as targets
 use Rattle.aia_moving.specs.Targets.{ArePasses, AimsAs, aims, aim_if, next_aim}
 use Rattle.aia_model.specs.Event.{History, greatest_identity_of}
@@ -74,7 +73,7 @@ own_all h n g (x ∷ xs) most few to = by_own (is_vcpu x.to g) refl (own_all h (
 
 -- ---- of the plan of one that is moved
 
-module _ (x : CoreState) (h : History) (g : Vcpu) (plan : Plan) (stands : CoreStands x h) (there : has_vcpu h g ≡ true) (was : (record_of x g).stay ≡ stays.Moving plan) where
+module _ (x : CoreState) (h : History) (g : Vcpu) (plan : PlanState) (stands : CoreStands x h) (there : has_vcpu h g ≡ true) (was : (record_of x g).stay ≡ stays.Moving plan) where
   has : (moving_of plan).who.passes.items ≡ own_passes 0 g (passes_of h)
   has = subst (HasItsPasses (passes_of h) g) was (stands.vcpus g there).passes
 

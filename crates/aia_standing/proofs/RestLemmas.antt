@@ -9,7 +9,7 @@ use Rattle.aia_home.specs.Home.{Home, is_moving, is_entered, runs}
 use Rattle.aia_home.specs.Home.Home.{OnWay}
 use Rattle.aia_world.specs.World.{World}
 use Rattle.aia_moving.specs.declared.who.KeptNumbers.{KeptNumbers}
-use Rattle.aia_move.specs.Plan.{moving_of}
+use Rattle.aia_move.specs.PlanState.{moving_of}
 use Rattle.aia_model.specs.declared.answer.Answer.{Answer}
 use Rattle.aia_model.specs.declared.answer.Answer.TheVariants.{Refused}
 use Rattle.aia_model.specs.declared.refusal.Refusal.{Refusal}

@@ -49,7 +49,7 @@ use Rattle.aia_model.proofs.MoveLemmas.{home_step}
 use Rattle.aia_standing.specs.declared.vcpu.VcpuRecord.{VcpuRecord}
 use Rattle.aia_standing.specs.declared.vcpu.Stay.{Stay}
 use Rattle.aia_standing.specs.declared.vcpu.Stay.TheVariants as stays
-use Rattle.aia_move.specs.Plan.{moving_of}
+use Rattle.aia_move.specs.PlanState.{moving_of}
 use Rattle.aia_moving.proofs.StepLemmas.{fits_still}
 use Rattle.aia_standing.specs.Core.{CoreState, record_of}
 use Rattle.aia_standing.specs.HostFiles.{FileDone, host_spot, select_place, select_in}

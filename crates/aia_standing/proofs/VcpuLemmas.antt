@@ -20,7 +20,7 @@ use Rattle.aia_home.specs.BySteps.{own_file, next_file}
 use Rattle.aia_home.proofs.HomeLemmas.{own_is_held, next_is_held}
 use Rattle.aia_places.specs.Places.{Places}
 use Rattle.aia_places.specs.Holds.{Hand, Holds}
-use Rattle.aia_move.specs.Plan.{moving_of}
+use Rattle.aia_move.specs.PlanState.{moving_of}
 use Rattle.aia_moving.specs.Touches.{SameMachine}
 use Rattle.aia_moving.proofs.StepLemmas.{fits_still}
 use Rattle.aia_move.proofs.MachineLemmas.{phase_still}

@@ -45,7 +45,8 @@ use Rattle.aia_world.specs.Making.{MakesVm, notice_page, entry_word_place}
 use Rattle.aia_world.specs.Whole.{IsWhole}
 use Rattle.aia_world.specs.Changes.{spot_of, places_of}
 use Rattle.aia_moving.specs.Move.{Moving, mover, MoveFits}
-use Rattle.aia_move.specs.Plan.{moving_of, IsInPhase}
+use Rattle.aia_move.specs.PlanState.{moving_of}
+use Rattle.aia_move.specs.Plan.{IsInPhase}
 use Rattle.aia_model.specs.declared.answer.Answer.TheVariants.{Okay, Refused}
 use Rattle.aia_model.specs.declared.refusal.Refusal.TheVariants as words
 use Rattle.aia_model.specs.declared.line.Line.TheVariants as lines

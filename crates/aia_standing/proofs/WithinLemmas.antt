@@ -16,21 +16,15 @@ use Rattle.aia_regs.specs.declared.file_registers.FileReg.TheVariants.{Delivery,
 use Rattle.aia_regs.specs.FileRegisters.{register_of}
 use Rattle.aia_regs.specs.Request.{number_written, implemented}
 use Rattle.aia_file.specs.InterruptFile.{InterruptFile, is_greatest_identity, accessed, claimed, landed, top_of, claim_said}
-use Rattle.aia_home.specs.Vms.{Vcpu, vcpu, is_vcpu}
+use Rattle.aia_home.specs.Vms.{Vcpu}
 use Rattle.aia_places.specs.Holds.{IsWithin}
 use Rattle.aia_model.specs.Event.{Event, History, greatest_identity_of, file_words}
-use Rattle.aia_model.specs.Event.Event.{Accepted, Began, Stepped, Delivered, Landed, Relayed}
-use Rattle.aia_model.specs.declared.line.Line.TheVariants.{Machine, GuestCsr, Ipi, LoadPart}
 use Rattle.aia_model.specs.declared.part.Part.TheVariants as parts
-use Rattle.aia_model.specs.declared.line.Line.TheVariants as lines
 use Rattle.aia_model.specs.FileAfter.{FileDeed, IsMaking, file_after, file_by, select_by, relay_said}
 use Rattle.aia_model.specs.FileAfter.FileDeed.{Makes, Accesses, Stores, Rests, Relays, Loads}
-use Rattle.aia_model.specs.Passes.{nth_pass, passed_by}
-use Rattle.aia_model.specs.GuestFile.{named_by, guest_deed, guest_file, sent_to, landing_deed, goes_to_guest, passed_deed}
-use Rattle.aia_model.specs.Flight.{Sending, flying}
+use Rattle.aia_model.specs.GuestFile.{guest_deed, guest_file}
 use Rattle.aia_model.proofs.GreatestLemmas.{none_made, greatest_after, guest_greatest}
 use Rattle.aia_standing.proofs.GuestLemmas.{each_size}
-use Rattle.aia_regs.specs.declared.address_map.TheConstants.{PAGE}
 
 -- its numbers are those of a file, and it has no identity past its greatest
 pub record IsSound (file : InterruptFile) : Type 0 where

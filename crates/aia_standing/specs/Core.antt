@@ -14,7 +14,7 @@ use Rattle.aia_model.specs.declared.refusal.Refusal.{Refusal}
 use Rattle.aia_model.specs.declared.refusal.Refusal.TheVariants as refusals
 use Rattle.aia_world.specs.World.{World}
 use Rattle.aia_moving.specs.declared.who.KeptNumbers.{KeptNumbers}
-use Rattle.aia_move.specs.Plan.{moving_of}
+use Rattle.aia_move.specs.PlanState.{moving_of}
 use Rattle.aia_standing.specs.declared.vcpu.Stay.{Stay}
 use Rattle.aia_standing.specs.declared.vcpu.Stay.TheVariants as stays
 use Rattle.aia_standing.specs.declared.vcpu.VcpuRecord.{VcpuRecord}

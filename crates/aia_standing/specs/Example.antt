@@ -17,12 +17,12 @@ use Rattle.aia_home.specs.Vms.{Vcpu, vcpu}
 use Rattle.aia_home.specs.Home.{Progress}
 use Rattle.aia_home.specs.Home.Home.{OnWay}
 use Rattle.aia_home.specs.Home.Way.{Outward}
+use Rattle.aia_home.specs.Phases.Phase.{DrainPhase}
 use Rattle.aia_major.specs.Kept.{kept_at_first}
 use Rattle.aia_places.specs.Places.{leads_to, entry_word, second_word}
 use Rattle.aia_world.specs.declared.stage.Stage.{Stage}
 use Rattle.aia_world.specs.World.{World, no_stage}
 use Rattle.aia_world.specs.Making.{new_world, table_byte}
-use Rattle.aia_move.specs.declared.plan.Plan.TheVariants.{LeaveDrain}
 use Rattle.aia_moving.specs.Move.{Moving}
 use Rattle.aia_model.specs.declared.line.Line.{Line}
 use Rattle.aia_model.specs.declared.line.Line.TheVariants as lines
@@ -196,7 +196,7 @@ leaving_core = record {
   leases = record { harts = 1; guests = 3; out = true ∷ true ∷ false ∷ [] };
   vcpus = record { stay = stays.Resident stayer_file; select = 0; majors = kept_at_first }
       ∷ record {
-        stay = stays.Moving (LeaveDrain leave_under_way);
+        stay = stays.Moving (record { moving = leave_under_way; phase = Some DrainPhase });
         select = 0xc0;
         majors = kept_at_first;
       } ∷ [];

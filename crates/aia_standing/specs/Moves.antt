@@ -4,7 +4,7 @@ use Rattle.aia_home.specs.declared.place.Place.{Place}
 use Rattle.aia_home.specs.declared.rest.Rest.TheVariants.{Parked}
 use Rattle.aia_home.specs.Vms.{Vcpu, vcpu}
 use Rattle.aia_home.specs.Aims.{aims_done}
-use Rattle.aia_home.specs.Home.{Home, at_first, is_moving, old_end, new_end}
+use Rattle.aia_home.specs.Home.{Home, is_moving, old_end, new_end}
 use Rattle.aia_home.specs.Plans.{is_at_last, plan_steps}
 use Rattle.aia_home.specs.Home.Home.{OnWay}
 use Rattle.aia_home.specs.Home.Way.{Outward, Inward, Across}
@@ -15,13 +15,10 @@ use Rattle.aia_model.specs.declared.answer.Answer.TheVariants.{Okay, Done, Refus
 use Rattle.aia_model.specs.declared.answer.Answer.TheVariants as answers
 use Rattle.aia_model.specs.declared.refusal.Refusal.{Refusal}
 use Rattle.aia_model.specs.declared.refusal.Refusal.TheVariants as refusals
-use Rattle.aia_model.specs.declared.line.Line.{Line}
 use Rattle.aia_model.specs.declared.line.Line.TheVariants as lines
 use Rattle.aia_model.specs.Event.{History, file_words}
-use Rattle.aia_model.specs.Event.Event.{Began, Stepped}
-use Rattle.aia_model.specs.Aim.{aimed_by}
+use Rattle.aia_model.specs.Event.Event.{Began}
 use Rattle.aia_model.specs.Move.{Move, wanted_move}
-use Rattle.aia_model.specs.Move.Move.{Arrives, Leaves, Shifts}
 use Rattle.aia_model.specs.ReachOf.{in_force_of}
 use Rattle.aia_model.specs.HomeOf.{home, guest_place}
 use Rattle.aia_model.specs.Refusal.{refusal}
@@ -34,13 +31,13 @@ use Rattle.aia_move.specs.declared.plan.Next.{Next}
 use Rattle.aia_move.specs.declared.plan.Next.TheVariants.{Again, Finished}
 use Rattle.aia_moving.specs.declared.turn.Outcome.{Outcome}
 use Rattle.aia_moving.specs.declared.turn.Outcome.TheVariants.{Left, Arrived, Shifted}
-use Rattle.aia_move.specs.declared.plan.Plan.{Plan}
 use Rattle.aia_moving.specs.Landings.{OnceLanded}
 use Rattle.aia_moving.specs.Move.{Moving, mover, width, MakesNext}
 use Rattle.aia_world.specs.World.{World}
 use Rattle.aia_model.specs.GuestFile.{guest_file}
 use Rattle.aia_model.specs.Notice.{a_look_saw}
-use Rattle.aia_move.specs.Plan.{moving_of, IsInPhase, StepsInPlace, phase_of, EndsPhaseOrAims}
+use Rattle.aia_move.specs.PlanState.{PlanState, moving_of}
+use Rattle.aia_move.specs.Plan.{IsInPhase, begun, empty_hand, kept_hand, StepsInPlace}
 use Rattle.aia_move.specs.Knows.{Knows}
 use Rattle.aia_model.specs.declared.want.Want.{Want}
 use Rattle.aia_model.specs.declared.want.Want.TheVariants as wants
@@ -57,10 +54,6 @@ use Rattle.aia_standing.specs.Passes.{StepsAim}
 abbrev pub IsBegun : Stay → Moving → Type 0
 IsBegun (stays.Moving plan) m = (moving_of plan ≡ m) × ((words : ℕ) → IsInPhase words plan)
 IsBegun stay m = ⊥
-
--- What a move carries that carries nothing.
-abbrev pub empty_hand : Hand
-empty_hand = record { word = 0; delivery = 0; threshold = 0; seen = false }
 
 -- Below, `old` and `new` are where a virtual hart is before and after, `was` and `now` the leases.
 -- What begins is refused with a word, and nothing is changed.
@@ -82,18 +75,15 @@ BeginsIn (Some file) hart moving old new was now given = (given ≡ Okay)
 abbrev pub ArriveFrom : Result KeptNumbers Refusal → Who → ℕ → Stay → Stay → Leases → Leases
     → Answer → Type 0
 ArriveFrom (Ok kept) who hart old new was now given =
-    BeginsIn (least_free was hart) hart (λ to. record {
-      who = who;
-      home = OnWay (Inward to) at_first;
-      hand = record empty_hand { delivery = kept.delivery; threshold = kept.threshold };
-    }) old new was now given
+    BeginsIn (least_free was hart) hart (λ to. begun who (Inward to) (kept_hand kept))
+    old new was now given
 ArriveFrom (Err word) who hart old new was now given = Refuses word old new was now given
 
 -- What becomes of where a virtual hart is, as it is to leave its guest file, to arrive in one of a
 -- hart that is there, or to shift to one; and of the leases.
 abbrev pub LeaveBegins : Who → Stay → Stay → Leases → Leases → Answer → Type 0
 LeaveBegins who (stays.Resident from) new was now given = (given ≡ Okay)
-    × IsBegun new (record { who = who; home = OnWay (Outward from) at_first; hand = empty_hand })
+    × IsBegun new (begun who (Outward from) empty_hand)
     × (now ≡ was)
 LeaveBegins who (stays.InMemory rest kept) new was now given =
     Refuses refusals.Parked (stays.InMemory rest kept) new was now given
@@ -106,11 +96,8 @@ ArriveBegins who hart old new was now given =
 
 abbrev pub ShiftBegins : Who → ℕ → Stay → Stay → Leases → Leases → Answer → Type 0
 ShiftBegins who hart (stays.Resident from) new was now given =
-    BeginsIn (least_free was hart) hart (λ to. record {
-      who = who;
-      home = OnWay (Across from to) at_first;
-      hand = empty_hand;
-    }) (stays.Resident from) new was now given
+    BeginsIn (least_free was hart) hart (λ to. begun who (Across from to) empty_hand)
+    (stays.Resident from) new was now given
 ShiftBegins who hart (stays.InMemory rest kept) new was now given =
     Refuses refusals.Parked (stays.InMemory rest kept) new was now given
 ShiftBegins who hart (stays.Moving plan) new was now given =
@@ -206,7 +193,7 @@ MakesOne w m u = MakesOneBy (next_aim m) w m u
 -- What a plan knows of a virtual hart that is being moved: the plan is its own, at the home that
 -- the history gives, and knows the world, its places with its interrupt file, as the history gives
 -- it.
-pub record KnowsIts (x : CoreState) (h : History) (g : Vcpu) (plan : Plan) : Type 0 where
+pub record KnowsIts (x : CoreState) (h : History) (g : Vcpu) (plan : PlanState) : Type 0 where
   pub own : mover (moving_of plan) ≡ g
   pub same_home : (moving_of plan).home ≡ home h g
   pub knows : Knows x.world plan (in_force_of h g) (guest_file h g) (a_look_saw h g)
@@ -215,7 +202,7 @@ pub record KnowsIts (x : CoreState) (h : History) (g : Vcpu) (plan : Plan) : Typ
 -- nothing, where it has none.
 abbrev pub StaysInPlace : Bool → World → Stay → World → Stay → Type 0
 StaysInPlace made w (stays.Moving plan) u new =
-    (later : Plan) × (new ≡ stays.Moving later) × StepsInPlace made w plan u later
+    (later : PlanState) × (new ≡ stays.Moving later) × StepsInPlace made w plan u later
 StaysInPlace made w stay u new = (made ≡ false) × (u ≡ w) × (new ≡ stay)
 
 -- What is so of a line that is not refused, and what of one that is.
@@ -238,18 +225,16 @@ pub record MoveGoes (old new : CoreState) (g : Vcpu) (last : Bool) : Type 0 wher
   pub at_last : (h : History) → CoreStands old h → last ≡ is_at_last (file_words h) (home h g)
   pub moving : last ≡ false → is_moving (home_in (record_of new g).stay) ≡ true
   pub fewer : last ≡ false → left_in new g < left_in old g
-  pub makes : (plan : Plan) → (record_of old g).stay ≡ stays.Moving plan
+  pub makes : (plan : PlanState) → (record_of old g).stay ≡ stays.Moving plan
       → MakesOne old.world (moving_of plan) new.world
 
--- The next step of the plan of a virtual hart that is being moved is the last one of its phase, or
--- aims.
-abbrev pub EndsItsPhase : CoreState → Vcpu → Type 0
-EndsItsPhase c g = (plan : Plan) → (record_of c g).stay ≡ stays.Moving plan
-    → EndsPhaseOrAims (phase_of plan) (width c.world) (moving_of plan)
+-- The next step of the plan of a virtual hart that is being moved is its last one.
+abbrev pub IsAtItsLast : CoreState → Vcpu → Type 0
+IsAtItsLast c g = (plan : PlanState) → (record_of c g).stay ≡ stays.Moving plan
+    → is_at_last (width c.world) (moving_of plan).home ≡ true
 
--- Where a step of a move was made in place, it was an access, aimed nothing, and was not the move's
--- last; else nothing is changed, and its next step ends its phase, or aims.
+-- Where a step of a move was made in place, it was not the move's last; else nothing is changed,
+-- and its next step is the last one.
 abbrev pub MoveInPlace : CoreState → CoreState → Vcpu → Bool → Type 0
 MoveInPlace old new g true = MoveGoes old new g false
-    × ((h : History) → CoreStands old h → aimed_by h (Stepped g) ≡ None)
-MoveInPlace old new g false = (new ≡ old) × EndsItsPhase old g
+MoveInPlace old new g false = (new ≡ old) × IsAtItsLast old g

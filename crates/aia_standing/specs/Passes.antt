@@ -7,7 +7,7 @@ use Rattle.std.specs.List.{AllByRecursion}
 use Rattle.aia_home.specs.Vms.{Vcpu, vcpu, is_vcpu}
 use Rattle.aia_moving.specs.declared.who.Pass as plans
 use Rattle.aia_moving.specs.Targets.{TargetMap}
-use Rattle.aia_move.specs.Plan.{moving_of}
+use Rattle.aia_move.specs.PlanState.{moving_of}
 use Rattle.aia_model.specs.Event.{History, sources_of, greatest_identity_of}
 use Rattle.aia_model.specs.Event.Event.{Stepped}
 use Rattle.aia_model.specs.Vms.{has_vcpu}

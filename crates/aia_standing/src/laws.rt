@@ -31,13 +31,13 @@ ghost use Rattle.aia_model.specs.Histories.{IsHistory, MayHappen};
 ghost use Rattle.aia_model.specs.Passes.{passes_of};
 ghost use Rattle.aia_model.specs.HomeOf.{home};
 ghost use Rattle.aia_model.specs.Answer.{msi_taken, after_lines};
+ghost use Rattle.aia_move.specs.PlanState.{PlanState};
 ghost use Rattle.aia_standing.specs.Core.{CoreState, record_of};
 ghost use Rattle.aia_standing.specs.Stands.{CoreStands, CoreTakes, CoreHears, line_served};
 ghost use Rattle.aia_standing.specs.Example.{stayer, leaver, the_pass, so_far, leaving_history, earlier_lines, leave_lines, stayer_file, leaver_file, leaving_core};
 
 use crate::vcpu::Stay;
 use aia_model::{Answer, Line, Msi};
-use aia_move::Plan;
 
 /// A core stands for a history in which one virtual hart is resident and another one, to which a
 /// wired source is passed, leaves, has aimed that source, and carries a word: what is promised of
@@ -116,11 +116,11 @@ pub fn a_store_of_a_vm_touches_its_own_alone()
 /// stores and accesses.
 pub fn a_plan_knows_it_after_every_call()
     ensures takes { (x y : CoreState) (line : Line) (given : Answer) (h : History) (g : Vcpu)
-        (plan : Plan) → CoreTakes x y line given → CoreStands x h
+        (plan : PlanState) → CoreTakes x y line given → CoreStands x h
         → has_vcpu (line_served (refusal h line) h line) g ≡ true
         → (record_of y g).stay ≡ Stay.Moving plan
         → KnowsIts y (line_served (refusal h line) h line) g plan }
-    ensures hears { (x y : CoreState) (msi : Msi) (h : History) (g : Vcpu) (plan : Plan)
+    ensures hears { (x y : CoreState) (msi : Msi) (h : History) (g : Vcpu) (plan : PlanState)
         → CoreHears x y msi → CoreStands x h → MayHappen h (Delivered msi)
         → has_vcpu (msi_taken msi h) g ≡ true
         → (record_of y g).stay ≡ Stay.Moving plan → KnowsIts y (msi_taken msi h) g plan }
