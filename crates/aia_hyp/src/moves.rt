@@ -6,9 +6,10 @@ ghost use Rattle.aia_pool.specs.Leases.{Leases};
 ghost use Rattle.aia_model.specs.declared.line.Line.TheVariants.{Step};
 ghost use Rattle.aia_model.specs.declared.line.Line.TheVariants as lines;
 ghost use Rattle.aia_model.specs.declared.answer.Answer.TheVariants.{Okay};
-ghost use Rattle.aia_move.specs.PlanState.{moving_of};
+ghost use Rattle.aia_move.specs.PlanState.{PlanState, moving_of};
 ghost use Rattle.aia_move.specs.Plan.{IsInPhase};
 ghost use Rattle.aia_moving.specs.Move.{MoveFits, width};
+ghost use Rattle.aia_moving.specs.Targets.{ArePasses, AimsAs, next_aim};
 ghost use Rattle.aia_model.specs.Event.{History};
 ghost use Rattle.aia_model.specs.Event.Event.{Stepped};
 ghost use Rattle.aia_model.specs.Aim.{aimed_by};
@@ -17,14 +18,14 @@ ghost use Rattle.aia_standing.specs.Core.{no_kept, no_record, record_of, home_in
 ghost use Rattle.aia_standing.specs.Passes.{own_passes, AimsBy};
 ghost use Rattle.aia_standing.specs.Stands.{CoreStands, CoreTakes, answer_by};
 ghost use Rattle.aia_world.specs.Found.{IsFound};
-ghost use Rattle.aia_standing.specs.Moves.{UnlessRefused, WholeAims, step_answer, MakesOne, WantBegins, LeaveBegins, ArriveBegins, ShiftBegins, MoveBegins, MoveGoes, StaysInPlace, MoveInPlace, EndsItsPhase, stay_after, back_of, with_back, IsOutThere, stay_then, back_then, is_finished};
+ghost use Rattle.aia_standing.specs.Moves.{UnlessRefused, WholeAims, step_answer, MakesOne, WantBegins, LeaveBegins, ArriveBegins, ShiftBegins, MoveBegins, MoveGoes, StaysInPlace, MoveInPlace, IsAtItsLast, stay_after, back_of, with_back, IsOutThere};
 
 use crate::hypervisor_core::Core;
 use crate::passes::Passes;
 use aia_fabric::{Fabric, Found};
 use aia_home::Rest;
 use aia_model::{Refusal, Want};
-use aia_move::{KeptNumbers, Next, Outcome, Plan, Targets, Who};
+use aia_move::{KeptNumbers, Outcome, Plan, Targets, Who};
 use aia_pool::Pool;
 use aia_standing::{Stay, VcpuRecord};
 
@@ -83,7 +84,7 @@ impl Core {
         requires { self.old.world.imsic.harts ≡ (T.map targets.old).harts }
         ensures takes { CoreTakes self.old self.new (Step vm number)
             (answer_by step_answer result) }
-        ensures one { (plan : Plan) → (record_of self.old (vcpu vm number)).stay ≡ Stay.Moving plan
+        ensures one { (plan : PlanState) → (record_of self.old (vcpu vm number)).stay ≡ Stay.Moving plan
             → OnOk result (MakesOne self.old.world (moving_of plan) self.new.world) }
         ensures aims { (h : History) → CoreStands self.old h
             → UnlessRefused (refusal h (Step vm number))

@@ -37,7 +37,7 @@ pub record InPlaceCalls (x y : CoreState) (who : Found) (new : Stay) (made : Boo
   pub makes : StaysInPlace made x.world (get_or x.vcpus who.slot no_record).stay y.world new
 
 -- one who is being moved has a plan
-plan_of : (s : Stay) → is_moving (home_in s) ≡ true → (plan : PlanState) × (stays.Moving plan ≡ s)
+pub plan_of : (s : Stay) → is_moving (home_in s) ≡ true → (plan : PlanState) × (stays.Moving plan ≡ s)
 plan_of (stays.Moving plan) moves = (plan, refl)
 plan_of (stays.InMemory rest kept) moves = absurd (cc)
 plan_of (stays.Resident lease) moves = absurd (cc)
