@@ -1,5 +1,5 @@
 -- What may be asked of a core that stands for some history.
-use Rattle.std.proofs.Common.{◌≡◌, ℕ, Bool, true, false, cond, nat_lt, Option, Some, None, refl, sym, ap, ◌∙◌}
+use Rattle.std.proofs.Common.{◌≡◌, ℕ, Bool, true, false, cond, nat_lt, None, refl, sym, ap, ◌∙◌}
 use Rattle.std.specs.Prelude.{Result, Ok, Err, is_ok}
 use Rattle.aia_model.specs.Event.{History, harts_of}
 use Rattle.aia_model.specs.Event.Event.{Delivered}

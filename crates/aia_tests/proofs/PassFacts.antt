@@ -1,6 +1,6 @@
 -- What may be asked of a core of which sources are passed, and of the sources that stand in for an
 -- APLIC's.
-use Rattle.std.proofs.Common.{◌≡◌, ℕ, [], ◌∷◌, inl, inr, zero, suc, Bool, true, false, cond, nat_eq, Option, Some, None, refl, sym, ap, subst, ◌∙◌, arith}
+use Rattle.std.proofs.Common.{◌≡◌, ℕ, [], ◌∷◌, inl, inr, zero, suc, true, false, cond, nat_eq, Option, Some, None, refl, sym, ap, subst, ◌∙◌, arith}
 use Rattle.std.proofs.lemmas.Bool.Decides.{nat_tests}
 use Rattle.std.proofs.lemmas.Bool.{cond-false, false≢true, cases_Bool, ne_eqb, eqb-true}
 use Rattle.std.specs.Int.{is_in_range}
@@ -11,16 +11,14 @@ use Rattle.aia_model.specs.declared.answer.Answer.{Answer}
 use Rattle.aia_model.specs.declared.domain_name.DomainName.{DomainName}
 use Rattle.aia_model.specs.declared.domain_name.DomainName.TheVariants.{Root, Child}
 use Rattle.aia_model.specs.declared.line.Line.TheVariants as lines
-use Rattle.aia_model.specs.declared.msi.Msi.{Msi}
 use Rattle.aia_model.specs.Act.{domain_at, newest}
 use Rattle.aia_model.specs.AddressOf.{addresses_of}
 use Rattle.aia_model.specs.SourceOf.{genmsi_waits, wire_of, enabled, target, pending}
-use Rattle.aia_model.specs.Sent.{all_senders, acts_of}
+use Rattle.aia_model.specs.Sent.{all_senders}
 use Rattle.aia_model.specs.Event.{History}
-use Rattle.aia_model.specs.Event.Event.{Accepted, Delivered}
+use Rattle.aia_model.specs.Event.Event.{Accepted}
 use Rattle.aia_model.specs.Histories.{IsHistory}
 use Rattle.aia_model.specs.Passes.{passes_of}
-use Rattle.aia_model.specs.Passable.{is_passable}
 use Rattle.aia_model.specs.HomeOf.{home}
 use Rattle.aia_model.specs.Refusal.{refusal}
 use Rattle.aia_model.specs.Flight.{flight}
@@ -30,7 +28,7 @@ use Rattle.aia_model.specs.FileAfter.{file_by, select_by}
 use Rattle.aia_moving.specs.Targets.{AimsOne}
 use Rattle.aia_standing.specs.Core.{CoreState}
 use Rattle.aia_standing.specs.Passes.{TellsOf}
-use Rattle.aia_standing.specs.Stands.{CoreStands, CoreBegins, CoreTakes, CorePasses, MayPass, MayGo, line_served}
+use Rattle.aia_standing.specs.Stands.{CoreStands, CoreBegins, CoreTakes, MayPass, line_served}
 use Rattle.aia_standing.proofs.EventLemmas.{hosts_line}
 use Rattle.aia_standing.proofs.StoreLemmas.{line_rests}
 use Rattle.aia_standing.proofs.PageLemmas.{no_file_there}

@@ -6,7 +6,7 @@ use Rattle.aia_move.specs.declared.plan.Next.{Next}
 use Rattle.aia_move.specs.declared.plan.Next.TheVariants.{Again, Finished}
 use Rattle.aia_moving.specs.declared.who.Who.{Who}
 use Rattle.aia_moving.specs.Move.{Moving, width, MoveFits}
-use Rattle.aia_moving.specs.Targets.{Aim}
+use Rattle.aia_moving.specs.Targets.{Aim, next_aim}
 use Rattle.aia_move.specs.PlanState.{PlanState, moving_of}
 use Rattle.aia_move.specs.Plan.{IsInPhase, MatchNext, StepsTo, StepsInPlace}
 
@@ -18,13 +18,13 @@ none_still (Some aim) w u m (Finished o) steps none = tt
 
 module _ (w u : World) (plan later : PlanState) where
   pub none_in_place : (made : Bool) → StepsInPlace made w plan u later → (moving_of plan).who.passes.items ≡ [] → (moving_of later).who.passes.items ≡ []
-  none_in_place true steps none = none_still None w u (moving_of plan) (Again later) steps.1 none
+  none_in_place true steps none = none_still (next_aim (moving_of plan)) w u (moving_of plan) (Again later) steps.0 none
   none_in_place false steps none = ap (λ (p : PlanState). (moving_of p).who.passes.items) steps.1 ∙ none
 
   pub fits_in_place : (made : Bool) → StepsInPlace made w plan u later → MoveFits w (moving_of plan) → MoveFits u (moving_of later)
-  fits_in_place true steps fits = steps.2
+  fits_in_place true steps fits = steps.1
   fits_in_place false steps fits = subst (λ (p : PlanState). MoveFits u (moving_of p)) (sym steps.1) (subst (λ (x : World). MoveFits x (moving_of plan)) (sym steps.0) fits)
 
   pub phase_in_place : (made : Bool) → StepsInPlace made w plan u later → IsInPhase (width w) plan → IsInPhase (width u) later
-  phase_in_place true steps phase = steps.3
+  phase_in_place true steps phase = steps.2
   phase_in_place false steps phase = subst (λ (p : PlanState). IsInPhase (width u) p) (sym steps.1) (subst (λ (x : World). IsInPhase (width x) plan) (sym steps.0) phase)
