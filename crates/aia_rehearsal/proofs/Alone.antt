@@ -176,12 +176,15 @@ step_kept (steps.TakeP k) w u r whole of makes = kept_by w u _ r.passage makes.1
 step_kept (steps.PutP k) w u r whole of makes = kept_by w u _ r.passage makes.1 (pending_kept w r.passage whole of k _ r.passage.new makes.0)
 step_kept (steps.TakeE k) w u r whole of makes = kept_by w u _ r.passage makes.1 (enabled_kept w r.passage whole of k 0 r.passage.old makes.0)
 step_kept (steps.PutE k) w u r whole of makes = kept_by w u _ r.passage makes.1 (enabled_kept w r.passage whole of k _ r.passage.new makes.0)
-step_kept (steps.Look k) w u r whole of e = equal_kept w u r.passage e
 step_kept steps.TakeT w u r whole of makes = put_kept w r.passage whole of u r.passage.old Threshold 0 makes
 step_kept steps.PutT w u r whole of makes = put_kept w r.passage whole of u r.passage.new Threshold r.hand.threshold makes
 step_kept steps.Post w u r whole of makes = post_kept w r.passage whole of u r.hand.seen r.passage.who.found.notice (r.passage.who.found.slot + 1) makes
 step_kept steps.Wake w u r whole of makes = put_kept w r.passage whole of u r.passage.new Delivery r.hand.delivery makes
-step_kept step w u r whole of e = kept_by w u _ r.passage e (stage_kept w r.passage whole of _)
+step_kept steps.Map w u r whole of e = kept_by w u _ r.passage e (stage_kept w r.passage whole of _)
+step_kept steps.Unmap w u r whole of e = kept_by w u _ r.passage e (stage_kept w r.passage whole of _)
+step_kept steps.Remap w u r whole of e = kept_by w u _ r.passage e (stage_kept w r.passage whole of _)
+step_kept steps.GFence w u r whole of e = kept_by w u _ r.passage e (stage_kept w r.passage whole of _)
+step_kept step w u r whole of e = equal_kept w u r.passage e
 
 -- ---- all that happens
 

@@ -614,50 +614,6 @@ does d start done (PutNumber n) z guard v = record {
   strayed = v.strayed;
   numbers = λ m. number_put d n m done z (number_in d.number_from m start) (v.numbers m);
 }
-does d start done (Look w) z guard v = record {
-  leads = v.leads;
-  flights = v.flights;
-  kept = v.kept;
-  late = late_more d (Look w) done v.late;
-  enables = v.enables;
-  freed = v.freed;
-  safe = safe_more d start (Look w) done z v;
-  strayed = v.strayed;
-  numbers = v.numbers;
-}
-does d start done Post z guard v = record {
-  leads = v.leads;
-  flights = v.flights;
-  kept = v.kept;
-  late = late_more d Post done v.late;
-  enables = v.enables;
-  freed = v.freed;
-  safe = safe_more d start Post done z v;
-  strayed = v.strayed;
-  numbers = v.numbers;
-}
-does d start done Tell z guard v = record {
-  leads = v.leads;
-  flights = v.flights;
-  kept = v.kept;
-  late = late_more d Tell done v.late;
-  enables = v.enables;
-  freed = v.freed;
-  safe = safe_more d start Tell done z v;
-  strayed = v.strayed;
-  numbers = v.numbers;
-}
-does d start done WriteNotice z guard v = record {
-  leads = v.leads;
-  flights = v.flights;
-  kept = v.kept;
-  late = late_more d WriteNotice done v.late;
-  enables = v.enables;
-  freed = v.freed;
-  safe = safe_more d start WriteNotice done z v;
-  strayed = v.strayed;
-  numbers = v.numbers;
-}
 does d start done Free z guard v = record {
   leads = v.leads;
   flights = v.flights;
@@ -683,6 +639,17 @@ does d start done (Fence q) z guard v =
       strayed = u.strayed;
       numbers = u.numbers;
     }
+does d start done x z guard v = record {
+  leads = v.leads;
+  flights = v.flights;
+  kept = v.kept;
+  late = late_more d x done v.late;
+  enables = v.enables;
+  freed = v.freed;
+  safe = safe_more d start x done z v;
+  strayed = v.strayed;
+  numbers = v.numbers;
+}
 
 -- ---- a whole run
 

@@ -364,20 +364,7 @@ notes_fence d done p z memory guard v =
 
 notes_any : (d : Setting) (start : Machine) (done : Done) (x : Step) (z : Machine) → d.in_memory ≡ true → Guard d x done → Invariant d start done z → Noted d done z → Noted d (x ∷ done) (stepped d x z)
 notes_any d start done (Fence p) z memory guard w v = notes_fence d done p z memory guard v
-notes_any d start done (Route p) z memory guard w v = notes d start done (Route p) z memory tt guard w v
-notes_any d start done (Switch p) z memory guard w v = notes d start done (Switch p) z memory tt guard w v
-notes_any d start done (Zero place s u) z memory guard w v = notes d start done (Zero place s u) z memory tt guard w v
-notes_any d start done (Take s u) z memory guard w v = notes d start done (Take s u) z memory tt guard w v
-notes_any d start done (Join s u) z memory guard w v = notes d start done (Join s u) z memory tt guard w v
-notes_any d start done (Put s u) z memory guard w v = notes d start done (Put s u) z memory tt guard w v
-notes_any d start done (ZeroNumber place n) z memory guard w v = notes d start done (ZeroNumber place n) z memory tt guard w v
-notes_any d start done (TakeNumber n) z memory guard w v = notes d start done (TakeNumber n) z memory tt guard w v
-notes_any d start done (PutNumber n) z memory guard w v = notes d start done (PutNumber n) z memory tt guard w v
-notes_any d start done (Look u) z memory guard w v = notes d start done (Look u) z memory tt guard w v
-notes_any d start done Post z memory guard w v = notes d start done Post z memory tt guard w v
-notes_any d start done Tell z memory guard w v = notes d start done Tell z memory tt guard w v
-notes_any d start done WriteNotice z memory guard w v = notes d start done WriteNotice z memory tt guard w v
-notes_any d start done Free z memory guard w v = notes d start done Free z memory tt guard w v
+notes_any d start done x z memory guard w v = notes d start done x z memory tt guard w v
 
 -- ---- a whole run
 

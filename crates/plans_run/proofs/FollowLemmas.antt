@@ -147,7 +147,4 @@ follows_step d c (ZeroNumber New n) t z v = record { old = v.old; new = v.new; h
 follows_step d c (TakeNumber n) t z v = record { old = v.old; new = v.new; hand = v.hand; due = v.due; old_number = numbered n c.number z.old_number false t.old_number v.old_number; new_number = v.new_number; hand_number = carried n c.number z.old_number z.hand_number t.old_number t.hand_number v.old_number v.hand_number; written = v.written; in_force = v.in_force; flights = v.flights; freed = v.freed; strayed = ap₂ (λ a b. a || b) v.strayed v.freed }
 follows_step d c (PutNumber n) t z v = record { old = v.old; new = v.new; hand = v.hand; due = v.due; old_number = v.old_number; new_number = carried n c.number z.hand_number z.new_number t.hand_number t.new_number v.hand_number v.new_number; hand_number = v.hand_number; written = v.written; in_force = v.in_force; flights = v.flights; freed = v.freed; strayed = v.strayed }
 follows_step d c Free t z v = record { old = v.old; new = v.new; hand = v.hand; due = v.due; old_number = v.old_number; new_number = v.new_number; hand_number = v.hand_number; written = v.written; in_force = v.in_force; flights = v.flights; freed = refl; strayed = v.strayed }
-follows_step d c (Look w) t z v = record { old = v.old; new = v.new; hand = v.hand; due = v.due; old_number = v.old_number; new_number = v.new_number; hand_number = v.hand_number; written = v.written; in_force = v.in_force; flights = v.flights; freed = v.freed; strayed = v.strayed }
-follows_step d c Post t z v = record { old = v.old; new = v.new; hand = v.hand; due = v.due; old_number = v.old_number; new_number = v.new_number; hand_number = v.hand_number; written = v.written; in_force = v.in_force; flights = v.flights; freed = v.freed; strayed = v.strayed }
-follows_step d c Tell t z v = record { old = v.old; new = v.new; hand = v.hand; due = v.due; old_number = v.old_number; new_number = v.new_number; hand_number = v.hand_number; written = v.written; in_force = v.in_force; flights = v.flights; freed = v.freed; strayed = v.strayed }
-follows_step d c WriteNotice t z v = record { old = v.old; new = v.new; hand = v.hand; due = v.due; old_number = v.old_number; new_number = v.new_number; hand_number = v.hand_number; written = v.written; in_force = v.in_force; flights = v.flights; freed = v.freed; strayed = v.strayed }
+follows_step d c x t z v = record { old = v.old; new = v.new; hand = v.hand; due = v.due; old_number = v.old_number; new_number = v.new_number; hand_number = v.hand_number; written = v.written; in_force = v.in_force; flights = v.flights; freed = v.freed; strayed = v.strayed }

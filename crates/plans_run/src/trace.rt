@@ -162,14 +162,11 @@ impl Trace {
             Step::ZeroNumber(place, n) => self.zeroed_number(place, n == case.number),
             Step::TakeNumber(n) => self.taken_number(n == case.number),
             Step::PutNumber(n) => self.put_number(n == case.number),
-            Step::Look(_) => self,
-            Step::Post => self,
-            Step::Tell => self,
-            Step::WriteNotice => self,
             Step::Free => Trace {
                 freed: true,
                 ..self
             },
+            _ => self,
         }
     }
 
