@@ -2,9 +2,9 @@
 """hold.py FOLDER.. -- COMMAND..: the answers of a program to the scripts that convert.py wrote into
 each FOLDER, held against what the trace has.
 
-An answer is the same; or *explained*: it differs, and QEMU's or KVM's rules foresee just what the
-trace has, and a row of peers/qemu/known.txt, peers/kvm/known.txt or of known.txt here names the
-reason; or it differs. Prints the counts of each script, each reason with its count, and the first
+An answer is the same; or *explained*: it differs, the model written apart answers as the program
+does, QEMU's or KVM's rules foresee just what the trace has, and a row of peers/qemu/known.txt,
+peers/kvm/known.txt or of known.txt here names the reason; or it differs. Prints the counts of each script, each reason with its count, and the first
 answers that differ. Ends with status 1 where one does, and 2 where it can't look.
 """
 
@@ -47,15 +47,16 @@ def lines_of(path):
 def script(base, command, reasons):
     """Holds the answers to one script; gives the counts."""
     counts, path = Counter(), base.with_suffix(".script")
-    lines, wanted, foreseen = lines_of(path), lines_of(base.with_suffix(".out")), lines_of(
-        base.with_suffix(".foreseen"))
+    lines, wanted = lines_of(path), lines_of(base.with_suffix(".out"))
+    known = {int(at): told for at, *told in (
+        text.split("|") for text in lines_of(base.with_suffix(".known")))}
     masks = {int(at): int(mask, 16) for at, mask in map(
         str.split, lines_of(base.with_suffix(".masks")))}
     got = held.answers_of(command, path.read_bytes())
-    if not len(lines) == len(wanted) == len(foreseen) == len(got):
+    if not len(lines) == len(wanted) == len(got):
         raise held.Stopped(f"{path}: {len(got)} answers to {len(lines)} lines")
-    for at, (line, theirs, told, ours) in enumerate(zip(lines, wanted, foreseen, got)):
-        mask, reason = masks.get(at), None
+    for at, (line, theirs, ours) in enumerate(zip(lines, wanted, got)):
+        mask, reason, told = masks.get(at), None, known.get(at)
         counts["lines"] += 1
         if theirs == NOT_SHOWN:
             counts["not shown"] += 1
@@ -66,15 +67,15 @@ def script(base, command, reasons):
             counts["same in the bits that are shown"] += 1
             counts["answers"] += 1
         else:
-            if fits(theirs, told, mask):
+            if told and told[0] == ours and fits(theirs, told[1], mask):
                 reason = reasons.of(line, ours, theirs)
             counts["explained" if reason else "differ"] += 1
             counts["answers"] += 1
             if reason:
                 reasons.met[reason] += 1
             elif counts["differ"] <= MOST:
-                print(f"{path}:{at + 1}: {line}: the program {ours}, the trace {theirs},"
-                      f" foreseen {told}")
+                print(f"{path}:{at + 1}: {line}: the program {ours}, the trace {theirs}"
+                      + (f", foreseen {told[1]}" if told else ""))
     return counts
 
 

@@ -116,6 +116,12 @@ class Script:
             del part[length:]
         self.masks = {at: mask for at, mask in self.masks.items() if at < length}
 
+    def known(self):
+        """Where the model written apart answers otherwise than the trace."""
+        for at, (wanted, ours, foreseen) in enumerate(zip(self.wanted, self.ours, self.foreseen)):
+            if not fits(wanted, ours, self.masks.get(at)):
+                yield f"{at}|{ours}|{foreseen}"
+
 
 def fits(wanted, answer, mask=None):
     """Whether an answer is what the trace has, in the bits that are shown."""

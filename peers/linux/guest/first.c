@@ -235,7 +235,7 @@ static void workload(const char *name, int number)
 		OF(1, 2, EITHER, 100 * scale, 0, 6000, 1);
 	else if (!strcmp(name, "majors"))
 		OF(1, 2, FILES_ALONE, 60 * scale, 0, 6000, 0, 1);
-	else if (!strcmp(name, "storm"))
+	else if (!strcmp(name, "senders"))
 		OF(1, 2, EITHER, 400 * scale, 0, 3000, 0, 0, 1);
 	else
 		printf("there is no workload %s\n", name);

@@ -8,13 +8,16 @@
 #include <linux/io.h>
 #include <asm/csr.h>
 
-static void __iomem *page;
+static unsigned int nowhere[64];
+static bool is_mapped;
+void *tell_page = nowhere;
+EXPORT_SYMBOL(tell_page);
 /* What is mended, as the kernel's command line has it: see edit.py. */
 int tell_level, tell_user, tell_half;
 
 static void notrace put(unsigned int place, unsigned long value)
 {
-	__raw_writel(value, page + place);
+	tell_at(tell_page + place, 0, (unsigned int)value);
 }
 
 static unsigned long notrace silence(void)
@@ -31,13 +34,9 @@ static void notrace restore(unsigned long flags)
 		__asm__ __volatile__ ("csrsi sstatus, 2" : : : "memory");
 }
 
-unsigned long notrace tell_begin(unsigned int head)
+unsigned long notrace tell_begin(void)
 {
-	unsigned long flags = silence();
-
-	if (page)
-		put(0x10, head);
-	return flags;
+	return silence();
 }
 EXPORT_SYMBOL(tell_begin);
 
@@ -46,7 +45,7 @@ void notrace tell_end(unsigned long flags, unsigned int head, unsigned long writ
 {
 	unsigned int operation = head >> 12;
 
-	if (page) {
+	if (is_mapped) {
 		if (operation != TOLD_WRITE && operation != TOLD_SET && operation != TOLD_CLEAR) {
 			put(0x18, old);
 			if (old >> 32)
@@ -67,7 +66,7 @@ void notrace tell_note(unsigned int kind, unsigned long one, unsigned long other
 {
 	unsigned long flags;
 
-	if (!page)
+	if (!is_mapped)
 		return;
 	flags = silence();
 	put(0x34, one);
@@ -110,5 +109,10 @@ unsigned long tell_exchange(unsigned long *word, unsigned long value, unsigned l
 
 void __init tell_init(void)
 {
-	page = ioremap(0x100000, 0x1000);
+	void *page = (__force void *)ioremap(0x100000, 0x1000);
+
+	if (page) {
+		tell_page = page;
+		is_mapped = true;
+	}
 }

@@ -9,7 +9,9 @@
 	 (csr) == 0x607 || (csr) == 0x608 || (csr) == 0x609 || (csr) == 0x645 || (csr) == 0x646 || \
 	 (csr) == 0x647 || (csr) == 0xe12)
 
-extern unsigned long tell_begin(unsigned int head);
+/* Where the kernel tells: a page of a device, or before that is mapped some memory. */
+extern void *tell_page;
+extern unsigned long tell_begin(void);
 extern void tell_end(unsigned long flags, unsigned int head, unsigned long written,
 		     unsigned long old);
 extern void tell_note(unsigned int kind, unsigned long one, unsigned long other);
@@ -17,13 +19,19 @@ extern void tell_note(unsigned int kind, unsigned long one, unsigned long other)
 /* The operation of an access, in its head behind the CSR's number. */
 enum { TOLD_READ, TOLD_SWAP, TOLD_WRITE, TOLD_READ_SET, TOLD_SET, TOLD_READ_CLEAR, TOLD_CLEAR };
 
+/* The stores stand right before and behind the access, with no branch between. */
+#define tell_at(page, place, head) \
+	__asm__ __volatile__ ("sw %0, %1(%2)" : : "r" (head), "i" (place), "r" (page) : "memory")
 #define told(csr, operation, written, old, access)				\
 do {										\
 	if (TOLD_CSR(csr)) {							\
-		unsigned long told_flags =					\
-			tell_begin((csr) | (operation) << 12);			\
+		unsigned long told_flags = tell_begin();			\
+		unsigned int told_head = (csr) | (operation) << 12;		\
+		void *told_page = tell_page;					\
+		tell_at(told_page, 0x10, told_head);				\
 		access;								\
-		tell_end(told_flags, (csr) | (operation) << 12, written, old);	\
+		tell_at(told_page, 0x2c, told_head);				\
+		tell_end(told_flags, told_head, written, old);			\
 	} else {								\
 		access;								\
 	}									\
