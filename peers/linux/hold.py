@@ -3,9 +3,10 @@
 each FOLDER, held against what the trace has.
 
 An answer is the same; or *explained*: it differs, the model written apart answers as the program
-does, QEMU's or KVM's rules foresee just what the trace has, and a row of peers/qemu/known.txt,
-peers/kvm/known.txt or of known.txt here names the reason; or it differs. Prints the counts of each script, each reason with its count, and the first
-answers that differ. Ends with status 1 where one does, and 2 where it can't look.
+does, QEMU's or KVM's rules foresee just what the trace has, and a row of known.txt here or of
+peers/qemu/known.txt names the reason; or it differs. Prints the counts of each script, each reason
+with its count, and the first answers that differ. Ends with status 1 where one does, and 2 where it
+can't look.
 """
 
 import sys
@@ -28,8 +29,7 @@ class Reasons:
     """The rows of what is known."""
 
     def __init__(self):
-        self.known = [Known(path) for path in (HERE / "known.txt", HERE.parent / "kvm/known.txt",
-                                               HERE.parent / "qemu/known.txt") if path.exists()]
+        self.known = [Known(HERE / "known.txt"), Known(HERE.parent / "qemu/known.txt")]
         self.met = Counter()
 
     def of(self, line, ours, theirs):

@@ -1,9 +1,9 @@
 #!/usr/bin/env python3
 """Ten errors of one rule each, which a recording of Linux has to tell.
 
-    planted.py ERROR < script > answers     what the model written apart answers with that error
-    planted.py told FOLDER..                holds the scripts of each FOLDER, which convert.py wrote,
-                                            against the model with each error, one after the other
+    planted.py ERROR < script > answers    what the model written apart answers with that error
+    planted.py told FOLDER..    holds the scripts of each FOLDER, which convert.py wrote, against
+                                the model with each error, one after the other
 
 The second ends with status 1 where an error is told by no answer, and 2 where it can't look. `-h`
 lists the errors.

@@ -2,7 +2,7 @@
 each guest file, of all that reaches it.
 
 `Telling` is what is known at a place of the trace, with the machines that answer: the model written
-apart, and the same with the rules of QEMU 7.2 and of KVM, which foresee what these answer otherwise.
+apart, and the same with the rules of QEMU 7.2 and of KVM, which foresee what these answer else.
 """
 
 import importlib.util
@@ -104,7 +104,7 @@ class Pair:
 
 
 class Script:
-    """The lines of a script, with what the trace has, what is foreseen, and where bits are shown."""
+    """The lines of a script, with what the trace has, what is foreseen, which bits are shown."""
 
     def __init__(self, name):
         self.name = name
@@ -280,7 +280,8 @@ class Telling:
             self.count("no line", "an MSI of the APLIC itself")
             self.causes = True
         else:
-            self.count("lines", "st of supervisor, by a " + ("device" if event.hart < 0 else "hart"))
+            who = "device" if event.hart < 0 else "hart"
+            self.count("lines", f"st of supervisor, by a {who}")
             self.host(out, f"st {self.ours(event.one):#x} {event.other:#x}", "ok")
 
     def store_aplic(self, out, event, kind, offset):

@@ -1,6 +1,6 @@
 #!/usr/bin/env python3
-"""traces.py LOG > TRACE: what QEMU logged of a run of the kernel that tells its accesses, as a trace
-of one line for each access, in their order. Ends with status 2 where LOG can't be read.
+"""traces.py LOG > TRACE: what QEMU logged of a run of the kernel that tells its accesses, as a
+trace of one line for each access, in their order. Ends with status 2 where LOG can't be read.
 
 A trace has these lines; H is a hart, or `-` where no hart did it, V and numbers are hexadecimal:
 
@@ -29,7 +29,7 @@ TRAP = re.compile(r"riscv_trap hart:(\d+), async:1, cause:0*9,")
 TEST, TEST_END = 0x100000, 0x101000
 KERNEL_PLACES, GUEST_PLACES, VM_PLACES = 0x100, 0x40, 0x200
 # What is stored where, of the kernel and of each guest.
-BEGIN, END, READ, READ_HIGH, WRITTEN, WRITTEN_HIGH, BEHIND = 0x10, 0x14, 0x18, 0x1c, 0x20, 0x24, 0x2c
+BEGIN, END, READ, READ_HIGH, WRITTEN, WRITTEN_HIGH = 0x10, 0x14, 0x18, 0x1c, 0x20, 0x24
 NOTE, ONE, OTHER, WORKLOAD, VMS = 0x30, 0x34, 0x38, 0xf00, 0xf04
 OPERATIONS = ("csrr", "csrrw", "csrw", "csrrs", "csrs", "csrrc", "csrc")
 REGIONS = ((0xc000000, 0xc008000), (0xd000000, 0xd008000), (0x24000000, 0x2c000000))

@@ -83,7 +83,8 @@ EDITS = [
     # An MSI by KVM: to the guest file; to the software file, before and behind it.
     (IMSIC, "kvm_riscv_vcpu_aia_imsic_inject", "writel(iid, imsic->vsfile_va", "before",
      note(7, "iid") + "\n\t\t"),
-    (IMSIC, "kvm_riscv_vcpu_aia_imsic_inject", "set_bit(iid &", "before", note(8, "iid") + "\n\t\t"),
+    (IMSIC, "kvm_riscv_vcpu_aia_imsic_inject", "set_bit(iid &", "before",
+     note(8, "iid") + "\n\t\t"),
     (IMSIC, "kvm_riscv_vcpu_aia_imsic_inject", "\t\timsic_swfile_extirq_update(vcpu);\n", "before",
      "\t\t" + note(9, "iid") + "\n"),
 ]
@@ -99,13 +100,15 @@ def edited(text, where, function, words, side, put):
     """The text of a file with one edit made."""
     start, end = 0, len(text)
     if function:
-        found = [m for m in re.finditer(rf"^\w[^\n;]*\b{function}\((?:[^;{{]*)\)\n{{\n", text, re.M)]
+        head = rf"^\w[^\n;]*\b{function}\((?:[^;{{]*)\)\n{{\n"
+        found = list(re.finditer(head, text, re.M))
         if len(found) != 1:
             fail(f"{where} has {len(found)} times the function {function}")
         start = found[0].start()
         end = text.index("\n}\n", start) + 1
     if text.count(words, start, end) != 1:
-        fail(f"{where} has {text.count(words, start, end)} times, within {function or 'it'}: {words}")
+        fail(f"{where} has {text.count(words, start, end)} times, within {function or 'it'}:"
+             f" {words}")
     at = text.index(words, start, end) + len(words) * (side == "behind")
     return text[:at] + put + text[at:]
 
