@@ -62,8 +62,8 @@ def a_select_number_is_kept_in_seven_bits():
 
 
 @planted
-def a_file_signals_without_delivery():
-    around(InterruptFile, "signals", lambda old, file: file.top() != 0)
+def eidelivery_reads_0():
+    around(InterruptFile, "access_delivery", lambda old, *given: 0 * old(*given))
 
 
 @planted

@@ -35,6 +35,7 @@ CSRS = {0x104: "sie", 0x144: "sip", 0x150: "siselect", 0x151: "sireg", 0x15c: "s
         0x25c: "vstopei", 0xeb0: "vstopi", 0x600: "hstatus", 0x603: "hideleg", 0x604: "hie",
         0x607: "hgeie", 0x608: "hvien", 0x609: "hvictl", 0x645: "hvip", 0x646: "hviprio1",
         0x647: "hviprio2", 0xe12: "hgeip", 0x14d: "stimecmp"}
+FILES_CSRS, MAJORS_CSRS = ("siselect", "sireg", "stopei"), ("stopi", "sip", "sie")
 LINE_OF = {"csrr": "csrr", "csrrw": "csrrw", "csrw": "csrrw", "csrrs": "csrrs", "csrs": "csrrs",
            "csrrc": "csrrc", "csrc": "csrrc"}
 ROOT, CHILD, MACHINE_FILES, FILES = 0xc000000, 0xd000000, 0x24000000, 0x28000000
@@ -153,7 +154,6 @@ class Telling:
         self.aim = None  # where the wired disk's MSIs go: hart, identity
         self.causes = False  # whether the last event may have made the APLIC send
         self.level = 0
-        self.workload = 0
         self.waiting = []
         self.missed = False
         self.moved = {}  # of (VM, virtual hart, identity): a store within a move, not seen yet
@@ -210,11 +210,8 @@ class Telling:
         causes, self.causes = self.causes, False
         getattr(self, f"take_{event.kind}")(out, event, causes)
 
-    def take_p(self, out, event, _):
-        self.workload = event.one
-        for script in out.values():
-            if script.name == "host":
-                self.count("workload", event.one)
+    def take_p(self, *_):
+        """A workload begins: no line."""
 
     def take_v(self, out, event, _):
         self.base = self.vms
@@ -422,7 +419,7 @@ class Telling:
     def kernel(self, out, one):
         name, hart = CSRS[one.csr], one.hart
         shown = f"0x{one.read:016x}" if one.answers() else NOT_SHOWN
-        if name in ("siselect", "sireg", "stopei"):
+        if name in FILES_CSRS:
             if name == "siselect":
                 self.select["s", hart] = one.written
             self.count("compared" if one.answers() else "lines", f"h .. {one.operation} {name}" + (
@@ -491,7 +488,7 @@ class Telling:
             self.host(out, "enter %d %d" % who, "ok")
             self.place[who] = "entered"
         place = self.place[who]
-        if place == "entered" and name in ("stopi", "sip", "sie"):
+        if place == "entered" and name in MAJORS_CSRS:
             self.count("no line", f"{name} of a guest in memory")
             if name == "sie" and one.operation == "csrrw":
                 self.owed[who] = one.written
@@ -512,30 +509,24 @@ class Telling:
             self.seen(who, 32 * (self.select[who] & 0x3f), one.read, "read by their guest")
 
     def peek(self, one):
-        """Whether an access would read here what the trace has, and has an answer at all."""
-        if not one.answers():
-            return True
-        name, text, pair = CSRS[one.csr], "", "host"
-        shown = f"0x{one.read:016x}"
+        """Whether an access would read here what the trace has; True where that can't be said."""
+        name, shown = CSRS[one.csr], f"0x{one.read:016x}"
         if one.guest is not None:
             who = self.base + (one.guest >> 4), one.guest & 15
-            if self.place[who] == "parked" or self.place[who] == "entered" and name not in (
-                    "siselect", "sireg", "stopei"):
-                return True
             text = "g %d %d csrr " % who + name
-        elif name in ("siselect", "sireg", "stopei"):
-            text = f"h {one.hart} csrr {name}"
-        elif name == "stopi":
-            text, shown = f"pins {one.hart}", f"pins 0 0 0 {int(one.read >> 16 == 9)}"
+            is_told = name in FILES_CSRS or (
+                name in MAJORS_CSRS and isinstance(self.place[who], tuple))
+            is_told &= self.place[who] != "parked"
         elif name == "vsireg" and self.file_of(one):
-            return self.peek_file(one)
-        elif name == "hgeip":
-            return True
+            return not one.answers() or self.peek_file(one)
+        elif name == "stopi":
+            # As in kernel_beside.
+            text, shown = f"pins {one.hart}", f"pins 0 0 0 {int(one.read >> 16 == 9)}"
+            is_told = True
         else:
-            return True
-        if name == "stimecmp" or name == "hviprio1":
-            return True
-        return list(self.pairs[pair].answers(text))[1] == shown
+            text, is_told = f"h {one.hart} csrr {name}", name in FILES_CSRS
+        return not one.answers() or not is_told or (
+            list(self.pairs["host"].answers(text))[1] == shown)
 
     def peek_file(self, one):
         name = "file-" + number_of(self.file_of(one))
