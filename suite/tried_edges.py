@@ -88,6 +88,11 @@ def refused_words(trial):
     yield TOP / "peers/qemu/bridge.py", [], ["/nosuch"], [APART / "model.py", "--x"]
     yield TOP / "peers/replay_known.py", [], ["x", "y", "z"], ["kvm", NO_PROGRAM, "x"]
     yield TOP / "peers/hold", [], ["x", "y", "1", "--"]
+    linux = TOP / "peers/linux"
+    for name in ("build", "kernel/edit.py", "traces.py", "convert.py", "hold.py", "moves.py"):
+        yield linux / name, [], ["/nosuch"]
+    yield linux / "record", [], ["/nosuch", "x"]
+    yield linux / "run", ["--x"], ["a", "b"], ["--held"], ["--held", "/nosuch"]
     for name in ("check", "plans/check", "hypervisors/check", "check-library"):
         yield TOP / "examples" / name, ["--x"], ["a", "b"]
     yield TOP / "examples/migrate", [], ["0"], ["a", "b"]
