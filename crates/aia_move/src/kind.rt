@@ -1,4 +1,4 @@
-ghost use Rattle.std.specs.Prelude.{◌≡◌, option_map, refl};
+ghost use Rattle.std.specs.Prelude.{◌≡◌, ℕ, option_map, refl};
 ghost use Rattle.std.specs.Borrow.{Bor};
 ghost use Rattle.aia_home.specs.declared.place.Place.{Place};
 ghost use Rattle.aia_home.specs.Home.{Way, Progress, end_at, left, led_to};
@@ -6,13 +6,19 @@ ghost use Rattle.aia_home.specs.Home.Home.{OnWay};
 ghost use Rattle.aia_home.specs.Home.Way.{Outward, Inward, Across};
 ghost use Rattle.aia_home.specs.Phases.{Phase, after_shared};
 ghost use Rattle.aia_home.specs.Phases.Phase.{LookPhase, LastPhase};
+ghost use Rattle.aia_imsic.specs.Imsic.{IsThere};
+ghost use Rattle.aia_world.specs.World.{World};
 ghost use Rattle.aia_world.specs.Changes.{spot_of};
+ghost use Rattle.aia_moving.specs.Move.{IsWho, MoveFits};
 ghost use Rattle.aia_moving.specs.Turns.{GivesBack};
+ghost use Rattle.aia_move.specs.PlanState.{moving_of};
+ghost use Rattle.aia_move.specs.Plan.{IsInPhase, begun, empty_hand, kept_hand};
 
 use crate::hand::Hand;
 use crate::moves::Move;
-use crate::phase::{AccessPhase, Last, Look};
-use crate::{KeptNumbers, Outcome};
+use crate::phase::{AccessPhase, First, Last, Look};
+use crate::plan::{Course, Plan};
+use crate::{KeptNumbers, Outcome, Who};
 use aia_home::End;
 use aia_imsic::Spot;
 use aia_pool::FileLease;
@@ -143,6 +149,80 @@ impl Kind for ToOtherFile {
     }
 
     ghost follows = { λ k at. refl };
+}
+
+#[tactic(auto, using(aia_moving::proofs::WhoLemmas::begins_fit))]
+impl Leave<First> {
+    /// Begins to move a virtual hart from a guest file to memory, as [`crate::Plan::leave`] does.
+    pub fn begin(file: FileLease, who: Who) -> Leave<First>
+        ensures begins { result ≡ begun who (Outward file) empty_hand }
+        ensures fits { (w : World) → IsWho w who → IsThere w.imsic (spot_of file)
+            → MoveFits w result }
+    {
+        Move::new(ToMemory { file }, who, Hand::default())
+    }
+}
+
+#[tactic(auto, using(aia_moving::proofs::WhoLemmas::begins_fit))]
+impl Arrive<First> {
+    /// Begins to move a virtual hart from memory to a guest file, as [`crate::Plan::arrive`] does.
+    pub fn begin(file: FileLease, who: Who, kept: KeptNumbers) -> Arrive<First>
+        ensures begins { result ≡ begun who (Inward file) (kept_hand kept) }
+        ensures fits { (w : World) → IsWho w who → IsThere w.imsic (spot_of file)
+            → MoveFits w result }
+    {
+        Move::new(ToFile { file }, who, Hand::of(kept))
+    }
+}
+
+#[tactic(auto, using(aia_moving::proofs::WhoLemmas::begins_fit))]
+impl Shift<First> {
+    /// Begins to move a virtual hart from one guest file to another, as [`crate::Plan::shift`] does.
+    pub fn begin(old: FileLease, new: FileLease, who: Who) -> Shift<First>
+        ensures begins { result ≡ begun who (Across old new) empty_hand }
+        ensures fits { (w : World) → IsWho w who → IsThere w.imsic (spot_of old)
+            → IsThere w.imsic (spot_of new) → MoveFits w result }
+    {
+        Move::new(ToOtherFile { from: old, to: new }, who, Hand::default())
+    }
+}
+
+#[tactic(auto, using(aia_moving::proofs::WhoLemmas::begins_fit))]
+impl Plan {
+    /// Begins to move a virtual hart from a guest file to memory. Its steps can be made where the
+    /// virtual hart and the file are there.
+    pub fn leave(file: FileLease, who: Who) -> Plan
+        ensures begins { moving_of result ≡ begun who (Outward file) empty_hand }
+        ensures phase { (words : ℕ) → IsInPhase words result }
+        ensures fits { (w : World) → IsWho w who → IsThere w.imsic (spot_of file)
+            → MoveFits w (moving_of result) }
+    {
+        let kind = ToMemory { file };
+        Plan::begin(Course::Leave(Move::new(kind, who, Hand::default())))
+    }
+
+    /// Begins to move a virtual hart from memory to a guest file, with the numbers that were kept.
+    /// Its steps can be made where the virtual hart and the file are there.
+    pub fn arrive(file: FileLease, who: Who, kept: KeptNumbers) -> Plan
+        ensures begins { moving_of result ≡ begun who (Inward file) (kept_hand kept) }
+        ensures phase { (words : ℕ) → IsInPhase words result }
+        ensures fits { (w : World) → IsWho w who → IsThere w.imsic (spot_of file)
+            → MoveFits w (moving_of result) }
+    {
+        Plan::begin(Course::Arrive(Move::new(ToFile { file }, who, Hand::of(kept))))
+    }
+
+    /// Begins to move a virtual hart from guest file `old` to guest file `new`. Its steps can be
+    /// made where the virtual hart and both files are there.
+    pub fn shift(old: FileLease, new: FileLease, who: Who) -> Plan
+        ensures begins { moving_of result ≡ begun who (Across old new) empty_hand }
+        ensures phase { (words : ℕ) → IsInPhase words result }
+        ensures fits { (w : World) → IsWho w who → IsThere w.imsic (spot_of old)
+            → IsThere w.imsic (spot_of new) → MoveFits w (moving_of result) }
+    {
+        let kind = ToOtherFile { from: old, to: new };
+        Plan::begin(Course::Shift(Move::new(kind, who, Hand::default())))
+    }
 }
 
 /// Tells what the end of a move is that has this guest file; `None`: memory.

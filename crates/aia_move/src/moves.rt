@@ -1,26 +1,21 @@
 ghost use Rattle.std.specs.Prelude.{◌≡◌, ℕ, ◌+◌, ◌<◌, ◌≤◌, nat_lt, true, false, if◌then◌else◌, Some, ⊤};
-ghost use Rattle.aia_imsic.specs.Imsic.{IsThere};
-ghost use Rattle.aia_home.specs.Home.Way.{Outward, Inward, Across};
 ghost use Rattle.aia_home.specs.Plans.{steps_done, is_at_last};
 ghost use Rattle.aia_home.specs.Phases.{begins, following};
 ghost use Rattle.aia_home.specs.Phases.Phase.{FirstPhase, ClosingPhase, EnablePhase, LookPhase, LastPhase, AllDone};
-ghost use Rattle.aia_world.specs.World.{World};
-ghost use Rattle.aia_world.specs.Changes.{spot_of};
-ghost use Rattle.aia_moving.specs.Move.{IsWho, MoveFits, width};
+ghost use Rattle.aia_moving.specs.Move.{MoveFits, width};
 ghost use Rattle.aia_moving.specs.Targets.{ArePasses, AimsAs, aim_of, next_aim, has_unaimed};
 ghost use Rattle.aia_moving.specs.Accesses.{ExecutesNext};
 ghost use Rattle.aia_moving.specs.Landings.{OnceLanded};
 ghost use Rattle.aia_moving.specs.Turns.{IsIn, IsAtAims, GoesOn, AimsOn, EndsAs, MatchTurn, MatchClosed};
 ghost use Rattle.aia_move.specs.Stages.{phase_at, past_phase};
-ghost use Rattle.aia_move.specs.Plan.{IsInDrain, NextStepIsOf, begun, empty_hand, kept_hand, GoesInPhase, GoesInPlace, next_phase};
+ghost use Rattle.aia_move.specs.Plan.{IsInDrain, NextStepIsOf, begun, GoesInPhase, GoesInPlace, next_phase};
 
 use crate::hand::Hand;
-use crate::kind::{Kind, ToFile, ToMemory, ToOtherFile, end_of};
+use crate::kind::{Kind, end_of};
 use crate::phase::{AccessPhase, Aim, Closing, Drain, Enable, First, Last, Look, Stage};
-use crate::{Arrive, Closed, KeptNumbers, Leave, Outcome, Shift, Targets, Turn, Who};
+use crate::{Closed, Outcome, Targets, Turn, Who};
 use aia_fabric::Fabric;
 use aia_home::access_at;
-use aia_pool::FileLease;
 use aia_regs::limits::FIRST_PASS_IDENTITY;
 use std::marker::{Model, PhantomData};
 
@@ -52,42 +47,6 @@ impl<K: Kind, P> Model for Move<K, P> {
       home = OnWay (K.way l.kind) (record { steps = l.done; aims = l.aims });
       hand = l.hand;
     } };
-}
-
-#[tactic(auto, using(aia_moving::proofs::WhoLemmas::begins_fit))]
-impl Leave<First> {
-    /// Begins to move a virtual hart from a guest file to memory, as [`crate::Plan::leave`] does.
-    pub fn begin(file: FileLease, who: Who) -> Leave<First>
-        ensures begins { result ≡ begun who (Outward file) empty_hand }
-        ensures fits { (w : World) → IsWho w who → IsThere w.imsic (spot_of file)
-            → MoveFits w result }
-    {
-        Move::new(ToMemory { file }, who, Hand::default())
-    }
-}
-
-#[tactic(auto, using(aia_moving::proofs::WhoLemmas::begins_fit))]
-impl Arrive<First> {
-    /// Begins to move a virtual hart from memory to a guest file, as [`crate::Plan::arrive`] does.
-    pub fn begin(file: FileLease, who: Who, kept: KeptNumbers) -> Arrive<First>
-        ensures begins { result ≡ begun who (Inward file) (kept_hand kept) }
-        ensures fits { (w : World) → IsWho w who → IsThere w.imsic (spot_of file)
-            → MoveFits w result }
-    {
-        Move::new(ToFile { file }, who, Hand::of(kept))
-    }
-}
-
-#[tactic(auto, using(aia_moving::proofs::WhoLemmas::begins_fit))]
-impl Shift<First> {
-    /// Begins to move a virtual hart from one guest file to another, as [`crate::Plan::shift`] does.
-    pub fn begin(old: FileLease, new: FileLease, who: Who) -> Shift<First>
-        ensures begins { result ≡ begun who (Across old new) empty_hand }
-        ensures fits { (w : World) → IsWho w who → IsThere w.imsic (spot_of old)
-            → IsThere w.imsic (spot_of new) → MoveFits w result }
-    {
-        Move::new(ToOtherFile { from: old, to: new }, who, Hand::default())
-    }
 }
 
 impl<K: Kind> Move<K, First> {

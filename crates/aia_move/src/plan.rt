@@ -1,24 +1,19 @@
-ghost use Rattle.std.specs.Prelude.{◌≡◌, ℕ, true, Some, ⊤};
-ghost use Rattle.aia_imsic.specs.Imsic.{IsThere};
-ghost use Rattle.aia_home.specs.Home.Way.{Outward, Inward, Across};
+ghost use Rattle.std.specs.Prelude.{◌≡◌, true, Some, ⊤};
 ghost use Rattle.aia_home.specs.Plans.{is_at_last};
 ghost use Rattle.aia_home.specs.Phases.Phase.{FirstPhase};
 ghost use Rattle.aia_places.specs.Stores.{AreApart};
-ghost use Rattle.aia_world.specs.World.{World};
-ghost use Rattle.aia_world.specs.Changes.{spot_of};
-ghost use Rattle.aia_moving.specs.Move.{IsWho, MoveFits, width};
+ghost use Rattle.aia_moving.specs.Move.{MoveFits, width};
 ghost use Rattle.aia_moving.specs.Targets.{ArePasses, AimsAs, next_aim};
 ghost use Rattle.aia_moving.specs.Turns.{EndsAs, LeavesEmpty};
 ghost use Rattle.aia_move.specs.PlanState.{moving_of};
 ghost use Rattle.aia_move.specs.Stages.{move_of};
-ghost use Rattle.aia_move.specs.Plan.{IsInPhase, begun, empty_hand, kept_hand, MatchNext, StepsTo, StepsInPlace};
+ghost use Rattle.aia_move.specs.Plan.{IsInPhase, MatchNext, StepsTo, StepsInPlace};
 
 use crate::kind::{ToFile, ToMemory, ToOtherFile};
 use crate::moves::Move;
 use crate::phase::Stage;
-use crate::{Hand, KeptNumbers, Outcome, Targets, Who};
+use crate::{Outcome, Targets};
 use aia_fabric::Fabric;
-use aia_pool::FileLease;
 use std::marker::Model;
 
 /// A move under way, in one of its phases.
@@ -30,7 +25,7 @@ pub struct Plan {
 
 /// A move, by what it leaves and where it leads.
 #[derive(Drop)]
-enum Course {
+pub(crate) enum Course {
     Leave(Move<ToMemory, ()>),
     Arrive(Move<ToFile, ()>),
     Shift(Move<ToOtherFile, ()>),
@@ -55,44 +50,6 @@ pub enum Next {
 }
 
 impl Plan {
-    /// Begins to move a virtual hart from a guest file to memory. Its steps can be made where the
-    /// virtual hart and the file are there.
-    #[tactic(auto, using(aia_moving::proofs::WhoLemmas::begins_fit))]
-    pub fn leave(file: FileLease, who: Who) -> Plan
-        ensures begins { moving_of result ≡ begun who (Outward file) empty_hand }
-        ensures phase { (words : ℕ) → IsInPhase words result }
-        ensures fits { (w : World) → IsWho w who → IsThere w.imsic (spot_of file)
-            → MoveFits w (moving_of result) }
-    {
-        let kind = ToMemory { file };
-        Plan::begin(Course::Leave(Move::new(kind, who, Hand::default())))
-    }
-
-    /// Begins to move a virtual hart from memory to a guest file, with the numbers that were kept.
-    /// Its steps can be made where the virtual hart and the file are there.
-    #[tactic(auto, using(aia_moving::proofs::WhoLemmas::begins_fit))]
-    pub fn arrive(file: FileLease, who: Who, kept: KeptNumbers) -> Plan
-        ensures begins { moving_of result ≡ begun who (Inward file) (kept_hand kept) }
-        ensures phase { (words : ℕ) → IsInPhase words result }
-        ensures fits { (w : World) → IsWho w who → IsThere w.imsic (spot_of file)
-            → MoveFits w (moving_of result) }
-    {
-        Plan::begin(Course::Arrive(Move::new(ToFile { file }, who, Hand::of(kept))))
-    }
-
-    /// Begins to move a virtual hart from guest file `old` to guest file `new`. Its steps can be
-    /// made where the virtual hart and both files are there.
-    #[tactic(auto, using(aia_moving::proofs::WhoLemmas::begins_fit))]
-    pub fn shift(old: FileLease, new: FileLease, who: Who) -> Plan
-        ensures begins { moving_of result ≡ begun who (Across old new) empty_hand }
-        ensures phase { (words : ℕ) → IsInPhase words result }
-        ensures fits { (w : World) → IsWho w who → IsThere w.imsic (spot_of old)
-            → IsThere w.imsic (spot_of new) → MoveFits w (moving_of result) }
-    {
-        let kind = ToOtherFile { from: old, to: new };
-        Plan::begin(Course::Shift(Move::new(kind, who, Hand::default())))
-    }
-
     /// Makes the next step of the plan: its next access, or, after the fence of the G-stage record
     /// and while a passed source is to be aimed, the aim of the next one at the new place, which
     /// leaves the fabric as it is. Before the access of the entry's fence all stores in flight of
@@ -156,7 +113,7 @@ impl Plan {
     }
 
     /// Begins, in the first phase.
-    fn begin(course: Course) -> Plan
+    pub(crate) fn begin(course: Course) -> Plan
         ensures { result ≡ record { moving = move_of course; phase = Some FirstPhase } }
     {
         Plan {
