@@ -74,6 +74,8 @@ def main():
     if len(words) > 1:
         end(2, f"lockstep.py: one PROGRAM at most is wanted, and not {len(words)} words\n"
                "lockstep.py -h says more")
+    if words and words[0].startswith("-"):
+        end(2, f"lockstep.py: there is no option {words[0]!r}\nlockstep.py -h says more")
     program = program_of(words)
     try:
         model = subprocess.Popen([program, "replay"], text=True, stdin=subprocess.PIPE,

@@ -126,6 +126,7 @@ def reasons(trial):
             (["suite/compare", script], "ANSWERS are wanted behind the SCRIPT, or `-- COMMAND`;"
                                         " over the suite `-- COMMAND`"),
             (["suite/check", "-k", ""], "a PATTERN is wanted behind -k"),
+            (["examples/lockstep.py", "--foo"], "there is no option '--foo'"),
             (["examples/lockstep.py", "a", "b"], "one PROGRAM at most is wanted, and not 2 words")):
         ran, name = trial.run(TOP / words[0], *words[1:]), words[0].rpartition("/")[2]
         trial.sees(ran.status == 2 and ran.errors == f"{name}: {said}\n{name} -h says more",
