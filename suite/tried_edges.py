@@ -241,6 +241,9 @@ def locksteps(trial):
         for tool in tools:
             for _ in range(20 if name == "true" else 2):
                 ran = trial.run(*tool, ends, seconds=20)
+                if name == "killed" and tool[0].suffix == ".py":
+                    trial.sees("the model was killed by signal 9 (SIGKILL)" in ran.errors,
+                               f"lockstep.py names no signal: {ran.errors}")
                 trial.sees(ran.status == status and len(ran.errors.splitlines()) == 1,
                            f"{tool[0].name} {name} ends with {ran.status}: {ran.errors[:80]!r}")
 
