@@ -9,6 +9,7 @@ says how many were the same; and with 2 where the words are wrong, or the model 
 before its time or with another status than 0.
 """
 
+import signal
 import subprocess
 import sys
 from pathlib import Path
@@ -41,9 +42,17 @@ def ask(model, line, mine="-"):
         pass  # it has ended: the read says so
     answer, whole, _ = model.stdout.readline().partition("\n")
     if not whole:
-        end(2, f"{line}: the model ended with status {leave(model)}")
+        end(2, f"{line}: the model {ending(leave(model))}")
     if answer in MISTAKES or mine not in ("-", answer):
         end(1, f"{line}: the model says {answer}, mine is {mine}")
+
+
+def ending(status):
+    """Says how a program ended: with a status, or by which signal."""
+    if status >= 0:
+        return f"ended with status {status}"
+    names = {each.value: f" ({each.name})" for each in signal.Signals}
+    return f"was killed by signal {-status}{names.get(-status, '')}"
 
 
 def leave(model):
@@ -74,6 +83,8 @@ def main():
     if len(words) > 1:
         end(2, f"lockstep.py: one PROGRAM at most is wanted, and not {len(words)} words\n"
                "lockstep.py -h says more")
+    if words and words[0].startswith("-"):
+        end(2, f"lockstep.py: there is no option {words[0]!r}\nlockstep.py -h says more")
     program = program_of(words)
     try:
         model = subprocess.Popen([program, "replay"], text=True, stdin=subprocess.PIPE,
@@ -89,7 +100,7 @@ def main():
             print("another model goes behind lockstep.py: examples/lockstep.py"
                   " peers/apart/model.py, which is not proved", file=sys.stderr)
     if status:
-        end(2, f"the model ended with status {status}")
+        end(2, f"the model {ending(status)}")
     print(f"{len(MACHINE)} accesses, all the same")
 
 

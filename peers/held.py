@@ -24,6 +24,7 @@ sys.path.append(str(HERE.parent / "suite"))
 import reading
 import words
 from answers import Known
+from running import ending
 from refusals import Refused
 
 ANY = "-"
@@ -51,7 +52,7 @@ def printed(command, script):
             piece = os.read(process.stdout.fileno(), 65536)
             if not piece:
                 if process.wait(TIME_LIMIT):
-                    raise Stopped(f"{command[0]} ended with status {process.returncode}")
+                    raise Stopped(f"{command[0]} {ending(process.returncode)}")
                 return bytes(found)
             found += piece
         process.kill()

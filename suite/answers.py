@@ -20,6 +20,9 @@ REFUSALS = MISTAKES | {
     "full", "busy", "home", "entered", "parked", "nofile", "passed", "unready", "idle", "away",
     "illegal", "virtual", "fault", "guarded", "other", "notvalid", "gfault"}
 NOT_SHOWN = "-"
+# What stands first in an answer that is no number and no refusal.
+ANSWERING = {NOT_SHOWN, "ok", "moving", "done", "pins", "basic", "mrif", "custom", "misconfigured",
+             "image", "majors", "prio", "word"}
 # From here on a number is spelled in hexadecimal.
 GREAT = 1 << 16
 # The most bytes that an answer has, with its LF.
@@ -145,6 +148,17 @@ def asks_for_none(script):
     return any(name == "machine" and not is_machine_size(*fields) for name, fields in found)
 
 
+def is_answer(text):
+    """Says whether a text has the form of an answer."""
+    first = form(text)
+    return first in REFUSALS | ANSWERING or bool(re.fullmatch("0x[0-9a-fA-F]+", first))
+
+
+def is_trace(text):
+    """Says whether a text has a line of a script."""
+    return any(reading.read(one) not in (None, reading.BAD) for one in reading.texts(text))
+
+
 def answers(text):
     """Lists the answers of a text; the last one may lack its LF."""
     return [shown(one) for one in reading.texts(text)]
@@ -219,7 +233,7 @@ class Verdict:
     def __init__(self, script, model, mine, known, is_strict=False):
         self.script, self.model, self.mine = lines(script), answers(model), answers(mine)
         self.head = head_comment(script)
-        self.same = self.known = self.not_shown = self.refused = self.bad = 0
+        self.same = self.known = self.not_shown = self.refused = 0
         self.differences = []
         self.place, spare = shift(self.script, self.model, self.mine, known)
         self.missing = max(0, -spare)
@@ -250,7 +264,6 @@ class Verdict:
 
     def look(self, at, line, want, got, known, is_strict):
         """Looks at one answer of each."""
-        self.bad += want == "bad"
         if got == NOT_SHOWN and want not in MISTAKES:
             self.not_shown += 1
             self.refused += is_refused(line.text, want)
@@ -260,6 +273,18 @@ class Verdict:
             self.known += 1
         else:
             self.differences.append(Difference(at, line, want, got))
+
+    def compared(self):
+        """Gives how many answers were held against the model's."""
+        return self.same + self.known + len(self.differences)
+
+    def is_unseen(self):
+        """Says whether there were answers to look at, and each was one that is not shown."""
+        return self.not_shown > 0 and not self.compared() and not self.count()
+
+    def is_of_no_script(self):
+        """Says whether no line is one of a script: there is none, or the model takes none."""
+        return all(answer == "bad" for answer in self.model[:len(self.script)])
 
     def count(self):
         """Gives how many differences there are: answers that are missing, or spare, are one."""
@@ -289,7 +314,10 @@ class Verdict:
 
     def uneven(self):
         """Says which answers are missing, or spare."""
-        if self.missing:
+        if self.missing == 1:
+            line = self.line(self.place)
+            yield f"the answer to line {line.number} is missing: {line.text}"
+        elif self.missing:
             line, last = self.line(self.place), self.place + self.missing
             until = "on" if last >= len(self.model) else f"to {self.line(last - 1).number}"
             yield (f"{counted(self.missing, 'answer')} missing, from line {line.number} {until}:"

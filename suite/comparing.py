@@ -21,6 +21,7 @@ STOPPED = 3
 # Words of lines about interrupt files.
 OF_FILES = (("sireg", "sireg"), ("mireg", "mireg"), ("stopei", "stopei"), ("mtopei", "mtopei"),
             ("csrrs", "csrrs"), ("csrrc", "csrrc"), ("vm", "guest file"))
+UNSEEN = f"nothing was compared: the command answered {answers.NOT_SHOWN} to every line"
 HINT = ("each script ended with status 2: the command refuses its words, perhaps for want of"
         " `replay`")
 
@@ -41,16 +42,34 @@ class Options(NamedTuple):
 
 
 class Tally:
-    """How many scripts were answered the same, and not, and how those ended that differ; and how
-    many were left out, by what they need."""
+    """How many scripts were answered the same, and not, of how many no answer was looked at, and
+    how those ended that differ; how many answers were held against the model's, and how many not;
+    and how many scripts were left out, by what they need."""
 
     def __init__(self):
-        self.same = self.differ = self.known = self.stopped = 0
+        self.same = self.differ = self.known = self.stopped = self.unseen = 0
+        self.compared = self.not_shown = 0
         self.statuses, self.left_out, self.words = set(), Counter(), Counter()
 
     def take(self, script):
         """Counts the words of a script that was run, each once."""
         self.words.update({word for line in answers.lines(script) for word in line.text.split(" ")})
+
+    def look(self, ran, verdict):
+        """Counts what came of a script; says whether it differs."""
+        self.statuses.add(ran.status)
+        self.stopped += bool(ran.stopped)
+        self.compared += verdict.compared()
+        self.not_shown += verdict.not_shown
+        if ran.fault() or verdict.count():
+            self.differ += 1
+            return True
+        if verdict.is_unseen():
+            self.unseen += 1
+        else:
+            self.same += 1
+            self.known += bool(verdict.known)
+        return False
 
     def told_reach(self):
         """Says in how many of the scripts which word about interrupt files is."""
@@ -67,8 +86,12 @@ class Tally:
             yield f"{running.counted(count, 'script')} left out, {need} {needs}"
 
     def summary(self):
+        """Says how many scripts and answers are the same, and not, and were not looked at."""
         known = f", {self.known} by what is known alone" if self.known else ""
-        return f"{self.same} scripts same, {self.differ} differ{known}"
+        unseen = f", {self.unseen} not looked at" if self.unseen else ""
+        yield f"{self.same} scripts same, {self.differ} differ{known}{unseen}"
+        yield (f"{running.counted(self.compared, 'answer')} compared,"
+               f" {self.not_shown} not looked at")
 
 
 def scripts(options):
@@ -154,25 +177,23 @@ def over_suite(command, options, workers, model=None):
         if not ran:
             tally.left_out[verdict] += 1
             continue
-        tally.take(script)
-        tally.statuses.add(ran.status)
-        tally.stopped += bool(ran.stopped)
-        if ran.fault() or verdict.count():
-            tally.differ += 1
+        if not verdict.is_unseen():
+            tally.take(script)
+        if tally.look(ran, verdict):
             tell(path, ran, verdict, options)
-        else:
-            tally.same += 1
-            tally.known += bool(verdict.known)
         if tally.stopped == STOPPED:
             print(f"the command had to be stopped {STOPPED} times: the rest is left out")
             break
     for line in tally.told_left_out():
         print(line)
-    if not tally.same and not tally.differ:
+    if not tally.same and not tally.differ and not tally.unseen:
         running.fail("no script is left that can be asked")
-    print(tally.summary())
+    for line in tally.summary():
+        print(line)
     if options.is_standard:
         print(tally.told_reach())
     if tally.statuses == {2}:
         print(HINT)
+    if tally.not_shown and not tally.compared and not tally.differ:
+        running.fail(UNSEEN)
     return not tally.differ

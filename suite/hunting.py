@@ -170,15 +170,35 @@ class Left(NamedTuple):
 
 class Progress:
     """What is told of a shrinking while it goes on: how far it is, and what is left so far, which
-    stands in a file, so that it is there where the tool is stopped."""
+    is kept, so that it is there where the tool is stopped."""
 
-    def __init__(self, hunt, into):
-        self.hunt, self.into = hunt, into
+    def __init__(self, into):
+        self.into = into
+        self.hunt = self.seed = self.left = None
+
+    def begin(self, hunt, seed, script):
+        """Notes which script differs."""
+        self.hunt, self.seed, self.left = hunt, seed, hunt.whole(script)
+
+    def tell_stopped(self):
+        """Says that the tool was stopped, and where what is left so far stands."""
+        said = f"stopped by {running.State.stopped_by}: "
+        if self.left is None:
+            said += "no script that differs was found so far"
+        else:
+            path = self.into or keep(self.left, self.seed)
+            if self.into:
+                Path(self.into).write_bytes(self.left)
+            lines = running.counted(len(answers.lines(self.left)), "line")
+            said += (f"what is left so far, {lines}, stands in {path}" if path else
+                     "what is left so far can't be written here")
+        print(f"hunt: {said}", file=sys.stderr)
 
     def tell(self, shrinker):
-        """Says how far a shrinking is, now and then, and writes what is left."""
+        """Says how far a shrinking is, now and then, and keeps what is left."""
+        self.left = self.hunt.whole(shrinker.seen_script())
         if self.into:
-            Path(self.into).write_bytes(self.hunt.whole(shrinker.seen_script()))
+            Path(self.into).write_bytes(self.left)
         self.hunt.pace.tell(f"shrinking: {running.counted(len(shrinker.texts), 'line')} left, after"
                             f" {running.counted(shrinker.runs, 'run')}")
 

@@ -15,7 +15,7 @@ answer_requests() { # WORDS..
   local answer
   case "${1-} ${2-}" in
     -h\ * | --help\ * | help\ * | *\ -h | *\ --help) answer=$(manual) ;;
-    --version\ *) answer="$name $(< "$top/VERSION")" ;;
+    --version\ * | -V\ *) answer="$name $(< "$top/VERSION")" ;;
     *) return 0 ;;
   esac
   { printf '%s\n' "$answer"; } 2> /dev/null || {

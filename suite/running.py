@@ -49,7 +49,7 @@ class Ran(NamedTuple):
         said = self.errors.splitlines()
         # Python says why in the last line, and most others in the first.
         why = said[-1:] if said and said[0].startswith("Traceback") else said[:1]
-        return ": ".join([self.stopped or f"the command ended with status {self.status}", *why])
+        return ": ".join([self.stopped or f"the command {ending(self.status)}", *why])
 
 
 class Pace:
@@ -77,7 +77,19 @@ class State:
     lock = threading.Lock()
     running = set()
     is_stopping = False
+    stopped_by = ""
     grace = GRACE
+
+
+def ending(status):
+    """Says how a command ended: with a status, or by which signal."""
+    if status >= 0:
+        return f"ended with status {status}"
+    try:
+        name = f" ({signal.Signals(-status).name})"
+    except ValueError:
+        name = ""
+    return f"was killed by signal {-status}{name}"
 
 
 def fail(message):
@@ -163,7 +175,7 @@ def stop(signal_number, _frame):
     for each in STOPPING:
         signal.signal(each, signal.SIG_IGN)
     with State.lock:
-        State.is_stopping = True
+        State.is_stopping, State.stopped_by = True, signal.Signals(signal_number).name
         kill(State.running)
     sys.exit(128 + signal_number)
 
@@ -179,8 +191,11 @@ def main(tool):
     for each in STOPPING:
         signal.signal(each, stop)
     try:
-        status = tool()
-        sys.stdout.flush()
+        try:
+            status = tool()
+        finally:
+            # An end before its time may leave what nobody reads.
+            sys.stdout.flush()
     except OSError as wrong:
         # The null device takes what Python would write at its end; where nobody reads on, no more
         # is said.
@@ -259,6 +274,9 @@ def run(command, text, seconds, most, are_errors_shown=False):
         for pipe in (process.stdout, process.stderr):
             if pipe:
                 pipe.close()
+    if State.is_stopping:
+        # It was ended with the tool, so how it ended says nothing of it.
+        sys.exit(2)
     return Ran(bytes(found), status, stopped,
                said[:KEPT_ERRORS].decode(errors="backslashreplace").strip())
 

@@ -131,6 +131,7 @@ def reasons(trial):
             (["suite/compare", script], "ANSWERS are wanted behind the SCRIPT, or `-- COMMAND`;"
                                         " over the suite `-- COMMAND`"),
             (["suite/check", "-k", ""], "a PATTERN is wanted behind -k"),
+            (["examples/lockstep.py", "--foo"], "there is no option '--foo'"),
             (["examples/lockstep.py", "a", "b"], "one PROGRAM at most is wanted, and not 2 words")):
         ran, name = trial.run(TOP / words[0], *words[1:]), words[0].rpartition("/")[2]
         trial.sees(ran.status == 2 and ran.errors == f"{name}: {said}\n{name} -h says more",
@@ -245,6 +246,9 @@ def locksteps(trial):
         for tool in tools:
             for _ in range(20 if name == "true" else 2):
                 ran = trial.run(*tool, ends, seconds=20)
+                if name == "killed" and tool[0].suffix == ".py":
+                    trial.sees("the model was killed by signal 9 (SIGKILL)" in ran.errors,
+                               f"lockstep.py names no signal: {ran.errors}")
                 trial.sees(ran.status == status and len(ran.errors.splitlines()) == 1,
                            f"{tool[0].name} {name} ends with {ran.status}: {ran.errors[:80]!r}")
 

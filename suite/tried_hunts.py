@@ -75,7 +75,7 @@ def hunts(trial):
     differs = generated.model.answers(left.read_bytes()) != trial.run(
         APART / "plants.py", "sip_is_answered_from_memory", text=left.read_bytes()).output
     trial.sees(differs, "what hunt wrote is answered the same")
-    trial.prints(1, ["shrunk to 1 line,", "(nothing)", "1 answer missing, from line 1 on: "], HUNT,
+    trial.prints(1, ["shrunk to 1 line,", "(nothing)", "the answer to line 1 is missing: "], HUNT,
                  "--scripts", 1, "true")
     begin = trial.file("begin.script", "st 0xc000000 4\n")
     trial.prints(1, ["shrunk to 2 lines,", "machine", "st 0xc000000 4"], HUNT, "--begin", begin,
@@ -132,9 +132,9 @@ def hunts_kinds(trial):
     trial.sees("mine:" not in said, f"of a spare answer is printed {said}")
     dumb = command(trial, "dumb", "text !~ /^pins /")
     trial.prints(1, ["shrunk to 2 lines,", "machine ", "pins ", "mine: (nothing)",
-                     "1 answer missing, from line 2 on: pins"], *short, "pins,h", dumb)
+                     "the answer to line 2 is missing: pins"], *short, "pins,h", dumb)
     three = trial.file("three.script", "machine 1 0 63 1\npins 0\nh 0 hgeip\n")
-    trial.prints(1, ["1 answer missing, from line 2 to 2: pins 0\n", "2 answers same"], COMPARE,
+    trial.prints(1, ["the answer to line 2 is missing: pins 0\n", "2 answers same"], COMPARE,
                  three, "--", dumb)
     ends = command(trial, "ends", "1; text ~ /^wire/ { status = 3 } END { exit status }")
     trial.prints(1, ["shrunk to 1 line,", "wire ", "the command ended with status 3\n"], *short,
@@ -196,7 +196,7 @@ def hunts_changing(trial):
 def hunts_words(trial):
     """A command that fails over an empty script, an option behind the command, and patterns that no
     line fits."""
-    ran = trial.run(HUNT, "bash", "-c", "echo one >&2; echo no board >&2; exit 4")
+    ran = trial.run(HUNT, "bash", "-c", "echo no board >&2; echo two >&2; exit 4")
     trial.sees(ran.status == 2 and not ran.output and ran.errors == "hunt: over an empty script the"
                " command ended with status 4: no board", f"hunt over a command that fails: {ran}")
     takes = trial.file("takes", f"#!/bin/sh\nexec '{trial.program}' replay\n")
@@ -212,6 +212,9 @@ def hunts_words(trial):
                        "hunt: --known h 7 *: no line of the first 2 scripts fits it"])):
         ran = trial.run(HUNT, *words)
         trial.sees(ran.status == 0 and ran.errors.splitlines() == said, f"hunt {words}: {ran}")
+    # The first of many scripts differs: of one that fits no pattern nothing is known.
+    ran = trial.run(HUNT, "--lines", "2", "--without", "st 0xnosuch", "head", "-n", "0")
+    trial.sees(ran.status == 1 and not ran.errors, f"hunt that ends early says {ran.errors}")
 
 
 def paces(trial):
@@ -274,10 +277,68 @@ def hunts_stopped(trial):
         time.sleep(0.1)
         started = pids.read_text(encoding="ascii").split()
         alive = [pid for pid in started if is_alive(int(pid))]
-        trial.sees(tool.returncode == 128 + each and len(started) >= 6 and not alive and not errors
-                   and not list(folder.iterdir()),
+        trial.sees(tool.returncode == 128 + each and len(started) >= 6 and not alive
+                   and errors == f"hunt: stopped by {each.name}: no script that differs was found"
+                   " so far\n".encode() and not list(folder.iterdir()),
                    f"hunt --jobs 3, stopped by {each.name}, ends with {tool.returncode}, leaves"
                    f" {alive} of {started}, and says {errors}")
+
+
+def hunts_stopped_later(trial):
+    """hunt stopped while it shrinks: it says so, says nothing of the model, and what is left so far
+    stands in the file that it names."""
+    slow = trial.file("slow", "#!/bin/sh\n[ -s /dev/stdin ] || exit 0\nsleep 0.2\nhead -n 5\n")
+    slow.chmod(0o755)
+    folder = trial.folder / "stopped"
+    folder.mkdir()
+    for at, (each, *words) in enumerate(((signal.SIGTERM,), (signal.SIGINT, "--into", "into"))):
+        tool = subprocess.Popen(
+            [HUNT, "--lines", "60", *words, slow], cwd=folder, stdout=subprocess.PIPE,
+            stderr=subprocess.PIPE, env={**os.environ, "PROGRAM": str(trial.program)},
+            start_new_session=True,
+            preexec_fn=lambda: signal.signal(signal.SIGINT, signal.SIG_DFL))
+        try:
+            # It says which script differs before it runs that again.
+            tool.stdout.readline()
+            time.sleep(0.5)
+            os.killpg(tool.pid, each)
+            _, errors = tool.communicate(timeout=20)
+        finally:
+            tool.kill()
+        path = folder / ("into" if words else "hunt-1.script")
+        lines = len(answers.lines(path.read_bytes())) if path.exists() else 0
+        trial.sees(tool.returncode == 128 + each and lines and errors.decode() ==
+                   f"hunt: stopped by {each.name}: what is left so far, {lines} lines, stands in"
+                   f" {path.name}\n", f"hunt stopped {at}: {tool.returncode}, {lines}, {errors}")
+
+
+def hunts_signals(trial):
+    """A command that a signal ends: the signal is named."""
+    for number, name in ((11, "SIGSEGV"), (9, "SIGKILL")):
+        ran = trial.run(HUNT, "bash", "-c", f"kill -{number} $$")
+        trial.sees(ran.status == 2 and ran.errors == "hunt: over an empty script the command was"
+                   f" killed by signal {number} ({name})", f"hunt over a killed command: {ran}")
+
+
+def hunts_a_file_alone(trial):
+    """The recipe of docs/TRACES.md for the supervisor file of one hart finds that eidelivery is
+    ignored."""
+    text = (TOP / "docs/TRACES.md").read_text(encoding="utf-8")
+    _, _, recipe = text.partition("suite/hunt --refused 0 ")
+    words = shlex.split(recipe.partition("./mine")[0].replace("\\\n", " "))
+    ignores = trial.file("ignores", f"""#!{sys.executable}
+import sys
+sys.dont_write_bytecode = True
+sys.path.insert(0, {str(APART)!r})
+import interrupt_file
+import model
+interrupt_file.InterruptFile.signals = lambda self: self.top() != 0
+model.replay()
+""")
+    ignores.chmod(0o755)
+    ran = trial.run(HUNT, "--find", "--scripts", "20", "--refused", "0", *words, ignores)
+    trial.sees(ran.status == 1 and ran.output.strip().isdigit(),
+               f"hunt {words} over an ignored eidelivery: {ran}")
 
 
 def is_alive(pid):
@@ -298,4 +359,5 @@ def all_plants(trial, jobs):
 
 
 PARTS = (hunts, hunts_ranges, hunts_by_processes, hunts_kinds, hunts_now_and_then, hunts_changing,
-         hunts_words, paces, hunts_first, hunts_stopped)
+         hunts_words, paces, hunts_first, hunts_stopped, hunts_stopped_later,
+         hunts_signals, hunts_a_file_alone)

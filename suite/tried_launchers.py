@@ -119,9 +119,10 @@ def launchers_speak(trial):
             ran = tree.run(launcher, word)
             trial.sees(ran.status == 0 and ran.output.decode().startswith(f"{launcher}: ")
                        and not ran.errors, f"{launcher} {word} ends with {ran.status}")
-        ran = tree.run(launcher, "--version")
-        trial.sees(ran.output.decode() == f"{launcher} {version}\n" and not ran.status,
-                   f"{launcher} --version prints {ran.output}")
+        for word in ("--version", "-V"):
+            ran = tree.run(launcher, word)
+            trial.sees(ran.output.decode() == f"{launcher} {version}\n" and not ran.status,
+                       f"{launcher} {word} prints {ran.output}")
     for launcher, words, said in WRONG:
         ran = tree.run(launcher, *words)
         trial.sees(ran.status == 2 and not ran.output and said in ran.errors

@@ -498,6 +498,24 @@ def lints_files(trial):
                    f"lint {words} ends with {ended.status}: {ended.errors}")
 
 
+def lints_much(trial):
+    """A file of no language, and one with more bad lines than are told: one verdict, at the end."""
+    readme = TOP / "README.md"
+    verdict = f"{readme}: in none of the three languages"
+    said = trial.prints(1, [" more lines that are bad\n", verdict], LINT, readme).splitlines()
+    trial.sees(len(said) == 22 and sum("none of the three" in line for line in said) == 1
+               and not any(": a script, " in line for line in said),
+               f"lint README.md prints {said[-3:]}")
+    many = trial.file("many.script", "machine 1 0 63 1\n" * 30 + "wire 1 2\n" * 25)
+    said = trial.prints(1, [f"{many}: and 5 more lines that are bad\n",
+                            f"{many}: a script, 55 lines, 25 bad\n"], LINT, many)
+    trial.sees(said.count("\n") == 22, f"lint of 25 bad lines prints {said.count(chr(10))}")
+    for tool in (f"{LINT} {many} {many} {many}", f"{TOP}/suite/compare --only-standard -k claim --"
+                 " true", f"{TOP}/suite/gen-script 50000 1"):
+        ran = trial.run("bash", "-c", f"{tool} | (exec <&-; sleep 1); echo ${{PIPESTATUS[0]}}")
+        trial.sees(ran.output == b"2\n" and not ran.errors, f"{tool} | nobody: {ran}")
+
+
 def lints_with_the_program(trial):
     """lint and the program agree on random lines."""
     trial.prints(0, ["script: 20000 lines, "], LINT, "try", 20000, 1)
@@ -517,4 +535,4 @@ def lints_documented(trial):
 
 
 PARTS = (lints_by_reasons, lints_as_documents, lints_documented, lints_files,
-         lints_with_the_program)
+         lints_much, lints_with_the_program)
