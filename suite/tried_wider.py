@@ -262,6 +262,17 @@ def wrong_bodies(trial):
     strength.WRONG_BODIES = stood
 
 
+def rows_of_refusals(trial):
+    """Rows in order that name functions of their crates, and others."""
+    one, two = ("aia_word", "a"), ("aia_word", "b")
+    for told, number in (({one: "`refreshed`", two: "`refreshed`: `shows`"}, 0),
+                         ({two: "`refreshed`", one: "`refreshed`"}, 1),
+                         ({one: "`nosuch_function`"}, 1), ({one: "`Type::nosuch_function`"}, 1),
+                         ({one: "no name"}, 1), ({("nosuch", "a"): "`refreshed`"}, 1)):
+        found = list(strength.misplaced(told))
+        trial.sees(len(found) == number, f"of the refusals {told} is said {found}")
+
+
 def written_proofs(trial):
     """In which function a line stands, and whether that has a proof written by hand."""
     text = ("const A: u32 = 1;\n\nimpl<T: Kind<u8>> Iterator for Some<'_, T> {\n"
@@ -285,4 +296,4 @@ def written_proofs(trial):
 
 
 PARTS = (wider_goes_on, wider_takes_words, wider_tells, wider_is_bounded, wider_refuses_words, planted_bugs,
-         wrong_bodies, written_proofs)
+         wrong_bodies, rows_of_refusals, written_proofs)
