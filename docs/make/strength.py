@@ -273,7 +273,7 @@ def misplaced(told):
             yield f"docs/make/refusals.txt: {' '.join(key)} stands behind {' '.join(before)}"
     for (of, name), by in told.items():
         function = function_refused(by)[1]
-        if not re.search(rf"\b{re.escape(function)}\b", sources(of)):
+        if not re.fullmatch(r"\w+", function) or not re.search(rf"\b{function}\b", sources(of)):
             yield (f"docs/make/refusals.txt: of {of} {name} is said {by}, which names no function"
                    f" of crates/{of}/src")
 
