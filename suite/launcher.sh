@@ -7,6 +7,10 @@
 unwritten='the output could not be written to its end'
 ended_early='ended; what is proved by now stays, and the same command goes on from there'
 
+# How the launchers are called in a repository, and in a release.
+at=
+[ ! -f "$top/crates.txt" ] || at=./
+
 # Says something on standard error, as the launcher.
 say() { printf '%s: %s\n' "$name" "$*" >&2; }
 
@@ -34,7 +38,7 @@ refuse() { # WHAT
 
 # Refuses a word; where it names a file, that file's text was meant.
 refuse_word() { # WHAT WORD COMMAND
-  [ ! -f "$2" ] || refuse "'$2' is a file: have it read from standard input, as $3 < $2"
+  [ ! -f "$2" ] || refuse "'$2' is a file: have it read from standard input, as $at$3 < $2"
   refuse "$1"
 }
 
@@ -77,9 +81,11 @@ calls_of_header() {
 }
 
 # Prints how far a build is by its log: the crate that was named last, among those of a list. None
-# is named while rt looks at what was proved before.
+# is named while rt looks at what was proved before. On a terminal the first minutes have seconds.
 progress_of() { # LOG LIST
-  awk -v begun="$build_begun" -v now="$SECONDS" -v name="$name" '
+  local is_terminal=0
+  [ ! -t 2 ] || is_terminal=1
+  awk -v begun="$build_begun" -v now="$SECONDS" -v name="$name" -v is_terminal="$is_terminal" '
     NR == FNR { place[$1] = ++count; next }
     /^crate [a-z0-9_]+:/ { sub(/:.*/, "", $2); if ($2 in place) at = place[$2] + 1 }
     /^rt: chose --jobs [0-9]+ for / { if ($NF in place) at = place[$NF] }
@@ -87,7 +93,10 @@ progress_of() { # LOG LIST
       how = !at ? "looks at what is proved" \
           : at > count ? "all " count " crates are proved, and it is compiled" \
                        : "crate " at " of " count
-      printf "%s: %s, %d min so far", name, how, (now - begun) / 60
+      past = now - begun
+      printf "%s: %s, %d min", name, how, past / 60
+      if (is_terminal && past < 600) printf " %02d s", past % 60
+      printf " so far"
     }' "$2" "$1"
 }
 
@@ -99,6 +108,9 @@ is_stale() { # CRATE BUILT
   mapfile -t crates < <(crates_of "$1")
   "$top/suite/stale" "$2" "${crates[@]}"
 }
+
+# Begins a new line on a terminal, which shows how far a build is, and the keys that end it.
+leave_line() { [ ! -t 2 ] || printf '\n' >&2; }
 
 # Shows how a build goes on until it ends: on a terminal in one line, else in a line a crate and a
 # minute.
@@ -130,7 +142,7 @@ build() { # CRATE INPUT COMMAND..
   # It stays in this group, so that it ends where that is ended; rt ends what it has started.
   env -C "$top/crates/$crate" "$@" < "$input" > "$log" 2>&1 &
   worker=$!
-  trap 'kill -TERM "$worker"; rm -f "$list"; say "$ended_early"; exit 130' INT TERM HUP
+  trap 'kill -TERM "$worker"; rm -f "$list"; leave_line; say "$ended_early"; exit 130' INT TERM HUP
   watch_build "$worker" "$log" "$list"
   wait "$worker"
   status=$?

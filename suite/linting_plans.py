@@ -96,6 +96,36 @@ def said_of(text):
     return Said(name, numbers)
 
 
+TELLING = {"look", "post", "tell", "write", "heeds", "notices"}
+
+
+def warning(names):
+    """Gives what a plan that says lines of these names leaves undeclared, so that the judge asks
+    nothing of it; nothing where a plan says nothing, or leaves out nothing."""
+    found = []
+    if names and "producer" not in names:
+        found.append("no `producer`: nobody stores, and no route and no fence is asked for")
+    if names & TELLING and "memory" not in names:
+        found.append("no `memory`: nothing is asked of what the host is told")
+    return f"declares {'; and '.join(found)}" if found else ""
+
+
+def notes(texts):
+    """Lists what the judge does not say of a file's plans: that there is none, by None, or of which
+    line on a plan leaves what undeclared."""
+    plans_, is_any = [(1, set())], False
+    for number, text in enumerate(texts, 1):
+        said = said_of(text)
+        is_any |= said is not None
+        if isinstance(said, Said) and said.name == "plan":
+            plans_.append((number, set()))
+        elif isinstance(said, Said):
+            plans_[-1][1].add(said.name)
+    if not is_any:
+        return None
+    return [(number, warning(names)) for number, names in plans_ if warning(names)]
+
+
 class Judged:
     """The lines of a file of plans. After the first bad line of a plan its others are looked at as
     far as they spell nothing alone: what is declared is not known then."""

@@ -136,6 +136,23 @@ def reasons(trial):
         ran, name = trial.run(TOP / words[0], *words[1:]), words[0].rpartition("/")[2]
         trial.sees(ran.status == 2 and ran.errors == f"{name}: {said}\n{name} -h says more",
                    f"{' '.join(map(str, words))} says {ran.errors}")
+    for words, said in ((["statuses", NO_PROGRAM], f"statuses: there is no program {NO_PROGRAM}"),
+                        (["c-library", "/nosuch"], "c-library: there is no folder /nosuch"),
+                        (["documents", "mak"], "documents: there is no command 'mak': there is make"),
+                        (["step-numbers", "tri"],
+                         "step-numbers: there is no command 'tri': there is try"),
+                        (["make", "a", "b"], "make: one FOLDER at most is wanted, and not 2 words"),
+                        (["isolation", "x"], "isolation: PAIRS is a number from 1 to 999999, and not"
+                                             " 'x'"),
+                        (["from-memory", "x"], "from-memory: GUESTS is a number from 1 to 999999, and"
+                                               " not 'x'"),
+                        (["migrations", "1", "x"], "migrations: SEED is a number from 0 to 999999,"
+                                                   " and not 'x'"),
+                        (["no-sense", "x"], "no-sense: LINES is a number from 1 to 999999999, and not"
+                                            " 'x'")):
+        ran = trial.run("env", "-u", "PLANS", TOP / "suite" / words[0], *words[1:])
+        trial.sees(ran.status == 2 and ran.errors.splitlines()[:1] == [said],
+                   f"{' '.join(words)} says {ran.errors}")
     said = trial.run(TOP / "examples/migrate", "x", "1").errors.splitlines()
     trial.sees(said[-1].startswith("migrate: the numbers of a VM"), f"migrate x 1 says {said}")
     for tool in ("examples/fixed-machine.py", "peers/apart/model.py"):
@@ -189,6 +206,9 @@ def could_not_look(trial):
               [here / "check-library", trial.folder]]
     cases += [[TOP / "suite" / name, "/proc/nosuch"] for name in ("make", "majors-table",
                                                                   "between-steps")]
+    cases += [["env", "-u", "PLANS", TOP / "suite/statuses", NO_PROGRAM],
+              ["env", f"PLANS={NO_PROGRAM}", TOP / "suite/statuses", trial.program],
+              [TOP / "suite/c-library", "/nosuch"]]
     for name in ("compare.py", "sweeps.py", "plans.py", "any_plans.py"):
         cases.append([APART / name, NO_PROGRAM, "1", "1"])
     cases.append([APART / "any_plans.py", shutil.which("true"), "1", "1"])

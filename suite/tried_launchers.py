@@ -26,7 +26,9 @@ RIGHT = {"aia": ("replay",), "plans": ("judge",), "library": ("library-folder",)
 WRONG = (
     ("aia", (), "a word is wanted"),
     ("aia", ("replai",), "there is no command 'replai'"),
-    ("aia", ("judge",), "judge is a command of plans"),
+    ("aia", ("judge",), "judge is a command of plans: ./plans judge < PLAN"),
+    ("aia", ("audit", "leave", "VERSION"),
+     "'VERSION' is a file: have it read from standard input, as ./aia audit leave W < VERSION"),
     ("aia", ("--verison",), "there is no option '--verison': there are --help and --version"),
     ("aia", ("VERSION",), "'VERSION' is a file: have it read from standard input"),
     ("aia", ("replay", "VERSION"), "'VERSION' is a file: have it read from standard input"),
@@ -39,10 +41,13 @@ WRONG = (
     ("aia", ("audit", "go", "1"), "KIND of audit is leave, arrive or shift, and not 'go'"),
     ("aia", ("audit", "leave", "3"), "W of audit is 1, 2, 4, 8, 16 or 32, and not '3'"),
     ("aia", ("audit", "leave", "4", "VERSION"),
-     "'VERSION' is a file: have it read from standard input, as aia audit leave 4 < VERSION"),
+     "'VERSION' is a file: have it read from standard input, as ./aia audit leave 4 < VERSION"),
     ("plans", (), "a word is wanted"),
     ("plans", ("jugde",), "there is no command 'jugde'"),
-    ("plans", ("judge", "VERSION"), "'VERSION' is a file: have it read from standard input"),
+    ("plans", ("judge", "VERSION"),
+     "'VERSION' is a file: have it read from standard input, as ./plans judge < VERSION"),
+    ("plans", ("audit", "leave", "1"), "audit is a command of aia: ./aia --help says more"),
+    ("plans", ("replay",), "replay is a command of aia"),
     ("library", (), "one folder is wanted, and 0 words given"),
     ("library", ("a", "b"), "one folder is wanted, and 2 words given"),
     ("library", ("-x",), "there is no option '-x'"),
@@ -123,6 +128,9 @@ def launchers_speak(trial):
             ran = tree.run(launcher, word)
             trial.sees(ran.output.decode() == f"{launcher} {version}\n" and not ran.status,
                        f"{launcher} {word} prints {ran.output}")
+    said = tree.run("plans", "--help").output.decode()
+    trial.sees("env -C crates/plans rt try -- judge < PLANS\n" in said and "18 minutes" in said,
+               "plans --help does not say how a plan is judged without a proof")
     for launcher, words, said in WRONG:
         ran = tree.run(launcher, *words)
         trial.sees(ran.status == 2 and not ran.output and said in ran.errors
@@ -250,6 +258,41 @@ def ended(tree, each, pid):
     return status, is_alive(int(pid.read_text(encoding="ascii")))
 
 
+def on_terminal(tree, seconds):
+    """Starts ./plans judge in a tree with a terminal for standard error, tells it to end after so
+    many seconds, and gives what the terminal shows."""
+    ours, its = os.openpty()
+    tool = subprocess.Popen([str(tree.folder / "plans"), "judge"], stdin=subprocess.DEVNULL,
+                            stdout=subprocess.DEVNULL, stderr=its, start_new_session=True,
+                            env={**os.environ, "PATH": f"{tree.path}:{tree.bare}"})
+    os.close(its)
+    time.sleep(seconds)
+    tool.send_signal(signal.SIGTERM)
+    tool.wait(20)
+    shown = b""
+    try:
+        while some := os.read(ours, 4096):
+            shown += some
+    except OSError:
+        # That is how a terminal ends on which nobody writes any more.
+        pass
+    os.close(ours)
+    return shown.decode()
+
+
+def launchers_on_terminal(trial):
+    """A build on a terminal: its line moves each second, and what is said at its end stands in a
+    line of its own."""
+    tree = Tree(trial, "terminal")
+    tree.path.joinpath("rt").write_text("#!/bin/sh\nexec sleep 1000\n", encoding="ascii")
+    tree.path.joinpath("rt").chmod(0o755)
+    shown = on_terminal(tree, 3.5)
+    moments = set(re.findall(r"\rplans: looks at what is proved, 0 min (\d\d) s so far", shown))
+    trial.sees(len(moments) >= 2, f"the line of a build does not move: {shown!r}")
+    trial.sees("so far\r\nplans: ended; what is proved" in shown,
+               f"what is said at the end stands in the line of the build: {shown!r}")
+
+
 def launchers_end(trial):
     """A launcher that is told to end, which ends its program, or the build of it."""
     tree = Tree(trial, "end")
@@ -267,4 +310,5 @@ def launchers_end(trial):
 
 
 PARTS = (launchers_speak, versions_agree, files_are_licensed, launchers_refuse_as_programs,
-         launchers_without_toolchain, launchers_build, launchers_say_statuses, launchers_end)
+         launchers_without_toolchain, launchers_build, launchers_on_terminal,
+         launchers_say_statuses, launchers_end)

@@ -516,6 +516,22 @@ def lints_much(trial):
         trial.sees(ran.output == b"2\n" and not ran.errors, f"{tool} | nobody: {ran}")
 
 
+def lints_declarations(trial):
+    """What plans for `judge` do not declare, as docs/ANY-PLAN.md has it: no plan at all, which is
+    an error, and of a plan no producer and no memory, which is none."""
+    for text, status, said in (("", 1, ["there is no plan"]), ("# x\n\n", 1, ["there is no plan"]),
+                               ("fresh\nlook 0\n", 0, [":1:1: warning: ", "no `producer`",
+                                                       "no `memory`"]),
+                               ("producer routed\nplan\nfresh\n", 0, [":2:1: warning: ",
+                                                                      "no `producer`"])):
+        path = trial.file("declares.plan", text)
+        for options in ([], ["--language", "judge"]):
+            trial.prints(status, said, LINT, *options, path)
+    path = trial.file("declares.plan", "producer routed\nmemory\nlook 0\nplan\n")
+    shown = trial.prints(0, ["0 bad"], LINT, "--language", "judge", path)
+    trial.sees("warning" not in shown, f"lint warns of what is declared: {shown}")
+
+
 def lints_with_the_program(trial):
     """lint and the program agree on random lines."""
     trial.prints(0, ["script: 20000 lines, "], LINT, "try", 20000, 1)
@@ -534,5 +550,5 @@ def lints_documented(trial):
     trial.sees(said == wanted and script, f"lint does not print what docs/TRACES.md says: {said}")
 
 
-PARTS = (lints_by_reasons, lints_as_documents, lints_documented, lints_files,
-         lints_much, lints_with_the_program)
+PARTS = (lints_by_reasons, lints_as_documents, lints_documented, lints_files, lints_much,
+         lints_declarations, lints_with_the_program)

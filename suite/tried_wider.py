@@ -125,6 +125,33 @@ def wider_goes_on(trial):
                "wider changes must-fail/ of the repository")
 
 
+def wider_takes_words(trial):
+    """A crate by its folder; some edits of it alone; and wrong names, of which each is told what
+    is wrong with it, before anything is tried."""
+    tree = Tree(trial, "names")
+    tree.plant("one", "two", "three")
+    tree.plant("four", crate="high")
+    tree.write("crates.txt", "low:\nhigh: low\nbare: low\n")
+    for words, given in ((["low/", "two"], ["low/two"]),
+                         (["crates/low", "three", "one", "high"],
+                          ["low/one", "low/three", "high/four"]),
+                         (["./crates/high/"], ["high/four"]),
+                         (["low", "crates/low/more-fail/two.edit"], ["low/two"])):
+        tree.sees(0, [f"{len(given)} refused, 0 LET"], "--anew", *words)
+        got = tree.given()
+        trial.sees(got == given, f"wider {words} gives rt {got}")
+    for words, said in ((["nosuch"], "there is no crate 'nosuch'"),
+                        (["bare"], "crate bare has no edit in crates/bare/more-fail"),
+                        (["low", "nosuch"], "there is no crate 'nosuch', and no edit of that name"
+                                            " in crates/low/more-fail"),
+                        (["low", "one", "four"], "there is no crate 'four', and no edit"),
+                        (["one"], "there is no crate 'one'")):
+        ran = tree.run(*words)
+        trial.sees(ran.status == 2 and not ran.output and said in ran.errors,
+                   f"wider {words} ends with {ran.status}: {ran.errors!r}")
+    trial.sees(not tree.given(), "wider with a wrong name runs rt")
+
+
 def wider_tells(trial):
     """One let through, and those that can't be tried, which are tried again."""
     tree = Tree(trial, "told")
@@ -235,6 +262,17 @@ def wrong_bodies(trial):
     strength.WRONG_BODIES = stood
 
 
+def rows_of_refusals(trial):
+    """Rows in order that name functions of their crates, and others."""
+    one, two = ("aia_word", "a"), ("aia_word", "b")
+    for told, number in (({one: "`refreshed`", two: "`refreshed`: `shows`"}, 0),
+                         ({two: "`refreshed`", one: "`refreshed`"}, 1),
+                         ({one: "`nosuch_function`"}, 1), ({one: "`Type::nosuch_function`"}, 1),
+                         ({one: "no name"}, 1), ({("nosuch", "a"): "`refreshed`"}, 1)):
+        found = list(strength.misplaced(told))
+        trial.sees(len(found) == number, f"of the refusals {told} is said {found}")
+
+
 def written_proofs(trial):
     """In which function a line stands, and whether that has a proof written by hand."""
     text = ("const A: u32 = 1;\n\nimpl<T: Kind<u8>> Iterator for Some<'_, T> {\n"
@@ -257,5 +295,5 @@ def written_proofs(trial):
                "what a refusal names first")
 
 
-PARTS = (wider_goes_on, wider_tells, wider_is_bounded, wider_refuses_words, planted_bugs,
-         wrong_bodies, written_proofs)
+PARTS = (wider_goes_on, wider_takes_words, wider_tells, wider_is_bounded, wider_refuses_words, planted_bugs,
+         wrong_bodies, rows_of_refusals, written_proofs)

@@ -257,6 +257,27 @@ def unplanted():
                        f" {WIDER}/: {words}")
 
 
+@cache
+def sources(crate):
+    """Gives the text of all code of a crate."""
+    files = sorted((TOP / "crates" / crate / "src").rglob("*.rt"))
+    return "\n".join(path.read_text(encoding="utf-8") for path in files)
+
+
+def misplaced(told):
+    """Says which rows of refusals stand out of order, and which name a function that their crate
+    has not got."""
+    keys = list(told)
+    for before, key in zip(keys, keys[1:]):
+        if key < before:
+            yield f"docs/make/refusals.txt: {' '.join(key)} stands behind {' '.join(before)}"
+    for (of, name), by in told.items():
+        function = function_refused(by)[1]
+        if not re.fullmatch(r"\w+", function) or not re.search(rf"\b{function}\b", sources(of)):
+            yield (f"docs/make/refusals.txt: of {of} {name} is said {by}, which names no function"
+                   f" of crates/{of}/src")
+
+
 def drifts():
     """Says where the tables differ from the edits, which edits nothing is said of, which can't be
     made, and which wrong bodies are planted by none."""
@@ -272,6 +293,7 @@ def drifts():
                " and rt must-fail what")
     for of, name in sorted(set(refusals()) - there):
         yield f"docs/make/refusals.txt speaks of {of} {name}, which is no edit"
+    yield from misplaced({key: by for key, by in refusals().items() if key in there})
     if rendered() != TARGET.read_text(encoding="utf-8"):
         yield ("docs/EDITS.md: its tables drift from must-fail/ or docs/make/refusals.txt:"
                " suite/documents make writes them anew")
