@@ -190,7 +190,7 @@ def over_suite(command, options, workers, model=None):
         running.fail("no script is left that can be asked")
     for line in tally.summary():
         print(line)
-    if options.is_standard:
+    if options.is_standard and tally.compared:
         print(tally.told_reach())
     if tally.statuses == {2}:
         print(HINT)

@@ -110,6 +110,12 @@ class Hunt:
         return Found(kind, max(min(place, before - 1), place - len(self.begin), 0), model, mine,
                      wanted, ran)
 
+    def is_unseen(self, script):
+        """Says whether the command answers - to each line of a script that the model answers."""
+        whole = self.whole(script)
+        ran = running.run(self.command, whole, self.each, answers.most_output(whole))
+        return answers.Verdict(whole, self.wanted(whole), ran.output, self.known).is_unseen()
+
     def again(self, script, most):
         """Runs a script so many times, or until that took too long; gives what was seen."""
         seen, deadline = Seen(None, 0, 0, frozenset()), time.monotonic() + LONGEST

@@ -199,6 +199,15 @@ def hunts_words(trial):
     ran = trial.run(HUNT, "bash", "-c", "echo no board >&2; echo two >&2; exit 4")
     trial.sees(ran.status == 2 and not ran.output and ran.errors == "hunt: over an empty script the"
                " command ended with status 4: no board", f"hunt over a command that fails: {ran}")
+    ran = trial.run(HUNT, "bash", "-c", "echo ok; kill -SEGV $$")
+    trial.sees(ran.status == 2 and not ran.output and "over an empty script" in ran.errors
+               and "SIGSEGV" in ran.errors, f"hunt over a command that crashes: {ran}")
+    for jobs in (1, 2):
+        ran = trial.run(HUNT, "--scripts", 2, "--refused", 0, "--only", "st,h", "--jobs", jobs,
+                        command(trial, "dash", '{ print "-" }'))
+        trial.sees(ran.status == 2 and not ran.output and ran.errors.startswith(
+            "hunt: nothing was compared: the command answered - to every line"),
+            f"hunt over a command that answers -: {ran}")
     takes = trial.file("takes", f"#!/bin/sh\nexec '{trial.program}' replay\n")
     takes.chmod(0o755)
     known = trial.file("known", "h 7 * | * | * | no such hart\nh * | a | b | one\n")
