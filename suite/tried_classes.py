@@ -45,7 +45,7 @@ def classes_of_scripts(trial):
     for kind, names in found.items():
         trial.sees(f"| `{kind}` | {len(names)} |" in text,
                    f"suite/README.md does not say that {len(names)} scripts are {kind}")
-    trial.sees(f"`{len(asked_of(ALIKE))} scripts same, 0 differ`" in text,
+    trial.sees(f"`{len(asked_of(ALIKE))} scripts same, 0 differ`" in " ".join(text.split()),
                "suite/README.md says another count of scripts for the machine of fixed sizes")
     table = text.partition("\n## What rests on a choice\n")[2].partition("\n## ")[0]
     named = set(re.findall("`([^`]+)`", " ".join(re.findall(r"(?m)^\| (`[^|]*) \|", table))))
