@@ -232,12 +232,13 @@ in_plan (Some DrainPhase) words m some is = omega (arith, is.phase.1, within_pla
 in_plan (Some phase) words m some is = omega (arith, is.1, within_plan phase words m.home)
 
 -- a step of a phase, by whether the one after it is of the phase too
-pub in_phase : (w u : World) (phase : Phase) (m t : Moving) (stays : Bool) → NextStepIsOf (Some phase) (width w) m → OnceLanded w m (λ landed. GoesOn landed m u t)
-    → stays ≡ nat_lt (steps_done m.home + 1) (begins (width w) m.home (following phase)) → GoesInPhase phase stays w m u t
-in_phase w u phase m t true is once e =
+pub in_phase : (w u : World) (phase : Option Phase) (m t : Moving) (stays : Bool) → is_none phase ≡ false → NextStepIsOf phase (width w) m → OnceLanded w m (λ landed. GoesOn landed m u t)
+    → stays ≡ nat_lt (steps_done m.home + 1) (begins (width w) m.home (past_phase phase)) → GoesInPhase phase stays w m u t
+in_phase w u None m t stays some is once e = absurd (cc)
+in_phase w u (Some phase) m t true some is once e =
     let goes = goes_on_in w u phase m t is once in
     (goes, stays_in w u phase m t is goes (ltb-true _ _ (sym e)))
-in_phase w u phase m t false is once e = (goes_on_in w u phase m t is once, last_of phase (width w) m is (ltb-false _ _ (sym e)))
+in_phase w u (Some phase) m t false some is once e = (goes_on_in w u phase m t is once, last_of phase (width w) m is (ltb-false _ _ (sym e)))
 
 -- ---- the phase that a plan comes to
 

@@ -88,17 +88,21 @@ GoesOnIn phase w m u t = GoesOn w m u t
 abbrev pub IsLastOf : Phase → ℕ → Moving → Type 0
 IsLastOf phase words m = steps_done m.home + 1 ≡ begins words m.home (following phase)
 
--- The same, with whether the step after it is of the phase too; else it was the last one.
-abbrev pub GoesInPhase : Phase → Bool → World → Moving → World → Moving → Type 0
-GoesInPhase phase true w m u t =
+-- A step of this phase is done, with whether the one after it is of the phase too; else it was the
+-- last one. None: no access is made in the phase of aims.
+abbrev pub GoesInPhase : Option Phase → Bool → World → Moving → World → Moving → Type 0
+GoesInPhase None stays w m u t = ⊥
+GoesInPhase (Some phase) true w m u t =
     GoesOnIn phase w m u t × NextStepIsOf (Some phase) (width u) t
-GoesInPhase phase false w m u t = GoesOnIn phase w m u t × IsLastOf phase (width w) m
+GoesInPhase (Some phase) false w m u t = GoesOnIn phase w m u t × IsLastOf phase (width w) m
 
--- The phase that a plan comes to with the last step of this one: to the aims while a passed source
--- is to be aimed.
+-- The phase that a move is in once the G-stage record is in force, and after each aim: that of aims
+-- while a passed source is to be aimed.
 abbrev pub past_closing : Moving → Option Phase
 past_closing m = if has_unaimed m then None else Some DrainPhase
 
+-- The phase that a plan comes to from this one, with the last of its steps, or with an aim. The move
+-- is as that step leaves it.
 abbrev pub next_phase : Moving → Option Phase → Option Phase
 next_phase m None = past_closing m
 next_phase m (Some FirstPhase) = Some ClosingPhase

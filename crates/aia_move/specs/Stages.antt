@@ -1,4 +1,4 @@
--- The phase that a plan is in, as its code has it.
+-- The phase that a plan is in, as its code has it, and as the type of a state tells it.
 use Rattle.std.specs.Prelude.{Bool, true, false, Option, Some, None}
 use Rattle.aia_home.specs.Phases.{Phase, following}
 use Rattle.aia_home.specs.Phases.Phase.{FirstPhase, ClosingPhase, DrainPhase, EnablePhase, LookPhase, LastPhase}
@@ -7,6 +7,9 @@ use Rattle.aia_move.specs.declared.phase.Stage.{Stage}
 use Rattle.aia_move.specs.declared.phase.Stage.TheVariants as stages
 use Rattle.aia_move.specs.declared.plan.Course.{Course}
 use Rattle.aia_move.specs.declared.plan.Course.TheVariants as courses
+use Rattle.aia_move.specs.declared.plan.State.{State}
+use Rattle.aia_move.specs.declared.plan.State.TheVariants as states
+use Rattle.aia_move.specs.PlanState.{PlanState}
 
 -- The move.
 abbrev pub move_of : Course → Moving
@@ -33,3 +36,25 @@ past_phase (Some phase) = following phase
 abbrev pub is_last : Option Phase → Bool
 is_last (Some LastPhase) = true
 is_last phase = false
+
+-- The plan that a state is of.
+abbrev pub plan_of : State → PlanState
+plan_of (states.LeaveFirst m) = record { moving = m; phase = Some FirstPhase }
+plan_of (states.LeaveClosing m) = record { moving = m; phase = Some ClosingPhase }
+plan_of (states.LeaveAim m) = record { moving = m; phase = None }
+plan_of (states.LeaveDrain m) = record { moving = m; phase = Some DrainPhase }
+plan_of (states.LeaveEnable m) = record { moving = m; phase = Some EnablePhase }
+plan_of (states.LeaveLook m) = record { moving = m; phase = Some LookPhase }
+plan_of (states.LeaveLast m) = record { moving = m; phase = Some LastPhase }
+plan_of (states.ArriveFirst m) = record { moving = m; phase = Some FirstPhase }
+plan_of (states.ArriveClosing m) = record { moving = m; phase = Some ClosingPhase }
+plan_of (states.ArriveAim m) = record { moving = m; phase = None }
+plan_of (states.ArriveDrain m) = record { moving = m; phase = Some DrainPhase }
+plan_of (states.ArriveEnable m) = record { moving = m; phase = Some EnablePhase }
+plan_of (states.ArriveLast m) = record { moving = m; phase = Some LastPhase }
+plan_of (states.ShiftFirst m) = record { moving = m; phase = Some FirstPhase }
+plan_of (states.ShiftClosing m) = record { moving = m; phase = Some ClosingPhase }
+plan_of (states.ShiftAim m) = record { moving = m; phase = None }
+plan_of (states.ShiftDrain m) = record { moving = m; phase = Some DrainPhase }
+plan_of (states.ShiftEnable m) = record { moving = m; phase = Some EnablePhase }
+plan_of (states.ShiftLast m) = record { moving = m; phase = Some LastPhase }

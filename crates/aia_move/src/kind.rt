@@ -16,7 +16,7 @@ ghost use Rattle.aia_move.specs.Plan.{IsInPhase, begun, empty_hand, kept_hand};
 
 use crate::hand::Hand;
 use crate::moves::Move;
-use crate::phase::{AccessPhase, First, Last, Look};
+use crate::phase::{Last, Look};
 use crate::plan::{Course, Plan};
 use crate::{KeptNumbers, Outcome, Who};
 use aia_home::End;
@@ -39,7 +39,7 @@ pub trait Kind: Drop {
     ghost after: { Phase };
 
     /// The phase after `Enable`.
-    type After: AccessPhase;
+    type After;
 
     /// Gives the guest file that the move leaves; `None`: it leaves memory.
     fn old_file(&self) -> Option<&FileLease>
@@ -149,42 +149,6 @@ impl Kind for ToOtherFile {
     }
 
     ghost follows = { λ k at. refl };
-}
-
-#[tactic(auto, using(aia_moving::proofs::WhoLemmas::begins_fit))]
-impl Leave<First> {
-    /// Begins to move a virtual hart from a guest file to memory, as [`crate::Plan::leave`] does.
-    pub fn begin(file: FileLease, who: Who) -> Leave<First>
-        ensures begins { result ≡ begun who (Outward file) empty_hand }
-        ensures fits { (w : World) → IsWho w who → IsThere w.imsic (spot_of file)
-            → MoveFits w result }
-    {
-        Move::new(ToMemory { file }, who, Hand::default())
-    }
-}
-
-#[tactic(auto, using(aia_moving::proofs::WhoLemmas::begins_fit))]
-impl Arrive<First> {
-    /// Begins to move a virtual hart from memory to a guest file, as [`crate::Plan::arrive`] does.
-    pub fn begin(file: FileLease, who: Who, kept: KeptNumbers) -> Arrive<First>
-        ensures begins { result ≡ begun who (Inward file) (kept_hand kept) }
-        ensures fits { (w : World) → IsWho w who → IsThere w.imsic (spot_of file)
-            → MoveFits w result }
-    {
-        Move::new(ToFile { file }, who, Hand::of(kept))
-    }
-}
-
-#[tactic(auto, using(aia_moving::proofs::WhoLemmas::begins_fit))]
-impl Shift<First> {
-    /// Begins to move a virtual hart from one guest file to another, as [`crate::Plan::shift`] does.
-    pub fn begin(old: FileLease, new: FileLease, who: Who) -> Shift<First>
-        ensures begins { result ≡ begun who (Across old new) empty_hand }
-        ensures fits { (w : World) → IsWho w who → IsThere w.imsic (spot_of old)
-            → IsThere w.imsic (spot_of new) → MoveFits w result }
-    {
-        Move::new(ToOtherFile { from: old, to: new }, who, Hand::default())
-    }
 }
 
 #[tactic(auto, using(aia_moving::proofs::WhoLemmas::begins_fit))]

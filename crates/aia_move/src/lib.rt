@@ -14,5 +14,5 @@ pub use aia_home::Access;
 pub use aia_moving::{Closed, KeptNumbers, Outcome, Pass, Turn, Who};
 pub use hand::Hand;
 pub use kind::{Arrive, Leave, Shift, spot};
-pub use plan::{Next, Plan};
+pub use plan::{Next, Plan, State};
 pub use targets::Targets;

@@ -1,4 +1,4 @@
-ghost use Rattle.std.specs.Prelude.{◌≡◌, ℕ, ◌+◌, ◌<◌, ◌≤◌, nat_lt, true, false, if◌then◌else◌, Some, ⊤};
+ghost use Rattle.std.specs.Prelude.{◌≡◌, ℕ, ◌+◌, ◌<◌, ◌≤◌, nat_lt, true, false, if◌then◌else◌, is_none, ⊤};
 ghost use Rattle.aia_home.specs.Plans.{steps_done, is_at_last};
 ghost use Rattle.aia_home.specs.Phases.{begins, following};
 ghost use Rattle.aia_home.specs.Phases.Phase.{FirstPhase, ClosingPhase, EnablePhase, LookPhase, LastPhase, AllDone};
@@ -12,7 +12,7 @@ ghost use Rattle.aia_move.specs.Plan.{IsInDrain, NextStepIsOf, begun, GoesInPhas
 
 use crate::hand::Hand;
 use crate::kind::{Kind, end_of};
-use crate::phase::{AccessPhase, Aim, Closing, Drain, Enable, First, Last, Look, Stage};
+use crate::phase::{Aim, Closing, Drain, Enable, First, Last, Look, Stage};
 use crate::{Closed, Outcome, Targets, Turn, Who};
 use aia_fabric::Fabric;
 use aia_home::access_at;
@@ -64,7 +64,7 @@ impl<K: Kind> Move<K, First> {
         ensures phase { MatchTurn result (IsIn FirstPhase (width fabric.new))
             (IsIn ClosingPhase (width fabric.new)) }
     {
-        if self.step_in(fabric) {
+        if self.step_in(Stage::First, fabric) {
             Turn::Stay(self)
         } else {
             Turn::On(self.into_phase())
@@ -87,7 +87,7 @@ impl<K: Kind> Move<K, Closing> {
             (λ next. MatchClosed next IsAtAims (IsInDrain (width fabric.new))) }
     {
         let _words = fabric.words();
-        if self.step_in(fabric) {
+        if self.step_in(Stage::Closing, fabric) {
             Turn::Stay(self)
         } else {
             Turn::On(self.closed())
@@ -133,7 +133,7 @@ impl<K: Kind> Move<K, Drain> {
         ensures phase { MatchTurn result (IsInDrain (width fabric.new))
             (IsIn EnablePhase (width fabric.new)) }
     {
-        if self.step_in(fabric) {
+        if self.step_in(Stage::Drain, fabric) {
             Turn::Stay(self)
         } else {
             Turn::On(self.into_phase())
@@ -154,7 +154,7 @@ impl<K: Kind> Move<K, Enable> {
             (IsIn K.after (width fabric.new)) }
     {
         let _words = fabric.words();
-        if self.step_in(fabric) {
+        if self.step_in(Stage::Enable, fabric) {
             Turn::Stay(self)
         } else {
             Turn::On(self.into_phase())
@@ -173,7 +173,7 @@ impl<K: Kind> Move<K, Look> {
         ensures phase { MatchTurn result (IsIn LookPhase (width fabric.new))
             (IsIn LastPhase (width fabric.new)) }
     {
-        if self.step_in(fabric) {
+        if self.step_in(Stage::Look, fabric) {
             Turn::Stay(self)
         } else {
             Turn::On(self.into_phase())
@@ -196,7 +196,7 @@ impl<K: Kind> Move<K, Last> {
     {
         let _words = fabric.words();
         if self.stays(fabric, Stage::Last) {
-            self.step_in(fabric);
+            self.step_in(Stage::Last, fabric);
             Turn::Stay(self)
         } else {
             self.access(fabric);
@@ -205,26 +205,7 @@ impl<K: Kind> Move<K, Last> {
     }
 }
 
-/// What the phases share.
-impl<K: Kind, P: AccessPhase> Move<K, P> {
-    /// Makes the next step, which is not the last one of the plan, and tells whether the one after
-    /// it is of its phase too.
-    fn step_in(&mut self, fabric: &mut Fabric) -> bool
-        requires fits { MoveFits fabric.old self.old }
-        requires phase { NextStepIsOf (Some P.phase) (width fabric.old) self.old }
-        requires more { steps_done self.old.home + 1
-            < begins (width fabric.old) self.old.home AllDone }
-        ensures { GoesInPhase P.phase result fabric.old self.old fabric.new self.new }
-    {
-        let _words = fabric.words();
-        let stays = self.stays(fabric, P::stage());
-        self.access(fabric);
-        self.done += 1;
-        stays
-    }
-}
-
-/// What the phases share with a plan, whose phase is a value.
+/// What the phases share, and with them a plan, whose phase is a value.
 impl<K: Kind, P> Move<K, P> {
     /// Begins, with this in the hand: no step is done.
     pub(crate) fn new(kind: K, who: Who, hand: Hand) -> Move<K, P>
@@ -238,6 +219,23 @@ impl<K: Kind, P> Move<K, P> {
             hand,
             phase: PhantomData,
         }
+    }
+
+    /// Makes the next step, an access that is not the last one of the plan, and tells whether the
+    /// one after it is of its phase too.
+    fn step_in(&mut self, stage: Stage, fabric: &mut Fabric) -> bool
+        requires fits { MoveFits fabric.old self.old }
+        requires access { is_none (phase_at stage) ≡ false }
+        requires phase { NextStepIsOf (phase_at stage) (width fabric.old) self.old }
+        requires more { steps_done self.old.home + 1
+            < begins (width fabric.old) self.old.home AllDone }
+        ensures { GoesInPhase (phase_at stage) result fabric.old self.old fabric.new self.new }
+    {
+        let _words = fabric.words();
+        let stays = self.stays(fabric, stage);
+        self.access(fabric);
+        self.done += 1;
+        stays
     }
 
     /// Tells whether the next step is not the last one of this phase.
@@ -296,7 +294,7 @@ impl<K: Kind, P> Move<K, P> {
 
     /// Comes to another phase, with all that it has; where that is the one after those that all
     /// plans share, as it begins.
-    fn into_phase<Q>(self) -> Move<K, Q>
+    pub(crate) fn into_phase<Q>(self) -> Move<K, Q>
         ensures same { result ≡ self }
         ensures after { (words : ℕ) → 1 ≤ words
             → steps_done self.home ≡ begins words self.home (following EnablePhase)

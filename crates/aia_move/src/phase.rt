@@ -1,43 +1,17 @@
-ghost use Rattle.std.specs.Prelude.{◌≡◌, ◌≤◌, ◌&&◌, not, is_none, Some};
+ghost use Rattle.std.specs.Prelude.{◌≡◌, ◌≤◌, ◌&&◌, not, is_none};
 ghost use Rattle.aia_regs.specs.declared.limits.TheConstants.{FILE_WORDS};
-ghost use Rattle.aia_home.specs.Phases.{Phase, phase_begins};
-ghost use Rattle.aia_home.specs.Phases.Phase.{FirstPhase, ClosingPhase, DrainPhase, EnablePhase, LookPhase, LastPhase};
+ghost use Rattle.aia_home.specs.Phases.{phase_begins};
 ghost use Rattle.aia_move.specs.Stages.{phase_at, past_phase, is_last};
 
 use aia_home::{End, before_entry, plan_steps, word_steps};
-
-/// A phase whose steps are accesses.
-pub trait AccessPhase {
-    ghost phase: { Phase };
-
-    /// Gives the phase as a value.
-    fn stage() -> Stage
-        ensures { phase_at result ≡ Some phase };
-}
 
 /// The phase up to the fence of the entry, and with it.
 #[derive(Drop)]
 pub struct First;
 
-impl AccessPhase for First {
-    ghost phase = { FirstPhase };
-
-    fn stage() -> Stage {
-        Stage::First
-    }
-}
-
 /// The phase of the G-stage record: it is written, and put in force.
 #[derive(Drop)]
 pub struct Closing;
-
-impl AccessPhase for Closing {
-    ghost phase = { ClosingPhase };
-
-    fn stage() -> Stage {
-        Stage::Closing
-    }
-}
 
 /// The phase of aims: each passed source is aimed at the new place.
 #[derive(Drop)]
@@ -47,49 +21,17 @@ pub struct Aim;
 #[derive(Drop)]
 pub struct Drain;
 
-impl AccessPhase for Drain {
-    ghost phase = { DrainPhase };
-
-    fn stage() -> Stage {
-        Stage::Drain
-    }
-}
-
 /// The phase of the enabled set: each word is taken, and put.
 #[derive(Drop)]
 pub struct Enable;
-
-impl AccessPhase for Enable {
-    ghost phase = { EnablePhase };
-
-    fn stage() -> Stage {
-        Stage::Enable
-    }
-}
 
 /// The phase of the looks, of a leave alone: each word of both sets is read in memory.
 #[derive(Drop)]
 pub struct Look;
 
-impl AccessPhase for Look {
-    ghost phase = { LookPhase };
-
-    fn stage() -> Stage {
-        Stage::Look
-    }
-}
-
 /// The last phase: the numbers that are left, and the notice of a leave.
 #[derive(Drop)]
 pub struct Last;
-
-impl AccessPhase for Last {
-    ghost phase = { LastPhase };
-
-    fn stage() -> Stage {
-        Stage::Last
-    }
-}
 
 /// The phase that a plan is in.
 #[derive(Clone, Copy, Debug, PartialEq, Eq)]

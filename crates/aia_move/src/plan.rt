@@ -1,4 +1,4 @@
-ghost use Rattle.std.specs.Prelude.{◌≡◌, true, Some, ⊤};
+ghost use Rattle.std.specs.Prelude.{◌≡◌, ℕ, true, Some, ⊤};
 ghost use Rattle.aia_home.specs.Plans.{is_at_last};
 ghost use Rattle.aia_home.specs.Phases.Phase.{FirstPhase};
 ghost use Rattle.aia_places.specs.Stores.{AreApart};
@@ -6,13 +6,13 @@ ghost use Rattle.aia_moving.specs.Move.{MoveFits, width};
 ghost use Rattle.aia_moving.specs.Targets.{ArePasses, AimsAs, next_aim};
 ghost use Rattle.aia_moving.specs.Turns.{EndsAs, LeavesEmpty};
 ghost use Rattle.aia_move.specs.PlanState.{moving_of};
-ghost use Rattle.aia_move.specs.Stages.{move_of};
+ghost use Rattle.aia_move.specs.Stages.{move_of, plan_of};
 ghost use Rattle.aia_move.specs.Plan.{IsInPhase, MatchNext, StepsTo, StepsInPlace};
 
 use crate::kind::{ToFile, ToMemory, ToOtherFile};
 use crate::moves::Move;
-use crate::phase::Stage;
-use crate::{Outcome, Targets};
+use crate::phase::{Aim, Closing, Drain, Enable, First, Last, Look, Stage};
+use crate::{Arrive, Leave, Outcome, Shift, Targets};
 use aia_fabric::Fabric;
 use std::marker::Model;
 
@@ -38,6 +38,30 @@ impl Model for Plan {
     ghost Value = { PlanState };
 
     ghost view = { λ p. record { moving = move_of p.course; phase = phase_at p.stage } };
+}
+
+/// A move under way, as the state of its phase: its type tells which steps can be made.
+#[derive(Drop)]
+pub enum State {
+    LeaveFirst(Leave<First>),
+    LeaveClosing(Leave<Closing>),
+    LeaveAim(Leave<Aim>),
+    LeaveDrain(Leave<Drain>),
+    LeaveEnable(Leave<Enable>),
+    LeaveLook(Leave<Look>),
+    LeaveLast(Leave<Last>),
+    ArriveFirst(Arrive<First>),
+    ArriveClosing(Arrive<Closing>),
+    ArriveAim(Arrive<Aim>),
+    ArriveDrain(Arrive<Drain>),
+    ArriveEnable(Arrive<Enable>),
+    ArriveLast(Arrive<Last>),
+    ShiftFirst(Shift<First>),
+    ShiftClosing(Shift<Closing>),
+    ShiftAim(Shift<Aim>),
+    ShiftDrain(Shift<Drain>),
+    ShiftEnable(Shift<Enable>),
+    ShiftLast(Shift<Last>),
 }
 
 /// What a step makes of a move.
@@ -76,9 +100,8 @@ impl Plan {
         }
     }
 
-    /// Makes the next step of the plan in place, where it is not the last one, and tells whether it
-    /// made one; where it made none, nothing is changed. It makes what [`Plan::step`] would, and
-    /// the plan is not taken out and put back for it.
+    /// Makes the next step of the plan where it lies, unless that is the last one, and tells whether
+    /// it made one; where it made none, nothing is changed.
     pub fn step_in_place<T: Targets>(&mut self, fabric: &mut Fabric, targets: &mut T) -> bool
         requires fits { MoveFits fabric.old (moving_of self.old) }
         requires phase { IsInPhase (width fabric.old) self.old }
@@ -112,6 +135,35 @@ impl Plan {
         }
     }
 
+    /// Gives the move as the state of the phase that it is in. An arrival and a shift have no looks,
+    /// and are never in that phase.
+    pub fn into_state(self) -> State
+        ensures same { moving_of (plan_of result) ≡ moving_of self }
+        ensures phase { (words : ℕ) → IsInPhase words self → plan_of result ≡ self }
+    {
+        match (self.course, self.stage) {
+            (Course::Leave(m), Stage::First) => State::LeaveFirst(m.into_phase()),
+            (Course::Leave(m), Stage::Closing) => State::LeaveClosing(m.into_phase()),
+            (Course::Leave(m), Stage::Aim) => State::LeaveAim(m.into_phase()),
+            (Course::Leave(m), Stage::Drain) => State::LeaveDrain(m.into_phase()),
+            (Course::Leave(m), Stage::Enable) => State::LeaveEnable(m.into_phase()),
+            (Course::Leave(m), Stage::Look) => State::LeaveLook(m.into_phase()),
+            (Course::Leave(m), Stage::Last) => State::LeaveLast(m.into_phase()),
+            (Course::Arrive(m), Stage::First) => State::ArriveFirst(m.into_phase()),
+            (Course::Arrive(m), Stage::Closing) => State::ArriveClosing(m.into_phase()),
+            (Course::Arrive(m), Stage::Aim) => State::ArriveAim(m.into_phase()),
+            (Course::Arrive(m), Stage::Drain) => State::ArriveDrain(m.into_phase()),
+            (Course::Arrive(m), Stage::Enable) => State::ArriveEnable(m.into_phase()),
+            (Course::Arrive(m), Stage::Look | Stage::Last) => State::ArriveLast(m.into_phase()),
+            (Course::Shift(m), Stage::First) => State::ShiftFirst(m.into_phase()),
+            (Course::Shift(m), Stage::Closing) => State::ShiftClosing(m.into_phase()),
+            (Course::Shift(m), Stage::Aim) => State::ShiftAim(m.into_phase()),
+            (Course::Shift(m), Stage::Drain) => State::ShiftDrain(m.into_phase()),
+            (Course::Shift(m), Stage::Enable) => State::ShiftEnable(m.into_phase()),
+            (Course::Shift(m), Stage::Look | Stage::Last) => State::ShiftLast(m.into_phase()),
+        }
+    }
+
     /// Begins, in the first phase.
     pub(crate) fn begin(course: Course) -> Plan
         ensures { result ≡ record { moving = move_of course; phase = Some FirstPhase } }
@@ -120,5 +172,35 @@ impl Plan {
             course,
             stage: Stage::First,
         }
+    }
+}
+
+impl State {
+    /// Gives the plan that goes on from this state.
+    pub fn into_plan(self) -> Plan
+        ensures { result ≡ plan_of self }
+    {
+        let (course, stage) = match self {
+            State::LeaveFirst(m) => (Course::Leave(m.into_phase()), Stage::First),
+            State::LeaveClosing(m) => (Course::Leave(m.into_phase()), Stage::Closing),
+            State::LeaveAim(m) => (Course::Leave(m.into_phase()), Stage::Aim),
+            State::LeaveDrain(m) => (Course::Leave(m.into_phase()), Stage::Drain),
+            State::LeaveEnable(m) => (Course::Leave(m.into_phase()), Stage::Enable),
+            State::LeaveLook(m) => (Course::Leave(m.into_phase()), Stage::Look),
+            State::LeaveLast(m) => (Course::Leave(m.into_phase()), Stage::Last),
+            State::ArriveFirst(m) => (Course::Arrive(m.into_phase()), Stage::First),
+            State::ArriveClosing(m) => (Course::Arrive(m.into_phase()), Stage::Closing),
+            State::ArriveAim(m) => (Course::Arrive(m.into_phase()), Stage::Aim),
+            State::ArriveDrain(m) => (Course::Arrive(m.into_phase()), Stage::Drain),
+            State::ArriveEnable(m) => (Course::Arrive(m.into_phase()), Stage::Enable),
+            State::ArriveLast(m) => (Course::Arrive(m.into_phase()), Stage::Last),
+            State::ShiftFirst(m) => (Course::Shift(m.into_phase()), Stage::First),
+            State::ShiftClosing(m) => (Course::Shift(m.into_phase()), Stage::Closing),
+            State::ShiftAim(m) => (Course::Shift(m.into_phase()), Stage::Aim),
+            State::ShiftDrain(m) => (Course::Shift(m.into_phase()), Stage::Drain),
+            State::ShiftEnable(m) => (Course::Shift(m.into_phase()), Stage::Enable),
+            State::ShiftLast(m) => (Course::Shift(m.into_phase()), Stage::Last),
+        };
+        Plan { course, stage }
     }
 }

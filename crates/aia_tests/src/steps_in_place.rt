@@ -13,7 +13,7 @@ use crate::same;
 use crate::stores_in_flight::{IN_FILE, IN_MEMORY, flying, sends};
 use aia_fabric::Fabric;
 use aia_imsic::Spot;
-use aia_move::{Arrive, Closed, KeptNumbers, Outcome, Plan, Turn, Who};
+use aia_move::{Closed, KeptNumbers, Outcome, Plan, State, Turn, Who};
 use aia_pool::{FileLease, Pool};
 use aia_regs::{FileReg, Op};
 use std::process::Abort;
@@ -75,7 +75,16 @@ fn leaves_in_place(rt: &impl Abort, fabric: &mut Fabric, who: Who, from: FileLea
     same!(*rt; delivery(fabric), Some(0));
     same!(*rt; is_made_in_place(&mut plan, fabric), true);
     same!(*rt; is_made_in_place(&mut plan, fabric), true);
-    Some(plan)
+    Some(by_its_state(plan, fabric))
+}
+
+/// Takes a plan to the state of its phase, and back.
+fn by_its_state(plan: Plan, fabric: &Fabric) -> Plan
+    requires { IsInPhase (width fabric.now) plan }
+    ensures { result ≡ plan }
+{
+    let _words = fabric.words();
+    plan.into_state().into_plan()
 }
 
 /// Makes four steps in place.
@@ -134,7 +143,9 @@ fn arrives_by_phases(fabric: &mut Fabric, who: Who, to: FileLease) -> Option<Fil
         delivery: 1,
         threshold: 9,
     };
-    let state = Arrive::begin(to, who, kept);
+    let State::ArriveFirst(state) = Plan::arrive(to, who, kept).into_state() else {
+        return None;
+    };
     let _words = fabric.words();
     let Turn::Stay(state) = state.step(fabric) else {
         return None;
