@@ -2,7 +2,8 @@
 
 An answer is the same; or it differs, and then it is *explained* where the rules of the peer foresee
 it and a row of its file of known differences says why, the file that suite/compare takes with
---known; or it is neither.
+--known; or it is neither. Where it differs, the program has to answer as the model apart does: an
+answer of the program that is wrong is explained by no row.
 """
 
 import os
@@ -21,6 +22,7 @@ sys.path.insert(0, str(HERE / "apart"))
 # Behind the peers' own modules, of which one has the name of one there.
 sys.path.append(str(HERE.parent / "suite"))
 
+import model
 import reading
 import words
 from answers import Known
@@ -82,23 +84,25 @@ class Tally:
         """The answers to one script: the program's, those that the rules foresee, the peer's."""
         counts = self.subjects.setdefault(subject, Counter())
         lines = lines_of(script)
-        if not len(lines) == len(wanted) == len(told) == len(got):
+        right = model.answers(script).decode().split("\n")[:-1]
+        if not len(lines) == len(wanted) == len(told) == len(got) == len(right):
             raise Stopped(f"{name}: not as many answers as lines")
-        for at, (line, ours, foreseen, theirs) in enumerate(zip(lines, wanted, told, got)):
+        for at, (line, ours, foreseen, theirs, apart) in enumerate(
+                zip(lines, wanted, told, got, right)):
             counts["lines"] += 1
             if foreseen == ANY:
                 counts["not looked at"] += 1
                 continue
             why = self.known.reason(line.decode(), ours, theirs) if ours != theirs else ""
-            if foreseen == theirs and why is not None:
+            if foreseen == theirs and why is not None and ours == apart:
                 counts["differ, explained" if why else "same"] += 1
                 self.reasons[why] += bool(why)
                 continue
             counts["differ, unexplained"] += 1
             self.unexplained += 1
             if self.unexplained <= 100:
-                print(f"{name}: answer {at + 1}: {line.decode()}: the program {ours}, the peer "
-                      f"{theirs}, its rules {foreseen}"
+                print(f"{name}: answer {at + 1}: {line.decode()}: the program {ours}, the model "
+                      f"apart {apart}, the peer {theirs}, its rules {foreseen}"
                       + ("" if why is not None else ", and no row fits"))
             return  # what comes later may differ for that alone
 
