@@ -24,7 +24,7 @@ use crate::hypervisor_core::{Core, is_host};
 use aia_fabric::Found;
 use aia_imsic::Spot;
 use aia_model::{Msi, Refusal};
-use aia_move::Targets;
+use aia_move::{Plan, Targets};
 use aia_regs::address_map::PAGE;
 use aia_regs::limits::{FIRST_PASS_IDENTITY, PASSES};
 use aia_regs::{FileReg, Op};
@@ -233,7 +233,7 @@ impl Core {
 /// resident, and else at its notice hart, by the number of the pass.
 fn aim_first<T: Targets>(
     source: u32,
-    stay: &Stay,
+    stay: &Stay<Plan>,
     notice: u32,
     number: u32,
     identity: u32,

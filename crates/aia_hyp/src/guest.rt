@@ -20,6 +20,7 @@ use aia_fabric::Found;
 use aia_home::Place;
 use aia_imsic::Spot;
 use aia_model::Refusal;
+use aia_move::Plan;
 use aia_regs::{Csr, Level, Op};
 use aia_standing::VcpuRecord;
 
@@ -92,7 +93,7 @@ fn file_spot(place: Place) -> Spot
 }
 
 /// Accesses the select CSR of the virtual hart of a slot, and gives the old select number.
-pub(crate) fn access_select_in(vcpus: &mut Vec<VcpuRecord>, slot: u32, op: Op) -> u64
+pub(crate) fn access_select_in(vcpus: &mut Vec<VcpuRecord<Plan>>, slot: u32, op: Op) -> u64
     requires { slot < length vcpus.old.items }
     ensures value { result ≡ (slice_index_or vcpus.old.items slot no_record).select }
     ensures after { vcpus.new.items ≡ slice_set vcpus.old.items slot

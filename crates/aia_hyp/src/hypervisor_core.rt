@@ -32,6 +32,7 @@ use aia_entry::{Route, is_mask};
 use aia_fabric::{Fabric, Found};
 use aia_imsic::Spot;
 use aia_model::Refusal;
+use aia_move::Plan;
 use aia_pool::Pool;
 use aia_regs::address_map::{PAGE, is_in_memory};
 use aia_regs::limits::{GUEST_FILES, HARTS, VCPUS, VM_VCPUS, VMS};
@@ -53,7 +54,7 @@ const SELECTS: usize = 2 * HARTS as usize;
 pub struct Core {
     pub(crate) fabric: Fabric,
     pub(crate) pool: Pool,
-    pub(crate) vcpus: Vec<VcpuRecord>,
+    pub(crate) vcpus: Vec<VcpuRecord<Plan>>,
     selects: [u64; SELECTS],
     pub(crate) passes: Passes,
 }
@@ -109,7 +110,7 @@ impl Core {
     }
 
     /// Gives the record of a virtual hart that is there.
-    pub(crate) fn record_of(&self, found: Found) -> &VcpuRecord
+    pub(crate) fn record_of(&self, found: Found) -> &VcpuRecord<Plan>
         requires { IsFound self.now.world found }
         ensures { result.now ≡ record_of self.now (vcpu found.vm found.number) }
     {
@@ -310,7 +311,7 @@ impl Core {
 }
 
 /// Adds the records of so many virtual harts that were never moved.
-fn add_records(vcpus: &mut Vec<VcpuRecord>, count: u32)
+fn add_records(vcpus: &mut Vec<VcpuRecord<Plan>>, count: u32)
     requires { length vcpus.old.items + count ≤ vec_capacity vcpus.old }
     ensures after { vcpus.new.items ≡ vcpus.old.items ++ replicate count no_record }
     ensures room { vec_capacity vcpus.new ≡ vec_capacity vcpus.old }

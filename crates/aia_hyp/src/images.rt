@@ -23,7 +23,7 @@ use aia_fabric::Found;
 use aia_home::Rest;
 use aia_image::{IMAGE_VERSION, is_live, is_loadable, load_word, save_word};
 use aia_model::{Part, Refusal};
-use aia_move::KeptNumbers;
+use aia_move::{KeptNumbers, Plan};
 use aia_regs::Op;
 use aia_standing::{Stay, VcpuRecord};
 
@@ -150,7 +150,7 @@ impl Core {
 
 /// Writes the numbers of the interrupt file of the virtual hart of a slot that is parked, and its
 /// select number.
-fn load_numbers_in(vcpus: &mut Vec<VcpuRecord>, slot: u32, kept: KeptNumbers, select: u64)
+fn load_numbers_in(vcpus: &mut Vec<VcpuRecord<Plan>>, slot: u32, kept: KeptNumbers, select: u64)
     requires { slot < length vcpus.old.items }
     ensures after { vcpus.new.items ≡ slice_set vcpus.old.items slot
         (record (slice_index_or vcpus.old.items slot no_record) {
@@ -166,7 +166,7 @@ fn load_numbers_in(vcpus: &mut Vec<VcpuRecord>, slot: u32, kept: KeptNumbers, se
 }
 
 /// Writes `hvip` and `sie` of the virtual hart of a slot.
-fn load_majors_in(vcpus: &mut Vec<VcpuRecord>, slot: u32, injected: u64, enabled: u64)
+fn load_majors_in(vcpus: &mut Vec<VcpuRecord<Plan>>, slot: u32, injected: u64, enabled: u64)
     requires { slot < length vcpus.old.items }
     ensures done { MajorsDone vcpus.old.items vcpus.new.items slot
         (majors_loaded (parts.Majors injected enabled)) }
@@ -179,7 +179,7 @@ fn load_majors_in(vcpus: &mut Vec<VcpuRecord>, slot: u32, injected: u64, enabled
 }
 
 /// Writes `hviprio1` and `hvictl` of the virtual hart of a slot.
-fn load_registers_in(vcpus: &mut Vec<VcpuRecord>, slot: u32, hviprio: u64, hvictl: u64)
+fn load_registers_in(vcpus: &mut Vec<VcpuRecord<Plan>>, slot: u32, hviprio: u64, hvictl: u64)
     requires slot { slot < length vcpus.old.items }
     requires legal { is_hvictl hvictl ≡ true }
     ensures done { MajorsDone vcpus.old.items vcpus.new.items slot

@@ -17,6 +17,7 @@ ghost use Rattle.aia_standing.specs.Stands.{CoreTakes, answer_by};
 use crate::hypervisor_core::Core;
 use aia_file::File;
 use aia_model::Refusal;
+use aia_move::Plan;
 use aia_regs::Op;
 use aia_standing::VcpuRecord;
 
@@ -69,7 +70,12 @@ impl Core {
 }
 
 /// Injects a level at a major interrupt of the virtual hart of a slot.
-fn inject_in(vcpus: &mut Vec<VcpuRecord>, slot: u32, bit: u64, level: bool) -> Result<(), Refusal>
+fn inject_in(
+    vcpus: &mut Vec<VcpuRecord<Plan>>,
+    slot: u32,
+    bit: u64,
+    level: bool,
+) -> Result<(), Refusal>
     requires { slot < length vcpus.old.items }
     ensures range { result_err result ≡ (if is_major bit then None else Some Refusal.Range) }
     ensures ok { OnOk result (MajorsDone vcpus.old.items vcpus.new.items slot
@@ -85,7 +91,7 @@ fn inject_in(vcpus: &mut Vec<VcpuRecord>, slot: u32, bit: u64, level: bool) -> R
 }
 
 /// Writes `hvictl` of the virtual hart of a slot.
-fn set_hvictl_in(vcpus: &mut Vec<VcpuRecord>, slot: u32, value: u64) -> Result<(), Refusal>
+fn set_hvictl_in(vcpus: &mut Vec<VcpuRecord<Plan>>, slot: u32, value: u64) -> Result<(), Refusal>
     requires { slot < length vcpus.old.items }
     ensures range { result_err result ≡ (if is_hvictl value then None else Some Refusal.Range) }
     ensures ok { OnOk result (MajorsDone vcpus.old.items vcpus.new.items slot
@@ -100,7 +106,7 @@ fn set_hvictl_in(vcpus: &mut Vec<VcpuRecord>, slot: u32, value: u64) -> Result<(
 }
 
 /// Writes `hviprio1` of the virtual hart of a slot.
-fn set_hviprio_in(vcpus: &mut Vec<VcpuRecord>, slot: u32, value: u64)
+fn set_hviprio_in(vcpus: &mut Vec<VcpuRecord<Plan>>, slot: u32, value: u64)
     requires { slot < length vcpus.old.items }
     ensures done { MajorsDone vcpus.old.items vcpus.new.items slot (with_hviprio1 value) }
     ensures room { vec_capacity vcpus.new ≡ vec_capacity vcpus.old }
@@ -109,7 +115,7 @@ fn set_hviprio_in(vcpus: &mut Vec<VcpuRecord>, slot: u32, value: u64)
 }
 
 /// Gives what `stopi` of the virtual hart of a slot reads, by its interrupt file.
-pub(crate) fn stopi_in(vcpus: &[VcpuRecord], slot: u32, file: &File) -> u64
+pub(crate) fn stopi_in(vcpus: &[VcpuRecord<Plan>], slot: u32, file: &File) -> u64
     requires { slot < length vcpus.now }
     ensures { result ≡ stopi_value (majors_shown (slice_index_or vcpus.now slot no_record).majors)
         (top_value (top_of (shown file.now))) (signals (shown file.now)) }
@@ -120,7 +126,12 @@ pub(crate) fn stopi_in(vcpus: &[VcpuRecord], slot: u32, file: &File) -> u64
 
 /// Accesses `sip` of the virtual hart of a slot, given whether its interrupt file signals, and
 /// gives what it read.
-pub(crate) fn access_sip_in(vcpus: &mut Vec<VcpuRecord>, slot: u32, op: Op, signal: bool) -> u64
+pub(crate) fn access_sip_in(
+    vcpus: &mut Vec<VcpuRecord<Plan>>,
+    slot: u32,
+    op: Op,
+    signal: bool,
+) -> u64
     requires { slot < length vcpus.old.items }
     ensures value { result ≡ sip_value
         (majors_shown (slice_index_or vcpus.old.items slot no_record).majors) signal }
@@ -131,7 +142,7 @@ pub(crate) fn access_sip_in(vcpus: &mut Vec<VcpuRecord>, slot: u32, op: Op, sign
 }
 
 /// Accesses `sie` of the virtual hart of a slot, and gives what it read.
-pub(crate) fn access_sie_in(vcpus: &mut Vec<VcpuRecord>, slot: u32, op: Op) -> u64
+pub(crate) fn access_sie_in(vcpus: &mut Vec<VcpuRecord<Plan>>, slot: u32, op: Op) -> u64
     requires { slot < length vcpus.old.items }
     ensures value { result ≡ sie_value
         (majors_shown (slice_index_or vcpus.old.items slot no_record).majors) }

@@ -24,7 +24,7 @@ use aia_csr::CsrAccess;
 use aia_fabric::{Fabric, Found};
 use aia_home::Rest;
 use aia_model::Refusal;
-use aia_move::KeptNumbers;
+use aia_move::{KeptNumbers, Plan};
 use aia_regs::{Csr, FileReg, Op};
 use aia_standing::{Stay, VcpuRecord};
 
@@ -152,7 +152,7 @@ fn is_outside_sets(reg: FileReg) -> bool
 }
 
 /// Has the virtual hart of a slot run from memory where it is parked; `Err` as of [`Core::enter`].
-fn enter_in(vcpus: &mut Vec<VcpuRecord>, slot: u32) -> Result<(), Refusal>
+fn enter_in(vcpus: &mut Vec<VcpuRecord<Plan>>, slot: u32) -> Result<(), Refusal>
     requires { slot < length vcpus.old.items }
     ensures enters { Enters vcpus.old.items vcpus.new.items slot (answer_by (λ _. Okay) result) }
     ensures room { vec_capacity vcpus.new ≡ vec_capacity vcpus.old }
@@ -164,7 +164,7 @@ fn enter_in(vcpus: &mut Vec<VcpuRecord>, slot: u32) -> Result<(), Refusal>
 }
 
 /// Puts a virtual hart elsewhere, in the record of its slot.
-fn put_stay(vcpus: &mut Vec<VcpuRecord>, slot: u32, stay: Stay)
+fn put_stay(vcpus: &mut Vec<VcpuRecord<Plan>>, slot: u32, stay: Stay<Plan>)
     requires { slot < length vcpus.old.items }
     ensures after { vcpus.new.items ≡ slice_set vcpus.old.items slot
         (record (slice_index_or vcpus.old.items slot no_record) { stay = stay }) }
@@ -177,7 +177,7 @@ fn put_stay(vcpus: &mut Vec<VcpuRecord>, slot: u32, stay: Stay)
 /// none of its sets', given the numbers that are kept of it, and gives what it read; eithreshold is
 /// kept below `modulus`.
 fn access_kept_in(
-    vcpus: &mut Vec<VcpuRecord>,
+    vcpus: &mut Vec<VcpuRecord<Plan>>,
     slot: u32,
     kept: KeptNumbers,
     reg: FileReg,

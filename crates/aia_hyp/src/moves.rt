@@ -6,8 +6,8 @@ ghost use Rattle.aia_pool.specs.Leases.{Leases};
 ghost use Rattle.aia_model.specs.declared.line.Line.TheVariants.{Step};
 ghost use Rattle.aia_model.specs.declared.line.Line.TheVariants as lines;
 ghost use Rattle.aia_model.specs.declared.answer.Answer.TheVariants.{Okay};
-ghost use Rattle.aia_move.specs.PlanState.{PlanState, moving_of};
-ghost use Rattle.aia_move.specs.Plan.{IsInPhase};
+ghost use Rattle.aia_moving.specs.PlanState.{PlanState, moving_of};
+ghost use Rattle.aia_moving.specs.Plan.{IsInPhase};
 ghost use Rattle.aia_moving.specs.Move.{MoveFits, width};
 ghost use Rattle.aia_moving.specs.Targets.{ArePasses, AimsAs, next_aim};
 ghost use Rattle.aia_model.specs.Event.{History};
@@ -201,7 +201,7 @@ fn who_of(found: Found, passes: &Passes) -> Who
 }
 
 /// Makes what stands in a record while the virtual hart's own is out.
-fn nowhere() -> Stay
+fn nowhere() -> Stay<Plan>
     ensures { result ≡ Stay.InMemory Rest.Parked no_kept }
 {
     Stay::InMemory(
@@ -214,7 +214,7 @@ fn nowhere() -> Stay
 }
 
 /// Puts a virtual hart elsewhere, in its record, and gives where it was.
-fn swap_stay(vcpus: &mut Vec<VcpuRecord>, slot: u32, stay: Stay) -> Stay
+fn swap_stay(vcpus: &mut Vec<VcpuRecord<Plan>>, slot: u32, stay: Stay<Plan>) -> Stay<Plan>
     requires { slot < length vcpus.old.items }
     ensures before { result ≡ (slice_index_or vcpus.old.items slot no_record).stay }
     ensures after { vcpus.new.items ≡ slice_set vcpus.old.items slot
@@ -227,7 +227,7 @@ fn swap_stay(vcpus: &mut Vec<VcpuRecord>, slot: u32, stay: Stay) -> Stay
 /// Makes the next step of the move of a virtual hart in its record, where it is not the last one,
 /// and tells whether it made one.
 fn carry_on<T: Targets>(
-    vcpus: &mut Vec<VcpuRecord>,
+    vcpus: &mut Vec<VcpuRecord<Plan>>,
     slot: u32,
     fabric: &mut Fabric,
     targets: &mut T,
@@ -261,12 +261,12 @@ fn carry_on<T: Targets>(
 /// Begins the move that is wanted of a virtual hart, and tells where the virtual hart is then.
 /// `Err` as of [`Core::whole`]: it is where it was.
 fn begun(
-    old: Stay,
+    old: Stay<Plan>,
     who: Who,
     want: Want,
     harts: u32,
     pool: &mut Pool,
-) -> (Stay, Result<(), Refusal>)
+) -> (Stay<Plan>, Result<(), Refusal>)
     requires { harts ≡ pool.old.harts }
     ensures { WantBegins want who old result.0 pool.old pool.new (answer_by (λ _. Okay) result.1) }
 {
@@ -279,7 +279,7 @@ fn begun(
 }
 
 /// Begins a leave of a virtual hart that is resident.
-fn leave(old: Stay, who: Who) -> (Stay, Result<(), Refusal>)
+fn leave(old: Stay<Plan>, who: Who) -> (Stay<Plan>, Result<(), Refusal>)
     ensures { (l : Leases) → LeaveBegins who old result.0 l l (answer_by (λ _. Okay) result.1) }
 {
     match old {
@@ -290,7 +290,12 @@ fn leave(old: Stay, who: Who) -> (Stay, Result<(), Refusal>)
 }
 
 /// Begins an arrival of a virtual hart that is parked, in the least free guest file of a hart.
-fn arrive(old: Stay, who: Who, hart: u32, pool: &mut Pool) -> (Stay, Result<(), Refusal>)
+fn arrive(
+    old: Stay<Plan>,
+    who: Who,
+    hart: u32,
+    pool: &mut Pool,
+) -> (Stay<Plan>, Result<(), Refusal>)
     requires { hart < pool.old.harts }
     ensures { ArriveBegins who hart old result.0 pool.old pool.new
         (answer_by (λ _. Okay) result.1) }
@@ -305,7 +310,7 @@ fn arrive(old: Stay, who: Who, hart: u32, pool: &mut Pool) -> (Stay, Result<(), 
 }
 
 /// Begins a shift of a virtual hart that is resident, to the least free guest file of a hart.
-fn shift(old: Stay, who: Who, hart: u32, pool: &mut Pool) -> (Stay, Result<(), Refusal>)
+fn shift(old: Stay<Plan>, who: Who, hart: u32, pool: &mut Pool) -> (Stay<Plan>, Result<(), Refusal>)
     requires { hart < pool.old.harts }
     ensures { ShiftBegins who hart old result.0 pool.old pool.new
         (answer_by (λ _. Okay) result.1) }
@@ -321,7 +326,7 @@ fn shift(old: Stay, who: Who, hart: u32, pool: &mut Pool) -> (Stay, Result<(), R
 }
 
 /// Tells where a virtual hart is at the end of its move; the guest file that it left comes back.
-fn stay_at_end(outcome: Outcome, pool: &mut Pool) -> Stay
+fn stay_at_end(outcome: Outcome, pool: &mut Pool) -> Stay<Plan>
     requires { IsOutThere pool.old (back_of outcome) }
     ensures stay { result ≡ stay_after outcome }
     ensures back { pool.new ≡ with_back (back_of outcome) pool.old }

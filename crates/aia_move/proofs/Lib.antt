@@ -1,5 +1,1 @@
 pub mod AccessLemmas
-pub mod PhaseLemmas
-pub mod MoveKept
-pub mod MachineLemmas
-pub mod KnowsLemmas

@@ -1,4 +1,1 @@
-pub mod PlanState
 pub mod Stages
-pub mod Plan
-pub mod Knows

@@ -9,7 +9,7 @@ use Rattle.aia_move.specs.declared.plan.Course.{Course}
 use Rattle.aia_move.specs.declared.plan.Course.TheVariants as courses
 use Rattle.aia_move.specs.declared.plan.State.{State}
 use Rattle.aia_move.specs.declared.plan.State.TheVariants as states
-use Rattle.aia_move.specs.PlanState.{PlanState}
+use Rattle.aia_moving.specs.PlanState.{PlanState}
 
 -- The move.
 abbrev pub move_of : Course → Moving
@@ -26,16 +26,6 @@ phase_at stages.Drain = Some DrainPhase
 phase_at stages.Enable = Some EnablePhase
 phase_at stages.Look = Some LookPhase
 phase_at stages.Last = Some LastPhase
-
--- The phase before which all accesses of a phase are made; none is in the phase of aims.
-abbrev pub past_phase : Option Phase → Phase
-past_phase None = DrainPhase
-past_phase (Some phase) = following phase
-
--- Whether a phase is the last one.
-abbrev pub is_last : Option Phase → Bool
-is_last (Some LastPhase) = true
-is_last phase = false
 
 -- The plan that a state is of.
 abbrev pub plan_of : State → PlanState

@@ -11,7 +11,7 @@ ghost use Rattle.aia_places.specs.Holds.{meets};
 ghost use Rattle.aia_world.specs.Changes.{PutsRegister, spot_of, with_entry_word};
 ghost use Rattle.aia_moving.specs.Move.{IsWho, place_at, spot_in, width};
 ghost use Rattle.aia_moving.specs.Accesses.{Executes, HasFile, WordFits, moved};
-ghost use Rattle.aia_move.specs.Plan.{kept_hand};
+ghost use Rattle.aia_moving.specs.Plan.{kept_hand};
 
 use crate::kind::spot;
 use crate::{Access, KeptNumbers, Who};

@@ -11,8 +11,8 @@ ghost use Rattle.aia_world.specs.World.{World};
 ghost use Rattle.aia_world.specs.Changes.{spot_of};
 ghost use Rattle.aia_moving.specs.Move.{IsWho, MoveFits};
 ghost use Rattle.aia_moving.specs.Turns.{GivesBack};
-ghost use Rattle.aia_move.specs.PlanState.{moving_of};
-ghost use Rattle.aia_move.specs.Plan.{IsInPhase, begun, empty_hand, kept_hand};
+ghost use Rattle.aia_moving.specs.PlanState.{moving_of};
+ghost use Rattle.aia_moving.specs.Plan.{IsInPhase, begun, empty_hand, kept_hand};
 
 use crate::hand::Hand;
 use crate::moves::Move;

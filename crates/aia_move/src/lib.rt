@@ -11,8 +11,8 @@ mod plan;
 mod targets;
 
 pub use aia_home::Access;
-pub use aia_moving::{Closed, KeptNumbers, Outcome, Pass, Turn, Who};
+pub use aia_moving::{Closed, KeptNumbers, Next, Outcome, Pass, Turn, Who};
 pub use hand::Hand;
 pub use kind::{Arrive, Leave, Shift, spot};
-pub use plan::{Next, Plan, State};
+pub use plan::{Plan, State};
 pub use targets::Targets;

@@ -7,8 +7,9 @@ ghost use Rattle.aia_moving.specs.Targets.{ArePasses, AimsAs, aim_of, next_aim, 
 ghost use Rattle.aia_moving.specs.Accesses.{ExecutesNext};
 ghost use Rattle.aia_moving.specs.Landings.{OnceLanded};
 ghost use Rattle.aia_moving.specs.Turns.{IsIn, IsAtAims, GoesOn, AimsOn, EndsAs, MatchTurn, MatchClosed};
-ghost use Rattle.aia_move.specs.Stages.{phase_at, past_phase};
-ghost use Rattle.aia_move.specs.Plan.{IsInDrain, NextStepIsOf, begun, GoesInPhase, GoesInPlace, next_phase};
+ghost use Rattle.aia_move.specs.Stages.{phase_at};
+ghost use Rattle.aia_moving.specs.Plan.{past_phase};
+ghost use Rattle.aia_moving.specs.Plan.{IsInDrain, NextStepIsOf, begun, GoesInPhase, GoesInPlace, next_phase};
 
 use crate::hand::Hand;
 use crate::kind::{Kind, end_of};

@@ -1,7 +1,8 @@
 ghost use Rattle.std.specs.Prelude.{◌≡◌, ◌≤◌, ◌&&◌, not, is_none};
 ghost use Rattle.aia_regs.specs.declared.limits.TheConstants.{FILE_WORDS};
 ghost use Rattle.aia_home.specs.Phases.{phase_begins};
-ghost use Rattle.aia_move.specs.Stages.{phase_at, past_phase, is_last};
+ghost use Rattle.aia_move.specs.Stages.{phase_at};
+ghost use Rattle.aia_moving.specs.Plan.{past_phase, is_last};
 
 use aia_home::{End, before_entry, plan_steps, word_steps};
 

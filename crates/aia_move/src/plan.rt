@@ -5,15 +5,16 @@ ghost use Rattle.aia_places.specs.Stores.{AreApart};
 ghost use Rattle.aia_moving.specs.Move.{MoveFits, width};
 ghost use Rattle.aia_moving.specs.Targets.{ArePasses, AimsAs, next_aim};
 ghost use Rattle.aia_moving.specs.Turns.{EndsAs, LeavesEmpty};
-ghost use Rattle.aia_move.specs.PlanState.{moving_of};
+ghost use Rattle.aia_moving.specs.PlanState.{moving_of};
 ghost use Rattle.aia_move.specs.Stages.{move_of, plan_of};
-ghost use Rattle.aia_move.specs.Plan.{IsInPhase, MatchNext, StepsTo, StepsInPlace};
+ghost use Rattle.aia_moving.specs.Plan.{IsInPhase, MatchNext, StepsTo, StepsInPlace};
 
 use crate::kind::{ToFile, ToMemory, ToOtherFile};
 use crate::moves::Move;
 use crate::phase::{Aim, Closing, Drain, Enable, First, Last, Look, Stage};
 use crate::{Arrive, Leave, Outcome, Shift, Targets};
 use aia_fabric::Fabric;
+use aia_moving::Next;
 use std::marker::Model;
 
 /// A move under way, in one of its phases.
@@ -32,7 +33,7 @@ pub(crate) enum Course {
 }
 
 impl Model for Plan {
-    ghost use Rattle.aia_move.specs.PlanState.{PlanState};
+    ghost use Rattle.aia_moving.specs.PlanState.{PlanState};
     ghost use Rattle.aia_move.specs.Stages.{move_of, phase_at};
 
     ghost Value = { PlanState };
@@ -64,23 +65,14 @@ pub enum State {
     ShiftLast(Shift<Last>),
 }
 
-/// What a step makes of a move.
-#[derive(Drop)]
-pub enum Next {
-    /// It goes on.
-    Again(Plan),
-    /// It is at its end.
-    Finished(Outcome),
-}
-
 impl Plan {
     /// Makes the next step of the plan: its next access, or, after the fence of the G-stage record
     /// and while a passed source is to be aimed, the aim of the next one at the new place, which
     /// leaves the fabric as it is. Before the access of the entry's fence all stores in flight of
     /// the VM land, the oldest first. `Finished` exactly at the last access: the guest file that
     /// the move leaves, where it leaves one, is then empty.
-    #[tactic(auto, using(crate::proofs::PhaseLemmas::finishes))]
-    pub fn step<T: Targets>(mut self, fabric: &mut Fabric, targets: &mut T) -> Next
+    #[tactic(auto, using(aia_moving::proofs::PhaseLemmas::finishes))]
+    pub fn step<T: Targets>(mut self, fabric: &mut Fabric, targets: &mut T) -> Next<Plan>
         requires fits { MoveFits fabric.old (moving_of self) }
         requires phase { IsInPhase (width fabric.old) self }
         requires harts { fabric.old.imsic.harts ≡ (T.map targets.old).harts }
@@ -119,7 +111,7 @@ impl Plan {
 
     /// Makes the last step of the plan, an access. The guest file that the move leaves, where it
     /// leaves one, is then empty.
-    #[tactic(auto, using(crate::proofs::MoveKept::ended_empty))]
+    #[tactic(auto, using(aia_moving::proofs::MoveKept::ended_empty))]
     pub fn finish(self, fabric: &mut Fabric) -> Outcome
         requires fits { MoveFits fabric.old (moving_of self) }
         requires last { is_at_last (width fabric.old) (moving_of self).home ≡ true }

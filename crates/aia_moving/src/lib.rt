@@ -5,5 +5,5 @@
 mod turn;
 mod who;
 
-pub use turn::{Closed, Outcome, Turn};
+pub use turn::{Closed, Next, Outcome, Turn};
 pub use who::{KeptNumbers, Pass, Who};

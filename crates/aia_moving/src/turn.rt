@@ -10,6 +10,15 @@ pub enum Turn<S, T> {
     On(T),
 }
 
+/// What a step makes of a plan.
+#[derive(Drop)]
+pub enum Next<P> {
+    /// It goes on.
+    Again(P),
+    /// It is at its end.
+    Finished(Outcome),
+}
+
 /// The phase of a move once its G-stage record is in force.
 #[derive(Drop)]
 pub enum Closed<A, N> {

@@ -31,10 +31,10 @@ use Rattle.aia_world.specs.World.{World, no_stage}
 use Rattle.aia_world.specs.Changes.{spot_of, places_of}
 use Rattle.aia_moving.specs.declared.who.Who.{Who}
 use Rattle.aia_moving.specs.Move.{Moving, mover, width, MoveFits}
-use Rattle.aia_move.specs.PlanState.{PlanState, moving_of}
-use Rattle.aia_move.specs.Plan.{IsInPhase, GoesAiming}
-use Rattle.aia_move.proofs.MoveKept.{aims_kept}
-use Rattle.aia_move.proofs.MachineLemmas.{no_accesses}
+use Rattle.aia_moving.specs.PlanState.{PlanState, moving_of}
+use Rattle.aia_moving.specs.Plan.{IsInPhase, GoesAiming}
+use Rattle.aia_moving.proofs.MoveKept.{aims_kept}
+use Rattle.aia_moving.proofs.MachineLemmas.{no_accesses}
 use Rattle.aia_model.specs.Event.Event.{Stepped}
 use Rattle.aia_model.specs.Vms.{vms_of, has_vcpu}
 use Rattle.aia_model.specs.GuestFile.{guest_file}
@@ -47,7 +47,7 @@ use Rattle.aia_model.proofs.ReachLemmas.{reach_step}
 use Rattle.aia_model.proofs.MoveLemmas.{is_itself, seen_stepped}
 use Rattle.aia_file.specs.InterruptFile.{is_live}
 use Rattle.aia_standing.specs.declared.vcpu.Stay.TheVariants as stays
-use Rattle.aia_standing.specs.declared.vcpu.VcpuRecord.{VcpuRecord}
+use Rattle.aia_standing.specs.Core.{VcpuRecord}
 use Rattle.aia_standing.specs.Core.{CoreState, record_of, home_in, hand_in}
 use Rattle.aia_standing.specs.HostFiles.{FileDone, host_spot, select_place}
 use Rattle.aia_standing.specs.Passes.{own_passes, HasItsPasses}

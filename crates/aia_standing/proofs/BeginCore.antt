@@ -14,8 +14,8 @@ use Rattle.aia_pool.specs.Leases.{least_free, with_out}
 use Rattle.aia_moving.specs.declared.who.Who.{Who}
 use Rattle.aia_moving.specs.declared.who.KeptNumbers.{KeptNumbers}
 use Rattle.aia_moving.specs.Move.{Moving, IsWho}
-use Rattle.aia_move.specs.PlanState.{PlanState, moving_of}
-use Rattle.aia_move.specs.Plan.{IsInPhase, empty_hand}
+use Rattle.aia_moving.specs.PlanState.{PlanState, moving_of}
+use Rattle.aia_moving.specs.Plan.{IsInPhase, empty_hand}
 use Rattle.aia_model.specs.declared.answer.Answer.{Answer}
 use Rattle.aia_model.specs.declared.answer.Answer.TheVariants.{Okay, Refused}
 use Rattle.aia_model.specs.declared.refusal.Refusal.{Refusal}
@@ -34,9 +34,9 @@ use Rattle.aia_model.proofs.BeginLemmas.{may_begin}
 use Rattle.aia_standing.specs.Passes.{own_passes}
 use Rattle.aia_model.specs.declared.want.Want.{Want}
 use Rattle.aia_model.specs.declared.want.Want.TheVariants as wants
-use Rattle.aia_standing.specs.declared.vcpu.Stay.{Stay}
+use Rattle.aia_standing.specs.Core.{Stay}
 use Rattle.aia_standing.specs.declared.vcpu.Stay.TheVariants as stays
-use Rattle.aia_standing.specs.declared.vcpu.VcpuRecord.{VcpuRecord}
+use Rattle.aia_standing.specs.Core.{VcpuRecord}
 use Rattle.aia_standing.specs.Core.{CoreState, no_record, record_of, home_in, parked_at}
 use Rattle.aia_model.specs.Move.{wanted_move}
 use Rattle.aia_standing.specs.Moves.{Refuses, BeginsIn, LeaveBegins, ArriveFrom, ArriveBegins, ShiftBegins, WantBegins, move_begun, MoveBegins}

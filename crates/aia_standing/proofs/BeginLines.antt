@@ -23,8 +23,8 @@ use Rattle.aia_world.specs.Changes.{spot_of, places_of}
 use Rattle.aia_moving.specs.declared.who.Who.{Who}
 use Rattle.aia_moving.specs.declared.who.KeptNumbers.{KeptNumbers}
 use Rattle.aia_moving.specs.Move.{Moving, width, IsWho}
-use Rattle.aia_move.specs.PlanState.{PlanState, moving_of}
-use Rattle.aia_move.specs.Plan.{IsInPhase}
+use Rattle.aia_moving.specs.PlanState.{PlanState, moving_of}
+use Rattle.aia_moving.specs.Plan.{IsInPhase}
 use Rattle.aia_model.specs.Move.{Move, mover}
 use Rattle.aia_model.specs.Move.Move.{Arrives, Leaves, Shifts}
 use Rattle.aia_model.specs.Event.{History, greatest_identity_of, file_words}
@@ -35,9 +35,9 @@ use Rattle.aia_model.specs.ReachOf.{in_force_of}
 use Rattle.aia_model.specs.HomeOf.{home, guest_place}
 use Rattle.aia_model.specs.Notice.{a_look_saw}
 use Rattle.aia_model.proofs.MoveLemmas.{home_step, seen_begun, is_itself}
-use Rattle.aia_standing.specs.declared.vcpu.Stay.{Stay}
+use Rattle.aia_standing.specs.Core.{Stay}
 use Rattle.aia_standing.specs.declared.vcpu.Stay.TheVariants as stays
-use Rattle.aia_standing.specs.declared.vcpu.VcpuRecord.{VcpuRecord}
+use Rattle.aia_standing.specs.Core.{VcpuRecord}
 use Rattle.aia_standing.specs.Core.{CoreState, record_of, home_in, hand_in}
 use Rattle.aia_standing.specs.Stands.{CoreStands}
 use Rattle.aia_home.proofs.HomeLemmas.{same_place, is_itself_place}

@@ -27,9 +27,9 @@ use Rattle.aia_world.proofs.WholeLemmas.{width_at}
 use Rattle.aia_moving.specs.declared.turn.Outcome.{Outcome}
 use Rattle.aia_moving.specs.declared.turn.Outcome.TheVariants.{Left, Arrived, Shifted}
 use Rattle.aia_moving.specs.Move.{mover, width}
-use Rattle.aia_move.specs.PlanState.{PlanState, moving_of}
+use Rattle.aia_moving.specs.PlanState.{PlanState, moving_of}
 use Rattle.aia_moving.specs.Turns.{GivesBack, EndsAs}
-use Rattle.aia_move.proofs.MoveKept.{ends_kept, ends_empty}
+use Rattle.aia_moving.proofs.MoveKept.{ends_kept, ends_empty}
 use Rattle.aia_model.specs.Event.{History, greatest_identity_of}
 use Rattle.aia_model.specs.Event.Event.{Stepped}
 use Rattle.aia_model.specs.Vms.{vms_of, has_vcpu}
@@ -43,7 +43,7 @@ use Rattle.aia_model.proofs.ReachLemmas.{reach_step}
 use Rattle.aia_model.proofs.PlaceLemmas.{ended_holds}
 use Rattle.aia_home.proofs.VmLemmas.{same_vcpu}
 use Rattle.aia_model.proofs.MoveLemmas.{is_itself}
-use Rattle.aia_standing.specs.declared.vcpu.VcpuRecord.{VcpuRecord}
+use Rattle.aia_standing.specs.Core.{VcpuRecord}
 use Rattle.aia_standing.specs.Core.{CoreState, record_of, home_in, hand_in}
 use Rattle.aia_standing.specs.Moves.{stay_after, back_of, with_back}
 use Rattle.aia_standing.specs.Stands.{PlanStands, VcpuStands, is_held, CoreStands}

@@ -44,7 +44,7 @@ use Rattle.aia_model.specs.Answer.{accepted_answer, deed_taken}
 use Rattle.aia_model.proofs.AnswerLemmas.{answered}
 use Rattle.aia_model.proofs.FileLemmas.{same_or_other}
 use Rattle.aia_model.proofs.HistoryLemmas.{line_happens}
-use Rattle.aia_standing.specs.declared.vcpu.VcpuRecord.{VcpuRecord}
+use Rattle.aia_standing.specs.Core.{VcpuRecord}
 use Rattle.aia_standing.specs.Core.{CoreState, no_record}
 use Rattle.aia_standing.specs.HostFiles.{FileDone, HasDone, host_spot, select_place, select_in}
 use Rattle.aia_standing.specs.Stands.{StandsForSome, VcpuStands, is_held, CoreStands, CoreTakes, line_served, signals_of}

@@ -39,8 +39,8 @@ use Rattle.aia_world.specs.World.{no_stage}
 use Rattle.aia_world.specs.Changes.{spot_of, places_of}
 use Rattle.aia_world.specs.Whole.{IsWhole, IsVm}
 use Rattle.aia_moving.specs.Move.{MoveFits}
-use Rattle.aia_move.specs.Plan.{empty_hand}
-use Rattle.aia_move.proofs.PhaseLemmas.{drains}
+use Rattle.aia_moving.specs.Plan.{empty_hand}
+use Rattle.aia_moving.proofs.PhaseLemmas.{drains}
 use Rattle.aia_entry.specs.Translation.{is_mask}
 use Rattle.aia_model.specs.Act.{newest}
 use Rattle.aia_regs.specs.DomainRegisters.{domain_register_of}

@@ -12,9 +12,9 @@ use Rattle.aia_pool.specs.Leases.{Leases, is_out}
 use Rattle.aia_world.specs.Changes.{places_of}
 use Rattle.aia_moving.specs.declared.who.Who.{Who}
 use Rattle.aia_moving.specs.Move.{mover, width, MoveFits, Goes}
-use Rattle.aia_move.specs.PlanState.{PlanState, moving_of}
-use Rattle.aia_move.specs.Plan.{IsInPhase}
-use Rattle.aia_move.proofs.MoveKept.{goes_kept}
+use Rattle.aia_moving.specs.PlanState.{PlanState, moving_of}
+use Rattle.aia_moving.specs.Plan.{IsInPhase}
+use Rattle.aia_moving.proofs.MoveKept.{goes_kept}
 use Rattle.aia_model.specs.Event.{History}
 use Rattle.aia_model.specs.Event.Event.{Stepped}
 use Rattle.aia_model.specs.GuestFile.{guest_file}
@@ -26,7 +26,7 @@ use Rattle.aia_home.specs.Routes.{reach_stepped}
 use Rattle.aia_model.proofs.ReachLemmas.{reach_step}
 use Rattle.aia_model.proofs.MoveLemmas.{seen_stepped, is_itself}
 use Rattle.aia_standing.specs.declared.vcpu.Stay.TheVariants as stays
-use Rattle.aia_standing.specs.declared.vcpu.VcpuRecord.{VcpuRecord}
+use Rattle.aia_standing.specs.Core.{VcpuRecord}
 use Rattle.aia_standing.specs.Core.{CoreState, record_of, home_in, hand_in}
 use Rattle.aia_standing.specs.Stands.{PlanStands, VcpuStands, CoreStands}
 use Rattle.aia_standing.proofs.VcpuLemmas.{IsHeld, majors_rest}

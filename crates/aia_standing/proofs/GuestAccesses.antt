@@ -48,12 +48,12 @@ use Rattle.aia_model.specs.Answer.{csr_shown, guest_csr_value}
 use Rattle.aia_model.proofs.AnswerLemmas.{guest_refusal}
 use Rattle.aia_home.proofs.VmLemmas.{same_vcpu}
 use Rattle.aia_model.proofs.MoveLemmas.{is_itself, is_another}
-use Rattle.aia_standing.specs.declared.vcpu.Stay.{Stay}
+use Rattle.aia_standing.specs.Core.{Stay}
 use Rattle.aia_standing.specs.declared.vcpu.Stay.TheVariants as stays
-use Rattle.aia_standing.specs.declared.vcpu.VcpuRecord.{VcpuRecord}
+use Rattle.aia_standing.specs.Core.{VcpuRecord}
 use Rattle.aia_standing.specs.Core.{CoreState, no_record, record_of, home_in, hand_in, resident_at, entered_at}
 use Rattle.aia_standing.specs.HostFiles.{host_spot, select_place}
-use Rattle.aia_move.specs.PlanState.{moving_of}
+use Rattle.aia_moving.specs.PlanState.{moving_of}
 use Rattle.aia_standing.specs.Stands.{PlanStands, StandsForSome, VcpuStands, is_held, CoreStands, CoreTakes}
 use Rattle.aia_standing.proofs.NameLemmas.{no_guest, is_hosts}
 use Rattle.aia_moving.specs.Touches.{SameMachine}

@@ -58,7 +58,7 @@ use Rattle.aia_model.specs.Notice.{noticed, noticed_by_store, a_look_saw}
 use Rattle.aia_model.specs.FileOf.{FileName, SupervisorFile, deed_at, notice_deed}
 use Rattle.aia_model.proofs.FileLemmas.{same_or_other, is_file-itself, is_file-other}
 use Rattle.aia_model.proofs.MoveLemmas.{is_itself, is_another}
-use Rattle.aia_standing.specs.declared.vcpu.VcpuRecord.{VcpuRecord}
+use Rattle.aia_standing.specs.Core.{VcpuRecord}
 use Rattle.aia_standing.specs.Core.{CoreState, no_record, record_of, hand_in}
 use Rattle.aia_standing.specs.HostFiles.{FileDone, host_spot, select_place}
 use Rattle.aia_standing.specs.Stands.{VcpuStands, is_held, CoreStands}

@@ -44,9 +44,9 @@ use Rattle.aia_model.specs.Passes.{passes_of}
 use Rattle.aia_model.proofs.RefusalLemmas.{unless_parked}
 use Rattle.aia_model.proofs.AnswerLemmas.{save_refusal, load_part_refusal}
 use Rattle.aia_model.proofs.MoveLemmas.{is_itself}
-use Rattle.aia_standing.specs.declared.vcpu.Stay.{Stay}
+use Rattle.aia_standing.specs.Core.{Stay}
 use Rattle.aia_standing.specs.declared.vcpu.Stay.TheVariants as stays
-use Rattle.aia_standing.specs.declared.vcpu.VcpuRecord.{VcpuRecord}
+use Rattle.aia_standing.specs.Core.{VcpuRecord}
 use Rattle.aia_standing.specs.Core.{CoreState, no_record, record_of, home_in, hand_in, parked_at}
 use Rattle.aia_image.specs.Loads.{sets_loaded}
 use Rattle.aia_standing.specs.Images.{state_in}

@@ -45,7 +45,7 @@ use Rattle.aia_model.specs.Answer.{accepted_answer, guest_csr_value}
 use Rattle.aia_model.proofs.AnswerLemmas.{inject_refusal, hvictl_refusal, hviprio_refusal}
 use Rattle.aia_home.proofs.VmLemmas.{same_vcpu}
 use Rattle.aia_model.proofs.MoveLemmas.{is_itself, is_another}
-use Rattle.aia_standing.specs.declared.vcpu.VcpuRecord.{VcpuRecord}
+use Rattle.aia_standing.specs.Core.{VcpuRecord}
 use Rattle.aia_standing.specs.Core.{CoreState, no_record, record_of, hand_in, resident_at, MajorsDone}
 use Rattle.aia_standing.specs.HostFiles.{FileDone, host_spot, select_place}
 use Rattle.aia_standing.specs.Stands.{VcpuStands, CoreStands, CoreTakes, answer_by}

@@ -37,7 +37,7 @@ use Rattle.aia_model.specs.Refusal.{serves, raises_illegal, raises_virtual}
 use Rattle.aia_model.specs.Answer.{csr_shown}
 use Rattle.aia_model.proofs.MoveLemmas.{is_itself}
 use Rattle.aia_standing.specs.declared.vcpu.Stay.TheVariants as stays
-use Rattle.aia_standing.specs.declared.vcpu.VcpuRecord.{VcpuRecord}
+use Rattle.aia_standing.specs.Core.{VcpuRecord}
 use Rattle.aia_standing.specs.Core.{CoreState, no_record, record_of, home_in, hand_in}
 use Rattle.aia_standing.specs.Memory.{file_in_memory, is_outside_sets, kept_value, kept_after}
 use Rattle.aia_standing.specs.Passes.{HasItsPasses}

@@ -20,8 +20,8 @@ use Rattle.aia_pool.specs.Leases.{Leases, is_out, with_out}
 use Rattle.aia_world.specs.World.{World, no_stage}
 use Rattle.aia_world.specs.Changes.{spot_of, places_of}
 use Rattle.aia_moving.specs.Move.{mover, width, MoveFits, IsWho}
-use Rattle.aia_move.specs.PlanState.{PlanState, moving_of}
-use Rattle.aia_move.specs.Plan.{IsInPhase}
+use Rattle.aia_moving.specs.PlanState.{PlanState, moving_of}
+use Rattle.aia_moving.specs.Plan.{IsInPhase}
 use Rattle.aia_model.specs.Move.{Move}
 use Rattle.aia_model.specs.Move.Move.{Arrives, Leaves, Shifts}
 use Rattle.aia_model.specs.Move as moves
@@ -36,14 +36,14 @@ use Rattle.aia_model.specs.Notice.{a_look_saw}
 use Rattle.aia_model.proofs.ReachLemmas.{reach_step}
 use Rattle.aia_model.proofs.MoveLemmas.{is_itself}
 use Rattle.aia_standing.specs.declared.vcpu.Stay.TheVariants as stays
-use Rattle.aia_standing.specs.declared.vcpu.VcpuRecord.{VcpuRecord}
+use Rattle.aia_standing.specs.Core.{VcpuRecord}
 use Rattle.aia_standing.specs.Core.{CoreState, no_record, record_of, home_in, hand_in}
 use Rattle.aia_standing.specs.HostFiles.{host_spot, select_place}
 use Rattle.aia_standing.specs.Stands.{PlanStands, VcpuStands, is_held, CoreStands}
 use Rattle.aia_moving.specs.Touches.{SameMachine}
 use Rattle.aia_home.proofs.HomeLemmas.{same_place, own_is_held, next_is_held}
 use Rattle.aia_standing.proofs.VcpuLemmas.{still_move, IsHeld, majors_rest}
-use Rattle.aia_move.proofs.MachineLemmas.{no_accesses}
+use Rattle.aia_moving.proofs.MachineLemmas.{no_accesses}
 use Rattle.aia_standing.proofs.EventLemmas.{as_it_was}
 use Rattle.aia_pool.proofs.LeaseLemmas.{out_here, out_elsewhere}
 use Rattle.aia_standing.proofs.LeaseLemmas.{in_pool}

@@ -22,12 +22,12 @@ use Rattle.aia_world.proofs.WholeLemmas.{vcpu_entry}
 use Rattle.aia_world.specs.declared.found.Found.{Found}
 use Rattle.aia_moving.specs.declared.who.Who.{Who}
 use Rattle.aia_standing.specs.Passes.{own_passes}
-use Rattle.aia_move.specs.declared.plan.Next.{Next}
-use Rattle.aia_move.specs.declared.plan.Next.TheVariants.{Again, Finished}
+use Rattle.aia_moving.specs.declared.turn.Next.{Next}
+use Rattle.aia_moving.specs.declared.turn.Next.TheVariants.{Again, Finished}
 use Rattle.aia_moving.specs.declared.turn.Outcome.{Outcome}
 use Rattle.aia_moving.specs.Move.{Moving, mover, width, MoveFits, MakesNext, Goes}
-use Rattle.aia_move.specs.PlanState.{PlanState, moving_of}
-use Rattle.aia_move.specs.Plan.{IsInPhase, MatchNext, GoesAiming, StepsTo}
+use Rattle.aia_moving.specs.PlanState.{PlanState, moving_of}
+use Rattle.aia_moving.specs.Plan.{IsInPhase, MatchNext, GoesAiming, StepsTo}
 use Rattle.aia_moving.specs.Turns.{EndsAs, GivesBack}
 use Rattle.aia_moving.proofs.LandingLemmas.{landed_whole}
 use Rattle.aia_model.specs.declared.answer.Answer.{Answer}
@@ -37,9 +37,9 @@ use Rattle.aia_model.specs.Event.Event.{Stepped}
 use Rattle.aia_model.specs.Vms.{vms_of, has_vcpu}
 use Rattle.aia_model.specs.HomeOf.{home}
 use Rattle.aia_model.specs.declared.want.Want.{Want}
-use Rattle.aia_standing.specs.declared.vcpu.Stay.{Stay}
+use Rattle.aia_standing.specs.Core.{Stay}
 use Rattle.aia_standing.specs.declared.vcpu.Stay.TheVariants as stays
-use Rattle.aia_standing.specs.declared.vcpu.VcpuRecord.{VcpuRecord}
+use Rattle.aia_standing.specs.Core.{VcpuRecord}
 use Rattle.aia_standing.specs.Core.{CoreState, no_record, record_of, home_in}
 use Rattle.aia_model.specs.Answer.{landed_first, step_taken, oldest_landed}
 use Rattle.aia_model.specs.Flight.{flight}
@@ -160,7 +160,7 @@ pub record AccessGoes (old new : CoreState) (g : Vcpu) (last : Bool) : Type 0 wh
   pub makes : (plan : PlanState) → (record_of old g).stay ≡ stays.Moving plan → OneMade old.world (moving_of plan) new.world
 
 -- What a step's calls say, once what lands before it has landed.
-pub record Made (x y : CoreState) (who : Found) (plan : PlanState) (next : Next) : Type 0 where
+pub record Made (x y : CoreState) (who : Found) (plan : PlanState) (next : Next PlanState) : Type 0 where
   pub swapped : Swapped x y who (stays.Moving plan) (stay_then next)
   pub first : NoneAtFence swapped.some.past (Stepped (vcpu who.vm who.number))
   pub unaimed : aims (moving_of plan) ≡ false
@@ -181,7 +181,7 @@ module _ (x y : CoreState) (who : Found) (plan : PlanState) where
   its_there : (h : History) → CoreStands x h → IsFound x.world who → has_vcpu h (vcpu who.vm who.number) ≡ true
   its_there h stands is = subst (λ (vs : List Vm). is_vcpu_in vs its ≡ true) stands.vms is.there
 
-  none_aimed : (next : Next) (h : History) → CoreStands x h → Made x y who plan next → is_aiming (passes_for h (vcpu who.vm who.number)) (home h (vcpu who.vm who.number)) ≡ false
+  none_aimed : (next : Next PlanState) (h : History) → CoreStands x h → Made x y who plan next → is_aiming (passes_for h (vcpu who.vm who.number)) (home h (vcpu who.vm who.number)) ≡ false
   none_aimed next h stands c = sym (aims_alike x h its plan stands (its_there h stands c.swapped.is_who) (sym (was_at x y who (stays.Moving plan) (stay_then next) c.swapped))) ∙ c.unaimed
 
   goes_on : (later : PlanState) (h : History) → NoneAtFence h (Stepped (vcpu who.vm who.number)) → CoreStands x h → Made x y who plan (Again later) → GoesOf x y h (vcpu who.vm who.number) plan later (its_record (stays.Moving later))
@@ -236,7 +236,7 @@ module _ (x y : CoreState) (who : Found) (plan : PlanState) where
   same_plan : (other : PlanState) → stays.Moving plan ≡ stays.Moving other → OneMade x.world (moving_of plan) y.world → OneMade x.world (moving_of other) y.world
   same_plan other e one = let same : plan ≡ other = cc in subst (λ (p : PlanState). OneMade x.world (moving_of p) y.world) same one
 
-  pub step_goes : (next : Next) → Made x y who plan next → AccessGoes x y (vcpu who.vm who.number) (is_finished next)
+  pub step_goes : (next : Next PlanState) → Made x y who plan next → AccessGoes x y (vcpu who.vm who.number) (is_finished next)
   step_goes (Again later) c =
       let some = c.swapped.some in
       let now = goes_on later some.past c.first some.stands c in
@@ -415,7 +415,7 @@ module _ (x y : CoreState) (who : Found) (plan later : PlanState) (c : Aims x y 
 -- ---- a step, of either kind
 
 -- What a step's calls say.
-pub record StepCalls (x y : CoreState) (who : Found) (plan : PlanState) (next : Next) : Type 0 where
+pub record StepCalls (x y : CoreState) (who : Found) (plan : PlanState) (next : Next PlanState) : Type 0 where
   pub is_who : IsFound x.world who
   pub some : StandsForSome x
   pub was : stays.Moving plan ≡ (get_or x.vcpus who.slot no_record).stay
@@ -435,7 +435,7 @@ pub record StepCalls (x y : CoreState) (who : Found) (plan : PlanState) (next : 
 
 module _ (x y : CoreState) (who : Found) (plan : PlanState) where
   -- it aims
-  by_aim : (next : Next) → StepCalls x y who plan next → aims (moving_of plan) ≡ true → MatchNext next (λ p. GoesAiming x.world (moving_of plan) y.world (moving_of p)) (λ o. ⊥) → MoveGoes x y (vcpu who.vm who.number) (is_finished next)
+  by_aim : (next : Next PlanState) → StepCalls x y who plan next → aims (moving_of plan) ≡ true → MatchNext next (λ p. GoesAiming x.world (moving_of plan) y.world (moving_of p)) (λ o. ⊥) → MoveGoes x y (vcpu who.vm who.number) (is_finished next)
   by_aim (Again later) c aiming goes = aim_goes x y who plan later (record {
     swapped = record { is_who = c.is_who; some = c.some; between = c.between; other = c.other; before = c.was; out = c.out; back = c.back; selects = c.selects; passes = c.passes };
     some = c.one;
@@ -448,7 +448,7 @@ module _ (x y : CoreState) (who : Found) (plan : PlanState) where
   by_aim (Finished o) c aiming goes = absurd goes
 
   -- it makes an access
-  by_access : (next : Next) → StepCalls x y who plan next → aims (moving_of plan) ≡ false → OnceLanded x.world (moving_of plan) (λ landed. MatchNext next (λ p. Goes landed (moving_of plan) y.world (moving_of p)) (λ o. EndsAs landed (moving_of plan) y.world o)) → MoveGoes x y (vcpu who.vm who.number) (is_finished next)
+  by_access : (next : Next PlanState) → StepCalls x y who plan next → aims (moving_of plan) ≡ false → OnceLanded x.world (moving_of plan) (λ landed. MatchNext next (λ p. Goes landed (moving_of plan) y.world (moving_of p)) (λ o. EndsAs landed (moving_of plan) y.world o)) → MoveGoes x y (vcpu who.vm who.number) (is_finished next)
   by_access next c unaimed once =
       let landed = once.landed in
       let first : IsFirst x landed who plan = record {
@@ -480,7 +480,7 @@ module _ (x y : CoreState) (who : Found) (plan : PlanState) where
         phase = c.phase;
       }))
 
-  pub step_called : (next : Next) → StepCalls x y who plan next → MoveGoes x y (vcpu who.vm who.number) (is_finished next)
+  pub step_called : (next : Next PlanState) → StepCalls x y who plan next → MoveGoes x y (vcpu who.vm who.number) (is_finished next)
   step_called next c = by_kind (aims (moving_of plan)) refl
     where
       by_kind : (b : Bool) → aims (moving_of plan) ≡ b → MoveGoes x y (vcpu who.vm who.number) (is_finished next)
@@ -502,7 +502,7 @@ goes_still x y who last goes some is moving =
 -- ---- the file that comes back
 
 -- it is one that is there, and out
-pub back_known : (x : CoreState) (u : World) (who : Found) (plan : PlanState) (next : Next) → StandsForSome x → IsFound x.world who → stays.Moving plan ≡ (get_or x.vcpus who.slot no_record).stay
+pub back_known : (x : CoreState) (u : World) (who : Found) (plan : PlanState) (next : Next PlanState) → StandsForSome x → IsFound x.world who → stays.Moving plan ≡ (get_or x.vcpus who.slot no_record).stay
     → StepsTo (next_aim (moving_of plan)) x.world (moving_of plan) u next → IsOutThere x.leases (back_then next)
 back_known x u who plan (Again later) some is was c = tt
 back_known x u who plan (Finished o) some is was c = by_kind (aims (moving_of plan)) (subst (λ b. StepsTo (aim_if b (moving_of plan)) x.world (moving_of plan) u (Finished o)) refl c)

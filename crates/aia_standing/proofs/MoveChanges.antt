@@ -34,7 +34,7 @@ use Rattle.aia_model.specs.FileOf.{FileName, deed_at, notice_deed}
 use Rattle.aia_model.proofs.FileLemmas.{file_by_step}
 use Rattle.aia_model.proofs.ReachLemmas.{reach_step}
 use Rattle.aia_model.proofs.MoveLemmas.{home_step, seen_stays, is_another}
-use Rattle.aia_standing.specs.declared.vcpu.VcpuRecord.{VcpuRecord}
+use Rattle.aia_standing.specs.Core.{VcpuRecord}
 use Rattle.aia_standing.specs.Core.{CoreState, record_of, home_in, hand_in}
 use Rattle.aia_standing.specs.HostFiles.{FileDone, host_spot}
 use Rattle.aia_standing.specs.Stands.{PlanStands, VcpuStands, is_held, HoldApart, CoreStands}
@@ -44,7 +44,7 @@ use Rattle.aia_standing.proofs.StandsLemmas.{count_after, Becomes, stands_after,
 use Rattle.aia_model.specs.Passes.{passes_of}
 use Rattle.aia_standing.specs.Passes.{HasItsPasses}
 use Rattle.aia_moving.specs.Touches.{OnlyAccesses}
-use Rattle.aia_move.proofs.MachineLemmas.{only_accesses}
+use Rattle.aia_moving.proofs.MachineLemmas.{only_accesses}
 
 -- ---- an event of a virtual hart's move
 

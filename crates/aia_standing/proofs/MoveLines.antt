@@ -18,7 +18,7 @@ use Rattle.aia_model.specs.Histories.{MayHappen}
 use Rattle.aia_model.specs.Event.Event.{Delivered}
 use Rattle.aia_world.specs.declared.found.Found.{Found}
 use Rattle.aia_moving.specs.Move.{mover, width}
-use Rattle.aia_move.specs.PlanState.{PlanState, moving_of}
+use Rattle.aia_moving.specs.PlanState.{PlanState, moving_of}
 use Rattle.aia_model.specs.declared.answer.Answer.{Answer}
 use Rattle.aia_model.specs.declared.msi.Msi.{Msi}
 use Rattle.aia_model.specs.declared.answer.Answer.TheVariants.{Refused}
@@ -32,7 +32,7 @@ use Rattle.aia_model.specs.Refusal.{refusal}
 use Rattle.aia_model.specs.Answer.{accepted_answer, msi_taken}
 use Rattle.aia_model.proofs.AnswerLemmas.{answered, step_refusal, begin_refusal}
 use Rattle.aia_model.specs.declared.want.Want.{Want}
-use Rattle.aia_standing.specs.declared.vcpu.Stay.{Stay}
+use Rattle.aia_standing.specs.Core.{Stay}
 use Rattle.aia_standing.specs.declared.vcpu.Stay.TheVariants as stays
 use Rattle.aia_standing.specs.Core.{CoreState, record_of, home_in, hand_in, has_plan}
 use Rattle.aia_standing.specs.Stands.{PlanStands, StandsForSome, CoreStands, CoreTakes, CoreHears, line_served}

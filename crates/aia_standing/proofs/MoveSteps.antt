@@ -18,7 +18,7 @@ use Rattle.aia_pool.specs.Leases.{is_out}
 use Rattle.aia_world.specs.Whole.{IsWhole}
 use Rattle.aia_world.specs.Changes.{spot_of, places_of}
 use Rattle.aia_moving.specs.Move.{Moving, mover, width, MoveFits, MakesNext}
-use Rattle.aia_move.specs.PlanState.{PlanState, moving_of}
+use Rattle.aia_moving.specs.PlanState.{PlanState, moving_of}
 use Rattle.aia_moving.specs.Touches.{Touches, sends}
 use Rattle.aia_moving.proofs.TouchLemmas.{step_touches, view_stays}
 use Rattle.aia_model.specs.Event.{History, greatest_identity_of, file_words}
@@ -35,7 +35,7 @@ use Rattle.aia_model.specs.Notice.{noticed, a_look_saw, ends_leave}
 use Rattle.aia_model.specs.FileOf.{FileName, notice_deed}
 use Rattle.aia_model.proofs.MoveLemmas.{home_step, is_itself}
 use Rattle.aia_standing.specs.declared.vcpu.Stay.TheVariants as stays
-use Rattle.aia_standing.specs.declared.vcpu.VcpuRecord.{VcpuRecord}
+use Rattle.aia_standing.specs.Core.{VcpuRecord}
 use Rattle.aia_standing.proofs.VcpuLemmas.{still_step}
 use Rattle.aia_standing.specs.Core.{CoreState, record_of, home_in, hand_in}
 use Rattle.aia_standing.specs.HostFiles.{FileDone, host_spot}
@@ -43,7 +43,7 @@ use Rattle.aia_standing.specs.Stands.{PlanStands, VcpuStands, is_held, CoreStand
 use Rattle.aia_moving.specs.Touches.{SameMachine}
 use Rattle.aia_standing.proofs.VcpuLemmas.{IsHeld}
 use Rattle.aia_standing.proofs.StandsLemmas.{count_after}
-use Rattle.aia_move.proofs.MachineLemmas.{machine_touched}
+use Rattle.aia_moving.proofs.MachineLemmas.{machine_touched}
 use Rattle.aia_standing.proofs.WithinLemmas.{guest_within}
 use Rattle.aia_standing.proofs.NoticeLemmas.{sent_where, count_sent, host_sent}
 use Rattle.aia_standing.proofs.MoveBegins.{own_record, other_record}

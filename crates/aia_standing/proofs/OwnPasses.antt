@@ -10,7 +10,7 @@ use Rattle.aia_home.specs.Vms.{Vcpu, is_vcpu, notice_hart}
 use Rattle.aia_home.specs.BySteps.{new_file}
 use Rattle.aia_home.specs.Aims.{aims_done, is_aiming, target_to}
 use Rattle.aia_moving.specs.declared.who.Pass as plans
-use Rattle.aia_move.specs.PlanState.{PlanState, moving_of}
+use Rattle.aia_moving.specs.PlanState.{PlanState, moving_of}
 use Rattle.aia_moving.specs.Targets as targets
 use Rattle.aia_moving.specs.Targets.{ArePasses, AimsAs, aims, aim_if, next_aim}
 use Rattle.aia_model.specs.Event.{History, greatest_identity_of}

@@ -37,8 +37,8 @@ use Rattle.aia_model.proofs.AnswerLemmas.{answered, pass_refusal}
 use Rattle.aia_model.proofs.FlightLemmas.{all_append}
 use Rattle.aia_model.proofs.MoveLemmas.{is_another}
 use Rattle.aia_standing.specs.declared.passed.Passed.{Passed}
-use Rattle.aia_standing.specs.declared.vcpu.VcpuRecord.{VcpuRecord}
-use Rattle.aia_standing.specs.declared.vcpu.Stay.{Stay}
+use Rattle.aia_standing.specs.Core.{VcpuRecord}
+use Rattle.aia_standing.specs.Core.{Stay}
 use Rattle.aia_standing.specs.declared.vcpu.Stay.TheVariants as stays
 use Rattle.aia_standing.specs.Core.{CoreState, no_record, record_of, home_in, resident_at, has_plan}
 use Rattle.aia_standing.specs.Moves.{UnlessRefused}

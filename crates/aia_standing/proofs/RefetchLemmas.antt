@@ -21,7 +21,7 @@ use Rattle.aia_world.specs.Changes.{spot_of, places_of, with_fence}
 use Rattle.aia_world.proofs.ViewLemmas.{fence-places}
 use Rattle.aia_world.proofs.WholeLemmas.{notice_hart_there}
 use Rattle.aia_moving.specs.Touches.{OnlyAccesses}
-use Rattle.aia_move.proofs.MachineLemmas.{only_accesses, only_tables}
+use Rattle.aia_moving.proofs.MachineLemmas.{only_accesses, only_tables}
 use Rattle.aia_places.specs.Stores.{AreApart}
 use Rattle.aia_pool.specs.Leases.{Leases, is_out}
 use Rattle.aia_mrif.specs.Mrif.{mrif_in}
@@ -40,7 +40,7 @@ use Rattle.aia_model.specs.Notice.{a_look_saw}
 use Rattle.aia_model.proofs.AnswerLemmas.{refetch_refusal}
 use Rattle.aia_model.proofs.MoveLemmas.{home_step, seen_stays, is_itself}
 use Rattle.aia_model.proofs.ReachLemmas.{reach_step}
-use Rattle.aia_standing.specs.declared.vcpu.VcpuRecord.{VcpuRecord}
+use Rattle.aia_standing.specs.Core.{VcpuRecord}
 use Rattle.aia_standing.specs.Core.{CoreState, no_record, record_of, home_in, hand_in}
 use Rattle.aia_standing.specs.HostFiles.{host_spot, select_place}
 use Rattle.aia_standing.specs.Stands.{VcpuStands, PlanStands, is_held, CoreStands, CoreTakes}

@@ -9,13 +9,13 @@ use Rattle.aia_home.specs.Home.{Home, is_moving, is_entered, runs}
 use Rattle.aia_home.specs.Home.Home.{OnWay}
 use Rattle.aia_world.specs.World.{World}
 use Rattle.aia_moving.specs.declared.who.KeptNumbers.{KeptNumbers}
-use Rattle.aia_move.specs.PlanState.{moving_of}
+use Rattle.aia_moving.specs.PlanState.{moving_of}
 use Rattle.aia_model.specs.declared.answer.Answer.{Answer}
 use Rattle.aia_model.specs.declared.answer.Answer.TheVariants.{Refused}
 use Rattle.aia_model.specs.declared.refusal.Refusal.{Refusal}
 use Rattle.aia_model.specs.declared.refusal.Refusal.TheVariants as words
 use Rattle.aia_model.proofs.RefusalLemmas.{unless_parked}
-use Rattle.aia_standing.specs.declared.vcpu.Stay.{Stay}
+use Rattle.aia_standing.specs.Core.{Stay}
 use Rattle.aia_standing.specs.declared.vcpu.Stay.TheVariants as stays
 use Rattle.aia_standing.specs.Core.{home_in, entered_at, parked_at, runs_in}
 use Rattle.aia_standing.specs.Stands.{PlanStands}

@@ -32,7 +32,7 @@ use Rattle.aia_world.specs.Changes.{spot_of, places_of}
 use Rattle.aia_world.proofs.FrameLemmas.{posts_rest}
 use Rattle.aia_moving.specs.declared.who.KeptNumbers.{KeptNumbers}
 use Rattle.aia_moving.specs.Touches.{OnlyAccesses}
-use Rattle.aia_move.proofs.MachineLemmas.{no_accesses}
+use Rattle.aia_moving.proofs.MachineLemmas.{no_accesses}
 use Rattle.aia_model.specs.declared.answer.Answer.{Answer}
 use Rattle.aia_model.specs.declared.answer.Answer.TheVariants.{Okay, Refused}
 use Rattle.aia_model.specs.declared.refusal.Refusal.{Refusal}
@@ -53,9 +53,9 @@ use Rattle.aia_model.proofs.RefusalLemmas.{unless_parked}
 use Rattle.aia_model.proofs.AnswerLemmas.{enter_refusal, exit_refusal}
 use Rattle.aia_model.proofs.ReachLemmas.{reach_step}
 use Rattle.aia_model.proofs.MoveLemmas.{home_step, seen_stays, is_itself}
-use Rattle.aia_standing.specs.declared.vcpu.Stay.{Stay}
+use Rattle.aia_standing.specs.Core.{Stay}
 use Rattle.aia_standing.specs.declared.vcpu.Stay.TheVariants as stays
-use Rattle.aia_standing.specs.declared.vcpu.VcpuRecord.{VcpuRecord}
+use Rattle.aia_standing.specs.Core.{VcpuRecord}
 use Rattle.aia_standing.specs.Core.{CoreState, no_record, record_of, home_in, entered_at, parked_at, hand_of, hand_in}
 use Rattle.aia_standing.specs.HostFiles.{FileDone, host_spot, select_place}
 use Rattle.aia_standing.specs.Memory.{with_stay, EntersFrom}

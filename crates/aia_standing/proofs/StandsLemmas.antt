@@ -46,10 +46,10 @@ use Rattle.aia_model.specs.Notice.{noticed, with_notice, notices_sent}
 use Rattle.aia_model.specs.FileOf.{FileName, deed_at, select_of}
 use Rattle.aia_model.proofs.FileLemmas.{file_step, select_step, file_by_step}
 use Rattle.aia_model.proofs.MoveLemmas.{home_step}
-use Rattle.aia_standing.specs.declared.vcpu.VcpuRecord.{VcpuRecord}
-use Rattle.aia_standing.specs.declared.vcpu.Stay.{Stay}
+use Rattle.aia_standing.specs.Core.{VcpuRecord}
+use Rattle.aia_standing.specs.Core.{Stay}
 use Rattle.aia_standing.specs.declared.vcpu.Stay.TheVariants as stays
-use Rattle.aia_move.specs.PlanState.{moving_of}
+use Rattle.aia_moving.specs.PlanState.{moving_of}
 use Rattle.aia_moving.proofs.StepLemmas.{fits_still}
 use Rattle.aia_standing.specs.Core.{CoreState, record_of}
 use Rattle.aia_standing.specs.HostFiles.{FileDone, host_spot, select_place, select_in}

@@ -10,10 +10,10 @@ use Rattle.aia_world.specs.Found.{IsFound}
 use Rattle.aia_world.specs.declared.found.Found.{Found}
 use Rattle.aia_moving.specs.Move.{width, MoveFits}
 use Rattle.aia_moving.specs.Targets.{next_aim}
-use Rattle.aia_move.specs.declared.plan.Next.TheVariants.{Again}
-use Rattle.aia_move.specs.PlanState.{PlanState, moving_of}
-use Rattle.aia_move.specs.Plan.{IsInPhase, StepsTo}
-use Rattle.aia_standing.specs.declared.vcpu.Stay.{Stay}
+use Rattle.aia_moving.specs.declared.turn.Next.TheVariants.{Again}
+use Rattle.aia_moving.specs.PlanState.{PlanState, moving_of}
+use Rattle.aia_moving.specs.Plan.{IsInPhase, StepsTo}
+use Rattle.aia_standing.specs.Core.{Stay}
 use Rattle.aia_standing.specs.declared.vcpu.Stay.TheVariants as stays
 use Rattle.aia_standing.specs.Core.{CoreState, no_record, record_of, home_in}
 use Rattle.aia_standing.specs.Stands.{StandsForSome}

@@ -20,11 +20,11 @@ use Rattle.aia_home.specs.BySteps.{own_file, next_file}
 use Rattle.aia_home.proofs.HomeLemmas.{own_is_held, next_is_held}
 use Rattle.aia_places.specs.Places.{Places}
 use Rattle.aia_places.specs.Holds.{Hand, Holds}
-use Rattle.aia_move.specs.PlanState.{moving_of}
+use Rattle.aia_moving.specs.PlanState.{moving_of}
 use Rattle.aia_moving.specs.Touches.{SameMachine}
 use Rattle.aia_moving.proofs.StepLemmas.{fits_still}
-use Rattle.aia_move.proofs.MachineLemmas.{phase_still}
-use Rattle.aia_standing.specs.declared.vcpu.Stay.{Stay}
+use Rattle.aia_moving.proofs.MachineLemmas.{phase_still}
+use Rattle.aia_standing.specs.Core.{Stay}
 use Rattle.aia_standing.specs.declared.vcpu.Stay.TheVariants as stays
 use Rattle.aia_places.specs.Stores.{AreApart}
 use Rattle.aia_world.specs.World.{World, stage_of}
@@ -53,7 +53,7 @@ use Rattle.aia_model.specs.Notice.{a_look_saw}
 use Rattle.aia_model.proofs.FileLemmas.{file_by_step}
 use Rattle.aia_model.proofs.ReachLemmas.{reach_step, none_rests}
 use Rattle.aia_model.proofs.MoveLemmas.{home_step, seen_stays}
-use Rattle.aia_standing.specs.declared.vcpu.VcpuRecord.{VcpuRecord}
+use Rattle.aia_standing.specs.Core.{VcpuRecord}
 use Rattle.aia_standing.specs.Core.{CoreState, record_of, home_in, hand_in}
 use Rattle.aia_standing.specs.Stands.{PlanStands, VcpuStands, is_held}
 

@@ -45,8 +45,8 @@ use Rattle.aia_world.specs.Making.{MakesVm, notice_page, entry_word_place}
 use Rattle.aia_world.specs.Whole.{IsWhole}
 use Rattle.aia_world.specs.Changes.{spot_of, places_of}
 use Rattle.aia_moving.specs.Move.{Moving, mover, MoveFits}
-use Rattle.aia_move.specs.PlanState.{moving_of}
-use Rattle.aia_move.specs.Plan.{IsInPhase}
+use Rattle.aia_moving.specs.PlanState.{moving_of}
+use Rattle.aia_moving.specs.Plan.{IsInPhase}
 use Rattle.aia_model.specs.declared.answer.Answer.TheVariants.{Okay, Refused}
 use Rattle.aia_model.specs.declared.refusal.Refusal.TheVariants as words
 use Rattle.aia_model.specs.declared.line.Line.TheVariants as lines
@@ -66,9 +66,10 @@ use Rattle.aia_model.proofs.FlightLemmas.{vm_within}
 use Rattle.aia_model.proofs.MoveLemmas.{home_step, seen_stays}
 use Rattle.aia_model.specs.Passes.{passes_of}
 use Rattle.aia_standing.specs.Passes.{HasItsPasses}
-use Rattle.aia_standing.specs.declared.vcpu.Stay.{Stay}
+use Rattle.aia_moving.specs.PlanState.{PlanState}
+use Rattle.aia_standing.specs.Core.{Stay}
 use Rattle.aia_standing.specs.declared.vcpu.Stay.TheVariants as stays
-use Rattle.aia_standing.specs.declared.vcpu.VcpuRecord.{VcpuRecord}
+use Rattle.aia_standing.specs.Core.{VcpuRecord}
 use Rattle.aia_standing.specs.Core.{CoreState, no_kept, no_record, record_of, home_in, hand_in}
 use Rattle.aia_standing.specs.HostFiles.{host_spot, select_place}
 use Rattle.aia_standing.specs.Stands.{flying_of, PlanStands, VcpuStands, StandsForSome, is_held, CoreStands, CoreTakes}
@@ -120,7 +121,7 @@ one_record_more new old first n r pushed is was =
     pushed ∙ ap (λ rs. rs ++ r ∷ []) was ∙ append_assoc first (replicate n no_record) (r ∷ []) ∙ ap (λ x. first ++ (replicate n no_record ++ x ∷ [])) is
     ∙ ap (λ rs. first ++ rs) (replicate-append-replicate n 1 no_record)
 
-no_record_at : (n k : ℕ) → get_or (replicate n no_record) k no_record ≡ no_record
+no_record_at : (n k : ℕ) → get_or (replicate n (no_record {P = PlanState})) k no_record ≡ no_record
 no_record_at zero k = refl
 no_record_at (suc n) zero = refl
 no_record_at (suc n) (suc k) = no_record_at n k
@@ -363,7 +364,7 @@ made_becomes x y h vm c =
         file = rw (imsic) (as_it_was (shown (file_at x.world.imsic (host_spot f))));
         select = ap (λ xs. get_or xs (select_place f) 0) c.selects;
       };
-      records = ap (λ (rs : List VcpuRecord). length rs) c.vcpus ∙ length-append x.vcpus (replicate vm.vcpus no_record) ∙ (λ k. c.stands.records k + length-replicate vm.vcpus no_record k) ∙ sym (vcpus_more (vms_of h) vm);
+      records = ap (λ (rs : List VcpuRecord). length rs) c.vcpus ∙ length-append x.vcpus (replicate vm.vcpus no_record) ∙ (λ k. c.stands.records k + length-replicate vm.vcpus (no_record {P = PlanState}) k) ∙ sym (vcpus_more (vms_of h) vm);
       vcpus = λ g inside. by_age g (old_or_new (vms_of h) vm g inside);
       lease_harts = ap (λ (l : Leases). l.harts) c.leases;
       lease_guests = ap (λ (l : Leases). l.guests) c.leases;

@@ -14,10 +14,17 @@ use Rattle.aia_model.specs.declared.refusal.Refusal.{Refusal}
 use Rattle.aia_model.specs.declared.refusal.Refusal.TheVariants as refusals
 use Rattle.aia_world.specs.World.{World}
 use Rattle.aia_moving.specs.declared.who.KeptNumbers.{KeptNumbers}
-use Rattle.aia_move.specs.PlanState.{moving_of}
-use Rattle.aia_standing.specs.declared.vcpu.Stay.{Stay}
+use Rattle.aia_moving.specs.PlanState.{PlanState, moving_of}
+use Rattle.aia_standing.specs.declared.vcpu.Stay.{Stay as StayBy}
 use Rattle.aia_standing.specs.declared.vcpu.Stay.TheVariants as stays
-use Rattle.aia_standing.specs.declared.vcpu.VcpuRecord.{VcpuRecord}
+use Rattle.aia_standing.specs.declared.vcpu.VcpuRecord.{VcpuRecord as RecordBy}
+
+-- Where a virtual hart is, and its record: of one that is being moved, its plan and the phase.
+abbrev pub Stay : Type 0
+Stay = StayBy PlanState
+
+abbrev pub VcpuRecord : Type 0
+VcpuRecord = RecordBy PlanState
 
 -- All that stores reach, which guest files are handed out, a record of each virtual hart by its
 -- number over all VMs, the select numbers of the host, and the passes of wired sources in order.
@@ -34,7 +41,7 @@ pub record CoreState : Type 0 where
 abbrev pub no_kept : KeptNumbers
 no_kept = record { delivery = 0; threshold = 0 }
 
-abbrev pub no_record : VcpuRecord
+abbrev pub no_record : {P : Type 0} → RecordBy P
 no_record = record { stay = stays.InMemory Parked no_kept; select = 0; majors = kept_at_first }
 
 -- The record of a virtual hart.
@@ -57,30 +64,30 @@ home_in (stays.Resident lease) = Resident lease
 home_in (stays.Moving plan) = (moving_of plan).home
 
 -- The guest file of one that is resident.
-abbrev pub resident_at : Stay → Option Place
+abbrev pub resident_at : {P : Type 0} → StayBy P → Option Place
 resident_at (stays.Resident lease) = Some lease
 resident_at stay = None
 
 -- The numbers that are kept of one that runs from memory.
-abbrev pub entered_at : Stay → Option KeptNumbers
+abbrev pub entered_at : {P : Type 0} → StayBy P → Option KeptNumbers
 entered_at (stays.InMemory Entered kept) = Some kept
 entered_at stay = None
 
 -- The numbers that are kept of one that is parked, or the word that refuses another.
-abbrev pub parked_at : Stay → Result KeptNumbers Refusal
+abbrev pub parked_at : {P : Type 0} → StayBy P → Result KeptNumbers Refusal
 parked_at (stays.InMemory Parked kept) = Ok kept
 parked_at (stays.InMemory Entered kept) = Err refusals.Entered
 parked_at (stays.Resident lease) = Err refusals.Home
 parked_at (stays.Moving plan) = Err refusals.Busy
 
 -- Whether a virtual hart runs, as it is kept.
-abbrev pub runs_in : Stay → Bool
+abbrev pub runs_in : {P : Type 0} → StayBy P → Bool
 runs_in (stays.Resident lease) = true
 runs_in (stays.InMemory Entered kept) = true
 runs_in stay = false
 
 -- Whether a virtual hart is being moved, as it is kept.
-abbrev pub has_plan : Stay → Bool
+abbrev pub has_plan : {P : Type 0} → StayBy P → Bool
 has_plan (stays.Moving plan) = true
 has_plan stay = false
 

@@ -13,9 +13,9 @@ use Rattle.aia_model.specs.declared.answer.Answer.{Answer}
 use Rattle.aia_model.specs.declared.answer.Answer.TheVariants.{Okay, Refused}
 use Rattle.aia_model.specs.declared.refusal.Refusal.{Refusal}
 use Rattle.aia_home.specs.declared.rest.Rest.TheVariants.{Entered}
-use Rattle.aia_standing.specs.declared.vcpu.Stay.{Stay}
+use Rattle.aia_standing.specs.Core.{Stay}
 use Rattle.aia_standing.specs.declared.vcpu.Stay.TheVariants as stays
-use Rattle.aia_standing.specs.declared.vcpu.VcpuRecord.{VcpuRecord}
+use Rattle.aia_standing.specs.Core.{VcpuRecord}
 use Rattle.aia_standing.specs.Core.{no_record, parked_at}
 
 -- ---- one enters

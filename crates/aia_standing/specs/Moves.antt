@@ -27,8 +27,8 @@ use Rattle.aia_model.specs.Passes.{passes_to, passes_for}
 use Rattle.aia_moving.specs.Targets.{Aim, next_aim}
 use Rattle.aia_moving.specs.declared.who.KeptNumbers.{KeptNumbers}
 use Rattle.aia_moving.specs.declared.who.Who.{Who}
-use Rattle.aia_move.specs.declared.plan.Next.{Next}
-use Rattle.aia_move.specs.declared.plan.Next.TheVariants.{Again, Finished}
+use Rattle.aia_moving.specs.declared.turn.Next.{Next}
+use Rattle.aia_moving.specs.declared.turn.Next.TheVariants.{Again, Finished}
 use Rattle.aia_moving.specs.declared.turn.Outcome.{Outcome}
 use Rattle.aia_moving.specs.declared.turn.Outcome.TheVariants.{Left, Arrived, Shifted}
 use Rattle.aia_moving.specs.Landings.{OnceLanded}
@@ -36,12 +36,12 @@ use Rattle.aia_moving.specs.Move.{Moving, mover, width, MakesNext}
 use Rattle.aia_world.specs.World.{World}
 use Rattle.aia_model.specs.GuestFile.{guest_file}
 use Rattle.aia_model.specs.Notice.{a_look_saw}
-use Rattle.aia_move.specs.PlanState.{PlanState, moving_of}
-use Rattle.aia_move.specs.Plan.{IsInPhase, begun, empty_hand, kept_hand, StepsInPlace}
-use Rattle.aia_move.specs.Knows.{Knows}
+use Rattle.aia_moving.specs.PlanState.{PlanState, moving_of}
+use Rattle.aia_moving.specs.Plan.{IsInPhase, begun, empty_hand, kept_hand, StepsInPlace}
+use Rattle.aia_moving.specs.Knows.{Knows}
 use Rattle.aia_model.specs.declared.want.Want.{Want}
 use Rattle.aia_model.specs.declared.want.Want.TheVariants as wants
-use Rattle.aia_standing.specs.declared.vcpu.Stay.{Stay}
+use Rattle.aia_standing.specs.Core.{Stay}
 use Rattle.aia_standing.specs.declared.vcpu.Stay.TheVariants as stays
 use Rattle.aia_standing.specs.Core.{CoreState, record_of, home_in, parked_at}
 use Rattle.aia_standing.specs.Stands.{CoreStands}
@@ -155,15 +155,15 @@ IsOutThere l (Some p) = IsFileThere l p × (is_out l p ≡ true)
 
 -- What a step of a plan makes: where the virtual hart is then, which file comes back, and whether
 -- the move is at its end.
-abbrev pub stay_then : Next → Stay
+abbrev pub stay_then : Next PlanState → Stay
 stay_then (Again plan) = stays.Moving plan
 stay_then (Finished outcome) = stay_after outcome
 
-abbrev pub back_then : Next → Option Place
+abbrev pub back_then : Next PlanState → Option Place
 back_then (Again plan) = None
 back_then (Finished outcome) = back_of outcome
 
-abbrev pub is_finished : Next → Bool
+abbrev pub is_finished : Next PlanState → Bool
 is_finished (Again plan) = false
 is_finished (Finished outcome) = true
 

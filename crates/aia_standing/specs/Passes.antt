@@ -7,7 +7,7 @@ use Rattle.std.specs.List.{AllByRecursion}
 use Rattle.aia_home.specs.Vms.{Vcpu, vcpu, is_vcpu}
 use Rattle.aia_moving.specs.declared.who.Pass as plans
 use Rattle.aia_moving.specs.Targets.{TargetMap}
-use Rattle.aia_move.specs.PlanState.{moving_of}
+use Rattle.aia_moving.specs.PlanState.{moving_of}
 use Rattle.aia_model.specs.Event.{History, sources_of, greatest_identity_of}
 use Rattle.aia_model.specs.Event.Event.{Stepped}
 use Rattle.aia_model.specs.Vms.{has_vcpu}
@@ -18,7 +18,7 @@ use Rattle.aia_model.specs.Passes.{Pass, no_pass, passes_of}
 use Rattle.aia_model.specs.Passable.{is_passable}
 use Rattle.aia_model.specs.Aim.{aimed_by, AllAreAimed}
 use Rattle.aia_model.specs.Answer.{steps_taken}
-use Rattle.aia_standing.specs.declared.vcpu.Stay.{Stay}
+use Rattle.aia_standing.specs.Core.{Stay}
 use Rattle.aia_standing.specs.declared.vcpu.Stay.TheVariants as stays
 use Rattle.aia_standing.specs.declared.passed.Passed.{Passed}
 use Rattle.aia_standing.specs.Core.{CoreState}

@@ -50,9 +50,9 @@ use Rattle.aia_model.specs.FileOf.{FileName, MachineFile, SupervisorFile, file_o
 use Rattle.aia_model.specs.Refusal.{refusal, guards}
 use Rattle.aia_model.specs.Answer.{answer, line_taken, msi_taken}
 use Rattle.aia_moving.specs.Move.{mover, width, MoveFits}
-use Rattle.aia_move.specs.PlanState.{moving_of}
-use Rattle.aia_move.specs.Plan.{IsInPhase}
-use Rattle.aia_standing.specs.declared.vcpu.Stay.{Stay}
+use Rattle.aia_moving.specs.PlanState.{moving_of}
+use Rattle.aia_moving.specs.Plan.{IsInPhase}
+use Rattle.aia_standing.specs.Core.{Stay}
 use Rattle.aia_standing.specs.declared.vcpu.Stay.TheVariants as stays
 use Rattle.aia_standing.specs.Core.{CoreState, record_of, home_in, hand_in}
 use Rattle.aia_standing.specs.HostFiles.{host_spot, file_in, select_in}

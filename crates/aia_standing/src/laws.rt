@@ -31,7 +31,7 @@ ghost use Rattle.aia_model.specs.Histories.{IsHistory, MayHappen};
 ghost use Rattle.aia_model.specs.Passes.{passes_of};
 ghost use Rattle.aia_model.specs.HomeOf.{home};
 ghost use Rattle.aia_model.specs.Answer.{msi_taken, after_lines};
-ghost use Rattle.aia_move.specs.PlanState.{PlanState};
+ghost use Rattle.aia_moving.specs.PlanState.{PlanState};
 ghost use Rattle.aia_standing.specs.Core.{CoreState, record_of};
 ghost use Rattle.aia_standing.specs.Stands.{CoreStands, CoreTakes, CoreHears, line_served};
 ghost use Rattle.aia_standing.specs.Example.{stayer, leaver, the_pass, so_far, leaving_history, earlier_lines, leave_lines, stayer_file, leaver_file, leaving_core};

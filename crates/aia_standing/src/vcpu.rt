@@ -4,12 +4,13 @@ ghost use Rattle.aia_standing.specs.Core.{no_record, resident_at, entered_at, pa
 use aia_home::{Place, Rest};
 use aia_major::VsMajor;
 use aia_model::Refusal;
-use aia_move::{KeptNumbers, Plan};
+use aia_moving::KeptNumbers;
 use aia_pool::FileLease;
 
-/// Where a virtual hart is: what the hypervisor keeps of it there.
+/// Where a virtual hart is: what the hypervisor keeps of it there, and of one that is being moved
+/// the plan.
 #[derive(Drop)]
-pub enum Stay {
+pub enum Stay<P> {
     /// Its interrupts rest in its slot of memory; its two numbers are kept here. Where it is
     /// entered it runs, and its instructions on the CSRs of its interrupt file are answered from
     /// there.
@@ -17,10 +18,10 @@ pub enum Stay {
     /// It is resident in the guest file of this lease.
     Resident(FileLease),
     /// It is being moved.
-    Moving(Plan),
+    Moving(P),
 }
 
-impl Stay {
+impl<P> Stay<P> {
     /// Tells the guest file of a virtual hart that is resident, `None` for one that is parked, runs
     /// from memory or is being moved.
     pub fn resident(&self) -> Option<Place>
@@ -73,19 +74,19 @@ impl Stay {
 
 /// What the hypervisor keeps of a virtual hart.
 #[derive(Drop)]
-pub struct VcpuRecord {
+pub struct VcpuRecord<P> {
     /// Where it is.
-    pub stay: Stay,
+    pub stay: Stay<P>,
     /// Its select number: what `siselect` holds.
     pub select: u64,
     /// Its major interrupts, which no move touches.
     pub majors: VsMajor,
 }
 
-impl VcpuRecord {
+impl<P> VcpuRecord<P> {
     /// Makes the record of a virtual hart that was never moved: it is parked, all its numbers are
     /// 0, and no major interrupt of it is injected or enabled.
-    pub fn new() -> VcpuRecord
+    pub fn new() -> VcpuRecord<P>
         ensures { result ≡ no_record }
     {
         VcpuRecord {

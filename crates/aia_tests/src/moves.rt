@@ -4,8 +4,8 @@
 ghost use Rattle.std.specs.Prelude.{◌≡◌, ◌<◌, false, [], IfSome, refl};
 ghost use Rattle.aia_word.specs.Sets.{has_bit};
 ghost use Rattle.aia_moving.specs.Move.{IsWho, MoveFits, width};
-ghost use Rattle.aia_move.specs.PlanState.{moving_of};
-ghost use Rattle.aia_move.specs.Plan.{IsInPhase};
+ghost use Rattle.aia_moving.specs.PlanState.{moving_of};
+ghost use Rattle.aia_moving.specs.Plan.{IsInPhase};
 ghost use Rattle.std.proofs.Common.{ap};
 ghost use Rattle.std.proofs.lemmas.Bool.{false≢true};
 

@@ -3,8 +3,8 @@
 
 ghost use Rattle.std.specs.Prelude.{◌≡◌, [], IfSome};
 ghost use Rattle.aia_moving.specs.Move.{IsWho, MoveFits, width};
-ghost use Rattle.aia_move.specs.PlanState.{moving_of};
-ghost use Rattle.aia_move.specs.Plan.{IsInPhase};
+ghost use Rattle.aia_moving.specs.PlanState.{moving_of};
+ghost use Rattle.aia_moving.specs.Plan.{IsInPhase};
 
 use crate::fabric::{pending, stores};
 use crate::looks::holds;

@@ -1,6 +1,6 @@
 use Rattle.std.proofs.Common.{sym, ap, ◌∙◌}
 use Rattle.std.proofs.lemmas.List.{get_or_default}
-use Rattle.aia_standing.specs.declared.vcpu.VcpuRecord.{VcpuRecord}
+use Rattle.aia_standing.specs.Core.{VcpuRecord}
 use Rattle.aia_standing.specs.Core.{no_record}
 use Rattle.aia_hyp.proofs.moves.carry_on.Goals as goal
 

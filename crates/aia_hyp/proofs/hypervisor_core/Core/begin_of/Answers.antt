@@ -2,7 +2,7 @@ use Rattle.std.proofs.Common.{List, length, refl, sym, ap, ◌∙◌, subst, ari
 use Rattle.std.proofs.lemmas.List.{length-set}
 use Rattle.aia_world.specs.Found.{IsFound}
 use Rattle.aia_model.specs.declared.answer.Answer.TheVariants.{Okay}
-use Rattle.aia_standing.specs.declared.vcpu.VcpuRecord.{VcpuRecord}
+use Rattle.aia_standing.specs.Core.{VcpuRecord}
 use Rattle.aia_standing.specs.Core.{CoreState}
 use Rattle.aia_standing.specs.Moves.{MoveBegins}
 use Rattle.aia_standing.specs.Stands.{answer_by}

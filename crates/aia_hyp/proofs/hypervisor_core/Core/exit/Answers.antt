@@ -3,7 +3,7 @@ use Rattle.aia_home.specs.Vms.{vcpu, is_vcpu_in}
 use Rattle.aia_model.specs.declared.answer.Answer.TheVariants.{Refused}
 use Rattle.aia_model.specs.declared.refusal.Refusal.TheVariants.{Idle}
 use Rattle.aia_model.specs.declared.line.Line.TheVariants.{Exit}
-use Rattle.aia_standing.specs.declared.vcpu.VcpuRecord.{VcpuRecord}
+use Rattle.aia_standing.specs.Core.{VcpuRecord}
 use Rattle.aia_standing.specs.Core.{CoreState, entered_at}
 use Rattle.aia_standing.specs.Stands.{CoreTakes}
 use Rattle.aia_standing.proofs.RunLines.{not_entered, no_vcpu_to_exit}

@@ -2,11 +2,11 @@ use Rattle.std.proofs.Common.{◌≡◌, true, get_or, sym, ap, ◌∙◌, subst
 use Rattle.std.proofs.Math.ListN.{set}
 use Rattle.aia_home.specs.Vms.{vcpu}
 use Rattle.aia_home.specs.Home.{is_moving}
-use Rattle.aia_move.specs.declared.plan.Next.TheVariants.{Finished}
-use Rattle.aia_move.specs.PlanState.{moving_of}
-use Rattle.aia_move.specs.Plan.{StepsTo}
+use Rattle.aia_moving.specs.declared.turn.Next.TheVariants.{Finished}
+use Rattle.aia_moving.specs.PlanState.{moving_of}
+use Rattle.aia_moving.specs.Plan.{StepsTo}
 use Rattle.aia_moving.specs.Targets.{next_aim}
-use Rattle.aia_move.proofs.PhaseLemmas.{finishes}
+use Rattle.aia_moving.proofs.PhaseLemmas.{finishes}
 use Rattle.aia_standing.specs.Core.{CoreState, no_record, record_of, home_in}
 use Rattle.aia_world.specs.Found.{IsFound}
 use Rattle.aia_standing.specs.Moves.{MoveGoes, IsAtItsLast}

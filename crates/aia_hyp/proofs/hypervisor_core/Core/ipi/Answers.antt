@@ -4,7 +4,7 @@ use Rattle.aia_world.specs.World.{stage_of}
 use Rattle.aia_world.specs.Stores.{ReachesByRecord}
 use Rattle.aia_model.specs.declared.answer.Answer.TheVariants.{Okay}
 use Rattle.aia_model.specs.declared.line.Line.TheVariants.{Ipi}
-use Rattle.aia_standing.specs.declared.vcpu.VcpuRecord.{VcpuRecord}
+use Rattle.aia_standing.specs.Core.{VcpuRecord}
 use Rattle.aia_standing.specs.Core.{CoreState, record_of, runs_in}
 use Rattle.aia_standing.specs.Stands.{CoreTakes}
 use Rattle.aia_standing.proofs.EventLemmas.{still}

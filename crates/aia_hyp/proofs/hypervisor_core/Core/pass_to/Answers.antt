@@ -8,7 +8,7 @@ use Rattle.aia_model.specs.declared.line.Line.TheVariants as lines
 use Rattle.aia_model.specs.Event.Event.{Accepted}
 use Rattle.aia_model.specs.Passes.{Pass}
 use Rattle.aia_standing.specs.Core.{CoreState, resident_at}
-use Rattle.aia_standing.specs.declared.vcpu.VcpuRecord.{VcpuRecord}
+use Rattle.aia_standing.specs.Core.{VcpuRecord}
 use Rattle.aia_standing.specs.Stands.{CoreStands, StandsForSome}
 use Rattle.aia_standing.proofs.PassLemmas.{free_so, record_low, record_read, few_identities, resident_there, pass_stands, pass_aims, pass_stands_for_some}
 use Rattle.aia_hyp.proofs.hypervisor_core.Core.pass_to.Goals as goal

@@ -4,7 +4,7 @@ use Rattle.aia_home.specs.Home.{is_moving}
 use Rattle.aia_home.specs.declared.vm.Vm.{Vm}
 use Rattle.aia_file.specs.InterruptFile.{is_greatest_identity}
 use Rattle.aia_world.specs.Found.{IsFound}
-use Rattle.aia_move.specs.PlanState.{PlanState, moving_of}
+use Rattle.aia_moving.specs.PlanState.{PlanState, moving_of}
 use Rattle.aia_moving.specs.Targets.{next_aim}
 use Rattle.aia_model.specs.Event.{greatest_identity_of}
 use Rattle.aia_model.specs.Vms.{has_vcpu}

@@ -4,7 +4,7 @@ use Rattle.aia_places.specs.Holds.{Hand}
 use Rattle.aia_moving.specs.Move.{Moving, width}
 use Rattle.aia_moving.specs.Turns.{GivesBack}
 use Rattle.aia_moving.proofs.StepLemmas.{executed_last}
-use Rattle.aia_move.proofs.PhaseLemmas.{last_step}
+use Rattle.aia_moving.proofs.PhaseLemmas.{last_step}
 use Rattle.aia_move.proofs.moves.Move+K+unit.finish.Goals as goal
 
 pub access-requires-clause-more : goal.access-requires-clause-more

@@ -2,7 +2,7 @@ use Rattle.std.proofs.Common.{subst}
 use Rattle.aia_places.specs.Stores.{AreApart}
 use Rattle.aia_world.specs.World.{World}
 use Rattle.aia_moving.specs.Turns.{LeavesEmpty}
-use Rattle.aia_move.specs.PlanState.{PlanState, moving_of}
+use Rattle.aia_moving.specs.PlanState.{PlanState, moving_of}
 use Rattle.aia_move.proofs.plan.Plan.step.Goals as goal
 
 pub returns-else-step_in_place-clause-empty : goal.returns-else-step_in_place-clause-empty

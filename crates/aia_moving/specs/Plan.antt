@@ -5,8 +5,8 @@ use Rattle.aia_home.specs.Home.Home.{OnWay}
 use Rattle.aia_home.specs.Plans.{steps_done, is_at_last}
 use Rattle.aia_home.specs.Phases.{Phase, following, begins, after_shared}
 use Rattle.aia_home.specs.Phases.Phase.{FirstPhase, ClosingPhase, DrainPhase, EnablePhase, LastPhase}
-use Rattle.aia_move.specs.declared.plan.Next.{Next}
-use Rattle.aia_move.specs.declared.plan.Next.TheVariants.{Again, Finished}
+use Rattle.aia_moving.specs.declared.turn.Next.{Next}
+use Rattle.aia_moving.specs.declared.turn.Next.TheVariants.{Again, Finished}
 use Rattle.aia_moving.specs.declared.turn.Outcome.{Outcome}
 use Rattle.aia_places.specs.Holds.{Hand}
 use Rattle.aia_world.specs.World.{World}
@@ -16,7 +16,7 @@ use Rattle.aia_moving.specs.Move.{Moving, width, MoveFits, Goes}
 use Rattle.aia_moving.specs.Targets.{Aim, aims, has_unaimed, next_aim, one_aimed}
 use Rattle.aia_moving.specs.Landings.{OnceLanded}
 use Rattle.aia_moving.specs.Turns.{IsIn, IsAtAims, GoesOn, EndsAs}
-use Rattle.aia_move.specs.PlanState.{PlanState, moving_of, phase_of}
+use Rattle.aia_moving.specs.PlanState.{PlanState, moving_of, phase_of}
 
 -- ---- a plan and its phase
 
@@ -43,7 +43,7 @@ IsInPhase words plan = NextStepIsOf (phase_of plan) words (moving_of plan)
 -- ---- a step
 
 -- What is said of a plan that goes on, and of what one that is finished gives back.
-abbrev pub MatchNext : Next → (PlanState → Type 0) → (Outcome → Type 0) → Type 0
+abbrev pub MatchNext : {P : Type 0} → Next P → (P → Type 0) → (Outcome → Type 0) → Type 0
 MatchNext (Again p) again finished = again p
 MatchNext (Finished o) again finished = finished o
 
@@ -53,12 +53,12 @@ pub record GoesAiming (w : World) (m : Moving) (u : World) (t : Moving) : Type 0
   pub moved : t ≡ one_aimed m
 
 -- The next access of a move is made: the move goes on, or is at its end.
-abbrev pub Advances : World → Moving → World → Next → Type 0
+abbrev pub Advances : World → Moving → World → Next PlanState → Type 0
 Advances w m u next = MatchNext next (λ p. Goes w m u (moving_of p)) (λ o. EndsAs w m u o)
 
 -- What a step makes of the world and of a move: where it aims, a passed source is aimed, and the
 -- move goes on; elsewhere it makes the next access of the plan, once what lands before it has.
-abbrev pub StepsTo : Option Aim → World → Moving → World → Next → Type 0
+abbrev pub StepsTo : Option Aim → World → Moving → World → Next PlanState → Type 0
 StepsTo None w m u next = OnceLanded w m (λ landed. Advances landed m u next)
 StepsTo (Some aim) w m u next = MatchNext next (λ p. GoesAiming w m u (moving_of p)) (λ o. ⊥)
 
@@ -83,6 +83,16 @@ kept_hand kept =
 abbrev pub GoesOnIn : Phase → World → Moving → World → Moving → Type 0
 GoesOnIn FirstPhase w m u t = OnceLanded w m (λ landed. GoesOn landed m u t)
 GoesOnIn phase w m u t = GoesOn w m u t
+
+-- The phase before which all accesses of a phase are made; none is in the phase of aims.
+abbrev pub past_phase : Option Phase → Phase
+past_phase None = DrainPhase
+past_phase (Some phase) = following phase
+
+-- Whether a phase is the last one.
+abbrev pub is_last : Option Phase → Bool
+is_last (Some LastPhase) = true
+is_last phase = false
 
 -- The next step of a move is the last one of this phase, in files of so many words.
 abbrev pub IsLastOf : Phase → ℕ → Moving → Type 0

@@ -6,8 +6,8 @@ use Rattle.aia_places.specs.Holds.{Holds}
 use Rattle.aia_world.specs.World.{World}
 use Rattle.aia_world.specs.Changes.{places_of}
 use Rattle.aia_moving.specs.Move.{mover, width, MoveFits}
-use Rattle.aia_move.specs.PlanState.{PlanState, moving_of}
-use Rattle.aia_move.specs.Plan.{IsInPhase}
+use Rattle.aia_moving.specs.PlanState.{PlanState, moving_of}
+use Rattle.aia_moving.specs.Plan.{IsInPhase}
 
 -- Its next step can be made, and is a step of its phase; and the places of the virtual hart that is
 -- moved hold an interrupt file. `reach`: where its entry in force leads; `saw`: a look of the leave

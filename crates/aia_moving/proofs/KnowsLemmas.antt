@@ -38,13 +38,13 @@ use Rattle.aia_world.proofs.StoreViews.{file_store-places, slot_store-places}
 use Rattle.aia_world.proofs.ViewLemmas.{posts-places, slot_low}
 use Rattle.aia_world.proofs.WholeLemmas.{notice_hart_there}
 use Rattle.aia_moving.specs.Move.{Moving, mover, width, MoveFits}
-use Rattle.aia_move.specs.PlanState.{PlanState, moving_of}
+use Rattle.aia_moving.specs.PlanState.{PlanState, moving_of}
 use Rattle.aia_moving.specs.Touches.{SameMachine}
-use Rattle.aia_move.specs.Knows.{Knows}
+use Rattle.aia_moving.specs.Knows.{Knows}
 use Rattle.aia_moving.proofs.StepLemmas.{fits_still}
-use Rattle.aia_move.proofs.MachineLemmas.{phase_still}
+use Rattle.aia_moving.proofs.MachineLemmas.{phase_still}
 use Rattle.aia_moving.proofs.MadeView.{few_words}
-use Rattle.aia_move.proofs.MoveKept.{file_in-size}
+use Rattle.aia_moving.proofs.MoveKept.{file_in-size}
 use Rattle.aia_regs.specs.declared.address_map.TheConstants.{PAGE}
 
 -- ---- in a world of the same machine with other places

@@ -27,10 +27,10 @@ use Rattle.aia_home.proofs.PhaseLemmas.{looks_begin, sets_first}
 use Rattle.aia_home.proofs.RouteLemmas.{unlast}
 use Rattle.aia_moving.proofs.PhaseSteps.{middle, begins_on, past_fence}
 use Rattle.aia_moving.proofs.LandingLemmas.{none_lands}
-use Rattle.aia_move.specs.declared.plan.Next.TheVariants.{Finished}
-use Rattle.aia_move.specs.PlanState.{PlanState, moving_of, phase_of}
-use Rattle.aia_move.specs.Stages.{past_phase, is_last}
-use Rattle.aia_move.specs.Plan.{is_in_aim, IsInDrain, NextStepIsOf, IsInPhase, IsLastOf, next_phase, StepsTo, GoesTo, GoesInPlace, GoesInPhase, GoesOnIn}
+use Rattle.aia_moving.specs.declared.turn.Next.TheVariants.{Finished}
+use Rattle.aia_moving.specs.PlanState.{PlanState, moving_of, phase_of}
+use Rattle.aia_moving.specs.Plan.{past_phase, is_last}
+use Rattle.aia_moving.specs.Plan.{is_in_aim, IsInDrain, NextStepIsOf, IsInPhase, IsLastOf, next_phase, StepsTo, GoesTo, GoesInPlace, GoesInPhase, GoesOnIn}
 
 -- ---- when a step aims
 
