@@ -2,7 +2,7 @@
 //! of them at most.
 
 ghost use Rattle.std.specs.Prelude.{◌≡◌, ◌<◌, ◌≤◌, length, All, IfOk, Bool};
-ghost use Rattle.aia_source.specs.Top.{topi_value};
+ghost use Rattle.aia_regs.specs.Top.{topi_value};
 ghost use Rattle.aia_domain.specs.InterruptSource.{EachSource};
 ghost use Rattle.aia_domain.specs.Domain.{with_sources};
 ghost use Rattle.aia_direct.specs.Idc.{new_idc, control_read, top_shown, claimed_top, signals_hart};

@@ -1,5 +1,5 @@
 ghost use Rattle.aia_wiring.specs.Controls.{EachControl, control_after, control_at, claimed_at, hart_of_register};
-ghost use Rattle.aia_source.specs.Top.{topi_value};
+ghost use Rattle.aia_regs.specs.Top.{topi_value};
 ghost use Rattle.aia_source.specs.Wired.SourceDeed.{Forwarded};
 ghost use Rattle.aia_domain.specs.InterruptSource.{EachSource, changed_at, with_deed, with_target, source_at, is_active_at};
 ghost use Rattle.aia_domain.specs.Domain.{with_sources, source_after, domain_after, is_ready};

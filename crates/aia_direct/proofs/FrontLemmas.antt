@@ -3,8 +3,8 @@ use Rattle.std.proofs.Common.{◌≡◌, ℕ, zero, suc, ◌<◌, ◌≤◌, Boo
 use Rattle.std.specs.List.{All}
 use Rattle.std.proofs.lemmas.Bool.{cond-true, cond-false, or_parts, or_from, le-ltb, lt-ltb, ltb-false}
 use Rattle.std.proofs.lemmas.Option.{none-some, same_Some}
-use Rattle.aia_source.specs.Top.{Pair, ComesFirst, NamesItself, lesser, least_pair}
-use Rattle.aia_source.proofs.TopLemmas.{lesser-none, least_pair-none, least_pair-suc}
+use Rattle.aia_regs.specs.Top.{Pair, ComesFirst, NamesItself, lesser, least_pair}
+use Rattle.aia_regs.proofs.TopLemmas.{lesser-none, least_pair-none, least_pair-suc}
 use Rattle.aia_word.specs.Top.{lets_through}
 use Rattle.aia_waiting.specs.Order.{comes_before, IsRising, put_in, put_if, ordered}
 use Rattle.aia_waiting.proofs.OrderLemmas.{is_before, not_before, rising_tail}

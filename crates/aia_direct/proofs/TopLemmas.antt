@@ -5,9 +5,9 @@ use Rattle.std.proofs.lemmas.Bool.{eq-eqb, ne_eqb}
 use Rattle.std.proofs.lemmas.Option.{none-some}
 use Rattle.aia_regs.specs.Fields.{field, with_field}
 use Rattle.aia_regs.proofs.FieldLemmas.{got, other_field}
-use Rattle.aia_source.specs.Top.{Pair, least_pair, topi_value}
+use Rattle.aia_regs.specs.Top.{Pair, least_pair, topi_value}
 use Rattle.aia_source.specs.Wired.SourceDeed.{Claimed}
-use Rattle.aia_source.proofs.TopLemmas.{least_found}
+use Rattle.aia_regs.proofs.TopLemmas.{least_found}
 use Rattle.aia_word.specs.Top.{lets_through}
 use Rattle.aia_waiting.specs.Order.{ordered}
 use Rattle.aia_domain.specs.InterruptSource.{InterruptSourceState, waiting_pair_at, EachSource, changed_at, with_deed}

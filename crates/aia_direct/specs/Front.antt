@@ -1,7 +1,7 @@
 -- A hart's candidates in rising order, and the first of them that a threshold lets through.
 -- AIA 1.0, APLIC, "Interrupt delivery directly by the APLIC".
 use Rattle.std.specs.Prelude.{ℕ, if◌then◌else◌, List, [], ◌∷◌, Option, Some, None}
-use Rattle.aia_source.specs.Top.{Pair}
+use Rattle.aia_regs.specs.Top.{Pair}
 use Rattle.aia_word.specs.Top.{lets_through}
 
 -- A pair, where there is one and the threshold lets its priority through.

@@ -6,7 +6,7 @@ use Rattle.aia_regs.specs.declared.domain_registers.DomainReg.TheVariants.{IDeli
 use Rattle.aia_regs.specs.Fields.{field, bit_number}
 use Rattle.aia_word.specs.Sets.{has_bit}
 use Rattle.aia_source.specs.Wired.SourceDeed.{Claimed}
-use Rattle.aia_source.specs.Top.{Pair, least_pair, is_top}
+use Rattle.aia_regs.specs.Top.{Pair, least_pair, is_top}
 use Rattle.aia_domain.specs.InterruptSource.{InterruptSourceState, with_deed, waiting_pair_at}
 use Rattle.aia_domain.specs.Domain.{DomainState}
 use Rattle.aia_direct.specs.Front.{through}

@@ -1,6 +1,6 @@
 ghost use Rattle.std.specs.Prelude.{◌≡◌, ◌+◌, ◌<◌, ◌≤◌, Bool, false, is_some, IfSome};
 ghost use Rattle.aia_regs.specs.Fields.{field};
-ghost use Rattle.aia_source.specs.Top.{topi_value};
+ghost use Rattle.aia_regs.specs.Top.{topi_value};
 ghost use Rattle.aia_source.specs.Wired.SourceDeed.{Claimed};
 ghost use Rattle.aia_domain.specs.InterruptSource.{EachSource, changed_at, with_deed};
 ghost use Rattle.aia_domain.specs.Domain.{with_sources, IsPairOfSource};

@@ -2,7 +2,7 @@
 //! are what was proved.
 
 ghost use Rattle.std.specs.Prelude.{◌≡◌, ℕ, Option};
-ghost use Rattle.aia_source.specs.Top.{Pair, NamesItself, least_pair};
+ghost use Rattle.aia_regs.specs.Top.{Pair, NamesItself, least_pair};
 ghost use Rattle.aia_waiting.specs.Order.{ordered};
 ghost use Rattle.aia_domain.specs.Domain.{DomainState, candidates};
 ghost use Rattle.aia_direct.specs.Front.{through, first_through};

@@ -2,7 +2,7 @@
 use Rattle.std.proofs.Common.{◌≡◌, ℕ, suc, ◌+◌, ◌-◌, ◌<◌, ◌≤◌, Bool, true, false, cond, [], ◌∷◌, length, ap, ◌∙◌, arith}
 use Rattle.std.specs.List.{Contains, AllPairs, filter, range_with_len}
 use Rattle.std.proofs.lemmas.List.Kept.{AllPairs-filter}
-use Rattle.aia_source.proofs.ListLemmas.{in_filter, filter_has, in_range, range_has, range_rises}
+use Rattle.aia_regs.proofs.ListLemmas.{in_filter, filter_has, in_range, range_has, range_rises}
 use Rattle.aia_domain.specs.Domain.{DomainState, is_ready, ready_from}
 
 from_step : (d : DomainState) (s : ℕ) → s < length d.sources → ready_from d s ≡ cond (is_ready d s) (s ∷ ready_from d (s + 1)) (ready_from d (s + 1))

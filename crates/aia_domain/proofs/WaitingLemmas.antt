@@ -4,7 +4,7 @@ use Rattle.std.specs.Option.{option_map_or}
 use Rattle.std.proofs.lemmas.Bool.{cond-true, cond-false, cases_eq, cases_lt, eq-eqb, ne_eqb, lt-ltb, le-ltb, and_right, false≢true}
 use Rattle.std.proofs.lemmas.Option.{unwrap_or-slice_get, slice_get_past, none-some, same_Some}
 use Rattle.aia_word.specs.Sets.{is_in}
-use Rattle.aia_source.specs.Top.{Pair, hart_of, priority_of, pair_if}
+use Rattle.aia_regs.specs.Top.{Pair, hart_of, priority_of, pair_if}
 use Rattle.aia_regs.specs.declared.limits.TheConstants.{SOURCES}
 use Rattle.aia_waiting.specs.Order.{CandidatesState, IsRising, ordered, put_if, out_if}
 use Rattle.aia_waiting.proofs.OrderedLemmas.{ordered-none, ordered-suc, ordered_same, ordered_changed, ordered_length, ordered_room, ordered_rising, ordered_all}

@@ -7,7 +7,7 @@ use Rattle.aia_regs.specs.declared.domain_registers.DomainReg.{DomainReg}
 use Rattle.aia_regs.specs.declared.domain_registers.DomainReg.TheVariants.{DomainCfg, SourceCfg, SetIp, InClrIp, SetIe, GenMsi, Target}
 use Rattle.aia_source.specs.Registers.{domaincfg_kept, domaincfg_read, enables, is_by_msi, touch, genmsi_kept, same_bool}
 use Rattle.aia_regs.specs.declared.limits.TheConstants.{SOURCES}
-use Rattle.aia_source.specs.Top.{Pair}
+use Rattle.aia_regs.specs.Top.{Pair}
 use Rattle.aia_domain.specs.declared.interrupt_source.SourceBit.TheVariants as bits
 use Rattle.aia_domain.specs.InterruptSource.{InterruptSourceState, new_source, changed_at, changed_if_named, touched, switched, aimed, sourcecfg_written, waits_at, candidates_of, sourcecfg_at, target_at, bit_at_source}
 

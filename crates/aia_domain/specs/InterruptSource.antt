@@ -10,7 +10,7 @@ use Rattle.aia_source.specs.declared.kept.TheConstants.{DELEGATED}
 use Rattle.aia_source.specs.Registers.{root_sourcecfg, child_sourcecfg, delegates, mode_of, mode_number, first_target, target_kept, same_bool, is_number_of}
 use Rattle.aia_source.specs.declared.touch.Touch.{Touch}
 use Rattle.aia_source.specs.declared.touch.Touch.TheVariants.{SetPending, ClearPending, SetEnable, ClearEnable}
-use Rattle.aia_source.specs.Top.{Pair, hart_of, pair_if}
+use Rattle.aia_regs.specs.Top.{Pair, hart_of, pair_if}
 use Rattle.aia_waiting.specs.Order.{ordered}
 use Rattle.aia_domain.specs.declared.interrupt_source.Change.{Change}
 use Rattle.aia_domain.specs.declared.interrupt_source.Change.TheVariants as changes

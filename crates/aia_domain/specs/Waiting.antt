@@ -2,7 +2,7 @@
 use Rattle.std.specs.Prelude.{◌≡◌, ℕ, suc, ◌-◌, ◌<◌, Bool, true, false, All, ◌&&◌, nat_eq, is_some, if◌then◌else◌, List, [], length, slice_get, Option, Some, None}
 use Rattle.std.specs.Option.{option_map_or}
 use Rattle.aia_word.specs.Sets.{is_in}
-use Rattle.aia_source.specs.Top.{Pair, hart_of, priority_of}
+use Rattle.aia_regs.specs.Top.{Pair, hart_of, priority_of}
 use Rattle.aia_waiting.specs.Order.{CandidatesState, put_if, out_if}
 use Rattle.aia_domain.specs.declared.interrupt_source.Aim.{Aim}
 use Rattle.aia_domain.specs.InterruptSource.{InterruptSourceState, new_source, waits, waits_at, pairs_for}

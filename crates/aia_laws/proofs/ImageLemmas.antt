@@ -14,7 +14,7 @@ use Rattle.aia_regs.specs.FileRegisters.{shows}
 use Rattle.aia_file.specs.InterruptFile.{SameFile, is_greatest_identity}
 use Rattle.aia_file.proofs.FileLemmas.{same_file}
 use Rattle.aia_major.specs.VsMajor.{is_major, majors_word, hviprio1_kept, hvictl_kept}
-use Rattle.aia_major.proofs.FirstLemmas.{here_or_later, nowhere}
+use Rattle.aia_regs.proofs.ListLemmas.{here_or_later, nowhere}
 use Rattle.aia_major.proofs.RegisterLemmas.{majors_word-bit}
 use Rattle.aia_model.specs.declared.part.Part.{Part}
 use Rattle.aia_model.specs.declared.part.Part.TheVariants as parts

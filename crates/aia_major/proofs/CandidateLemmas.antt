@@ -8,7 +8,8 @@ use Rattle.aia_regs.specs.Fields.{field, with_field}
 use Rattle.aia_regs.proofs.FieldLemmas.{got, other_field}
 use Rattle.aia_major.specs.VsMajor.{VsMajorState, Candidate, vti_of, iid_of, dpr_of, iprio_of, is_major, is_hvictl, is_live, or_256, one_if, external, by_hviprio1, by_hvictl, candidates, first_of, priority_shown, candidate_value, stopi_value}
 use Rattle.aia_major.specs.First.{IsFirst}
-use Rattle.aia_major.proofs.FirstLemmas.{here_or_later, nowhere, first_of-none, first_of-found, same_rank}
+use Rattle.aia_regs.proofs.ListLemmas.{here_or_later, nowhere}
+use Rattle.aia_major.proofs.FirstLemmas.{first_of-none, first_of-found, same_rank}
 
 -- ---- the five candidates
 

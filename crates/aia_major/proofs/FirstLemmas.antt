@@ -1,9 +1,10 @@
 -- The first of some candidates.
-use Rattle.std.proofs.Common.{◌≡◌, ℕ, zero, suc, ◌<◌, ◌≤◌, ◌⊎◌, inl, inr, Bool, true, false, ◌&&◌, ◌||◌, nat_eq, nat_lt, nat_le, cond, List, [], ◌∷◌, ◌++◌, Option, Some, None, refl, sym, ap, subst, ◌∙◌, append_assoc, arith}
+use Rattle.std.proofs.Common.{◌≡◌, ℕ, ◌<◌, ◌≤◌, ◌⊎◌, inl, inr, Bool, true, false, ◌&&◌, ◌||◌, nat_eq, nat_lt, nat_le, cond, List, [], ◌∷◌, ◌++◌, Option, Some, None, refl, sym, ap, subst, ◌∙◌, append_assoc, arith}
 use Rattle.std.specs.List.{Contains}
 use Rattle.std.proofs.lemmas.Bool.{cases_lt, cases_eq}
 use Rattle.std.proofs.lemmas.Bool.Decides.{nat_tests}
 use Rattle.std.specs.Option.{option_map, option_map_or}
+use Rattle.aia_regs.proofs.ListLemmas.{here, later, here_or_later, nowhere}
 use Rattle.aia_major.specs.declared.candidate.Candidate as kept
 use Rattle.aia_major.specs.VsMajor.{Candidate, comes_first, first_of}
 use Rattle.aia_major.specs.Kept.{seen, listed}
@@ -31,21 +32,6 @@ first_of_five e s t o h first_o first_t first_s first_e is_o is_t is_s is_e =
     let by_t = is_t ∙ first_put t first_o (listed o ++ listed h) is_o in
     let by_s = is_s ∙ first_put s first_t (listed t ++ (listed o ++ listed h)) by_t in
     is_e ∙ first_put e first_s (listed s ++ (listed t ++ (listed o ++ listed h))) by_s ∙ ap first_of (simp append_assoc)
-
--- ---- members of a list
-
-here : {X : Type 0} (x : X) (xs : List X) → Contains (x ∷ xs) x
-here x xs = (0, omega arith, refl)
-
-later : {X : Type 0} (x y : X) (xs : List X) → Contains xs y → Contains (x ∷ xs) y
-later x y xs m = (suc m.0, omega (arith, m.1), m.2)
-
-pub here_or_later : {X : Type 0} (x y : X) (xs : List X) → Contains (x ∷ xs) y → (x ≡ y) ⊎ Contains xs y
-here_or_later x y xs (zero, low, e) = inl e
-here_or_later x y xs (suc k, low, e) = inr (k, omega (arith, low), e)
-
-pub nowhere : {X A : Type 0} (y : X) → Contains [] y → A
-nowhere y m = absurd (omega (arith, m.1))
 
 -- ---- the first comes first
 

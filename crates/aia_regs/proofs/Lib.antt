@@ -4,3 +4,5 @@ pub mod RegisterLemmas
 pub mod TableLemmas
 pub mod FieldLemmas
 pub mod ByteOrderLemmas
+pub mod ListLemmas
+pub mod TopLemmas

@@ -5,3 +5,4 @@ pub mod DomainRegisters
 pub mod Fields
 pub mod Request
 pub mod AddressMap
+pub mod Top

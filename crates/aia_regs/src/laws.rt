@@ -1,12 +1,13 @@
 //! What the definitions of this crate mean, as laws: each function does nothing, and its clauses
 //! are what was proved.
 
-ghost use Rattle.std.specs.Prelude.{◌≡◌, ◌≢◌, ℕ, ◌+◌, ◌-◌, ◌*◌, ◌%◌, ◌^◌, ◌<◌, ◌≤◌, ◌↔◌, ◌⊎◌, true, Option, Some};
+ghost use Rattle.std.specs.Prelude.{◌≡◌, ◌≢◌, ℕ, ◌+◌, ◌-◌, ◌*◌, ◌%◌, ◌^◌, ◌<◌, ◌≤◌, ◌↔◌, ◌⊎◌, true, Option, Some, None};
 ghost use Rattle.std.specs.Int.{bit_at, swap_bytes, w32};
 ghost use Rattle.aia_regs.specs.FileRegisters.{register_of};
 ghost use Rattle.aia_regs.specs.DomainRegisters.{domain_register_of, domain_offset_of};
 ghost use Rattle.aia_regs.specs.Fields.{field, with_field, IsOutside};
 ghost use Rattle.aia_regs.specs.AddressMap.{machine_page, supervisor_page, guest_page, slot_address, table_address};
+ghost use Rattle.aia_regs.specs.Top.{Pair, NamesItself, IsLeast, least_pair};
 
 use crate::address_map::{
     HART_BITS, HART_SHIFT, HART_STRIDE, MEMORY, MEMORY_END, PAGE, PATTERN, REGION, ROOT_DOMAIN,
@@ -115,4 +116,18 @@ pub fn bounds_of_the_limits()
     ensures passes { FIRST_PASS_IDENTITY + PASSES ≤ 64 }
     ensures hart_bits { HARTS ≤ 2 ^ HART_BITS }
     ensures hart_shift { PAGE * 2 ^ HART_SHIFT ≡ HART_STRIDE }
+{}
+
+/// Of a range of numbers, where each pair has the number that it is of, the least pair is the
+/// least: it is a candidate's, and no candidate's pair comes before it, by priority and then by
+/// number; there is none exactly where there is no candidate.
+///
+/// AIA 1.0, APLIC, "Interrupt delivery directly by the APLIC".
+pub fn the_least_pair_is_the_least()
+    ensures found { (candidate : ℕ → Option Pair) (from count : ℕ) (p : Pair)
+        → NamesItself candidate → least_pair candidate from count ≡ Some p
+        → IsLeast candidate from count p }
+    ensures none { (candidate : ℕ → Option Pair) (from count : ℕ) → NamesItself candidate
+        → ◌≡◌ {A = Option Pair} (least_pair candidate from count) None
+        → (s : ℕ) → from ≤ s → s < from + count → ◌≡◌ {A = Option Pair} (candidate s) None }
 {}

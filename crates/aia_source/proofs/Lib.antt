@@ -1,3 +1,1 @@
 pub mod SourceLemmas
-pub mod TopLemmas
-pub mod ListLemmas

@@ -1,3 +1,2 @@
 pub mod Wired
 pub mod Registers
-pub mod Top

@@ -14,7 +14,7 @@ use Rattle.aia_source.specs.declared.mode.Mode.{Mode}
 use Rattle.aia_source.specs.declared.mode.Mode.TheVariants.{Inactive, Detached, RisingEdge, FallingEdge, LevelHigh, LevelLow}
 use Rattle.aia_source.specs.declared.touch.Touch.{Touch}
 use Rattle.aia_source.specs.declared.touch.Touch.TheVariants.{SetPending, ClearPending, SetEnable, ClearEnable}
-use Rattle.aia_source.specs.Top.{hart_of, priority_of, identity_of}
+use Rattle.aia_regs.specs.Top.{hart_of, priority_of, identity_of}
 use Rattle.aia_source.specs.Wired.{SourceDeed}
 use Rattle.aia_source.specs.Wired.SourceDeed.{Set, Cleared, Untouched}
 

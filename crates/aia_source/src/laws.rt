@@ -1,11 +1,10 @@
 //! What the definitions of this crate mean, as laws: each function does nothing, and its clauses
 //! are what was proved.
 
-ghost use Rattle.std.specs.Prelude.{◌≡◌, ◌≢◌, ℕ, ◌+◌, ◌<◌, ◌≤◌, Bool, false, nat_eq, if◌then◌else◌, Option, Some, None};
+ghost use Rattle.std.specs.Prelude.{◌≡◌, ◌≢◌, ℕ, ◌+◌, Bool, false, nat_eq, if◌then◌else◌};
 ghost use Rattle.aia_regs.specs.Fields.{field};
 ghost use Rattle.aia_regs.specs.Operations.{has_bit};
 ghost use Rattle.aia_source.specs.Registers.{one_at, enables, is_by_msi, domaincfg_kept, domaincfg_read, delegates, root_sourcecfg, child_sourcecfg, legal_mode};
-ghost use Rattle.aia_source.specs.Top.{Pair, NamesItself, IsLeast, least_pair};
 ghost use Rattle.aia_source.specs.Wired.{WiredState, SourceDeed, IsLawful, new_wired, done};
 ghost use Rattle.aia_source.specs.Wired.SourceDeed.{LevelGiven, Forwarded, Configured, Switched};
 
@@ -32,20 +31,6 @@ pub fn a_level_source_follows_its_input()
 pub fn an_inactive_source_is_not_pending()
     ensures { (s : WiredState) (msi : Bool) (deed : SourceDeed) (wire : Bool)
         → (done msi deed Mode.Inactive wire s).pending ≡ false }
-{}
-
-/// Of a range of numbers, where each pair has the number that it is of, the least pair is the
-/// least: it is a candidate's, and no candidate's pair comes before it, by priority and then by
-/// number; there is none exactly where there is no candidate.
-///
-/// AIA 1.0, APLIC, "Interrupt delivery directly by the APLIC".
-pub fn the_least_pair_is_the_least()
-    ensures found { (candidate : ℕ → Option Pair) (from count : ℕ) (p : Pair)
-        → NamesItself candidate → least_pair candidate from count ≡ Some p
-        → IsLeast candidate from count p }
-    ensures none { (candidate : ℕ → Option Pair) (from count : ℕ) → NamesItself candidate
-        → ◌≡◌ {A = Option Pair} (least_pair candidate from count) None
-        → (s : ℕ) → from ≤ s → s < from + count → ◌≡◌ {A = Option Pair} (candidate s) None }
 {}
 
 /// Where the bits of `domaincfg` and `sourcecfg` stand: IE at 8 and DM at 2, and above them 0x80 in

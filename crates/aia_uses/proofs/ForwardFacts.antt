@@ -6,7 +6,7 @@ use Rattle.aia_word.specs.Packed.{packed, ones}
 use Rattle.aia_regs.specs.BitUpdate.{BitUpdate}
 use Rattle.aia_regs.specs.BitUpdate.BitUpdate.{Nothing}
 use Rattle.aia_regs.specs.DomainRegisters.{domain_register_of}
-use Rattle.aia_source.specs.Top.{least_pair}
+use Rattle.aia_regs.specs.Top.{least_pair}
 use Rattle.aia_model.specs.declared.line.Line.TheVariants.{Wire}
 use Rattle.aia_model.specs.declared.msi.Msi.{Msi}
 use Rattle.aia_model.specs.Event.{History}

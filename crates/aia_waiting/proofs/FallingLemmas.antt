@@ -9,7 +9,7 @@ use Rattle.std.proofs.lemmas.Grind.{reverse_onto}
 use Rattle.std.proofs.lemmas.List.Quantifiers.{all_pairs_remove}
 use Rattle.std.proofs.Math.Seq.{drop-cons}
 use Rattle.std.proofs.lemmas.Option.{slice_get-get_or, slice_get_past}
-use Rattle.aia_source.specs.Top.{Pair}
+use Rattle.aia_regs.specs.Top.{Pair}
 use Rattle.aia_waiting.specs.Order.{comes_before, is_pair, IsRising, put_in, taken_out}
 use Rattle.aia_waiting.proofs.OrderLemmas.{not_before, not_before_is, first_first, put_at, out_there, out_nowhere}
 

@@ -6,8 +6,8 @@ use Rattle.std.specs.List.Sorted.{IsPartitionPoint, IsPartitionedBy}
 use Rattle.std.proofs.lemmas.Bool.{not-true, cond-true, cond-false, cases_lt, ltb-true, ltb-false, eqb-true, lt-ltb, le-ltb, eq-eqb, ne_eqb, and_parts, and_from, and_left, and_right, or_cases, or_parts, or_from, or_left, or_right}
 use Rattle.std.proofs.lemmas.List.Kept.{AllPairs-cons}
 use Rattle.std.proofs.lemmas.List.Elements.{All-cons}
-use Rattle.aia_source.specs.Top.{Pair, ComesFirst}
-use Rattle.aia_source.proofs.ListLemmas.{pairs_tail}
+use Rattle.aia_regs.specs.Top.{Pair, ComesFirst}
+use Rattle.aia_regs.proofs.ListLemmas.{pairs_tail}
 use Rattle.aia_waiting.specs.Order.{comes_before, is_pair, IsRising, put_in, taken_out}
 
 -- ---- two pairs, said of their numbers

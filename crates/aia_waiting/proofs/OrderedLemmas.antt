@@ -4,8 +4,8 @@ use Rattle.std.specs.List.{All, AllPairs, Contains}
 use Rattle.std.proofs.lemmas.List.Kept.{AllPairs-cons}
 use Rattle.std.proofs.lemmas.List.Elements.{All-cons}
 use Rattle.std.proofs.lemmas.Bool.{cond-true, cond-false, cases_eq, eq-eqb, ne_eqb, and_right}
-use Rattle.aia_source.specs.Top.{Pair, ComesFirst, NamesItself}
-use Rattle.aia_source.proofs.ListLemmas.{here, later, here_or_later, nowhere, pairs_tail}
+use Rattle.aia_regs.specs.Top.{Pair, ComesFirst, NamesItself}
+use Rattle.aia_regs.proofs.ListLemmas.{here, later, here_or_later, nowhere, pairs_tail}
 use Rattle.aia_waiting.specs.Order.{comes_before, is_pair, IsRising, put_in, taken_out, put_if, out_if, ordered}
 use Rattle.aia_waiting.proofs.OrderLemmas.{Before, is_before, before_is, not_before, not_before_is, first_before, before_first, before_comes_first, first_other, after_other, same_pair, put_length, put_all, put_rising}
 

@@ -1,6 +1,6 @@
 -- Pairs of a priority and a number, in rising order. Vocabulary.
 use Rattle.std.specs.Prelude.{◌≡◌, ℕ, zero, suc, Bool, false, ◌&&◌, ◌||◌, nat_eq, nat_lt, if◌then◌else◌, List, [], ◌∷◌, AllPairs, Option, Some, None}
-use Rattle.aia_source.specs.Top.{Pair}
+use Rattle.aia_regs.specs.Top.{Pair}
 
 -- Whether a pair comes before another: by priority, then by number.
 abbrev pub comes_before : Pair → Pair → Bool

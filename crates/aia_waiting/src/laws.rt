@@ -2,7 +2,7 @@
 //! are what was proved.
 
 ghost use Rattle.std.specs.Prelude.{◌≡◌, ℕ, ◌+◌, ◌<◌, ◌≤◌, ◌↔◌, true, Option, Some, Contains, AllPairs};
-ghost use Rattle.aia_source.specs.Top.{Pair, NamesItself};
+ghost use Rattle.aia_regs.specs.Top.{Pair, NamesItself};
 ghost use Rattle.aia_waiting.specs.Order.{comes_before, ordered};
 
 /// The pairs of some numbers in order are just their pairs; and where each pair has its own number,

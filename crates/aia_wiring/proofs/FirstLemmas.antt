@@ -21,7 +21,7 @@ use Rattle.aia_wiring.specs.Sending.{IsFirst, does_wait, asks_by_genmsi}
 use Rattle.aia_wiring.proofs.Steps.{source-idle}
 use Rattle.aia_wiring.proofs.Reading.{mode-zero}
 use Rattle.aia_wiring.specs.Senders.{SendsBefore}
-use Rattle.aia_source.proofs.ListLemmas.{filter_none, filter_first}
+use Rattle.aia_regs.proofs.ListLemmas.{filter_none, filter_first}
 use Rattle.aia_wiring.proofs.OrderLaw.{all_in_order, all_genmsi, all_sources, source_there}
 
 -- ---- what is kept tells what is ready

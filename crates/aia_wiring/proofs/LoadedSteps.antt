@@ -3,7 +3,7 @@ use Rattle.std.proofs.Common.{◌≡◌, ℕ, Bool, true, false, cond, ◌&&◌,
 use Rattle.aia_regs.specs.declared.domain_registers.DomainReg.{DomainReg}
 use Rattle.aia_regs.specs.declared.domain_registers.DomainReg.TheVariants.{ClaimI}
 use Rattle.aia_source.specs.Wired.SourceDeed.{Claimed}
-use Rattle.aia_source.specs.Top.{is_top}
+use Rattle.aia_regs.specs.Top.{is_top}
 use Rattle.aia_domain.specs.InterruptSource.{with_deed}
 use Rattle.aia_model.specs.declared.domain_name.DomainName.{DomainName}
 use Rattle.aia_model.specs.Act.{Past, newest}

@@ -10,7 +10,7 @@ use Rattle.aia_source.specs.Wired.SourceDeed.{LevelGiven, Set, Cleared, Claimed,
 use Rattle.aia_source.specs.Registers.{domaincfg_kept, is_by_msi, touch, deed_of_touch, same_bool}
 use Rattle.aia_source.specs.declared.touch.Touch.{Touch}
 use Rattle.aia_source.specs.declared.touch.Touch.TheVariants.{SetPending, ClearPending, SetEnable, ClearEnable}
-use Rattle.aia_source.specs.Top.{Pair}
+use Rattle.aia_regs.specs.Top.{Pair}
 use Rattle.aia_model.specs.declared.domain_name.DomainName.{DomainName}
 use Rattle.aia_model.specs.Act.{Past, newest}
 use Rattle.aia_model.specs.declared.domain_name.DomainName.TheVariants.{Root, Child}

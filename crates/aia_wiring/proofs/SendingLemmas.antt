@@ -20,7 +20,7 @@ use Rattle.aia_wiring.specs.Side.{source_of}
 use Rattle.aia_wiring.proofs.Steps.{source-idle, same_target, same_mode_says, same_enable}
 use Rattle.aia_wiring.proofs.SentSteps.{forwarded, sent_elsewhere}
 use Rattle.aia_wiring.proofs.AddressSteps.{addresses_sent}
-use Rattle.aia_source.proofs.ListLemmas.{filter_none, filter_rest}
+use Rattle.aia_regs.proofs.ListLemmas.{filter_none, filter_rest}
 use Rattle.aia_wiring.specs.Senders.{SendsBefore}
 use Rattle.aia_wiring.proofs.OrderLaw.{all_in_order}
 

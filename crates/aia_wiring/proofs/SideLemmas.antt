@@ -6,7 +6,7 @@ use Rattle.aia_regs.specs.declared.domain_registers.DomainReg.{DomainReg}
 use Rattle.aia_regs.specs.declared.domain_registers.DomainReg.TheVariants.{SourceCfg, IDelivery, IForce, IThreshold, TopI, ClaimI}
 use Rattle.aia_regs.specs.Fields.{field}
 use Rattle.aia_source.specs.Registers.{delegates, root_sourcecfg}
-use Rattle.aia_source.specs.Top.{Pair, topi_value}
+use Rattle.aia_regs.specs.Top.{Pair, topi_value}
 use Rattle.aia_source.specs.Wired.SourceDeed.{Forwarded}
 use Rattle.aia_domain.specs.InterruptSource.{EachSource, changed_if_named, granted, changed_at, wired, with_deed}
 use Rattle.aia_domain.specs.Domain.{DomainState, with_sources, source_after, domain_after, is_ready}

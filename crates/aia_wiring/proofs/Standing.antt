@@ -23,7 +23,7 @@ use Rattle.aia_wiring.proofs.WriteSteps.{same_bools, root_written, child_written
 use Rattle.aia_wiring.proofs.DrivenSteps.{driven}
 use Rattle.aia_wiring.proofs.LoadedSteps.{is_claim, claimed, loaded, root_at_child_loaded, child_at_root_loaded}
 use Rattle.aia_source.specs.Wired.SourceDeed.{Claimed}
-use Rattle.aia_source.specs.Top.{Pair, is_top}
+use Rattle.aia_regs.specs.Top.{Pair, is_top}
 
 -- what a domain keeps beside its sources, and its harts, is as the longer past has it
 pub record Keeps (d e : DomainState) (a : Act) (past : Past) (name : DomainName) : Type 0 where

@@ -2,8 +2,8 @@
 use Rattle.std.proofs.Common.{◌≡◌, ℕ, ◌≤◌, Bool, true, false, cond, Option, Some, None, refl, sym, ap, ◌∙◌, arith}
 use Rattle.std.proofs.lemmas.Bool.{cond-true, cond-false}
 use Rattle.std.proofs.lemmas.Option.{same_Some}
-use Rattle.aia_source.specs.Top.{Pair, least_pair, NamesItself, priority_of, pair_if}
-use Rattle.aia_source.proofs.TopLemmas.{least_found, least_none}
+use Rattle.aia_regs.specs.Top.{Pair, least_pair, NamesItself, priority_of, pair_if}
+use Rattle.aia_regs.proofs.TopLemmas.{least_found, least_none}
 use Rattle.aia_model.specs.declared.domain_name.DomainName.{DomainName}
 use Rattle.aia_model.specs.Act.{Past}
 use Rattle.aia_model.specs.SourceOf.{sources_in, target, pending, delivers_by_msis, is_for, pair_in, top}

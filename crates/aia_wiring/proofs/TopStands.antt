@@ -4,8 +4,8 @@ use Rattle.std.proofs.Math.Bool.{or-false}
 use Rattle.std.proofs.lemmas.Bool.{lt-leb}
 use Rattle.std.proofs.lemmas.Option.{slice_get-get_or}
 use Rattle.aia_word.specs.Top.{lets_through}
-use Rattle.aia_source.specs.Top.{Pair, lesser, least_pair, priority_of, hart_of, pair_if}
-use Rattle.aia_source.proofs.TopLemmas.{least_pair-none, least_pair-suc}
+use Rattle.aia_regs.specs.Top.{Pair, lesser, least_pair, priority_of, hart_of, pair_if}
+use Rattle.aia_regs.proofs.TopLemmas.{least_pair-none, least_pair-suc}
 use Rattle.aia_domain.specs.InterruptSource.{new_source, source_at, waiting_pair, waiting_pair_at}
 use Rattle.aia_domain.specs.Domain.{DomainState}
 use Rattle.aia_direct.specs.Front.{if_through, through}

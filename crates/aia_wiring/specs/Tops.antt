@@ -1,6 +1,6 @@
 -- What it is to be on top for a hart, said of the set of sources. Vocabulary.
 use Rattle.std.specs.Prelude.{◌≡◌, ℕ, ◌≤◌, true, false}
-use Rattle.aia_source.specs.Top.{Pair, ComesFirst, priority_of}
+use Rattle.aia_regs.specs.Top.{Pair, ComesFirst, priority_of}
 use Rattle.aia_model.specs.declared.domain_name.DomainName.{DomainName}
 use Rattle.aia_model.specs.Act.{Past}
 use Rattle.aia_model.specs.SourceOf.{sources_in, target, pending, delivers_by_msis, is_for}

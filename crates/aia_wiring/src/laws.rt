@@ -7,7 +7,7 @@ ghost use Rattle.aia_model.specs.declared.sender.Sender.{Sender};
 ghost use Rattle.aia_model.specs.declared.sender.Sender.TheVariants.{ByGenMsi, BySource};
 ghost use Rattle.aia_model.specs.Sent.{forwards, senders, msi_of, waiting_msis, with_all_sent, acts_of};
 ghost use Rattle.aia_wiring.specs.Senders.{SendsBefore};
-ghost use Rattle.aia_source.specs.Top.{Pair};
+ghost use Rattle.aia_regs.specs.Top.{Pair};
 ghost use Rattle.aia_wiring.specs.Aplic.{AplicState, AplicStands};
 ghost use Rattle.aia_wiring.specs.Passing.{is_passable_source, hart_count, target_in, is_passable_in};
 ghost use Rattle.aia_wiring.specs.Tops.{IsOnTop};

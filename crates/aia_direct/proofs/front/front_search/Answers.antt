@@ -1,5 +1,5 @@
 use Rattle.std.proofs.Common.{sym, ap, ◌∙◌}
-use Rattle.aia_source.specs.Top.{topi_value}
+use Rattle.aia_regs.specs.Top.{topi_value}
 use Rattle.aia_domain.specs.Domain.{IsPairOfSource}
 use Rattle.aia_direct.proofs.FrontLemmas.{first_of_rising, first_all}
 use Rattle.aia_direct.proofs.front.front_search.Goals as goal

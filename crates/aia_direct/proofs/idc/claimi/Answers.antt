@@ -1,5 +1,5 @@
 use Rattle.std.proofs.Common.{◌≡◌, false, None, Option, sym, ap, ◌∙◌, arith}
-use Rattle.aia_source.specs.Top.{Pair}
+use Rattle.aia_regs.specs.Top.{Pair}
 use Rattle.aia_direct.specs.Idc.{IdcState, top_shown, control_claimed}
 use Rattle.aia_direct.proofs.TopLemmas.{none_on_top, none_claimed}
 use Rattle.aia_direct.proofs.idc.claimi.Goals as goal

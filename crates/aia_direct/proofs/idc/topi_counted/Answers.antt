@@ -1,5 +1,5 @@
 use Rattle.std.proofs.Common.{sym, ap, subst, ◌∙◌, IfSome}
-use Rattle.aia_source.specs.Top.{topi_value}
+use Rattle.aia_regs.specs.Top.{topi_value}
 use Rattle.aia_domain.specs.Domain.{IsPairOfSource, candidates}
 use Rattle.aia_direct.specs.Idc.{IdcState}
 use Rattle.aia_direct.specs.Front.{first_through}

@@ -13,7 +13,7 @@ use Rattle.aia_model.specs.Notice.{look_saw}
 use Rattle.aia_regs.specs.DomainRegisters.{domain_register_of}
 use Rattle.aia_model.specs.Act.{newest}
 use Rattle.aia_model.specs.SourceOf.{wire_of, enabled, target, pending, genmsi_waits}
-use Rattle.aia_source.specs.Top.{least_pair}
+use Rattle.aia_regs.specs.Top.{least_pair}
 use Rattle.aia_model.specs.AddressOf.{addresses_of}
 use Rattle.aia_model.specs.Sent.{all_senders}
 use Rattle.aia_model.specs.Answer.{answer, answer_text, after}

@@ -2,7 +2,7 @@ use Rattle.std.proofs.Common.{true, refl, ap}
 use Rattle.aia_word.specs.Sets.{word_of, least_of}
 use Rattle.aia_word.specs.Packed.{packed, ones}
 use Rattle.aia_regs.specs.DomainRegisters.{domain_register_of}
-use Rattle.aia_source.specs.Top.{least_pair}
+use Rattle.aia_regs.specs.Top.{least_pair}
 use Rattle.aia_model.specs.Reading.{number_at, n32_at, flag_at, csr_at, line_at, reading}
 use Rattle.aia_model.specs.FileAfter.{select_by, file_by}
 use Rattle.aia_model.specs.MajorOf.{majors_of}

@@ -1,5 +1,5 @@
 use Rattle.std.proofs.Common.{◌<◌, List, length, sym, ap, subst, ◌∙◌, arith}
-use Rattle.aia_source.specs.Top.{topi_value}
+use Rattle.aia_regs.specs.Top.{topi_value}
 use Rattle.aia_direct.specs.Idc.{IdcState, top_shown}
 use Rattle.aia_wiring.specs.Controls.{control_at}
 use Rattle.aia_wiring.specs.Side.{SideState, SideStands}

@@ -1,6 +1,6 @@
 use Rattle.std.proofs.Common.{rules, ◌≡◌, List, ◌-◌, reverse, true, false, sym, ap, subst, ◌∙◌, arith}
 use Rattle.std.specs.List.Sorted.{IsPartitionPoint}
-use Rattle.aia_source.specs.Top.{Pair}
+use Rattle.aia_regs.specs.Top.{Pair}
 use Rattle.aia_waiting.specs.Order.{comes_before, is_pair, IsRising}
 use Rattle.aia_waiting.proofs.FallingLemmas.{removed_rises, out_falling, out_of_falling}
 use Rattle.aia_waiting.proofs.candidates.Candidates.take_within.Goals.{else-place-gt0-via-then-place-gt0+else-eq, else-place-gt0-via-else-place-gt0}

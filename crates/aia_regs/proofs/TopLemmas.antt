@@ -2,7 +2,7 @@
 use Rattle.std.proofs.Common.{◌≡◌, ℕ, zero, suc, ◌+◌, ◌-◌, ◌<◌, ◌≤◌, true, false, nat_lt, Option, Some, None, inl, inr, refl, sym, ap, subst, ◌∙◌, arith}
 use Rattle.std.proofs.lemmas.Bool.{cases_lt, cases_eq, lt-ltb, le-ltb, cond-true, cond-false}
 use Rattle.std.proofs.lemmas.Option.{none-some, same_Some}
-use Rattle.aia_source.specs.Top.{Pair, lesser, least_pair, ComesFirst, NamesItself, IsLeast}
+use Rattle.aia_regs.specs.Top.{Pair, lesser, least_pair, ComesFirst, NamesItself, IsLeast}
 
 pub lesser-none : (a : Option Pair) → lesser a None ≡ a
 lesser-none None = refl

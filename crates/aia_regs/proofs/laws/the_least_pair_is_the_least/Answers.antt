@@ -1,5 +1,5 @@
-use Rattle.aia_source.proofs.TopLemmas.{least_found, least_none}
-use Rattle.aia_source.proofs.laws.the_least_pair_is_the_least.Goals as goal
+use Rattle.aia_regs.proofs.TopLemmas.{least_found, least_none}
+use Rattle.aia_regs.proofs.laws.the_least_pair_is_the_least.Goals as goal
 
 pub returns-clause-found : goal.returns-clause-found
 returns-clause-found c = least_found
