@@ -2,7 +2,7 @@ ghost use Rattle.std.specs.Prelude.{◌≡◌, ◌<◌};
 ghost use Rattle.aia_word.specs.Top.{top_value};
 ghost use Rattle.aia_regs.specs.declared.limits.TheConstants.{VCPUS};
 ghost use Rattle.aia_file.specs.InterruptFile.{register_value, top_of, accessed, claimed};
-ghost use Rattle.aia_mrif.specs.SlotFile.{IsOfSets};
+ghost use Rattle.aia_file.specs.SlotFile.{IsOfSets};
 ghost use Rattle.aia_world.specs.SlotAccess.{file_of_slot, DoneInSlot};
 
 use crate::Fabric;

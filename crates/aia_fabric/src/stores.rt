@@ -1,7 +1,7 @@
 ghost use Rattle.std.specs.Prelude.{◌≡◌, ◌≢◌, ◌%◌, ◌<◌, true, length, Some, None};
 ghost use Rattle.aia_regs.specs.declared.address_map.TheConstants.{PAGE};
 ghost use Rattle.aia_regs.specs.declared.limits.TheConstants.{VCPUS};
-ghost use Rattle.aia_imsic.specs.Imsic.{IsThere};
+ghost use Rattle.aia_file.specs.Imsic.{IsThere};
 ghost use Rattle.aia_entry.specs.Tables.{table_of, route_of};
 ghost use Rattle.aia_home.specs.Vms.{Vcpu, vcpu, vcpus_in, is_vcpu_in, slot_of};
 ghost use Rattle.aia_world.specs.World.{OnlyStores, stage_of};
@@ -11,8 +11,7 @@ ghost use Rattle.aia_world.specs.Stores.{ReachesByRecord, Reaches, ReachesBy, St
 use crate::map::slot_at;
 use crate::{Fabric, Found};
 use aia_entry::{Entry, Route};
-use aia_imsic::Spot;
-use aia_mrif::Stored;
+use aia_file::{Spot, Stored};
 use aia_regs::address_map::PAGE;
 
 impl Fabric {

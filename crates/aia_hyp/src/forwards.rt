@@ -3,8 +3,8 @@ ghost use Rattle.std.specs.Option.{option_map};
 ghost use Rattle.std.specs.Result.{result_err};
 ghost use Rattle.std.specs.Int.{is_in_range};
 ghost use Rattle.aia_regs.specs.declared.limits.TheConstants.{GUEST_FILES, IDENTITIES, PASSES};
-ghost use Rattle.aia_imsic.specs.Map.{spot_at};
-ghost use Rattle.aia_imsic.specs.Imsic.{IsThere};
+ghost use Rattle.aia_file.specs.Map.{spot_at};
+ghost use Rattle.aia_file.specs.Imsic.{IsThere};
 ghost use Rattle.aia_home.specs.declared.place.Place.{Place};
 ghost use Rattle.aia_home.specs.Aims.{target_to};
 ghost use Rattle.aia_model.specs.declared.answer.Answer.TheVariants.{Okay, Refused};
@@ -22,7 +22,7 @@ ghost use Rattle.aia_standing.specs.Stands.{CoreStands, CorePasses, CoreHears, C
 
 use crate::hypervisor_core::{Core, is_host};
 use aia_fabric::Found;
-use aia_imsic::Spot;
+use aia_file::Spot;
 use aia_model::{Msi, Refusal};
 use aia_move::{Plan, Targets};
 use aia_regs::address_map::PAGE;

@@ -9,8 +9,8 @@ use Rattle.aia_word.proofs.SetLemmas.{word_from_bits}
 use Rattle.aia_word.proofs.LeastLemmas.{least_of_is, least_of_is_none}
 use Rattle.aia_regs.specs.declared.limits.TheConstants.{VCPUS, FILE_WORDS}
 use Rattle.aia_file.specs.InterruptFile.{is_live}
-use Rattle.aia_mrif.specs.Mrif.{set_at, pending_place, enable_place}
-use Rattle.aia_mrif.proofs.SlotLemmas.{place_shows}
+use Rattle.aia_file.specs.Mrif.{set_at, pending_place, enable_place}
+use Rattle.aia_file.proofs.SlotLemmas.{place_shows}
 use Rattle.aia_places.proofs.LookLemmas.{meets-and}
 use Rattle.aia_world.specs.World.{World}
 use Rattle.aia_world.specs.Whole.{IsWhole}

@@ -2,10 +2,10 @@
 use Rattle.std.proofs.Common.{◌≡◌, ◌≢◌, ◌⊎◌, inl, inr, sym, ap, subst}
 use Rattle.std.proofs.lemmas.Bool.{cases_eq}
 use Rattle.aia_file.specs.FileState.{FileState}
-use Rattle.aia_imsic.specs.declared.spot.Spot.{Spot}
-use Rattle.aia_imsic.specs.declared.spot.Spot.TheVariants.{MachineFile, SupervisorFile, GuestFile, Nowhere}
-use Rattle.aia_imsic.specs.Imsic.{ImsicState, IsThere, place_of, file_at, with_file}
-use Rattle.aia_imsic.proofs.PlaceLemmas.{same_place, kept_elsewhere}
+use Rattle.aia_file.specs.declared.spot.Spot.{Spot}
+use Rattle.aia_file.specs.declared.spot.Spot.TheVariants.{MachineFile, SupervisorFile, GuestFile, Nowhere}
+use Rattle.aia_file.specs.Imsic.{ImsicState, IsThere, place_of, file_at, with_file}
+use Rattle.aia_file.proofs.PlaceLemmas.{same_place, kept_elsewhere}
 
 same_or_other : (h : ImsicState) (a b : Spot) → IsThere h a → IsThere h b → (a ≡ b) ⊎ (a ≢ b)
 same_or_other h a b p q = elim (cases_eq (place_of h a) (place_of h b)) [

@@ -1,4 +1,2 @@
-pub mod MapLemmas
-pub mod PlaceLemmas
 pub mod SignalLemmas
 pub mod EachLemmas

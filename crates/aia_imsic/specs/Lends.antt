@@ -2,8 +2,8 @@
 use Rattle.std.specs.Borrow.{Lends, MutBor, Fml}
 use Rattle.aia_file.specs.FileState.{FileState}
 use Rattle.aia_file.specs.contracts.file.File as file
-use Rattle.aia_imsic.specs.declared.spot.Spot.{Spot}
-use Rattle.aia_imsic.specs.Imsic.{ImsicState, with_file}
+use Rattle.aia_file.specs.declared.spot.Spot.{Spot}
+use Rattle.aia_file.specs.Imsic.{ImsicState, with_file}
 use Rattle.aia_imsic.specs.contracts.imsic.Imsic.{the_row}
 
 -- The files end as they were, but for the lent one, which ends as the borrower leaves it.

@@ -4,12 +4,11 @@ ghost use Rattle.std.specs.Int.{is_in_range};
 ghost use Rattle.aia_word.specs.Sets.{has_bit};
 ghost use Rattle.aia_file.specs.InterruptFile.{is_greatest_identity, SameFile, empty_file, signals, landed};
 ghost use Rattle.aia_file.specs.FileState.{FileState, shown};
-ghost use Rattle.aia_imsic.specs.Map.{spot_at};
-ghost use Rattle.aia_imsic.specs.Imsic.{IsThere, place_of, file_at, with_file, AreEmpty};
+ghost use Rattle.aia_file.specs.Map.{spot_at};
+ghost use Rattle.aia_file.specs.Imsic.{IsThere, place_of, file_at, with_file, AreEmpty};
 ghost use Rattle.aia_imsic.specs.Lends.{LendsFile};
 
-use crate::spot::Spot;
-use aia_file::File;
+use aia_file::{File, Spot};
 use aia_regs::address_map::{HART_STRIDE, MACHINE_FILES, PAGE, SUPERVISOR_FILES};
 use aia_regs::limits::{GUEST_FILES, HARTS};
 use std::alloc::{AllocError, Global};
@@ -29,7 +28,7 @@ pub struct Imsic {
 impl Model for Imsic {
     ghost use Rattle.std.specs.Prelude.{◌≡◌, ◌+◌, ◌*◌, ◌≤◌, length};
     ghost use Rattle.aia_regs.specs.declared.limits.TheConstants.{HARTS, GUEST_FILES};
-    ghost use Rattle.aia_imsic.specs.Imsic.{ImsicState};
+    ghost use Rattle.aia_file.specs.Imsic.{ImsicState};
 
     ghost Value = { ImsicState };
 

@@ -5,9 +5,9 @@ ghost use Rattle.std.specs.Prelude.{◌≡◌, ◌≢◌, ℕ, ◌+◌, ◌*◌,
 ghost use Rattle.aia_regs.specs.AddressMap.{machine_page, supervisor_page, guest_page, is_in_page};
 ghost use Rattle.aia_regs.specs.declared.limits.TheConstants.{HARTS, GUEST_FILES};
 ghost use Rattle.aia_file.specs.FileState.{FileState};
-ghost use Rattle.aia_imsic.specs.declared.spot.Spot.{Spot};
-ghost use Rattle.aia_imsic.specs.Map.{spot_at};
-ghost use Rattle.aia_imsic.specs.Imsic.{ImsicState, IsThere, place_of, file_at, with_file};
+ghost use Rattle.aia_file.specs.declared.spot.Spot.{Spot};
+ghost use Rattle.aia_file.specs.Map.{spot_at};
+ghost use Rattle.aia_file.specs.Imsic.{ImsicState, IsThere, place_of, file_at, with_file};
 
 /// An address names a file exactly where the file is there and the address lies in its page, so it
 /// names at most one.

@@ -3,7 +3,6 @@
 
 mod imsic;
 pub mod laws;
-mod spot;
 
+pub use aia_file::Spot;
 pub use imsic::Imsic;
-pub use spot::Spot;

@@ -16,7 +16,7 @@ use Rattle.aia_model.specs.Event.Event.{Accepted, Began, Stepped, Delivered, Lan
 use Rattle.aia_model.specs.Vms.{vms_of}
 use Rattle.aia_model.specs.Flight.{Sending, flight, flying}
 use Rattle.aia_word.specs.Sets.{least_of}
-use Rattle.aia_imsic.specs.Map.{spot_at, is_guest_page}
+use Rattle.aia_file.specs.Map.{spot_at, is_guest_page}
 use Rattle.aia_model.specs.declared.msi.Msi.{Msi}
 use Rattle.aia_model.specs.Passes.{Pass, no_pass, passes_of, passed_by}
 use Rattle.aia_model.specs.GuestFile.{sent_to, goes_to_guest}

@@ -11,8 +11,8 @@ use Rattle.aia_regs.specs.BitUpdate.{settle, names}
 use Rattle.aia_regs.specs.BitUpdate.BitUpdate.{Ask, Nothing}
 use Rattle.aia_regs.specs.Request.{requested}
 use Rattle.aia_file.specs.InterruptFile.{InterruptFile}
-use Rattle.aia_imsic.specs.Map.{is_guest_page}
-use Rattle.aia_imsic.proofs.MapLemmas.{in_page, before_page, after_page, spot_of_host, spot_of_guest}
+use Rattle.aia_file.specs.Map.{is_guest_page}
+use Rattle.aia_file.proofs.MapLemmas.{in_page, before_page, after_page, spot_of_host, spot_of_guest}
 use Rattle.aia_regs.proofs.ListLemmas.{here_or_later, nowhere}
 use Rattle.aia_home.specs.declared.place.Place.{Place}
 use Rattle.aia_home.specs.Vms.{Vcpu, notice_identity}

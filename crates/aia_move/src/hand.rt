@@ -3,7 +3,7 @@ ghost use Rattle.std.specs.Borrow.{Bor};
 ghost use Rattle.aia_regs.specs.FileRegisters.{IsUsable};
 ghost use Rattle.aia_file.specs.InterruptFile.{register_value};
 ghost use Rattle.aia_file.specs.FileState.{shown};
-ghost use Rattle.aia_imsic.specs.Imsic.{IsThere, file_at};
+ghost use Rattle.aia_file.specs.Imsic.{IsThere, file_at};
 ghost use Rattle.aia_home.specs.declared.place.Place.{Place};
 ghost use Rattle.aia_home.specs.Home.{Way, Progress, left, led_to};
 ghost use Rattle.aia_places.specs.Places.{entry_word, second_word};

@@ -6,7 +6,7 @@ ghost use Rattle.aia_home.specs.Home.Home.{OnWay};
 ghost use Rattle.aia_home.specs.Home.Way.{Outward, Inward, Across};
 ghost use Rattle.aia_home.specs.Phases.{Phase, after_shared};
 ghost use Rattle.aia_home.specs.Phases.Phase.{LookPhase, LastPhase};
-ghost use Rattle.aia_imsic.specs.Imsic.{IsThere};
+ghost use Rattle.aia_file.specs.Imsic.{IsThere};
 ghost use Rattle.aia_world.specs.World.{World};
 ghost use Rattle.aia_world.specs.Changes.{spot_of};
 ghost use Rattle.aia_moving.specs.Move.{IsWho, MoveFits};
@@ -19,8 +19,8 @@ use crate::moves::Move;
 use crate::phase::{Last, Look};
 use crate::plan::{Course, Plan};
 use crate::{KeptNumbers, Outcome, Who};
+use aia_file::Spot;
 use aia_home::End;
-use aia_imsic::Spot;
 use aia_pool::FileLease;
 
 /// A virtual hart that leaves its guest file: its interrupts go to its slot of memory.

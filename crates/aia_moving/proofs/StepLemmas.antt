@@ -3,8 +3,8 @@ use Rattle.std.proofs.Common.{◌≡◌, ℕ, ◌+◌, ◌*◌, ◌/◌, ◌<◌
 use Rattle.std.proofs.lemmas.Bool.{lt-ltb, ne_eqb}
 use Rattle.aia_word.specs.Sets.{has_bit}
 use Rattle.aia_regs.specs.declared.file_registers.FileReg.{FileReg}
-use Rattle.aia_imsic.specs.declared.spot.Spot.{Spot}
-use Rattle.aia_imsic.specs.Imsic.{ImsicState, IsThere}
+use Rattle.aia_file.specs.declared.spot.Spot.{Spot}
+use Rattle.aia_file.specs.Imsic.{ImsicState, IsThere}
 use Rattle.aia_home.specs.declared.place.Place.{Place}
 use Rattle.aia_home.specs.declared.vm.Vm.{Vm}
 use Rattle.aia_home.specs.Vms.{is_vcpu_in, slot_of, notice_hart}

@@ -22,11 +22,11 @@ use Rattle.aia_regs.specs.BitUpdate.{settle}
 use Rattle.aia_regs.specs.BitUpdate.BitUpdate.{Ask, Clear, Nothing}
 use Rattle.aia_file.specs.InterruptFile.{InterruptFile, SameFile, is_greatest_identity, register_value, accessed}
 use Rattle.aia_file.proofs.AccessLemmas.{has_bit-written}
-use Rattle.aia_mrif.specs.Mrif.{mrif_in, set_at, pending_place, enable_place}
-use Rattle.aia_mrif.specs.Words.{HasSlot, index_of, register_place, MasksIdentities}
-use Rattle.aia_mrif.specs.SlotFile.{slot_file, IsOfSets, KeepsAllElse}
-use Rattle.aia_mrif.proofs.SlotLemmas as slots
-use Rattle.aia_mrif.proofs.SlotLemmas.{place_shows}
+use Rattle.aia_file.specs.Mrif.{mrif_in, set_at, pending_place, enable_place}
+use Rattle.aia_file.specs.Words.{HasSlot, index_of, register_place, MasksIdentities}
+use Rattle.aia_file.specs.SlotFile.{slot_file, IsOfSets, KeepsAllElse}
+use Rattle.aia_file.proofs.SlotLemmas as slots
+use Rattle.aia_file.proofs.SlotLemmas.{place_shows}
 
 -- ---- the identities of a file among those of a word
 

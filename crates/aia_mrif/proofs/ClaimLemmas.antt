@@ -12,11 +12,11 @@ use Rattle.aia_word.proofs.SetLemmas.{same_places}
 use Rattle.aia_regs.specs.declared.limits.TheConstants.{IDENTITIES, FILE_WORDS}
 use Rattle.aia_file.specs.InterruptFile.{SameFile, is_greatest_identity, top_of, claimed}
 use Rattle.aia_file.proofs.TopLemmas.{top_shown, pending_claimed}
-use Rattle.aia_mrif.specs.Mrif.{mrif_in, set_at, pending_place, enable_place}
-use Rattle.aia_mrif.specs.Words.{HasSlot, words_after_claim}
-use Rattle.aia_mrif.specs.SlotFile.{slot_file, KeepsAllElse}
-use Rattle.aia_mrif.proofs.SlotLemmas as slots
-use Rattle.aia_mrif.proofs.SlotLemmas.{place_shows}
+use Rattle.aia_file.specs.Mrif.{mrif_in, set_at, pending_place, enable_place}
+use Rattle.aia_file.specs.Words.{HasSlot, words_after_claim}
+use Rattle.aia_file.specs.SlotFile.{slot_file, KeepsAllElse}
+use Rattle.aia_file.proofs.SlotLemmas as slots
+use Rattle.aia_file.proofs.SlotLemmas.{place_shows}
 use Rattle.aia_file.proofs.SizeLemmas.{few_identities}
 use Rattle.aia_mrif.proofs.AccessLemmas.{set_apart, one_word_kept}
 

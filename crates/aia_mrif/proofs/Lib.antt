@@ -1,4 +1,3 @@
-pub mod SlotLemmas
 pub mod AccessLemmas
 pub mod SummaryLemmas
 pub mod ClaimLemmas

@@ -4,9 +4,9 @@ ghost use Rattle.aia_word.specs.Top.{top_value};
 ghost use Rattle.aia_regs.specs.declared.limits.TheConstants.{IDENTITIES};
 ghost use Rattle.aia_regs.specs.declared.access.Op.TheVariants as ops;
 ghost use Rattle.aia_file.specs.InterruptFile.{is_greatest_identity, SameFile, register_value, top_of, accessed, claimed};
-ghost use Rattle.aia_mrif.specs.Mrif.{mrif_in, pending_place};
-ghost use Rattle.aia_mrif.specs.Words.{HasSlot, index_of, register_place, MasksIdentities, words_after_claim};
-ghost use Rattle.aia_mrif.specs.SlotFile.{slot_file, IsOfSets, KeepsAllElse};
+ghost use Rattle.aia_file.specs.Mrif.{mrif_in, pending_place};
+ghost use Rattle.aia_file.specs.Words.{HasSlot, index_of, register_place, MasksIdentities, words_after_claim};
+ghost use Rattle.aia_file.specs.SlotFile.{slot_file, IsOfSets, KeepsAllElse};
 
 use crate::slot::{SlotMut, pair_at};
 use crate::view::{View, summary};

@@ -3,7 +3,7 @@
 
 ghost use Rattle.std.specs.Prelude.{◌≡◌, ℕ, ◌+◌, ◌*◌, ◌<◌, ◌≤◌, ◌⊎◌, List, false, slice_set};
 ghost use Rattle.aia_regs.specs.declared.limits.TheConstants.{IDENTITIES};
-ghost use Rattle.aia_mrif.specs.Mrif.{mrif_in, pending_place, enable_place};
+ghost use Rattle.aia_file.specs.Mrif.{mrif_in, pending_place, enable_place};
 
 /// Where the words of slot `q` begin, counted in bytes of memory.
 pub fn slot_layout()
@@ -13,7 +13,7 @@ pub fn slot_layout()
 
 /// The MRIF in a slot is made of the slot's own 64 words: a word that is written elsewhere leaves
 /// it equal, and it has no identity above the greatest.
-#[tactic(auto, using(crate::proofs::SlotLemmas::other_words))]
+#[tactic(auto, using(aia_file::proofs::SlotLemmas::other_words))]
 pub fn slots_are_apart()
     ensures elsewhere { (words : List ℕ) (q place v : ℕ)
         → (place < 64 * q) ⊎ (64 * (q + 1) ≤ place)

@@ -9,4 +9,5 @@ pub mod laws;
 mod slot;
 mod view;
 
-pub use slot::{SlotMut, Stored, look};
+pub use aia_file::Stored;
+pub use slot::{SlotMut, look};

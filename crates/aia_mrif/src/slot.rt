@@ -2,9 +2,10 @@ ghost use Rattle.std.specs.Prelude.{◌≡◌, ℕ, ◌+◌, ◌*◌, ◌/◌, �
 ghost use Rattle.aia_word.specs.Sets.{has_bit};
 ghost use Rattle.aia_regs.specs.declared.limits.TheConstants.{IDENTITIES, FILE_WORDS};
 ghost use Rattle.aia_regs.specs.Request.{requested};
-ghost use Rattle.aia_mrif.specs.Mrif.{mrif_in, pending_place, enable_place, after_store, stored};
-ghost use Rattle.aia_mrif.specs.Words.{HasSlot, SameMrif, words_after_store};
+ghost use Rattle.aia_file.specs.Mrif.{mrif_in, pending_place, enable_place, after_store, stored};
+ghost use Rattle.aia_file.specs.Words.{HasSlot, SameMrif, words_after_store};
 
+use aia_file::Stored;
 use aia_ram::Ram;
 use aia_regs::limits::{FILE_WORDS, IDENTITIES};
 use aia_regs::requested;
@@ -19,17 +20,6 @@ pub struct SlotMut<'a> {
     /// The number of the slot, counted from 0.
     pub q: u32,
     ghost there: { HasSlot ram.now q },
-}
-
-/// What becomes of a store to a slot.
-#[derive(Clone, Copy, Debug, PartialEq, Eq)]
-pub enum Stored {
-    /// It names no identity, and changes nothing.
-    Discarded,
-    /// It asks for one that is not enabled.
-    Quiet,
-    /// It asks for one that is enabled: a notice is to be sent.
-    Notice,
 }
 
 /// Gives both words `k`, below `FILE_WORDS`, of slot `q`, one that memory has: which of the
@@ -85,7 +75,7 @@ impl Bank for SlotMut<'_> {
         self.ram.swap(pair_at(self.q, k), v)
     }
 
-    #[tactic(auto, using(crate::proofs::SlotLemmas::slot_joined))]
+    #[tactic(auto, using(aia_file::proofs::SlotLemmas::slot_joined))]
     fn or_pending(&mut self, k: usize, v: u64)
         requires word { k < FILE_WORDS }
         requires no_zero { k ≡ 0 → has_bit v 0 ≡ false }
@@ -129,7 +119,7 @@ impl SlotMut<'_> {
     /// Takes a 32-bit store of `value` at `offset` of the slot: it makes the identity pending that
     /// it names, and tells whether that one is enabled. `Discarded` exactly where it names no
     /// identity from 1 to `IDENTITIES`; `Notice` exactly where it names one that is enabled.
-    #[tactic(auto, using(crate::proofs::SlotLemmas::landed))]
+    #[tactic(auto, using(aia_file::proofs::SlotLemmas::landed))]
     pub fn land(&mut self, offset: u32, value: u32) -> Stored
         ensures stored { result
             ≡ stored (mrif_in self.old.ram.now self.old.q) (requested IDENTITIES offset value) }
@@ -186,7 +176,7 @@ pub(crate) fn pair_at(q: u32, k: usize) -> usize
 }
 
 /// Gives the word that has the identity's bit alone.
-#[tactic(auto, using(crate::proofs::SlotLemmas::one_bit))]
+#[tactic(auto, using(aia_file::proofs::SlotLemmas::one_bit))]
 fn bit_of(identity: u32) -> u64
     ensures { result ≡ 2 ^ (identity % 64) }
 {

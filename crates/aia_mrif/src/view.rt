@@ -2,9 +2,9 @@ ghost use Rattle.std.specs.Prelude.{◌≡◌, ℕ, ◌+◌, ◌*◌, ◌/◌, �
 ghost use Rattle.aia_word.specs.Sets.{has_bit, word_of};
 ghost use Rattle.aia_file.specs.InterruptFile.{is_greatest_identity, is_live};
 ghost use Rattle.aia_file.specs.Summary.{SummarizesBoth};
-ghost use Rattle.aia_mrif.specs.Mrif.{mrif_in};
-ghost use Rattle.aia_mrif.specs.Words.{HasSlot};
-ghost use Rattle.aia_mrif.specs.SlotFile.{slot_file};
+ghost use Rattle.aia_file.specs.Mrif.{mrif_in};
+ghost use Rattle.aia_file.specs.Words.{HasSlot};
+ghost use Rattle.aia_file.specs.SlotFile.{slot_file};
 
 use crate::access::shown;
 use aia_file::Looks;
@@ -31,8 +31,8 @@ pub(crate) struct View<'a, 's, L: Ledger> {
 impl<L: Ledger> Looks for View<'_, '_, L> {
     ghost use Rattle.std.specs.Prelude.{◌≡◌, ◌+◌, ◌/◌};
     ghost use Rattle.std.proofs.Common.{◌∙◌};
-    ghost use Rattle.aia_mrif.specs.Mrif.{mrif_in};
-    ghost use Rattle.aia_mrif.specs.SlotFile.{slot_file};
+    ghost use Rattle.aia_file.specs.Mrif.{mrif_in};
+    ghost use Rattle.aia_file.specs.SlotFile.{slot_file};
 
     ghost width = { λ v. (v.n + 1) / 64 };
 

@@ -3,7 +3,7 @@ use Rattle.std.specs.Prelude.{◌≡◌, ℕ, ◌+◌, ◌/◌, ◌<◌, ◌≤�
 use Rattle.aia_regs.specs.declared.address_map.TheConstants.{PAGE}
 use Rattle.aia_regs.specs.AddressMap.{supervisor_page, guest_page, slot_address}
 use Rattle.aia_file.specs.InterruptFile.{InterruptFile}
-use Rattle.aia_mrif.specs.Mrif.{Mrif}
+use Rattle.aia_file.specs.Mrif.{Mrif}
 use Rattle.aia_entry.specs.declared.entry.Entry.{Entry}
 use Rattle.aia_entry.specs.declared.entry.Entry.TheVariants as entries
 use Rattle.aia_entry.specs.Format.{basic_word, mrif_word, notice_word}

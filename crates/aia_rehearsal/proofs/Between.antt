@@ -5,8 +5,8 @@ use Rattle.std.proofs.lemmas.Bool.{cases_Bool, cases_eq, cond-true, cond-false, 
 use Rattle.std.proofs.lemmas.Bool.Decides.{nat_tests}
 use Rattle.std.proofs.lemmas.List.{get_or-set_same, get_or-set_other}
 use Rattle.aia_regs.specs.BitUpdate.{names}
-use Rattle.aia_imsic.specs.declared.spot.Spot.TheVariants.{SupervisorFile}
-use Rattle.aia_imsic.specs.Imsic.{ImsicState, IsThere}
+use Rattle.aia_file.specs.declared.spot.Spot.TheVariants.{SupervisorFile}
+use Rattle.aia_file.specs.Imsic.{ImsicState, IsThere}
 use Rattle.aia_entry.specs.declared.table.Route.{Route}
 use Rattle.aia_entry.specs.declared.table.Route.TheVariants.{Other, Fault, To}
 use Rattle.aia_entry.specs.Tables.{table_of, entry_in_force, leads_by, route_of}

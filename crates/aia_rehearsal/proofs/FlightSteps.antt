@@ -3,7 +3,7 @@ use Rattle.std.proofs.Common.{◌≡◌, ◌≢◌, ℕ, zero, suc, ◌<◌, Lis
 use Rattle.std.specs.Prelude.{remove, take, slice_get, slice_index_or}
 use Rattle.std.proofs.lemmas.Bool.{cases_eq}
 use Rattle.std.proofs.lemmas.List.{get_or-set_same, get_or-set_other}
-use Rattle.aia_imsic.specs.Imsic.{ImsicState}
+use Rattle.aia_file.specs.Imsic.{ImsicState}
 use Rattle.aia_world.specs.declared.flying.Flying.{Flying}
 use Rattle.aia_world.specs.World.{World, OnlyStores, flight_of}
 use Rattle.aia_world.specs.Whole.{IsWhole}

@@ -6,9 +6,9 @@ use Rattle.std.proofs.lemmas.List.{get_or-set_other}
 use Rattle.aia_word.specs.Sets.{has_bit}
 use Rattle.aia_regs.specs.declared.limits.TheConstants.{VCPUS, WORDS_OF_SLOTS}
 use Rattle.aia_file.specs.FileState.{shown}
-use Rattle.aia_imsic.specs.Imsic.{file_at}
-use Rattle.aia_imsic.proofs.PlaceLemmas.{kept_elsewhere}
-use Rattle.aia_mrif.specs.Mrif.{pending_place, enable_place}
+use Rattle.aia_file.specs.Imsic.{file_at}
+use Rattle.aia_file.proofs.PlaceLemmas.{kept_elsewhere}
+use Rattle.aia_file.specs.Mrif.{pending_place, enable_place}
 use Rattle.aia_home.specs.Vms.{Vcpu}
 use Rattle.aia_places.specs.Places.{of_file, of_slot}
 use Rattle.aia_places.specs.Steps.{Shows, replaced_by}

@@ -7,7 +7,7 @@ use Rattle.aia_rehearsal.specs.declared.place.Place as ends
 use Rattle.std.proofs.lemmas.Bool.{cases_Bool, cases_eq, cond-true, cond-false}
 use Rattle.aia_word.specs.Sets.{has_bit}
 use Rattle.aia_word.proofs.BitLemmas.{has_bit-zero}
-use Rattle.aia_imsic.specs.Imsic.{ImsicState}
+use Rattle.aia_file.specs.Imsic.{ImsicState}
 use Rattle.aia_places.specs.Places.{leads_to, entry_word}
 use Rattle.aia_world.specs.declared.flying.Flying.{Flying}
 use Rattle.aia_world.specs.World.{World, flight_of}

@@ -7,7 +7,7 @@ use Rattle.aia_home.specs.Home.{is_place}
 use Rattle.aia_world.specs.declared.at.At.{At}
 use Rattle.aia_world.specs.declared.at.At.TheVariants as ats
 use Rattle.aia_world.specs.World.{World}
-use Rattle.aia_imsic.specs.Imsic.{IsThere}
+use Rattle.aia_file.specs.Imsic.{IsThere}
 use Rattle.aia_world.specs.Changes.{spot_of}
 use Rattle.aia_moving.specs.declared.who.Who.{Who}
 use Rattle.aia_moving.specs.Move.{IsWho}

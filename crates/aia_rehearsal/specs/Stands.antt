@@ -7,10 +7,10 @@ use Rattle.aia_regs.specs.declared.limits.TheConstants.{IDENTITIES}
 use Rattle.aia_regs.specs.BitUpdate.{names}
 use Rattle.aia_regs.specs.Request.{requested}
 use Rattle.aia_file.specs.FileState.{shown}
-use Rattle.aia_imsic.specs.declared.spot.Spot.{Spot}
-use Rattle.aia_imsic.specs.declared.spot.Spot.TheVariants.{GuestFile}
-use Rattle.aia_imsic.specs.Imsic.{ImsicState, file_at}
-use Rattle.aia_mrif.specs.Mrif.{mrif_in}
+use Rattle.aia_file.specs.declared.spot.Spot.{Spot}
+use Rattle.aia_file.specs.declared.spot.Spot.TheVariants.{GuestFile}
+use Rattle.aia_file.specs.Imsic.{ImsicState, file_at}
+use Rattle.aia_file.specs.Mrif.{mrif_in}
 use Rattle.aia_entry.specs.declared.entry.Entry.{Entry}
 use Rattle.aia_entry.specs.declared.entry.Entry.TheVariants.{Basic, Mrif}
 use Rattle.aia_entry.specs.Tables.{table_of, entry_in_force}

@@ -7,7 +7,7 @@ use Rattle.aia_plan.specs.declared.step.Step.TheVariants.{Quiet, Word1, Word0, F
 use Rattle.aia_plan.specs.Transit.Side.{Old, New}
 use Rattle.aia_regs.specs.declared.file_registers.FileReg.{FileReg}
 use Rattle.aia_regs.specs.declared.file_registers.FileReg.TheVariants.{Delivery, Threshold}
-use Rattle.aia_imsic.specs.Imsic.{file_at}
+use Rattle.aia_file.specs.Imsic.{file_at}
 use Rattle.aia_home.specs.declared.access.Access.{Access}
 use Rattle.aia_home.specs.declared.access.Access.TheVariants as accesses
 use Rattle.aia_places.specs.Places.{entry_word, second_word}

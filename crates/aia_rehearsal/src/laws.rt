@@ -7,7 +7,7 @@ ghost use Rattle.aia_plan.specs.Rule.{failing};
 ghost use Rattle.aia_plan.specs.Safe.{IsStart};
 ghost use Rattle.aia_plan.specs.Transit.{Transit, all_happened};
 ghost use Rattle.aia_plan.specs.Transit.Side.{Old, New};
-ghost use Rattle.aia_imsic.specs.Imsic.{IsThere};
+ghost use Rattle.aia_file.specs.Imsic.{IsThere};
 ghost use Rattle.aia_home.specs.declared.place.Place.{Place};
 ghost use Rattle.aia_home.specs.declared.vm.Vm.{Vm};
 ghost use Rattle.aia_home.specs.Home.{is_place};

@@ -10,7 +10,7 @@ ghost use Rattle.aia_rehearsal.specs.Rehearsed.{IsOf, IsFileThere, NotBothSlots}
 
 use crate::looks::{holds, is_same_in};
 use aia_fabric::{At, Fabric};
-use aia_imsic::Spot;
+use aia_file::Spot;
 use aia_move::Who;
 use aia_pool::{FileLease, Pool};
 use aia_regs::{FileReg, Op};

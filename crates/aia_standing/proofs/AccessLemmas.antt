@@ -15,7 +15,7 @@ use Rattle.aia_csr.specs.declared.csr_access.CsrAccess.TheVariants as reaches
 use Rattle.aia_csr.specs.CsrAccess.{csr_access, register_access, IsFileCsr, IsInTable}
 use Rattle.aia_file.specs.InterruptFile.{InterruptFile, SameFile}
 use Rattle.aia_file.specs.FileState.{shown}
-use Rattle.aia_imsic.specs.Imsic.{ImsicState, file_at}
+use Rattle.aia_file.specs.Imsic.{ImsicState, file_at}
 use Rattle.aia_world.specs.World.{World}
 use Rattle.aia_model.specs.declared.answer.Answer.TheVariants.{Wide, Refused}
 use Rattle.aia_model.specs.declared.refusal.Refusal.TheVariants.{Range, Illegal}

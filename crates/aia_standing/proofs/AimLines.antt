@@ -20,8 +20,8 @@ use Rattle.aia_model.specs.Event.{History, file_words}
 use Rattle.aia_model.specs.Notice.{ends_leave}
 use Rattle.aia_file.specs.InterruptFile.{SameFile}
 use Rattle.aia_file.specs.FileState.{shown}
-use Rattle.aia_imsic.specs.Imsic.{file_at}
-use Rattle.aia_mrif.specs.Mrif.{mrif_in}
+use Rattle.aia_file.specs.Imsic.{file_at}
+use Rattle.aia_file.specs.Mrif.{mrif_in}
 use Rattle.aia_entry.specs.Tables.{table_of, entry_in_force}
 use Rattle.aia_major.specs.Kept.{majors_shown}
 use Rattle.aia_home.specs.Routes.{entry_names}

@@ -6,7 +6,7 @@ use Rattle.aia_word.specs.Sets.{has_bit}
 use Rattle.aia_file.specs.InterruptFile.{InterruptFile, empty_file}
 use Rattle.aia_file.specs.FileState.{shown}
 use Rattle.aia_file.proofs.FileLemmas.{same_file}
-use Rattle.aia_imsic.specs.Imsic.{IsThere, file_at}
+use Rattle.aia_file.specs.Imsic.{IsThere, file_at}
 use Rattle.aia_home.specs.declared.place.Place.{Place}
 use Rattle.aia_home.specs.Vms.{Vcpu, is_vcpu}
 use Rattle.aia_home.specs.Home.{Home, is_place, holds, ended}

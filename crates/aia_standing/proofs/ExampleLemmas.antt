@@ -18,8 +18,8 @@ use Rattle.aia_regs.specs.FileRegisters.{eie_said, shows}
 use Rattle.aia_file.specs.InterruptFile.{InterruptFile, empty_file}
 use Rattle.aia_file.specs.FileState.{FileState, shown}
 use Rattle.aia_file.proofs.FileLemmas.{same_file}
-use Rattle.aia_imsic.specs.Imsic.{IsThere, file_at}
-use Rattle.aia_mrif.specs.Mrif.{Mrif, mrif_in, pending_place, enable_place}
+use Rattle.aia_file.specs.Imsic.{IsThere, file_at}
+use Rattle.aia_file.specs.Mrif.{Mrif, mrif_in, pending_place, enable_place}
 use Rattle.aia_entry.specs.declared.entry.Entry.TheVariants.{NotValid}
 use Rattle.aia_entry.specs.Tables.{table_of, entry_in_force}
 use Rattle.aia_home.specs.declared.place.Place.{Place}

@@ -10,7 +10,7 @@ use Rattle.aia_word.proofs.LeastLemmas.{least_of_is, least_of_is_none}
 use Rattle.aia_regs.specs.declared.limits.TheConstants.{VCPUS}
 use Rattle.aia_file.specs.InterruptFile.{InterruptFile, is_greatest_identity, is_shared, top_of}
 use Rattle.aia_file.proofs.FileLemmas.{same_file}
-use Rattle.aia_mrif.specs.Mrif.{mrif_in}
+use Rattle.aia_file.specs.Mrif.{mrif_in}
 use Rattle.aia_home.specs.Vms.{Vcpu, slot_of, notice_hart}
 use Rattle.aia_home.specs.Home.{rests_in_memory}
 use Rattle.aia_places.specs.Holds.{HasSets, Hand}

@@ -9,14 +9,14 @@ use Rattle.aia_regs.proofs.RequestLemmas.{requested_in_range}
 use Rattle.aia_file.specs.InterruptFile.{InterruptFile, SameFile, is_greatest_identity, empty_file, landed}
 use Rattle.aia_file.specs.FileState.{FileState, shown}
 use Rattle.aia_file.proofs.FileLemmas.{same_file}
-use Rattle.aia_imsic.specs.declared.spot.Spot.{Spot}
-use Rattle.aia_imsic.specs.declared.spot.Spot.TheVariants as spots
-use Rattle.aia_imsic.specs.Imsic.{ImsicState, IsThere, file_at}
-use Rattle.aia_imsic.proofs.PlaceLemmas.{kept_elsewhere}
-use Rattle.aia_mrif.specs.declared.slot.Stored.{Stored}
-use Rattle.aia_mrif.specs.declared.slot.Stored.TheVariants.{Discarded, Quiet, Notice}
-use Rattle.aia_mrif.specs.Mrif.{mrif_in, pending_place, after_store, stored}
-use Rattle.aia_mrif.specs.Words.{words_after_store}
+use Rattle.aia_file.specs.declared.spot.Spot.{Spot}
+use Rattle.aia_file.specs.declared.spot.Spot.TheVariants as spots
+use Rattle.aia_file.specs.Imsic.{ImsicState, IsThere, file_at}
+use Rattle.aia_file.proofs.PlaceLemmas.{kept_elsewhere}
+use Rattle.aia_file.specs.declared.stored.Stored.{Stored}
+use Rattle.aia_file.specs.declared.stored.Stored.TheVariants.{Discarded, Quiet, Notice}
+use Rattle.aia_file.specs.Mrif.{mrif_in, pending_place, after_store, stored}
+use Rattle.aia_file.specs.Words.{words_after_store}
 use Rattle.aia_home.specs.declared.place.Place.{Place}
 use Rattle.aia_home.specs.declared.vm.Vm.{Vm}
 use Rattle.aia_home.specs.Vms.{Vcpu, is_vcpu, vcpus_in, is_vcpu_in, slot_of, notice_identity, notice_hart}

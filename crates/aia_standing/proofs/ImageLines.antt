@@ -11,7 +11,7 @@ use Rattle.aia_regs.specs.FileRegisters.{select_written}
 use Rattle.aia_regs.specs.Fields.{bit_number}
 use Rattle.aia_file.specs.InterruptFile.{InterruptFile, SameFile, is_live}
 use Rattle.aia_file.proofs.FileLemmas.{same_file}
-use Rattle.aia_imsic.specs.declared.spot.Spot.TheVariants as spots
+use Rattle.aia_file.specs.declared.spot.Spot.TheVariants as spots
 use Rattle.aia_major.specs.Kept.{majors_shown}
 use Rattle.aia_home.specs.Vms.{Vcpu, vcpu, is_vcpu_in, vcpus_in, slot_of, notice_hart, notice_identity}
 use Rattle.aia_home.specs.Home.{rests_in_memory}
@@ -21,7 +21,7 @@ use Rattle.aia_world.specs.World.{World}
 use Rattle.aia_world.specs.Whole.{IsWhole}
 use Rattle.aia_world.specs.Stores.{LandsIn, Posts, counted}
 use Rattle.aia_world.specs.SlotAccess.{file_of_slot, DoneInSlot}
-use Rattle.aia_imsic.specs.Imsic.{ImsicState}
+use Rattle.aia_file.specs.Imsic.{ImsicState}
 use Rattle.aia_moving.specs.declared.who.KeptNumbers.{KeptNumbers}
 use Rattle.aia_model.specs.declared.answer.Answer.TheVariants.{Okay, Refused}
 use Rattle.aia_model.specs.declared.answer.Answer.TheVariants as kinds

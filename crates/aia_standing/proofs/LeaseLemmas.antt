@@ -3,7 +3,7 @@ use Rattle.std.proofs.Common.{◌≡◌, ℕ, zero, suc, ◌+◌, ◌<◌, ◌�
 use Rattle.std.proofs.lemmas.Bool.{false≢true}
 use Rattle.aia_word.specs.Sets.{least_of}
 use Rattle.aia_word.proofs.LeastLemmas.{least_of_is}
-use Rattle.aia_imsic.specs.Imsic.{IsThere}
+use Rattle.aia_file.specs.Imsic.{IsThere}
 use Rattle.aia_home.specs.declared.place.Place.{Place}
 use Rattle.aia_pool.specs.Leases.{IsFileThere, is_out, least_free}
 use Rattle.aia_world.specs.Changes.{spot_of}

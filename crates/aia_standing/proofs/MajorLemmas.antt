@@ -11,8 +11,8 @@ use Rattle.aia_csr.specs.declared.csr_access.CsrAccess.{CsrAccess}
 use Rattle.aia_word.specs.Top.{top_value}
 use Rattle.aia_file.specs.InterruptFile.{InterruptFile, SameFile, top_of, signals}
 use Rattle.aia_file.specs.FileState.{shown}
-use Rattle.aia_imsic.specs.Imsic.{file_at}
-use Rattle.aia_mrif.specs.Mrif.{mrif_in}
+use Rattle.aia_file.specs.Imsic.{file_at}
+use Rattle.aia_file.specs.Mrif.{mrif_in}
 use Rattle.aia_major.specs.VsMajor.{VsMajorState, is_major, is_hvictl, with_injection, with_hviprio1, with_hvictl, with_sip, with_sie, stopi_value, sip_value, sie_value}
 use Rattle.aia_major.specs.Kept.{majors_shown}
 use Rattle.aia_home.specs.declared.place.Place.{Place}

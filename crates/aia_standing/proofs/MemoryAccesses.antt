@@ -13,7 +13,7 @@ use Rattle.aia_csr.specs.declared.csr_access.CsrAccess.{CsrAccess}
 use Rattle.aia_csr.specs.declared.csr_access.CsrAccess.TheVariants as reaches
 use Rattle.aia_csr.specs.CsrAccess.{is_file_csr, IsFileCsr}
 use Rattle.aia_file.specs.InterruptFile.{InterruptFile, SameFile, register_value, accessed, claimed}
-use Rattle.aia_mrif.specs.SlotFile.{IsOfSets}
+use Rattle.aia_file.specs.SlotFile.{IsOfSets}
 use Rattle.aia_major.specs.Kept.{majors_shown}
 use Rattle.aia_home.specs.Vms.{Vcpu, vcpu, is_vcpu_in, slot_of}
 use Rattle.aia_home.specs.Home.{rests_in_memory}

@@ -7,8 +7,8 @@ use Rattle.std.proofs.lemmas.Bool.Decides.{nat_tests}
 use Rattle.aia_regs.specs.declared.limits.TheConstants.{VCPUS}
 use Rattle.aia_file.specs.InterruptFile.{InterruptFile, SameFile, is_greatest_identity}
 use Rattle.aia_file.proofs.FileLemmas.{same_file}
-use Rattle.aia_imsic.specs.Imsic.{ImsicState}
-use Rattle.aia_mrif.specs.Mrif.{mrif_in}
+use Rattle.aia_file.specs.Imsic.{ImsicState}
+use Rattle.aia_file.specs.Mrif.{mrif_in}
 use Rattle.aia_major.specs.Kept.{majors_shown}
 use Rattle.aia_entry.specs.Tables.{table_of, entry_in_force}
 use Rattle.aia_home.specs.declared.place.Place.{Place}

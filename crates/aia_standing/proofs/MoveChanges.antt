@@ -6,8 +6,8 @@ use Rattle.std.proofs.lemmas.Bool.{cases_Bool, cond-false, false≢true}
 use Rattle.aia_regs.specs.declared.limits.TheConstants.{VCPUS}
 use Rattle.aia_file.specs.InterruptFile.{empty_file}
 use Rattle.aia_file.specs.FileState.{shown}
-use Rattle.aia_imsic.specs.Imsic.{IsThere, file_at}
-use Rattle.aia_mrif.specs.Mrif.{mrif_in}
+use Rattle.aia_file.specs.Imsic.{IsThere, file_at}
+use Rattle.aia_file.specs.Mrif.{mrif_in}
 use Rattle.aia_entry.specs.Tables.{table_of, entry_in_force}
 use Rattle.aia_home.specs.declared.place.Place.{Place}
 use Rattle.aia_home.specs.declared.vm.Vm.{Vm}

@@ -4,9 +4,9 @@ use Rattle.std.proofs.lemmas.Bool.{cond-true, cond-false}
 use Rattle.std.proofs.lemmas.Bool.Decides.{nat_tests}
 use Rattle.aia_regs.specs.declared.access.Level.{Level}
 use Rattle.aia_regs.specs.declared.access.Level.TheVariants as levels
-use Rattle.aia_imsic.specs.declared.spot.Spot.{Spot}
-use Rattle.aia_imsic.specs.declared.spot.Spot.TheVariants as spots
-use Rattle.aia_imsic.specs.Imsic.{ImsicState, IsThere}
+use Rattle.aia_file.specs.declared.spot.Spot.{Spot}
+use Rattle.aia_file.specs.declared.spot.Spot.TheVariants as spots
+use Rattle.aia_file.specs.Imsic.{ImsicState, IsThere}
 use Rattle.aia_model.specs.FileOf.{FileName, MachineFile, SupervisorFile}
 use Rattle.aia_standing.specs.HostFiles.{IsHost, name_of, host_spot, is_host_spot, select_place}
 

@@ -3,11 +3,11 @@ use Rattle.std.proofs.Common.{◌≡◌, ◌≢◌, ℕ, ◌+◌, ◌%◌, ◌<�
 use Rattle.std.proofs.lemmas.Bool.{cases_Bool, cases_lt, eq-eqb}
 use Rattle.std.proofs.lemmas.Bool.Decides.{nat_tests}
 use Rattle.aia_regs.specs.AddressMap.{machine_page, supervisor_page, is_in_memory, is_in_region, root_region, child_region}
-use Rattle.aia_imsic.specs.declared.spot.Spot.{Spot}
-use Rattle.aia_imsic.specs.declared.spot.Spot.TheVariants as spots
-use Rattle.aia_imsic.specs.Imsic.{ImsicState, IsThere}
-use Rattle.aia_imsic.specs.Map.{spot_at, is_page}
-use Rattle.aia_imsic.proofs.MapLemmas.{spot_of_machine, spot_of_host, machine_of_spot, host_of_spot, from_page, to_page, below_all}
+use Rattle.aia_file.specs.declared.spot.Spot.{Spot}
+use Rattle.aia_file.specs.declared.spot.Spot.TheVariants as spots
+use Rattle.aia_file.specs.Imsic.{ImsicState, IsThere}
+use Rattle.aia_file.specs.Map.{spot_at, is_page}
+use Rattle.aia_file.proofs.MapLemmas.{spot_of_machine, spot_of_host, machine_of_spot, host_of_spot, from_page, to_page, below_all}
 use Rattle.aia_model.specs.declared.domain_name.DomainName.{DomainName}
 use Rattle.aia_model.specs.declared.domain_name.DomainName.TheVariants.{Root, Child}
 use Rattle.aia_model.specs.declared.refusal.Refusal.{Refusal}

@@ -4,8 +4,8 @@ use Rattle.aia_model.specs.ReachOf.{stage_in_force_of}
 use Rattle.aia_home.proofs.RouteLemmas.{peers_may}
 use Rattle.std.proofs.Common.{◌≡◌, ℕ, true, false, not, cond, Option, Some, None, refl, sym, ap, subst, ◌∙◌}
 use Rattle.std.proofs.lemmas.Bool.{cond-true, cond-false}
-use Rattle.aia_imsic.specs.declared.spot.Spot.{Spot}
-use Rattle.aia_imsic.specs.Imsic.{IsThere}
+use Rattle.aia_file.specs.declared.spot.Spot.{Spot}
+use Rattle.aia_file.specs.Imsic.{IsThere}
 use Rattle.aia_home.specs.declared.place.Place.{Place}
 use Rattle.aia_home.specs.Vms.{Vcpu, vcpu, is_vcpu_in}
 use Rattle.aia_home.specs.Home.{runs}

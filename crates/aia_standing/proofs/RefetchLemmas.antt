@@ -3,7 +3,7 @@ use Rattle.std.proofs.Common.{◌≡◌, ◌≢◌, ℕ, ◌<◌, true, false, n
 use Rattle.std.proofs.lemmas.Bool.{cases_Bool, cases_eq, cond-true, cond-false, false≢true}
 use Rattle.aia_file.specs.FileState.{shown}
 use Rattle.aia_file.specs.InterruptFile.{SameFile}
-use Rattle.aia_imsic.specs.Imsic.{file_at}
+use Rattle.aia_file.specs.Imsic.{file_at}
 use Rattle.aia_entry.specs.Format.{decoded}
 use Rattle.aia_entry.specs.Tables.{table_of, entry_in_force, fenced_at}
 use Rattle.aia_entry.proofs.TableLemmas.{fenced_elsewhere}
@@ -24,7 +24,7 @@ use Rattle.aia_moving.specs.Touches.{OnlyAccesses}
 use Rattle.aia_moving.proofs.MachineLemmas.{only_accesses, only_tables}
 use Rattle.aia_places.specs.Stores.{AreApart}
 use Rattle.aia_pool.specs.Leases.{Leases, is_out}
-use Rattle.aia_mrif.specs.Mrif.{mrif_in}
+use Rattle.aia_file.specs.Mrif.{mrif_in}
 use Rattle.aia_major.specs.Kept.{majors_shown}
 use Rattle.aia_model.specs.declared.answer.Answer.TheVariants.{Okay, Refused}
 use Rattle.aia_model.specs.declared.refusal.Refusal.TheVariants as words

@@ -19,13 +19,13 @@ use Rattle.aia_file.specs.InterruptFile.{InterruptFile, SameFile, accessed, land
 use Rattle.aia_file.specs.FileState.{FileState, shown}
 use Rattle.aia_file.proofs.FileLemmas.{same_file}
 use Rattle.aia_file.proofs.SizeLemmas.{enough_identities}
-use Rattle.aia_imsic.specs.declared.spot.Spot.{Spot}
-use Rattle.aia_imsic.specs.declared.spot.Spot.TheVariants as spots
-use Rattle.aia_imsic.specs.Imsic.{ImsicState, IsThere, file_at, with_file}
-use Rattle.aia_imsic.proofs.PlaceLemmas.{kept_elsewhere}
-use Rattle.aia_mrif.specs.declared.slot.Stored.{Stored}
-use Rattle.aia_mrif.specs.declared.slot.Stored.TheVariants.{Discarded, Quiet, Notice}
-use Rattle.aia_mrif.specs.Mrif.{mrif_in, stored}
+use Rattle.aia_file.specs.declared.spot.Spot.{Spot}
+use Rattle.aia_file.specs.declared.spot.Spot.TheVariants as spots
+use Rattle.aia_file.specs.Imsic.{ImsicState, IsThere, file_at, with_file}
+use Rattle.aia_file.proofs.PlaceLemmas.{kept_elsewhere}
+use Rattle.aia_file.specs.declared.stored.Stored.{Stored}
+use Rattle.aia_file.specs.declared.stored.Stored.TheVariants.{Discarded, Quiet, Notice}
+use Rattle.aia_file.specs.Mrif.{mrif_in, stored}
 use Rattle.aia_home.specs.Aims.{host_identity}
 use Rattle.aia_home.specs.Routes.{MayLand}
 use Rattle.aia_home.specs.Vms.{Vcpu, is_vcpu_in, slot_of, notice_hart, notice_identity}

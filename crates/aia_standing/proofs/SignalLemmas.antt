@@ -12,7 +12,7 @@ use Rattle.aia_word.proofs.BitLemmas.{has_bit-zero}
 use Rattle.aia_word.proofs.SetLemmas.{has_bit-word_of, same_bit}
 use Rattle.aia_file.specs.InterruptFile.{is_greatest_identity, signals}
 use Rattle.aia_file.specs.FileState.{shown}
-use Rattle.aia_imsic.specs.Imsic.{IsThere, file_at}
+use Rattle.aia_file.specs.Imsic.{IsThere, file_at}
 use Rattle.aia_home.specs.declared.place.Place.{Place}
 use Rattle.aia_home.specs.Vms.{Vcpu, slot_of, notice_hart, all_vcpus}
 use Rattle.aia_home.specs.Home.{Home, is_place, holds}

@@ -4,9 +4,9 @@ use Rattle.std.specs.Option.{option_map_or}
 use Rattle.std.proofs.lemmas.Bool.{cond-true, cond-false}
 use Rattle.aia_file.specs.InterruptFile.{SameFile, landed}
 use Rattle.aia_file.specs.FileState.{shown}
-use Rattle.aia_imsic.specs.declared.spot.Spot.{Spot}
-use Rattle.aia_imsic.specs.Imsic.{IsThere, file_at, with_file}
-use Rattle.aia_imsic.specs.Map.{spot_at}
+use Rattle.aia_file.specs.declared.spot.Spot.{Spot}
+use Rattle.aia_file.specs.Imsic.{IsThere, file_at, with_file}
+use Rattle.aia_file.specs.Map.{spot_at}
 use Rattle.aia_model.specs.declared.answer.Answer.TheVariants.{Okay, Narrow, Refused}
 use Rattle.aia_model.specs.declared.refusal.Refusal.{Refusal}
 use Rattle.aia_model.specs.declared.line.Line.{Line}

@@ -8,8 +8,8 @@ use Rattle.std.specs.List.{list_any}
 use Rattle.std.specs.Option.{option_map_or}
 use Rattle.aia_file.specs.InterruptFile.{InterruptFile, empty_file}
 use Rattle.aia_file.specs.FileState.{shown}
-use Rattle.aia_imsic.specs.Imsic.{file_at}
-use Rattle.aia_mrif.specs.Mrif.{mrif_in}
+use Rattle.aia_file.specs.Imsic.{file_at}
+use Rattle.aia_file.specs.Mrif.{mrif_in}
 use Rattle.aia_major.specs.VsMajor.{VsMajorState}
 use Rattle.aia_major.specs.Kept.{majors_shown}
 use Rattle.aia_entry.specs.Tables.{table_of, entry_in_force}

@@ -18,9 +18,9 @@ use Rattle.aia_word.specs.Sets.{has_bit}
 use Rattle.aia_regs.specs.AddressMap.{slot_address}
 use Rattle.aia_file.specs.InterruptFile.{InterruptFile, empty_file}
 use Rattle.aia_file.specs.FileState.{shown}
-use Rattle.aia_imsic.specs.Imsic.{ImsicState, IsThere, file_at}
-use Rattle.aia_mrif.specs.Mrif.{mrif_in, set_at, pending_place, enable_place}
-use Rattle.aia_mrif.proofs.SlotLemmas.{one_bit}
+use Rattle.aia_file.specs.Imsic.{ImsicState, IsThere, file_at}
+use Rattle.aia_file.specs.Mrif.{mrif_in, set_at, pending_place, enable_place}
+use Rattle.aia_file.proofs.SlotLemmas.{one_bit}
 use Rattle.aia_entry.specs.declared.entry.Entry.TheVariants as entries
 use Rattle.aia_entry.specs.Format.{mrif_word, notice_word}
 use Rattle.aia_entry.specs.Tables.{TableState, table_of, entry_in_force}

@@ -9,7 +9,7 @@ use Rattle.aia_regs.specs.declared.access.Csr.{Csr}
 use Rattle.aia_regs.specs.declared.access.Csr.TheVariants.{Select, Reg}
 use Rattle.aia_regs.specs.declared.access.Op.TheVariants.{Write}
 use Rattle.aia_file.specs.FileState.{FileState}
-use Rattle.aia_imsic.specs.Imsic.{ImsicState}
+use Rattle.aia_file.specs.Imsic.{ImsicState}
 use Rattle.aia_entry.specs.declared.entry.Entry.TheVariants.{NotValid}
 use Rattle.aia_entry.specs.Tables.{TableState}
 use Rattle.aia_home.specs.declared.place.Place.{Place}

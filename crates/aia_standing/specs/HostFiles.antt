@@ -7,9 +7,9 @@ use Rattle.aia_regs.specs.declared.access.Level.{Level}
 use Rattle.aia_regs.specs.declared.access.Level.TheVariants as levels
 use Rattle.aia_file.specs.InterruptFile.{SameFile}
 use Rattle.aia_file.specs.FileState.{FileState, shown}
-use Rattle.aia_imsic.specs.declared.spot.Spot.{Spot}
-use Rattle.aia_imsic.specs.declared.spot.Spot.TheVariants as spots
-use Rattle.aia_imsic.specs.Imsic.{IsThere, file_at}
+use Rattle.aia_file.specs.declared.spot.Spot.{Spot}
+use Rattle.aia_file.specs.declared.spot.Spot.TheVariants as spots
+use Rattle.aia_file.specs.Imsic.{IsThere, file_at}
 use Rattle.aia_model.specs.declared.line.Line.{Line}
 use Rattle.aia_model.specs.declared.line.Line.TheVariants.{MachineCsr, HostCsr}
 use Rattle.aia_model.specs.FileAfter.{FileDeed, select_after, file_after}

@@ -2,7 +2,7 @@
 //! are what was proved.
 
 ghost use Rattle.std.specs.Prelude.{◌≡◌, ◌≢◌, ◌⊎◌, ℕ, ◌%◌, true, false, [], ◌∷◌, ◌++◌, Some};
-ghost use Rattle.aia_imsic.specs.Imsic.{IsThere};
+ghost use Rattle.aia_file.specs.Imsic.{IsThere};
 ghost use Rattle.aia_home.specs.declared.place.Place.{Place};
 ghost use Rattle.aia_home.specs.Vms.{Vcpu, slot_of, notice_hart};
 ghost use Rattle.aia_home.specs.Home.{holds};

@@ -3,8 +3,8 @@
 use crate::same;
 use aia_entry::{Entry, Route, is_mask};
 use aia_fabric::Fabric;
+use aia_file::Spot;
 use aia_home::{Vm, notice_hart_of, vcpus_in};
-use aia_imsic::Spot;
 use aia_regs::limits::{GUEST_FILES, HARTS, SLOTS, VCPUS, VM_VCPUS, VMS};
 use aia_regs::{FileReg, Op};
 use std::alloc::{AllocError, Global};

@@ -4,8 +4,8 @@ ghost use Rattle.std.specs.Prelude.{◌≡◌, ◌<◌};
 
 use crate::looks::{holds, is_same};
 use crate::same;
-use aia_file::{File, Looks, search};
-use aia_imsic::{Imsic, Spot};
+use aia_file::{File, Looks, Spot, search};
+use aia_imsic::Imsic;
 use aia_regs::limits::{GUEST_FILES, HARTS};
 use aia_regs::{FileReg, Op};
 use aia_steps::Steps;

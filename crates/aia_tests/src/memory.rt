@@ -3,11 +3,11 @@
 ghost use Rattle.std.specs.Prelude.{◌≡◌, ◌-◌, ◌<◌, false};
 ghost use Rattle.aia_regs.specs.declared.limits.TheConstants.{SLOTS};
 ghost use Rattle.aia_word.specs.Sets.{has_bit};
-ghost use Rattle.aia_mrif.specs.Words.{HasSlot};
+ghost use Rattle.aia_file.specs.Words.{HasSlot};
 
 use crate::same;
-use aia_file::File;
-use aia_mrif::{SlotMut, Stored, look};
+use aia_file::{File, Stored};
+use aia_mrif::{SlotMut, look};
 use aia_ram::Ram;
 use aia_regs::FileReg;
 use aia_regs::limits::{MEMORY_WORDS, SLOTS};

@@ -12,7 +12,7 @@ use crate::moves::{NoTargets, goes_on, one_vm, who_is};
 use crate::same;
 use crate::stores_in_flight::{IN_FILE, IN_MEMORY, flying, sends};
 use aia_fabric::Fabric;
-use aia_imsic::Spot;
+use aia_file::Spot;
 use aia_move::{Closed, KeptNumbers, Outcome, Plan, State, Turn, Who};
 use aia_pool::{FileLease, Pool};
 use aia_regs::{FileReg, Op};

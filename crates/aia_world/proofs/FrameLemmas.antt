@@ -3,12 +3,12 @@ use Rattle.std.proofs.Common.{◌≡◌, ℕ, List, Option, Some, None, sym, ap,
 use Rattle.aia_regs.specs.declared.limits.TheConstants.{IDENTITIES}
 use Rattle.aia_regs.specs.Request.{requested}
 use Rattle.aia_file.specs.FileState.{FileState}
-use Rattle.aia_imsic.specs.declared.spot.Spot.{Spot}
-use Rattle.aia_imsic.specs.declared.spot.Spot.TheVariants.{MachineFile, SupervisorFile, GuestFile, Nowhere}
-use Rattle.aia_imsic.specs.Imsic.{file_at, with_file}
-use Rattle.aia_mrif.specs.declared.slot.Stored.{Stored}
-use Rattle.aia_mrif.specs.declared.slot.Stored.TheVariants.{Discarded, Quiet, Notice}
-use Rattle.aia_mrif.specs.Mrif.{mrif_in, stored}
+use Rattle.aia_file.specs.declared.spot.Spot.{Spot}
+use Rattle.aia_file.specs.declared.spot.Spot.TheVariants.{MachineFile, SupervisorFile, GuestFile, Nowhere}
+use Rattle.aia_file.specs.Imsic.{file_at, with_file}
+use Rattle.aia_file.specs.declared.stored.Stored.{Stored}
+use Rattle.aia_file.specs.declared.stored.Stored.TheVariants.{Discarded, Quiet, Notice}
+use Rattle.aia_file.specs.Mrif.{mrif_in, stored}
 use Rattle.aia_entry.specs.declared.entry.Entry.{Entry}
 use Rattle.aia_entry.specs.declared.entry.Entry.TheVariants.{Basic, Mrif, NotValid, Custom, Misconfigured}
 use Rattle.aia_entry.specs.declared.table.Route.{Route}

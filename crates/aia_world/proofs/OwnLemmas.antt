@@ -9,14 +9,14 @@ use Rattle.aia_regs.specs.AddressMap.{supervisor_page, guest_page}
 use Rattle.aia_regs.specs.Request.{requested}
 use Rattle.aia_file.specs.InterruptFile.{empty_file}
 use Rattle.aia_file.specs.FileState.{shown}
-use Rattle.aia_imsic.specs.declared.spot.Spot.{Spot}
-use Rattle.aia_imsic.specs.declared.spot.Spot.TheVariants.{MachineFile, SupervisorFile}
-use Rattle.aia_imsic.specs.Imsic.{ImsicState, IsThere, file_at}
-use Rattle.aia_imsic.proofs.MapLemmas.{in_page, spot_of_guest}
-use Rattle.aia_imsic.proofs.PlaceLemmas.{kept_elsewhere}
-use Rattle.aia_mrif.specs.declared.slot.Stored.{Stored}
-use Rattle.aia_mrif.specs.declared.slot.Stored.TheVariants.{Discarded, Quiet, Notice}
-use Rattle.aia_mrif.specs.Mrif.{mrif_in, stored}
+use Rattle.aia_file.specs.declared.spot.Spot.{Spot}
+use Rattle.aia_file.specs.declared.spot.Spot.TheVariants.{MachineFile, SupervisorFile}
+use Rattle.aia_file.specs.Imsic.{ImsicState, IsThere, file_at}
+use Rattle.aia_file.proofs.MapLemmas.{in_page, spot_of_guest}
+use Rattle.aia_file.proofs.PlaceLemmas.{kept_elsewhere}
+use Rattle.aia_file.specs.declared.stored.Stored.{Stored}
+use Rattle.aia_file.specs.declared.stored.Stored.TheVariants.{Discarded, Quiet, Notice}
+use Rattle.aia_file.specs.Mrif.{mrif_in, stored}
 use Rattle.aia_entry.specs.declared.entry.Entry.{Entry}
 use Rattle.aia_entry.specs.declared.table.Route.{Route}
 use Rattle.aia_entry.specs.Tables.{table_of, entry_in_force, leads_by, route_of}

@@ -11,13 +11,13 @@ use Rattle.aia_regs.specs.declared.limits.TheConstants.{HARTS, GUEST_FILES, IDEN
 use Rattle.aia_regs.specs.AddressMap.{supervisor_page, slot_address}
 use Rattle.aia_regs.specs.Request.{requested}
 use Rattle.aia_regs.proofs.RequestLemmas.{requested_in_range}
-use Rattle.aia_imsic.specs.declared.spot.Spot.TheVariants.{SupervisorFile, Nowhere}
-use Rattle.aia_imsic.specs.Imsic.{ImsicState, IsThere}
-use Rattle.aia_imsic.proofs.MapLemmas.{in_page, spot_of_host, past_hosts}
+use Rattle.aia_file.specs.declared.spot.Spot.TheVariants.{SupervisorFile, Nowhere}
+use Rattle.aia_file.specs.Imsic.{ImsicState, IsThere}
+use Rattle.aia_file.proofs.MapLemmas.{in_page, spot_of_host, past_hosts}
 use Rattle.aia_home.specs.declared.place.Place.{Place}
-use Rattle.aia_mrif.specs.Mrif.{mrif_in, pending_place, after_store}
-use Rattle.aia_mrif.specs.Words.{HasSlot, SameMrif, words_after_store}
-use Rattle.aia_mrif.proofs.SlotLemmas.{landed, other_words}
+use Rattle.aia_file.specs.Mrif.{mrif_in, pending_place, after_store}
+use Rattle.aia_file.specs.Words.{HasSlot, SameMrif, words_after_store}
+use Rattle.aia_file.proofs.SlotLemmas.{landed, other_words}
 use Rattle.aia_world.specs.Stores.{page_spot, slot_at, named_spot}
 use Rattle.aia_world.specs.Changes.{spot_of}
 

@@ -5,9 +5,9 @@ use Rattle.std.proofs.lemmas.Bool.{cases_eq, cases_lt}
 use Rattle.aia_word.specs.Sets.{has_bit}
 use Rattle.aia_regs.specs.declared.limits.TheConstants.{VCPUS}
 use Rattle.aia_file.specs.InterruptFile.{InterruptFile, SameFile}
-use Rattle.aia_mrif.specs.Mrif.{mrif_in, pending_place, enable_place}
-use Rattle.aia_mrif.specs.SlotFile.{slot_file, KeepsAllElse}
-use Rattle.aia_mrif.proofs.SlotLemmas.{own_words}
+use Rattle.aia_file.specs.Mrif.{mrif_in, pending_place, enable_place}
+use Rattle.aia_file.specs.SlotFile.{slot_file, KeepsAllElse}
+use Rattle.aia_file.proofs.SlotLemmas.{own_words}
 use Rattle.aia_home.specs.Vms.{Vcpu, is_vcpu_in, slot_of}
 use Rattle.aia_home.specs.Home.{Home}
 use Rattle.aia_home.proofs.VmLemmas.{same_slot}

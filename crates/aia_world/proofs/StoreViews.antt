@@ -10,9 +10,9 @@ use Rattle.aia_regs.proofs.RequestLemmas.{requested_in_range}
 use Rattle.aia_file.specs.InterruptFile.{InterruptFile, landed}
 use Rattle.aia_file.specs.FileState.{shown}
 use Rattle.aia_file.proofs.FileLemmas.{same_file}
-use Rattle.aia_imsic.specs.Imsic.{ImsicState, IsThere, file_at}
-use Rattle.aia_mrif.specs.Mrif.{mrif_in, pending_place, after_store}
-use Rattle.aia_mrif.specs.Words.{words_after_store}
+use Rattle.aia_file.specs.Imsic.{ImsicState, IsThere, file_at}
+use Rattle.aia_file.specs.Mrif.{mrif_in, pending_place, after_store}
+use Rattle.aia_file.specs.Words.{words_after_store}
 use Rattle.aia_home.specs.declared.place.Place.{Place}
 use Rattle.aia_home.specs.Vms.{Vcpu, slot_of}
 use Rattle.aia_home.proofs.HomeLemmas.{same_place, either_file}

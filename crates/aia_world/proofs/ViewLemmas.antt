@@ -15,14 +15,14 @@ use Rattle.aia_file.specs.InterruptFile.{InterruptFile, accessed}
 use Rattle.aia_file.specs.FileState.{FileState, shown}
 use Rattle.aia_file.proofs.FileLemmas.{same_file}
 use Rattle.aia_file.proofs.BankLemmas.{members_joined}
-use Rattle.aia_imsic.specs.declared.spot.Spot.{Spot}
-use Rattle.aia_imsic.specs.declared.spot.Spot.TheVariants.{SupervisorFile}
-use Rattle.aia_imsic.specs.Imsic.{ImsicState, IsThere, place_of, file_at, with_file}
-use Rattle.aia_imsic.proofs.PlaceLemmas.{place_within, replaced_here, kept_elsewhere}
-use Rattle.aia_mrif.specs.Mrif.{mrif_in, set_at, pending_place, enable_place}
-use Rattle.aia_mrif.specs.Words.{HasSlot}
-use Rattle.aia_mrif.proofs.SlotLemmas.{written, kept, slot_joined, other_words}
-pub use Rattle.aia_mrif.proofs.SlotLemmas.{place_shows}
+use Rattle.aia_file.specs.declared.spot.Spot.{Spot}
+use Rattle.aia_file.specs.declared.spot.Spot.TheVariants.{SupervisorFile}
+use Rattle.aia_file.specs.Imsic.{ImsicState, IsThere, place_of, file_at, with_file}
+use Rattle.aia_file.proofs.PlaceLemmas.{place_within, replaced_here, kept_elsewhere}
+use Rattle.aia_file.specs.Mrif.{mrif_in, set_at, pending_place, enable_place}
+use Rattle.aia_file.specs.Words.{HasSlot}
+use Rattle.aia_file.proofs.SlotLemmas.{written, kept, slot_joined, other_words}
+pub use Rattle.aia_file.proofs.SlotLemmas.{place_shows}
 use Rattle.aia_entry.specs.Format.{decoded}
 use Rattle.aia_entry.specs.Tables.{table_of, entry_byte}
 use Rattle.aia_entry.proofs.TableLemmas.{fenced_here}

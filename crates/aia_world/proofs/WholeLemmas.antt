@@ -16,12 +16,12 @@ use Rattle.aia_regs.specs.declared.limits.TheConstants.{IDENTITIES, VMS, VCPUS, 
 use Rattle.aia_regs.specs.Request.{requested}
 use Rattle.aia_regs.proofs.RequestLemmas.{requested_in_range}
 use Rattle.aia_file.specs.FileState.{FileState}
-use Rattle.aia_imsic.specs.declared.spot.Spot.{Spot}
-use Rattle.aia_imsic.specs.Imsic.{IsThere, place_of, file_at, no_file}
-use Rattle.aia_imsic.proofs.PlaceLemmas.{place_within}
-use Rattle.aia_mrif.specs.Mrif.{pending_place}
-use Rattle.aia_mrif.specs.Words.{words_after_store}
-use Rattle.aia_mrif.proofs.SlotLemmas.{one_bit}
+use Rattle.aia_file.specs.declared.spot.Spot.{Spot}
+use Rattle.aia_file.specs.Imsic.{IsThere, place_of, file_at, no_file}
+use Rattle.aia_file.proofs.PlaceLemmas.{place_within}
+use Rattle.aia_file.specs.Mrif.{pending_place}
+use Rattle.aia_file.specs.Words.{words_after_store}
+use Rattle.aia_file.proofs.SlotLemmas.{one_bit}
 use Rattle.aia_ram.specs.Words.{HasWordAt}
 use Rattle.aia_entry.specs.declared.entry.Entry.TheVariants.{NotValid}
 use Rattle.aia_entry.specs.Tables.{TableState, new_table, no_table, table_of, entry_byte}

@@ -9,9 +9,9 @@ use Rattle.std.proofs.lemmas.List.Elements.{All-get_or, All-set}
 use Rattle.aia_word.specs.Sets.{has_bit}
 use Rattle.aia_regs.specs.declared.limits.TheConstants.{VCPUS, FILE_WORDS}
 use Rattle.aia_file.specs.FileState.{FileState}
-use Rattle.aia_imsic.specs.declared.spot.Spot.{Spot}
-use Rattle.aia_imsic.specs.Imsic.{place_of, file_at, with_file, no_file}
-use Rattle.aia_mrif.specs.Mrif.{pending_place, enable_place}
+use Rattle.aia_file.specs.declared.spot.Spot.{Spot}
+use Rattle.aia_file.specs.Imsic.{place_of, file_at, with_file, no_file}
+use Rattle.aia_file.specs.Mrif.{pending_place, enable_place}
 use Rattle.aia_world.specs.World.{World}
 use Rattle.aia_world.specs.Whole.{IsWhole}
 

@@ -5,10 +5,10 @@ use Rattle.aia_regs.specs.declared.access.Op.TheVariants as ops
 use Rattle.aia_regs.specs.declared.file_registers.FileReg.{FileReg}
 use Rattle.aia_file.specs.FileState.{FileState, shown}
 use Rattle.aia_file.specs.InterruptFile.{InterruptFile, SameFile, accessed, empty_file}
-use Rattle.aia_imsic.specs.declared.spot.Spot.{Spot}
-use Rattle.aia_imsic.specs.declared.spot.Spot.TheVariants.{GuestFile}
-use Rattle.aia_imsic.specs.Imsic.{IsThere, file_at, with_file}
-use Rattle.aia_mrif.specs.Mrif.{mrif_in, pending_place, enable_place}
+use Rattle.aia_file.specs.declared.spot.Spot.{Spot}
+use Rattle.aia_file.specs.declared.spot.Spot.TheVariants.{GuestFile}
+use Rattle.aia_file.specs.Imsic.{IsThere, file_at, with_file}
+use Rattle.aia_file.specs.Mrif.{mrif_in, pending_place, enable_place}
 use Rattle.aia_entry.specs.Tables.{table_of, entry_in_force, fenced_at}
 use Rattle.aia_home.specs.declared.place.Place.{Place}
 use Rattle.aia_home.specs.Vms.{Vcpu, slot_of}

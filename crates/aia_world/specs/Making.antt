@@ -4,7 +4,7 @@ use Rattle.std.specs.Prelude.{◌≡◌, ℕ, ◌+◌, ◌-◌, ◌*◌, ◌/◌
 use Rattle.aia_regs.specs.declared.address_map.TheConstants.{MEMORY, PAGE}
 use Rattle.aia_regs.specs.declared.limits.TheConstants.{VCPUS, MEMORY_WORDS}
 use Rattle.aia_regs.specs.AddressMap.{supervisor_page, slot_address, table_address}
-use Rattle.aia_imsic.specs.Imsic.{ImsicState, AreEmpty}
+use Rattle.aia_file.specs.Imsic.{ImsicState, AreEmpty}
 use Rattle.aia_entry.specs.declared.entry.Entry.{Entry}
 use Rattle.aia_entry.specs.declared.entry.Entry.TheVariants.{Mrif, NotValid}
 use Rattle.aia_entry.specs.Format.{mrif_word, notice_word}

@@ -3,8 +3,8 @@
 use Rattle.std.specs.Prelude.{◌≡◌, ◌⊎◌, ℕ, ◌+◌, ◌*◌, ◌<◌, ◌≤◌, false, slice_index}
 use Rattle.std.specs.Int.{is_in_range}
 use Rattle.aia_file.specs.InterruptFile.{InterruptFile, SameFile}
-use Rattle.aia_mrif.specs.Mrif.{mrif_in}
-use Rattle.aia_mrif.specs.SlotFile.{slot_file}
+use Rattle.aia_file.specs.Mrif.{mrif_in}
+use Rattle.aia_file.specs.SlotFile.{slot_file}
 use Rattle.aia_world.specs.World.{World}
 
 -- Slot q as an interrupt file of the machine's identities, with a threshold.

@@ -10,14 +10,14 @@ use Rattle.aia_regs.specs.AddressMap.{slot_address}
 use Rattle.aia_regs.specs.Request.{requested}
 use Rattle.aia_file.specs.FileState.{shown}
 use Rattle.aia_file.specs.InterruptFile.{SameFile, landed}
-use Rattle.aia_imsic.specs.declared.spot.Spot.{Spot}
-use Rattle.aia_imsic.specs.declared.spot.Spot.TheVariants.{MachineFile, SupervisorFile, GuestFile, Nowhere}
-use Rattle.aia_imsic.specs.Map.{spot_at}
-use Rattle.aia_imsic.specs.Imsic.{ImsicState, file_at, with_file}
-use Rattle.aia_mrif.specs.declared.slot.Stored.{Stored}
-use Rattle.aia_mrif.specs.declared.slot.Stored.TheVariants.{Notice}
-use Rattle.aia_mrif.specs.Mrif.{mrif_in, stored}
-use Rattle.aia_mrif.specs.Words.{words_after_store}
+use Rattle.aia_file.specs.declared.spot.Spot.{Spot}
+use Rattle.aia_file.specs.declared.spot.Spot.TheVariants.{MachineFile, SupervisorFile, GuestFile, Nowhere}
+use Rattle.aia_file.specs.Map.{spot_at}
+use Rattle.aia_file.specs.Imsic.{ImsicState, file_at, with_file}
+use Rattle.aia_file.specs.declared.stored.Stored.{Stored}
+use Rattle.aia_file.specs.declared.stored.Stored.TheVariants.{Notice}
+use Rattle.aia_file.specs.Mrif.{mrif_in, stored}
+use Rattle.aia_file.specs.Words.{words_after_store}
 use Rattle.aia_entry.specs.declared.entry.Entry.{Entry}
 use Rattle.aia_entry.specs.declared.entry.Entry.TheVariants.{Basic, Mrif}
 use Rattle.aia_entry.specs.declared.table.Route.{Route}

@@ -5,7 +5,7 @@ use Rattle.aia_word.specs.Sets.{has_bit}
 use Rattle.aia_regs.specs.declared.limits.TheConstants.{HARTS, GUEST_FILES, VMS, VCPUS, ENTRIES, MEMORY_WORDS}
 use Rattle.aia_file.specs.InterruptFile.{is_greatest_identity}
 use Rattle.aia_file.specs.FileState.{FileState}
-use Rattle.aia_mrif.specs.Mrif.{pending_place, enable_place}
+use Rattle.aia_file.specs.Mrif.{pending_place, enable_place}
 use Rattle.aia_entry.specs.Tables.{table_of}
 use Rattle.aia_entry.specs.Translation.{IsMask}
 use Rattle.aia_home.specs.Vms.{vm_in, vcpus_in}

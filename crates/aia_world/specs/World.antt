@@ -2,7 +2,7 @@
 -- and the stores that are in flight.
 -- Vocabulary.
 use Rattle.std.specs.Prelude.{◌≡◌, ℕ, List, [], slice_index_or, None}
-use Rattle.aia_imsic.specs.Imsic.{ImsicState}
+use Rattle.aia_file.specs.Imsic.{ImsicState}
 use Rattle.aia_entry.specs.Tables.{TableState}
 use Rattle.aia_home.specs.declared.vm.Vm.{Vm}
 use Rattle.aia_home.specs.Vms.{Vcpu, slot_of}

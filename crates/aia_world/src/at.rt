@@ -1,4 +1,4 @@
-use aia_imsic::Spot;
+use aia_file::Spot;
 
 /// A place with two sets of identities.
 #[derive(Clone, Copy, Debug, PartialEq, Eq)]

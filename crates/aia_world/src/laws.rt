@@ -6,10 +6,10 @@ ghost use Rattle.aia_regs.specs.declared.address_map.TheConstants.{PAGE};
 ghost use Rattle.aia_regs.specs.declared.limits.TheConstants.{HARTS, IDENTITIES, VCPUS};
 ghost use Rattle.aia_regs.specs.AddressMap.{slot_address, supervisor_page};
 ghost use Rattle.aia_regs.specs.Request.{requested};
-ghost use Rattle.aia_imsic.specs.declared.spot.Spot.{Spot};
-ghost use Rattle.aia_imsic.specs.Imsic.{ImsicState, IsThere};
-ghost use Rattle.aia_mrif.specs.Mrif.{mrif_in, after_store};
-ghost use Rattle.aia_mrif.specs.Words.{HasSlot, SameMrif, words_after_store};
+ghost use Rattle.aia_file.specs.declared.spot.Spot.{Spot};
+ghost use Rattle.aia_file.specs.Imsic.{ImsicState, IsThere};
+ghost use Rattle.aia_file.specs.Mrif.{mrif_in, after_store};
+ghost use Rattle.aia_file.specs.Words.{HasSlot, SameMrif, words_after_store};
 ghost use Rattle.aia_entry.specs.Tables.{table_of, route_of};
 ghost use Rattle.aia_entry.specs.Translation.{is_msi_address, file_number};
 ghost use Rattle.aia_home.specs.declared.place.Place.{Place};
@@ -24,7 +24,7 @@ ghost use Rattle.aia_world.specs.Changes.{spot_of, places_of};
 ghost use Rattle.aia_world.specs.Own.{TouchesOwn, LeadsToOwn, TouchesOneOf};
 ghost use Rattle.aia_world.specs.Stores.{Reaches, ReachesByRecord, StoresInSlot, page_spot, slot_at};
 
-use aia_imsic::Spot;
+use aia_file::Spot;
 
 /// A slot is named by its first address, and by no other.
 pub fn an_address_names_one_slot()

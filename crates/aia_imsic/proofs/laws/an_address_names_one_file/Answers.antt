@@ -1,4 +1,4 @@
-use Rattle.aia_imsic.proofs.MapLemmas.{spot_of_machine, spot_of_host, spot_of_guest, machine_of_spot, host_of_spot, guest_of_spot}
+use Rattle.aia_file.proofs.MapLemmas.{spot_of_machine, spot_of_host, spot_of_guest, machine_of_spot, host_of_spot, guest_of_spot}
 use Rattle.aia_imsic.proofs.laws.an_address_names_one_file.Goals as goal
 
 pub returns-clause-machine : goal.returns-clause-machine

@@ -1,4 +1,4 @@
-use Rattle.aia_imsic.proofs.PlaceLemmas.{place_within, same_place}
+use Rattle.aia_file.proofs.PlaceLemmas.{place_within, same_place}
 use Rattle.aia_imsic.proofs.laws.files_are_kept_apart.Goals as goal
 
 pub returns-clause-apart : goal.returns-clause-apart

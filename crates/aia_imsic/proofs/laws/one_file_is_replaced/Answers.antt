@@ -1,4 +1,4 @@
-use Rattle.aia_imsic.proofs.PlaceLemmas.{replaced_here, kept_elsewhere}
+use Rattle.aia_file.proofs.PlaceLemmas.{replaced_here, kept_elsewhere}
 use Rattle.aia_imsic.proofs.laws.one_file_is_replaced.Goals as goal
 
 pub returns-clause-same : goal.returns-clause-same

@@ -1,6 +1,6 @@
 use Rattle.std.proofs.Common.{◌≡◌, ◌+◌, ◌/◌, ◌<◌, subst, arith}
-use Rattle.aia_mrif.specs.Mrif.{mrif_in}
-use Rattle.aia_mrif.specs.SlotFile.{slot_file}
+use Rattle.aia_file.specs.Mrif.{mrif_in}
+use Rattle.aia_file.specs.SlotFile.{slot_file}
 use Rattle.aia_file.proofs.SizeLemmas.{few_identities}
 use Rattle.aia_mrif.proofs.SummaryLemmas.{SummarizesFirst, none_summarized, live_added, dead_added, all_summarized, file_identities}
 use Rattle.aia_mrif.proofs.view.summary.Goals as goal

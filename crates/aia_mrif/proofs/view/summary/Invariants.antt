@@ -1,6 +1,6 @@
 use Rattle.std.proofs.Common.{◌≡◌, ◌+◌}
-use Rattle.aia_mrif.specs.Mrif.{mrif_in}
-use Rattle.aia_mrif.specs.SlotFile.{slot_file}
+use Rattle.aia_file.specs.Mrif.{mrif_in}
+use Rattle.aia_file.specs.SlotFile.{slot_file}
 use Rattle.aia_mrif.proofs.SummaryLemmas.{SummarizesFirst}
 use Rattle.aia_mrif.proofs.view.summary.Given as goal
 

@@ -7,7 +7,7 @@ use Rattle.aia_regs.specs.declared.file_registers.FileReg.{FileReg}
 use Rattle.aia_regs.specs.FileRegisters.{register_of}
 use Rattle.aia_file.specs.InterruptFile.{SameFile, register_value, accessed}
 use Rattle.aia_file.specs.FileState.{shown}
-use Rattle.aia_imsic.specs.Imsic.{file_at}
+use Rattle.aia_file.specs.Imsic.{file_at}
 use Rattle.aia_model.specs.FileAfter.FileDeed.{Accesses}
 use Rattle.aia_standing.specs.Core.{CoreState}
 use Rattle.aia_standing.specs.HostFiles.{name_of, csr_line, select_in}

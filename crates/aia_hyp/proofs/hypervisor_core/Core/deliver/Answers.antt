@@ -1,5 +1,5 @@
 use Rattle.std.proofs.Common.{◌≡◌, sym, subst, ◌∙◌}
-use Rattle.aia_imsic.specs.Map.{spot_at}
+use Rattle.aia_file.specs.Map.{spot_at}
 use Rattle.aia_world.specs.Whole.{IsWhole}
 use Rattle.aia_standing.specs.Core.{CoreState}
 use Rattle.aia_standing.proofs.ForwardLemmas.{then_relays, relayed_too, landed_alone}

@@ -6,8 +6,8 @@ use Rattle.aia_regs.specs.FileRegisters.{select_written}
 use Rattle.aia_csr.specs.declared.csr_access.CsrAccess.TheVariants as reaches
 use Rattle.aia_file.specs.InterruptFile.{SameFile, register_value, top_of, accessed, signals}
 use Rattle.aia_file.specs.FileState.{FileState, shown}
-use Rattle.aia_imsic.specs.declared.spot.Spot.{Spot}
-use Rattle.aia_imsic.specs.Imsic.{IsThere, file_at, with_file}
+use Rattle.aia_file.specs.declared.spot.Spot.{Spot}
+use Rattle.aia_file.specs.Imsic.{IsThere, file_at, with_file}
 use Rattle.aia_home.specs.declared.place.Place.{Place}
 use Rattle.aia_home.specs.Vms.{Vcpu, vcpu, is_vcpu_in}
 use Rattle.aia_world.specs.Whole.{IsWhole}

@@ -1,6 +1,6 @@
 use Rattle.std.proofs.Common.{◌≡◌, ◌≤◌, true, refl, sym, ap, subst, ◌∙◌}
-use Rattle.aia_imsic.specs.Imsic.{ImsicState, IsThere}
-use Rattle.aia_imsic.specs.Map.{spot_at}
+use Rattle.aia_file.specs.Imsic.{ImsicState, IsThere}
+use Rattle.aia_file.specs.Map.{spot_at}
 use Rattle.aia_regs.specs.declared.limits.TheConstants.{HARTS}
 use Rattle.aia_model.specs.Event.Event.{Delivered}
 use Rattle.aia_standing.specs.Core.{CoreState}

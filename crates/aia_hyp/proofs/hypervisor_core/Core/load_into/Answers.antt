@@ -2,7 +2,7 @@ use Rattle.std.proofs.Common.{◌≡◌, ◌+◌, ◌<◌, Bool, true, false, le
 use Rattle.aia_regs.specs.Fields.{bit_number}
 use Rattle.aia_regs.specs.FileRegisters.{select_written}
 use Rattle.aia_regs.specs.declared.access.Op.TheVariants as ops
-use Rattle.aia_imsic.specs.declared.spot.Spot.TheVariants as spots
+use Rattle.aia_file.specs.declared.spot.Spot.TheVariants as spots
 use Rattle.aia_home.specs.Vms.{vcpu, is_vcpu_in, vcpus_in, slot_of, notice_hart}
 use Rattle.aia_world.specs.World.{World}
 use Rattle.aia_world.specs.Stores.{Posts}

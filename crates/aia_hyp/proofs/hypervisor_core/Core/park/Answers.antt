@@ -1,5 +1,5 @@
 use Rattle.std.proofs.Common.{◌≡◌, ◌+◌, true, refl, sym, subst, ◌∙◌, arith}
-use Rattle.aia_imsic.specs.declared.spot.Spot.TheVariants as spots
+use Rattle.aia_file.specs.declared.spot.Spot.TheVariants as spots
 use Rattle.aia_home.specs.Vms.{Vcpu, vcpu, is_vcpu_in, slot_of, notice_hart, notice_identity}
 use Rattle.aia_world.specs.World.{World}
 use Rattle.aia_world.specs.Stores.{Posts}

@@ -1,6 +1,6 @@
 use Rattle.std.proofs.Common.{rules, ◌≡◌, ◌≤◌, subst, Option, None, Some, Err, refl, sym, ap, ◌∙◌}
-use Rattle.aia_imsic.specs.Imsic.{ImsicState, IsThere}
-use Rattle.aia_imsic.specs.Map.{spot_at}
+use Rattle.aia_file.specs.Imsic.{ImsicState, IsThere}
+use Rattle.aia_file.specs.Map.{spot_at}
 use Rattle.aia_model.specs.Act.{domain_at}
 use Rattle.aia_model.specs.declared.answer.Answer.TheVariants.{Okay}
 use Rattle.aia_model.specs.declared.line.Line.TheVariants.{Store}

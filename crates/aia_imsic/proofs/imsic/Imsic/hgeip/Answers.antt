@@ -3,8 +3,8 @@ use Rattle.std.specs.Int.{is_in_range}
 use Rattle.std.proofs.lemmas.Bool.{and_right}
 use Rattle.aia_file.specs.InterruptFile.{signals}
 use Rattle.aia_file.specs.FileState.{FileState, shown}
-use Rattle.aia_imsic.specs.declared.spot.Spot.TheVariants.{GuestFile}
-use Rattle.aia_imsic.specs.Imsic.{file_at}
+use Rattle.aia_file.specs.declared.spot.Spot.TheVariants.{GuestFile}
+use Rattle.aia_file.specs.Imsic.{file_at}
 use Rattle.aia_imsic.proofs.SignalLemmas.{in_range, bit_put, bit_left}
 use Rattle.aia_imsic.proofs.imsic.Imsic.hgeip.Goals as goal
 use Rattle.aia_imsic.proofs.imsic.Imsic.hgeip.Goals.{then-signal, else-signal}

@@ -3,8 +3,8 @@ use Rattle.std.specs.Int.{is_in_range}
 use Rattle.aia_word.specs.Sets.{has_bit}
 use Rattle.aia_file.specs.InterruptFile.{signals}
 use Rattle.aia_file.specs.FileState.{shown}
-use Rattle.aia_imsic.specs.declared.spot.Spot.TheVariants.{GuestFile}
-use Rattle.aia_imsic.specs.Imsic.{file_at}
+use Rattle.aia_file.specs.declared.spot.Spot.TheVariants.{GuestFile}
+use Rattle.aia_file.specs.Imsic.{file_at}
 use Rattle.aia_imsic.proofs.imsic.Imsic.hgeip.Given as goal
 
 abbrev pub invariant-loop-file : goal.invariant-loop-file

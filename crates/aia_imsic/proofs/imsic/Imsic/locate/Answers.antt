@@ -1,5 +1,5 @@
 use Rattle.std.proofs.Common.{refl, sym, arith}
-use Rattle.aia_imsic.proofs.MapLemmas.{below_all, past_machines, at_machine, past_hosts, at_host, past_guests, at_guest}
+use Rattle.aia_file.proofs.MapLemmas.{below_all, past_machines, at_machine, past_hosts, at_host, past_guests, at_guest}
 use Rattle.aia_imsic.proofs.imsic.Imsic.locate.Goals as goal
 
 pub returns-then-addr-lt-MACHINE_FILES-clause-spot : goal.returns-then-addr-lt-MACHINE_FILES-clause-spot

@@ -2,8 +2,8 @@ use Rattle.std.proofs.Common.{arith}
 use Rattle.std.proofs.lemmas.List.Elements.{All-get_or}
 use Rattle.aia_file.specs.InterruptFile.{SameFile, empty_file}
 use Rattle.aia_file.specs.FileState.{FileState, shown}
-use Rattle.aia_imsic.specs.Imsic.{ImsicState, place_of, no_file}
-use Rattle.aia_imsic.proofs.PlaceLemmas.{place_within}
+use Rattle.aia_file.specs.Imsic.{ImsicState, place_of, no_file}
+use Rattle.aia_file.proofs.PlaceLemmas.{place_within}
 use Rattle.aia_imsic.proofs.imsic.Imsic.new.Goals as goal
 
 pub returns-clause-empty : goal.returns-clause-empty

@@ -17,8 +17,8 @@ use Rattle.aia_regs.specs.BitUpdate.{settle, set_after, names}
 use Rattle.aia_regs.specs.BitUpdate.BitUpdate.{Ask, Nothing}
 use Rattle.aia_regs.specs.Request.{requested}
 use Rattle.aia_regs.proofs.RequestLemmas.{requested_in_range}
-use Rattle.aia_mrif.specs.Mrif.{mrif_in, set_at, pending_place, enable_place, after_store}
-use Rattle.aia_mrif.specs.Words.{HasSlot, SameMrif, words_after_store}
+use Rattle.aia_file.specs.Mrif.{mrif_in, set_at, pending_place, enable_place, after_store}
+use Rattle.aia_file.specs.Words.{HasSlot, SameMrif, words_after_store}
 
 pub one_bit : (k : ℕ) → k < 64 → 1 * 2 ^ k % 2 ^ 64 ≡ 2 ^ k
 one_bit k low = shl_whole 1 1 k 64 (omega arith) (omega arith) ∙ once (2 ^ k)

@@ -4,7 +4,7 @@ use Rattle.std.specs.Int.{bit_not, is_in_range, w64}
 use Rattle.aia_word.specs.Sets.{has_bit}
 use Rattle.aia_regs.specs.declared.file_registers.FileReg.{FileReg}
 use Rattle.aia_regs.specs.declared.file_registers.FileReg.TheVariants.{Pending, Enable}
-use Rattle.aia_mrif.specs.Mrif.{Mrif, pending_place, enable_place}
+use Rattle.aia_file.specs.Mrif.{Mrif, pending_place, enable_place}
 
 -- Memory has all words of slot q.
 abbrev pub HasSlot : List ℕ → ℕ → Type 0

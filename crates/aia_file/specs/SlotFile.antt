@@ -6,7 +6,7 @@ use Rattle.std.specs.Int.{is_in_range}
 use Rattle.aia_regs.specs.declared.file_registers.FileReg.{FileReg}
 use Rattle.aia_regs.specs.declared.file_registers.FileReg.TheVariants.{Pending, Enable}
 use Rattle.aia_file.specs.InterruptFile.{InterruptFile}
-use Rattle.aia_mrif.specs.Mrif.{Mrif, mrif_in}
+use Rattle.aia_file.specs.Mrif.{Mrif, mrif_in}
 
 -- The MRIF as an interrupt file of the identities 1 to n with a threshold; it shows no other
 -- identity. Its eidelivery says nothing: a slot has none.

@@ -5,9 +5,9 @@ use Rattle.std.proofs.lemmas.Bool.Decides.{nat_tests}
 use Rattle.std.specs.Option.{option_map_or}
 use Rattle.aia_word.proofs.LeastLemmas.{least_of-found, least_of-none, least_of_is}
 use Rattle.aia_regs.specs.AddressMap.{machine_page, supervisor_page, guest_page, is_in_page}
-use Rattle.aia_imsic.specs.declared.spot.Spot.{Spot}
-use Rattle.aia_imsic.specs.declared.spot.Spot.TheVariants.{MachineFile, SupervisorFile, GuestFile, Nowhere}
-use Rattle.aia_imsic.specs.Map.{machine_file_at, supervisor_file_at, guest_file_at, guest_hart_at, guest_spot_of, spot_at}
+use Rattle.aia_file.specs.declared.spot.Spot.{Spot}
+use Rattle.aia_file.specs.declared.spot.Spot.TheVariants.{MachineFile, SupervisorFile, GuestFile, Nowhere}
+use Rattle.aia_file.specs.Map.{machine_file_at, supervisor_file_at, guest_file_at, guest_hart_at, guest_spot_of, spot_at}
 use Rattle.aia_regs.specs.declared.limits.TheConstants.{HARTS, GUEST_FILES}
 use Rattle.aia_regs.specs.declared.address_map.TheConstants.{MACHINE_FILES, SUPERVISOR_FILES, HART_STRIDE, PAGE}
 

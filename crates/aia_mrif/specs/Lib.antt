@@ -1,3 +1,0 @@
-pub mod Mrif
-pub mod Words
-pub mod SlotFile
