@@ -24,7 +24,7 @@ use aia_model::{DomainName, Msi, Sender};
 use aia_msiaddr::Addresses;
 use aia_regs::{DomainReg, domain_reg};
 use aia_source::delegates;
-use aia_steps::Steps;
+use aia_word::Steps;
 use std::alloc::{AllocError, Global};
 use std::marker::{Brand, Model};
 use std::sync::ledger::{Blank, Ledger};

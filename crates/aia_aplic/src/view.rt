@@ -7,7 +7,7 @@ ghost use Rattle.aia_wiring.specs.Bits.{AreSources};
 use crate::aplic::Aplic;
 use crate::bits::Bits;
 use aia_model::DomainName;
-use aia_steps::Steps;
+use aia_word::Steps;
 use std::sync::ledger::Ledger;
 
 /// The sources that the domains of an APLIC are to forward, with a count of the looks at them: each

@@ -2,3 +2,4 @@ mod HandleValues
 pub mod ServingLemmas
 pub mod JoinedLemmas
 pub mod TextLemmas
+pub mod BlockValues

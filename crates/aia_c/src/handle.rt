@@ -2,7 +2,7 @@ ghost use Rattle.std.specs.Prelude.{◌≡◌, Option, Some, None, MatchOption};
 ghost use Rattle.aia_replay.specs.Stands.{EngineState};
 ghost use Rattle.aia_c.specs.Ownership.{handle_owns, held_coded};
 
-use aia_block::Block;
+use crate::block::Block;
 use aia_replay::Engine;
 use std::alloc::Global;
 use std::marker::Model;

@@ -5,6 +5,7 @@ ghost use Rattle.std.specs.Prelude.{◌≡◌, ◌-◌, ◌≤◌, None, length,
 ghost use Rattle.aia_c.specs.Calls.{Opens, Lines, Scripts};
 
 mod access;
+mod block;
 mod code;
 mod guests;
 mod handle;

@@ -10,7 +10,7 @@ use crate::front::front_search;
 use crate::view::HartFront;
 use aia_domain::Domain;
 use aia_regs::{DomainReg, bit, bits};
-use aia_steps::Steps;
+use aia_word::Steps;
 use std::marker::{Brand, Model};
 use std::sync::ledger::{Blank, Ledger};
 

@@ -4,7 +4,7 @@ ghost use Rattle.aia_domain.specs.Domain.{candidates, IsPairOfSource};
 
 use crate::front::Front;
 use aia_domain::Domain;
-use aia_steps::Steps;
+use aia_word::Steps;
 use std::sync::ledger::Ledger;
 
 /// The candidates of a hart in a domain, with a count of the looks at them: each look is a step.

@@ -3,7 +3,7 @@ ghost use Rattle.aia_word.specs.Sets.{is_in, word_of};
 
 use crate::file::File;
 use crate::looks::Looks;
-use aia_steps::Steps;
+use aia_word::Steps;
 use std::sync::ledger::Ledger;
 
 /// A file with a count of the looks at it: each look is a step.

@@ -13,7 +13,7 @@ use crate::view::{View, summary};
 use aia_file::search;
 use aia_ram::Ram;
 use aia_regs::FileReg;
-use aia_steps::Steps;
+use aia_word::Steps;
 use std::marker::Brand;
 use std::sync::ledger::{Blank, Ledger};
 

@@ -10,7 +10,7 @@ use crate::access::shown;
 use aia_file::Looks;
 use aia_ram::Ram;
 use aia_regs::FileReg;
-use aia_steps::Steps;
+use aia_word::Steps;
 use std::sync::ledger::Ledger;
 
 /// The sets of a slot, as those of a file of the identities 1 to `n`, with a summary of them and a

@@ -8,7 +8,7 @@ use aia_file::{File, Looks, Spot, search};
 use aia_imsic::Imsic;
 use aia_regs::limits::{GUEST_FILES, HARTS};
 use aia_regs::{FileReg, Op};
-use aia_steps::Steps;
+use aia_word::Steps;
 use std::marker::Brand;
 use std::process::Abort;
 use std::sync::ledger::{Blank, Ledger};

@@ -9,7 +9,7 @@ use aia_aplic::{Aplic, Bits, Msi, bits_search};
 use aia_domain::Domain;
 use aia_model::DomainName;
 use aia_regs::DomainReg;
-use aia_steps::Steps;
+use aia_word::Steps;
 use std::alloc::{AllocError, Global};
 use std::marker::Brand;
 use std::process::Abort;

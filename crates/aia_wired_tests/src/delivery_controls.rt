@@ -7,7 +7,7 @@ use crate::same;
 use aia_direct::{Front, Idc, claimi, front_search, signal, topi, topi_counted};
 use aia_domain::Domain;
 use aia_regs::DomainReg;
-use aia_steps::Steps;
+use aia_word::Steps;
 use std::marker::Brand;
 use std::process::Abort;
 use std::sync::ledger::{Blank, Ledger};

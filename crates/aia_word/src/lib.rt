@@ -10,9 +10,11 @@ mod bits;
 pub mod laws;
 mod packed;
 pub mod sets;
+mod steps;
 mod summary;
 
 pub use bank::Bank;
 pub use bits::least_one;
 pub use packed::{deposit, extract};
+pub use steps::Steps;
 pub use summary::refreshed;

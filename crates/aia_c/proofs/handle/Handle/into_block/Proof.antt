@@ -34,7 +34,7 @@ use Rattle.std.specs.contracts.alloc.Global as heap
 use Rattle.std.specs.contracts.impls.GlobalAllocator.TheImpl.{ghosts}
 use Rattle.std.specs.Box.Ownership.{box_owns}
 use Rattle.std.proofs.raw_atomic.Walks.{proved_at, leaves}
-use Rattle.aia_block.proofs.BlockValues.{words, heap as heap_of, Block, typed, block_in}
+use Rattle.aia_c.proofs.BlockValues.{words, heap as heap_of, Block, typed, block_in}
 use Rattle.aia_replay.specs.Stands.{EngineState}
 use Rattle.aia_replay.specs.contracts.engine.Engine as engine
 use Rattle.aia_c.specs.Ownership.{handle_owns}

@@ -23,7 +23,7 @@ use Rattle.std.specs.contracts.alloc.Global as heap
 use Rattle.std.specs.contracts.impls.GlobalAllocator.TheImpl.{ghosts}
 use Rattle.std.specs.Box.Ownership.{box_owns}
 use Rattle.std.proofs.raw_atomic.Walks.{proved_at, leaves}
-use Rattle.aia_block.proofs.BlockValues.{words, Block, typed, block_out}
+use Rattle.aia_c.proofs.BlockValues.{words, Block, typed, block_out}
 use Rattle.aia_replay.specs.contracts.engine.Engine as engine
 use Rattle.aia_c.proofs.HandleValues.{word, handle_in}
 use Rattle.aia_c.specs.contracts.handle.Handle.of as of

@@ -23,7 +23,7 @@ use Rattle.std.proofs.alloc.Calls.{Al, handle_tells}
 use Rattle.std.proofs.cell.Inside.{Good}
 use Rattle.std.specs.Box.Ownership.{box_owns}
 use Rattle.std.proofs.ResultValues.{and_tt}
-use Rattle.aia_block.specs.contracts.Block as block
+use Rattle.aia_c.specs.contracts.block.Block as block
 
 -- the two words of a block: its address, and the handle
 abbrev pub words : ℕ → ℕ → Val → Val

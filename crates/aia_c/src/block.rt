@@ -1,6 +1,5 @@
 //! A box taken apart: its block by the block's address, and its allocator. The library for C keeps
 //! the address alone.
-#![tactic(auto)]
 
 ghost use Rattle.std.specs.Prelude.{◌≡◌};
 ghost use Rattle.std.specs.Box.Ownership.{box_owns};

@@ -34,10 +34,10 @@ use Rattle.std.proofs.BoxSteps.Steps.{box_out, box_in}
 use Rattle.std.proofs.raw_atomic.Walks.{proved_at, leaves}
 use Rattle.std.specs.contracts.boxed.Box.into_raw_with_allocator as apart
 use Rattle.std.proofs.boxed.Box.into_raw_with_allocator.Met.{met}
-use Rattle.aia_block.proofs.BlockValues.{words, typed, block_in}
-use Rattle.aia_block.specs.contracts.Block.of as of
-use Rattle.aia_block.proofs.Block.of.Statement.{statement}
-use Rattle.aia_block.proofs.Block.of.Code as code
+use Rattle.aia_c.proofs.BlockValues.{words, typed, block_in}
+use Rattle.aia_c.specs.contracts.block.Block.of as of
+use Rattle.aia_c.proofs.block.Block.of.Statement.{statement}
+use Rattle.aia_c.proofs.block.Block.of.Code as code
 
 pub of_spec : {M : Type 1} → statement M
 of_spec 𝓤 𝓛 𝓜 𝓡 wired T A T-laws A-laws g dict T-drop A-drop allocator T-glue A-glue =

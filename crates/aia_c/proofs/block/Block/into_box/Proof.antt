@@ -33,10 +33,10 @@ use Rattle.std.proofs.BoxSteps.Steps.{box_out, box_in}
 use Rattle.std.proofs.raw_atomic.Walks.{proved_at, leaves}
 use Rattle.std.specs.contracts.boxed.Box.from_raw as remade
 use Rattle.std.proofs.boxed.Box.from_raw.Met.{met}
-use Rattle.aia_block.proofs.BlockValues.{words, Block, typed, block_out}
-use Rattle.aia_block.specs.contracts.Block.into_box as into_box
-use Rattle.aia_block.proofs.Block.into_box.Statement.{statement}
-use Rattle.aia_block.proofs.Block.into_box.Code as code
+use Rattle.aia_c.proofs.BlockValues.{words, Block, typed, block_out}
+use Rattle.aia_c.specs.contracts.block.Block.into_box as into_box
+use Rattle.aia_c.proofs.block.Block.into_box.Statement.{statement}
+use Rattle.aia_c.proofs.block.Block.into_box.Code as code
 
 pub into_box_spec : {M : Type 1} → statement M
 into_box_spec 𝓤 𝓛 𝓜 𝓡 wired T A T-laws A-laws g dict T-drop A-drop allocator T-glue A-glue =
