@@ -29,13 +29,14 @@ use Rattle.aia_places.proofs.StoreLemmas.{lands}
 use Rattle.aia_world.specs.World.{World, stage_of}
 use Rattle.aia_world.specs.Whole.{IsWhole}
 use Rattle.aia_world.specs.Stores.{StoresIn, StoresInGuestFile, NoticedBy, StoresInSlot, Reaches, ReachesBy, ReachesByRecord, with_store, page_spot}
-use Rattle.aia_world.specs.Changes.{spot_of, file_in, places_of}
-use Rattle.aia_world.specs.Own.{TouchesOwn}
+use Rattle.aia_world.specs.Changes.{spot_of, file_in}
+use Rattle.aia_moving.specs.Views.{places_of}
+use Rattle.aia_moving.specs.Own.{TouchesOwn}
 use Rattle.aia_home.proofs.HomeLemmas.{either_file, landing_is_held}
-use Rattle.aia_world.proofs.OwnLemmas.{by_entry, guest_spot, touches_file, touches_slot, others_stay}
+use Rattle.aia_moving.proofs.OwnLemmas.{by_entry, guest_spot, touches_file, touches_slot, others_stay}
 use Rattle.aia_world.proofs.PlaceLemmas.{slot_found, host_page, named_guest}
-use Rattle.aia_world.proofs.StoreViews.{file_store-places, slot_store-places}
-use Rattle.aia_world.proofs.ViewLemmas.{posts-places, slot_low}
+use Rattle.aia_moving.proofs.StoreViews.{file_store-places, slot_store-places}
+use Rattle.aia_moving.proofs.ViewLemmas.{posts-places, slot_low}
 use Rattle.aia_world.proofs.WholeLemmas.{notice_hart_there}
 use Rattle.aia_moving.specs.Move.{Moving, mover, width, MoveFits}
 use Rattle.aia_moving.specs.PlanState.{PlanState, moving_of}

@@ -4,7 +4,7 @@ use Rattle.aia_file.specs.InterruptFile.{InterruptFile}
 use Rattle.aia_home.specs.declared.place.Place.{Place}
 use Rattle.aia_places.specs.Holds.{Holds}
 use Rattle.aia_world.specs.World.{World}
-use Rattle.aia_world.specs.Changes.{places_of}
+use Rattle.aia_moving.specs.Views.{places_of}
 use Rattle.aia_moving.specs.Move.{mover, width, MoveFits}
 use Rattle.aia_moving.specs.PlanState.{PlanState, moving_of}
 use Rattle.aia_moving.specs.Plan.{IsInPhase}

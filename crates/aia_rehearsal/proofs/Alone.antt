@@ -25,8 +25,9 @@ use Rattle.aia_world.specs.Whole.{IsWhole}
 use Rattle.aia_world.specs.Making.{entry_word_place}
 use Rattle.aia_world.specs.Stores.{Reaches, ReachesBy, ReachesByRecord, named_spot}
 use Rattle.aia_world.specs.Flights.{Sends, Lands, LandsOldest}
-use Rattle.aia_world.specs.Changes.{places_of, pending_words, enable_words, with_pending, with_enable, with_entry_word, with_fence, with_stage}
-use Rattle.aia_world.proofs.ViewLemmas.{fence-places, slot_low}
+use Rattle.aia_moving.specs.Views.{places_of}
+use Rattle.aia_world.specs.Changes.{pending_words, enable_words, with_pending, with_enable, with_entry_word, with_fence, with_stage}
+use Rattle.aia_moving.proofs.ViewLemmas.{fence-places, slot_low}
 use Rattle.aia_world.proofs.WholeLemmas.{vcpu_entry, notice_hart_there}
 use Rattle.aia_moving.specs.Move.{PostsIf}
 use Rattle.aia_moving.specs.Touches.{SameMachine}

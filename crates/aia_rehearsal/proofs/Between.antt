@@ -24,10 +24,10 @@ use Rattle.aia_world.specs.Whole.{IsWhole}
 use Rattle.aia_world.specs.Stores.{StoresInGuestFile, Reaches, ReachesByRecord, named_spot}
 use Rattle.aia_world.specs.Flights.{Sends, with_flight}
 use Rattle.aia_world.specs.Changes.{spot_of, with_fence}
-use Rattle.aia_world.proofs.OwnLemmas.{guest_spot}
+use Rattle.aia_moving.proofs.OwnLemmas.{guest_spot}
 use Rattle.aia_world.proofs.PlaceLemmas.{slot_found}
 use Rattle.aia_world.proofs.WholeLemmas.{notice_hart_there}
-use Rattle.aia_world.proofs.ViewLemmas.{slot_low}
+use Rattle.aia_moving.proofs.ViewLemmas.{slot_low}
 use Rattle.aia_plan.specs.Transit.{Side, Flight, Transit, landed, happened}
 use Rattle.aia_plan.specs.Transit.Side.{Old, New}
 use Rattle.aia_plan.specs.Transit.{Happening as happenings}

@@ -15,7 +15,7 @@ use Rattle.aia_world.specs.declared.stage.Stage.{Stage}
 use Rattle.aia_world.specs.World.{World, flight_of, stage_of, no_stage}
 use Rattle.aia_world.specs.Whole.{IsWhole}
 use Rattle.aia_world.specs.Making.{IsNew, MakesVm, new_world, made_entry, entry_word_place, notice_page}
-use Rattle.aia_world.proofs.ViewLemmas.{slot_low}
+use Rattle.aia_moving.proofs.ViewLemmas.{slot_low}
 use Rattle.aia_regs.specs.declared.limits.TheConstants.{VCPUS}
 use Rattle.aia_regs.specs.declared.address_map.TheConstants.{PAGE}
 use Rattle.aia_regs.specs.AddressMap.{supervisor_page, slot_address}

@@ -16,7 +16,7 @@ use Rattle.aia_world.specs.World.{World}
 use Rattle.aia_world.specs.Whole.{IsWhole}
 use Rattle.aia_world.specs.Making.{entry_word_place}
 use Rattle.aia_world.specs.Changes.{spot_of, with_word, pending_words, enable_words, pending_at, with_pending, enable_at, with_enable}
-use Rattle.aia_world.proofs.ViewLemmas.{here, spots_apart, word_replaced, slot_pending-written, slot_enabled-written, has_slot, place_shows}
+use Rattle.aia_moving.proofs.ViewLemmas.{here, spots_apart, word_replaced, slot_pending-written, slot_enabled-written, has_slot, place_shows}
 use Rattle.aia_rehearsal.specs.declared.place.Place as ends
 use Rattle.aia_rehearsal.specs.declared.place.Place.TheVariants.{File, Slot}
 use Rattle.aia_rehearsal.specs.Rehearsed.{at_of, AreTwo, IsFileThere}

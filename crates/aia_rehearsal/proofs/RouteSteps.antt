@@ -25,7 +25,7 @@ use Rattle.aia_places.proofs.EntryLemmas.{entry_back}
 use Rattle.aia_world.specs.World.{World}
 use Rattle.aia_world.specs.Whole.{IsWhole}
 use Rattle.aia_world.specs.Changes.{spot_of, pending_words, enable_words, pending_at, with_pending, enable_at, with_enable, with_state, with_entry_word, with_fence, with_map, with_gfence}
-use Rattle.aia_world.proofs.ViewLemmas.{here, spots_apart, word0-places, word1-places, fence-places, map-places, gfence-places}
+use Rattle.aia_moving.proofs.ViewLemmas.{here, spots_apart, word0-places, word1-places, fence-places, map-places, gfence-places}
 use Rattle.aia_world.proofs.WholeLemmas.{notice_hart_there}
 use Rattle.aia_moving.specs.Move.{PostsIf, width}
 use Rattle.aia_moving.specs.Touches.{SameMachine}

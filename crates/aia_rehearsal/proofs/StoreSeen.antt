@@ -29,8 +29,8 @@ use Rattle.aia_world.specs.Stores.{StoresIn, StoresInGuestFile, Posts, NoticedAt
 use Rattle.aia_world.specs.Changes.{spot_of, with_state}
 use Rattle.aia_world.proofs.FrameLemmas.{none_rest, stores_rest, slot_rest}
 use Rattle.aia_world.proofs.PlaceLemmas.{slot_takes_store, other_slot_stays}
-use Rattle.aia_world.proofs.StoreViews.{entry_words_kept}
-use Rattle.aia_world.proofs.ViewLemmas.{spots_apart, has_slot}
+use Rattle.aia_moving.proofs.StoreViews.{entry_words_kept}
+use Rattle.aia_moving.proofs.ViewLemmas.{spots_apart, has_slot}
 use Rattle.aia_world.proofs.WholeLemmas.{width_at}
 use Rattle.aia_moving.specs.Move.{width}
 use Rattle.aia_plan.specs.Transit.{is_identity, with_one}

@@ -28,7 +28,8 @@ use Rattle.aia_home.specs.Routes.{entry_names}
 use Rattle.aia_places.specs.Holds.{Holds}
 use Rattle.aia_pool.specs.Leases.{Leases, is_out}
 use Rattle.aia_world.specs.World.{World, no_stage}
-use Rattle.aia_world.specs.Changes.{spot_of, places_of}
+use Rattle.aia_world.specs.Changes.{spot_of}
+use Rattle.aia_moving.specs.Views.{places_of}
 use Rattle.aia_moving.specs.declared.who.Who.{Who}
 use Rattle.aia_moving.specs.Move.{Moving, mover, width, MoveFits}
 use Rattle.aia_moving.specs.PlanState.{PlanState, moving_of}

@@ -19,7 +19,8 @@ use Rattle.aia_places.specs.Holds.{Hand, Holds, IsEmpty}
 use Rattle.aia_places.specs.Stores.{HasApart, AreApart}
 use Rattle.aia_places.proofs.MoveEnds.{leave_begins, shift_begins, arrive_begins}
 use Rattle.aia_pool.specs.Leases.{with_out}
-use Rattle.aia_world.specs.Changes.{spot_of, places_of}
+use Rattle.aia_world.specs.Changes.{spot_of}
+use Rattle.aia_moving.specs.Views.{places_of}
 use Rattle.aia_moving.specs.declared.who.Who.{Who}
 use Rattle.aia_moving.specs.declared.who.KeptNumbers.{KeptNumbers}
 use Rattle.aia_moving.specs.Move.{Moving, width, IsWho}

@@ -20,8 +20,8 @@ use Rattle.aia_places.specs.Places.{leads_to}
 use Rattle.aia_world.specs.Stores.{StoresInGuestFile, StoresInSlot, Reaches, slot_at, page_spot}
 use Rattle.aia_world.specs.Whole.{IsWhole}
 use Rattle.aia_world.specs.Changes.{spot_of}
-use Rattle.aia_world.specs.Own.{LeadsToOwn}
-use Rattle.aia_world.proofs.OwnLemmas.{guest_spot}
+use Rattle.aia_moving.specs.Own.{LeadsToOwn}
+use Rattle.aia_moving.proofs.OwnLemmas.{guest_spot}
 use Rattle.aia_world.proofs.PlaceLemmas.{slot_found, host_page}
 use Rattle.aia_world.proofs.WholeLemmas.{notice_hart_there}
 use Rattle.aia_model.specs.declared.answer.Answer.{Answer}

@@ -22,7 +22,8 @@ use Rattle.aia_places.specs.Holds.{Hand, HoldsSets, Holds, IsEmpty}
 use Rattle.aia_places.specs.Stores.{AreApart}
 use Rattle.aia_pool.specs.Leases.{Leases, is_out, with_out}
 use Rattle.aia_world.specs.Whole.{IsWhole}
-use Rattle.aia_world.specs.Changes.{spot_of, places_of}
+use Rattle.aia_world.specs.Changes.{spot_of}
+use Rattle.aia_moving.specs.Views.{places_of}
 use Rattle.aia_world.proofs.WholeLemmas.{width_at}
 use Rattle.aia_moving.specs.declared.turn.Outcome.{Outcome}
 use Rattle.aia_moving.specs.declared.turn.Outcome.TheVariants.{Left, Arrived, Shifted}

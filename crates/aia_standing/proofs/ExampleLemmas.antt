@@ -36,7 +36,8 @@ use Rattle.aia_places.specs.Holds.{Holds, HoldsSets, HoldsNumbers, HoldsRoutes}
 use Rattle.aia_places.specs.Stores.{AreApart}
 use Rattle.aia_pool.specs.Leases.{is_out}
 use Rattle.aia_world.specs.World.{no_stage}
-use Rattle.aia_world.specs.Changes.{spot_of, places_of}
+use Rattle.aia_world.specs.Changes.{spot_of}
+use Rattle.aia_moving.specs.Views.{places_of}
 use Rattle.aia_world.specs.Whole.{IsWhole, IsVm}
 use Rattle.aia_moving.specs.Move.{MoveFits}
 use Rattle.aia_moving.specs.Plan.{empty_hand}

@@ -17,7 +17,7 @@ use Rattle.aia_places.specs.Holds.{HasSets, Hand}
 use Rattle.aia_places.proofs.MemoryKept.{memory_has, memory_kept}
 use Rattle.aia_world.specs.World.{World}
 use Rattle.aia_world.specs.Whole.{IsWhole}
-use Rattle.aia_world.specs.Changes.{places_of}
+use Rattle.aia_moving.specs.Views.{places_of}
 use Rattle.aia_world.specs.SlotAccess.{file_of_slot}
 use Rattle.aia_moving.specs.declared.who.KeptNumbers.{KeptNumbers}
 use Rattle.aia_model.specs.Event.{History, greatest_identity_of, file_words}

@@ -9,7 +9,7 @@ use Rattle.aia_home.specs.Home.Home.{OnWay}
 use Rattle.aia_places.specs.Holds.{Hand, sees}
 use Rattle.aia_places.specs.Stores.{AreApart}
 use Rattle.aia_pool.specs.Leases.{Leases, is_out}
-use Rattle.aia_world.specs.Changes.{places_of}
+use Rattle.aia_moving.specs.Views.{places_of}
 use Rattle.aia_moving.specs.declared.who.Who.{Who}
 use Rattle.aia_moving.specs.Move.{mover, width, MoveFits, Goes}
 use Rattle.aia_moving.specs.PlanState.{PlanState, moving_of}

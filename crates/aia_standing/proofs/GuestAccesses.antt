@@ -26,7 +26,8 @@ use Rattle.aia_places.specs.Holds.{Holds}
 use Rattle.aia_places.proofs.FileLemmas.{resident, resident_replaced}
 use Rattle.aia_world.specs.World.{World}
 use Rattle.aia_world.specs.Whole.{IsWhole}
-use Rattle.aia_world.specs.Changes.{spot_of, places_of}
+use Rattle.aia_world.specs.Changes.{spot_of}
+use Rattle.aia_moving.specs.Views.{places_of}
 use Rattle.aia_world.proofs.WholeLemmas.{width_at}
 use Rattle.aia_model.specs.declared.answer.Answer.{Answer}
 use Rattle.aia_model.specs.declared.answer.Answer.TheVariants.{Wide, Refused}

@@ -40,7 +40,8 @@ use Rattle.aia_moving.proofs.MadeView.{few_words}
 use Rattle.aia_world.specs.Stores.{LandsIn, StoresIn, Posts, NoticedBy, StoresInSlot, with_store}
 use Rattle.aia_world.specs.Whole.{IsWhole}
 use Rattle.aia_world.specs.Making.{entry_word_place}
-use Rattle.aia_world.specs.Changes.{spot_of, file_in, places_of}
+use Rattle.aia_world.specs.Changes.{spot_of, file_in}
+use Rattle.aia_moving.specs.Views.{places_of}
 use Rattle.aia_world.proofs.PlaceLemmas.{slot_takes_store, other_slot_stays}
 use Rattle.aia_world.proofs.WholeLemmas.{width_at, notice_hart_there}
 use Rattle.aia_model.specs.Event.{Event, History, greatest_identity_of, file_words}

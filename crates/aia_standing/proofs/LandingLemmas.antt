@@ -40,7 +40,7 @@ use Rattle.aia_model.specs.Refusal.{refusal}
 use Rattle.aia_model.specs.Answer.{oldest_landed, landed_first}
 use Rattle.aia_model.proofs.AnswerLemmas.{send_refusal, land_refusal}
 use Rattle.aia_world.proofs.FlightLemmas.{all_landed_rest}
-use Rattle.aia_world.proofs.OwnLemmas.{by_entry}
+use Rattle.aia_moving.proofs.OwnLemmas.{by_entry}
 use Rattle.aia_moving.specs.Move.{Moving, mover}
 use Rattle.aia_moving.specs.Landings.{LandsFirst}
 use Rattle.aia_model.proofs.FlightLemmas.{all_at}

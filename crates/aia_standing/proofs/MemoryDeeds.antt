@@ -22,9 +22,9 @@ use Rattle.aia_places.specs.Stores.{AreApart}
 use Rattle.aia_places.proofs.MemoryKept.{memory_replaced}
 use Rattle.aia_world.specs.World.{World, OnlyStores, stage_of}
 use Rattle.aia_world.specs.Whole.{IsWhole}
-use Rattle.aia_world.specs.Changes.{places_of}
+use Rattle.aia_moving.specs.Views.{places_of}
 use Rattle.aia_world.specs.SlotAccess.{DoneInSlot}
-use Rattle.aia_world.proofs.SlotViews.{other_slot_kept, done_entry_words, slot_done-places}
+use Rattle.aia_moving.proofs.SlotViews.{other_slot_kept, done_entry_words, slot_done-places}
 use Rattle.aia_moving.specs.declared.who.KeptNumbers.{KeptNumbers}
 use Rattle.aia_moving.specs.Touches.{SameMachine}
 use Rattle.aia_model.specs.Event.{Event, History, greatest_identity_of, file_words}

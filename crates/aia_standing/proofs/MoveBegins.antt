@@ -18,7 +18,8 @@ use Rattle.aia_places.specs.Holds.{Holds}
 use Rattle.aia_places.specs.Stores.{AreApart}
 use Rattle.aia_pool.specs.Leases.{Leases, is_out, with_out}
 use Rattle.aia_world.specs.World.{World, no_stage}
-use Rattle.aia_world.specs.Changes.{spot_of, places_of}
+use Rattle.aia_world.specs.Changes.{spot_of}
+use Rattle.aia_moving.specs.Views.{places_of}
 use Rattle.aia_moving.specs.Move.{mover, width, MoveFits, IsWho}
 use Rattle.aia_moving.specs.PlanState.{PlanState, moving_of}
 use Rattle.aia_moving.specs.Plan.{IsInPhase}

@@ -8,7 +8,7 @@ use Rattle.aia_home.specs.Routes.{peers_reach}
 use Rattle.aia_places.specs.Places.{leads_to}
 use Rattle.aia_entry.specs.Tables.{table_of, entry_in_force}
 use Rattle.aia_world.specs.World.{stage_of}
-use Rattle.aia_world.specs.Changes.{places_of}
+use Rattle.aia_moving.specs.Views.{places_of}
 use Rattle.aia_model.specs.declared.line.Line.TheVariants as lines
 use Rattle.aia_model.specs.declared.line.Line.{Line}
 use Rattle.aia_model.specs.GuestFile.{guest_file}

@@ -16,7 +16,8 @@ use Rattle.aia_places.specs.Holds.{Hand, Holds, IsWithin}
 use Rattle.aia_places.specs.Stores.{AreApart}
 use Rattle.aia_pool.specs.Leases.{is_out}
 use Rattle.aia_world.specs.Whole.{IsWhole}
-use Rattle.aia_world.specs.Changes.{spot_of, places_of}
+use Rattle.aia_world.specs.Changes.{spot_of}
+use Rattle.aia_moving.specs.Views.{places_of}
 use Rattle.aia_moving.specs.Move.{Moving, mover, width, MoveFits, MakesNext}
 use Rattle.aia_moving.specs.PlanState.{PlanState, moving_of}
 use Rattle.aia_moving.specs.Touches.{Touches, sends}

@@ -12,9 +12,9 @@ use Rattle.aia_world.specs.World.{World, stage_of}
 use Rattle.aia_world.specs.Whole.{IsWhole}
 use Rattle.aia_world.specs.Stores.{Reaches, ReachesBy, ReachesByRecord}
 use Rattle.aia_world.specs.Flights.{Lands}
-use Rattle.aia_world.specs.Changes.{places_of}
-use Rattle.aia_world.specs.Own.{TouchesOwn, TouchesOneOf}
-use Rattle.aia_world.proofs.OwnLemmas.{by_entry, own_entry, device_touches, peer_touches, others_stay}
+use Rattle.aia_moving.specs.Views.{places_of}
+use Rattle.aia_moving.specs.Own.{TouchesOwn, TouchesOneOf}
+use Rattle.aia_moving.proofs.OwnLemmas.{by_entry, own_entry, device_touches, peer_touches, others_stay}
 use Rattle.aia_model.specs.Event.{History}
 use Rattle.aia_model.specs.Flight.{Sending, flight, flying}
 use Rattle.aia_model.specs.GuestFile.{sent_to}

@@ -17,8 +17,9 @@ use Rattle.aia_places.specs.Places.{FilesFit}
 use Rattle.aia_places.proofs.StoreLemmas.{refetch_kept}
 use Rattle.aia_world.specs.World.{World, no_stage}
 use Rattle.aia_world.specs.Whole.{IsWhole}
-use Rattle.aia_world.specs.Changes.{spot_of, places_of, with_fence}
-use Rattle.aia_world.proofs.ViewLemmas.{fence-places}
+use Rattle.aia_world.specs.Changes.{spot_of, with_fence}
+use Rattle.aia_moving.specs.Views.{places_of}
+use Rattle.aia_moving.proofs.ViewLemmas.{fence-places}
 use Rattle.aia_world.proofs.WholeLemmas.{notice_hart_there}
 use Rattle.aia_moving.specs.Touches.{OnlyAccesses}
 use Rattle.aia_moving.proofs.MachineLemmas.{only_accesses, only_tables}

@@ -28,7 +28,8 @@ use Rattle.aia_world.specs.Stores.{Posts}
 use Rattle.aia_world.specs.SlotAccess.{file_of_slot}
 use Rattle.aia_world.specs.Whole.{IsWhole}
 use Rattle.aia_world.specs.Making.{entry_word_place}
-use Rattle.aia_world.specs.Changes.{spot_of, places_of}
+use Rattle.aia_world.specs.Changes.{spot_of}
+use Rattle.aia_moving.specs.Views.{places_of}
 use Rattle.aia_world.proofs.FrameLemmas.{posts_rest}
 use Rattle.aia_moving.specs.declared.who.KeptNumbers.{KeptNumbers}
 use Rattle.aia_moving.specs.Touches.{OnlyAccesses}

@@ -24,7 +24,8 @@ use Rattle.aia_places.specs.Holds.{IsWithin}
 use Rattle.aia_places.specs.Stores.{AreApart}
 use Rattle.aia_places.proofs.FileLemmas.{own_signals, next_signals}
 use Rattle.aia_world.specs.Whole.{IsWhole}
-use Rattle.aia_world.specs.Changes.{spot_of, file_in, places_of}
+use Rattle.aia_world.specs.Changes.{spot_of, file_in}
+use Rattle.aia_moving.specs.Views.{places_of}
 use Rattle.aia_world.proofs.WholeLemmas.{width_at}
 use Rattle.aia_model.specs.declared.answer.Answer.TheVariants.{Wide, Refused}
 use Rattle.aia_model.specs.declared.refusal.Refusal.TheVariants.{Range}

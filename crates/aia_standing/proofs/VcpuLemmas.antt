@@ -29,7 +29,8 @@ use Rattle.aia_standing.specs.declared.vcpu.Stay.TheVariants as stays
 use Rattle.aia_places.specs.Stores.{AreApart}
 use Rattle.aia_world.specs.World.{World, stage_of}
 use Rattle.aia_world.specs.Making.{entry_word_place}
-use Rattle.aia_world.specs.Changes.{spot_of, file_in, places_of}
+use Rattle.aia_world.specs.Changes.{spot_of, file_in}
+use Rattle.aia_moving.specs.Views.{places_of}
 use Rattle.aia_model.specs.declared.line.Line.{Line}
 use Rattle.aia_model.specs.declared.line.Line.TheVariants as lines
 use Rattle.aia_model.specs.declared.msi.Msi.{Msi}

@@ -43,7 +43,8 @@ use Rattle.aia_world.specs.declared.stage.Stage.{Stage}
 use Rattle.aia_world.specs.World.{World, no_stage, stage_of}
 use Rattle.aia_world.specs.Making.{MakesVm, notice_page, entry_word_place}
 use Rattle.aia_world.specs.Whole.{IsWhole}
-use Rattle.aia_world.specs.Changes.{spot_of, places_of}
+use Rattle.aia_world.specs.Changes.{spot_of}
+use Rattle.aia_moving.specs.Views.{places_of}
 use Rattle.aia_moving.specs.Move.{Moving, mover, MoveFits}
 use Rattle.aia_moving.specs.PlanState.{moving_of}
 use Rattle.aia_moving.specs.Plan.{IsInPhase}

@@ -5,8 +5,5 @@ pub mod MakingLemmas
 pub mod LawLemmas
 pub mod FrameLemmas
 pub mod FlightLemmas
-pub mod ViewLemmas
-pub mod StoreViews
-pub mod OwnLemmas
-pub mod SlotViews
+pub mod SlotDeeds
 pub mod WrittenWhole

@@ -8,13 +8,10 @@ use Rattle.aia_file.specs.InterruptFile.{InterruptFile, SameFile, accessed, empt
 use Rattle.aia_file.specs.declared.spot.Spot.{Spot}
 use Rattle.aia_file.specs.declared.spot.Spot.TheVariants.{GuestFile}
 use Rattle.aia_file.specs.Imsic.{IsThere, file_at, with_file}
-use Rattle.aia_file.specs.Mrif.{mrif_in, pending_place, enable_place}
-use Rattle.aia_entry.specs.Tables.{table_of, entry_in_force, fenced_at}
+use Rattle.aia_file.specs.Mrif.{pending_place, enable_place}
+use Rattle.aia_entry.specs.Tables.{fenced_at}
 use Rattle.aia_home.specs.declared.place.Place.{Place}
 use Rattle.aia_home.specs.Vms.{Vcpu, slot_of}
-use Rattle.aia_home.specs.Home.{Home}
-use Rattle.aia_home.specs.BySteps.{own_file, next_file}
-use Rattle.aia_places.specs.Places.{Places}
 use Rattle.aia_world.specs.declared.at.At.{At}
 use Rattle.aia_world.specs.declared.at.At.TheVariants.{File, Slot}
 use Rattle.aia_world.specs.declared.stage.Stage.{Stage}
@@ -107,16 +104,3 @@ spot_of p = GuestFile p.hart p.file
 abbrev pub file_in : World → Option Place → InterruptFile
 file_in w None = empty_file w.n
 file_in w (Some p) = shown (file_at w.imsic (spot_of p))
-
--- The places of a virtual hart that has this home.
-abbrev pub places_of : World → Vcpu → Home → Places
-places_of w g there = record {
-  own = file_in w (own_file there);
-  next = file_in w (next_file there);
-  slot = mrif_in w.memory (slot_of w.vms g);
-  word0 = slice_index w.memory (entry_word_place g.vm g.number);
-  word1 = slice_index w.memory (entry_word_place g.vm g.number + 1);
-  in_force = entry_in_force (table_of w.tables g.vm) g.number;
-  stage = (stage_of w g).written;
-  stage_in_force = (stage_of w g).in_force;
-}

@@ -5,5 +5,4 @@ pub mod Making
 pub mod Changes
 pub mod Whole
 pub mod Flights
-pub mod Own
 pub mod SlotAccess

@@ -1,28 +1,24 @@
 //! What the definitions of this crate mean, as laws: each function does nothing, and its clauses
 //! are what was proved.
 
-ghost use Rattle.std.specs.Prelude.{◌≡◌, ◌≢◌, ◌⊎◌, ℕ, ◌+◌, ◌*◌, ◌/◌, ◌%◌, ◌<◌, ◌≤◌, ◌↔◌, true, List, [], length, Option, Some};
+ghost use Rattle.std.specs.Prelude.{◌≡◌, ◌≢◌, ℕ, ◌+◌, ◌*◌, ◌/◌, ◌%◌, ◌<◌, ◌≤◌, ◌↔◌, true, List, [], length, Some};
 ghost use Rattle.aia_regs.specs.declared.address_map.TheConstants.{PAGE};
 ghost use Rattle.aia_regs.specs.declared.limits.TheConstants.{HARTS, IDENTITIES, VCPUS};
 ghost use Rattle.aia_regs.specs.AddressMap.{slot_address, supervisor_page};
 ghost use Rattle.aia_regs.specs.Request.{requested};
 ghost use Rattle.aia_file.specs.declared.spot.Spot.{Spot};
-ghost use Rattle.aia_file.specs.Imsic.{ImsicState, IsThere};
+ghost use Rattle.aia_file.specs.Imsic.{ImsicState};
 ghost use Rattle.aia_file.specs.Mrif.{mrif_in, after_store};
 ghost use Rattle.aia_file.specs.Words.{HasSlot, SameMrif, words_after_store};
 ghost use Rattle.aia_entry.specs.Tables.{table_of, route_of};
 ghost use Rattle.aia_entry.specs.Translation.{is_msi_address, file_number};
-ghost use Rattle.aia_home.specs.declared.place.Place.{Place};
 ghost use Rattle.aia_home.specs.declared.vm.Vm.{Vm};
-ghost use Rattle.aia_home.specs.Home.{Home, holds};
-ghost use Rattle.aia_home.specs.Vms.{Vcpu, vcpu, is_vcpu_in, slot_of, notice_identity, notice_hart};
-ghost use Rattle.aia_world.specs.World.{World, stage_of, flight_of};
+ghost use Rattle.aia_home.specs.Vms.{vcpu, slot_of, notice_identity, notice_hart};
+ghost use Rattle.aia_world.specs.World.{World, flight_of};
 ghost use Rattle.aia_world.specs.Flights.{Fences};
 ghost use Rattle.aia_world.specs.Whole.{IsWhole};
 ghost use Rattle.aia_world.specs.Making.{MakesVm};
-ghost use Rattle.aia_world.specs.Changes.{spot_of, places_of};
-ghost use Rattle.aia_world.specs.Own.{TouchesOwn, LeadsToOwn, TouchesOneOf};
-ghost use Rattle.aia_world.specs.Stores.{Reaches, ReachesByRecord, StoresInSlot, page_spot, slot_at};
+ghost use Rattle.aia_world.specs.Stores.{Reaches, StoresInSlot, page_spot, slot_at};
 
 use aia_file::Spot;
 
@@ -66,26 +62,6 @@ pub fn a_new_vm_is_reached_in_its_slots()
         (vcpu (length before.vms) (file_number vm.mask addr))))
         (notice_identity after.vms (vcpu (length before.vms) (file_number vm.mask addr)))
         (addr % PAGE) value }
-{}
-
-/// A store of a device of a VM, or of one virtual hart for another, changes nothing or touches one
-/// virtual hart's own alone: the guest file at which stores are to reach it, or its slot, and, in
-/// the file of its notice hart, its notice identity. So the places of every other virtual hart, as
-/// those of all other VMs, stay as they are, whatever its home is, if it does not hold that guest
-/// file. Of a device it is so wherever the entries of its VM lead to the VM's own.
-pub fn a_store_touches_one_virtual_hart_alone()
-    ensures devices { (w u : World) (v addr value : ℕ) (reach : Vcpu → Option Place) → IsWhole w
-        → LeadsToOwn w v reach
-        → Reaches (route_of (table_of w.tables v) addr) w u (addr % PAGE) value
-        → (u ≡ w) ⊎ TouchesOneOf w u v reach }
-    ensures peers { (w u : World) (g : Vcpu) (value : ℕ) → IsWhole w
-        → is_vcpu_in w.vms g ≡ true → ReachesByRecord (stage_of w g).in_force w u g value
-        → TouchesOwn w u g (stage_of w g).in_force }
-    ensures others { (w u : World) (g x : Vcpu) (reach : Option Place) (there : Home)
-        → is_vcpu_in w.vms g ≡ true → is_vcpu_in w.vms x ≡ true → x ≢ g
-        → TouchesOwn w u g reach
-        → ((p : Place) → holds p there ≡ true → IsThere w.imsic (spot_of p) × (reach ≢ Some p))
-        → places_of u x there ≡ places_of w x there }
 {}
 
 /// After the fence of an entry no store of its VM is in flight. Those of every other VM are as they

@@ -32,12 +32,13 @@ use Rattle.aia_world.specs.World.{World, stage_of}
 use Rattle.aia_world.specs.Whole.{IsWhole}
 use Rattle.aia_world.specs.Making.{entry_word_place}
 use Rattle.aia_world.specs.Stores.{StoresIn, StoresInGuestFile, Posts, NoticedBy, StoresInSlot, Reaches, ReachesBy, ReachesByRecord, with_store, page_spot}
-use Rattle.aia_world.specs.Changes.{spot_of, file_in, places_of}
-use Rattle.aia_world.specs.Own.{TouchesOwn, LeadsToOwn, TouchesOneOf}
+use Rattle.aia_world.specs.Changes.{spot_of, file_in}
+use Rattle.aia_moving.specs.Views.{places_of}
+use Rattle.aia_moving.specs.Own.{TouchesOwn, LeadsToOwn, TouchesOneOf}
 use Rattle.aia_world.proofs.FrameLemmas.{by_parts, none_rest, stores_rest, posts_rest}
 use Rattle.aia_world.proofs.PlaceLemmas.{slot_found, host_page, other_slot_stays}
-use Rattle.aia_world.proofs.StoreViews.{entry_words_kept}
-use Rattle.aia_world.proofs.ViewLemmas.{same_place, slot_low}
+use Rattle.aia_moving.proofs.StoreViews.{entry_words_kept}
+use Rattle.aia_moving.proofs.ViewLemmas.{same_place, slot_low}
 use Rattle.aia_world.proofs.WholeLemmas.{notice_hart_there}
 
 -- ---- a world as it was

@@ -25,9 +25,10 @@ use Rattle.aia_world.specs.World.{World}
 use Rattle.aia_world.specs.Whole.{IsWhole}
 use Rattle.aia_world.specs.Making.{entry_word_place}
 use Rattle.aia_world.specs.Stores.{StoresIn, with_store}
-use Rattle.aia_world.specs.Changes.{spot_of, file_in, places_of, with_state}
+use Rattle.aia_world.specs.Changes.{spot_of, file_in, with_state}
+use Rattle.aia_moving.specs.Views.{places_of}
 use Rattle.aia_world.proofs.PlaceLemmas.{slot_takes_store, other_slot_stays}
-use Rattle.aia_world.proofs.ViewLemmas.{IsNoFile, own-replaced, next-replaced, has_slot, file_in-other}
+use Rattle.aia_moving.proofs.ViewLemmas.{IsNoFile, own-replaced, next-replaced, has_slot, file_in-other}
 
 -- ---- in a guest file
 

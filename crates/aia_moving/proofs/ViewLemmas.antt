@@ -38,7 +38,8 @@ use Rattle.aia_world.specs.World.{World, stage_of, no_stage}
 use Rattle.aia_world.specs.Whole.{IsWhole}
 use Rattle.aia_world.specs.Making.{entry_word_place}
 use Rattle.aia_world.specs.Stores.{Posts}
-use Rattle.aia_world.specs.Changes.{PutsRegister, spot_of, file_in, places_of, with_word, with_state, with_fence, with_stage, with_map, with_gfence}
+use Rattle.aia_world.specs.Changes.{PutsRegister, spot_of, file_in, with_word, with_state, with_fence, with_stage, with_map, with_gfence}
+use Rattle.aia_moving.specs.Views.{places_of}
 use Rattle.aia_world.proofs.WholeLemmas.{vcpu_entry, entry_at}
 
 -- ---- a file

@@ -1,6 +1,6 @@
 use Rattle.aia_world.specs.World.{stage_of}
-use Rattle.aia_world.proofs.OwnLemmas.{device_touches, peer_touches, others_stay}
-use Rattle.aia_world.proofs.laws.a_store_touches_one_virtual_hart_alone.Goals as goal
+use Rattle.aia_moving.proofs.OwnLemmas.{device_touches, peer_touches, others_stay}
+use Rattle.aia_moving.proofs.laws.a_store_touches_one_virtual_hart_alone.Goals as goal
 
 pub returns-clause-devices : goal.returns-clause-devices
 returns-clause-devices c = device_touches
