@@ -19,9 +19,10 @@ ghost use Rattle.aia_world.specs.Found.{IsFound};
 ghost use Rattle.aia_standing.specs.Stands.{CoreTakes, answer_by};
 
 use crate::hypervisor_core::{Core, select_after};
+use crate::loadable::{IMAGE_VERSION, is_loadable};
+use crate::slot_words::{is_live, load_word, save_word};
 use aia_fabric::Found;
 use aia_home::Rest;
-use aia_image::{IMAGE_VERSION, is_live, is_loadable, load_word, save_word};
 use aia_model::{Part, Refusal};
 use aia_move::{KeptNumbers, Plan};
 use aia_regs::Op;

@@ -7,12 +7,14 @@ mod forwards;
 mod guest;
 mod hypervisor_core;
 mod images;
+mod loadable;
 mod majors;
 mod memory;
 mod moves;
 mod passes;
 mod peers;
 mod signals;
+mod slot_words;
 
 pub use aia_model::{Refusal, Want};
 pub use hypervisor_core::Core;

@@ -48,7 +48,7 @@ use Rattle.aia_standing.specs.Core.{Stay}
 use Rattle.aia_standing.specs.declared.vcpu.Stay.TheVariants as stays
 use Rattle.aia_standing.specs.Core.{VcpuRecord}
 use Rattle.aia_standing.specs.Core.{CoreState, no_record, record_of, home_in, hand_in, parked_at}
-use Rattle.aia_image.specs.Loads.{sets_loaded}
+use Rattle.aia_standing.specs.Loads.{sets_loaded}
 use Rattle.aia_standing.specs.Images.{state_in}
 use Rattle.aia_standing.specs.Memory.{file_in_memory}
 use Rattle.aia_standing.specs.Passes.{HasItsPasses}

@@ -43,3 +43,4 @@ pub mod ImageLines
 pub mod PassLemmas
 pub mod ForwardLemmas
 pub mod RelayLemmas
+pub mod WordLemmas

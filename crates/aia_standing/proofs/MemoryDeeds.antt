@@ -16,7 +16,7 @@ use Rattle.aia_home.specs.Vms.{Vcpu, is_vcpu, slot_of, notice_hart}
 use Rattle.aia_home.specs.Home.{Home, holds, rests_in_memory}
 use Rattle.aia_home.specs.Home.Home.{Resident, OnWay}
 use Rattle.aia_home.proofs.VmLemmas.{slot_below, same_vcpu}
-use Rattle.aia_image.proofs.WordLemmas.{shown_alone}
+use Rattle.aia_standing.proofs.WordLemmas.{shown_alone}
 use Rattle.aia_places.specs.Holds.{HasSets}
 use Rattle.aia_places.specs.Stores.{AreApart}
 use Rattle.aia_places.proofs.MemoryKept.{memory_replaced}

@@ -6,3 +6,4 @@ pub mod Moves
 pub mod Memory
 pub mod Images
 pub mod Example
+pub mod Loads

@@ -21,7 +21,7 @@ use Rattle.aia_home.specs.declared.rest.Rest.TheVariants.{Parked}
 use Rattle.aia_standing.specs.declared.vcpu.Stay.TheVariants as stays
 use Rattle.std.specs.Prelude.{slice_index_or, slice_set}
 use Rattle.aia_standing.specs.Core.{CoreState, no_record, record_of, MajorsDone}
-use Rattle.aia_image.specs.Loads.{sets_loaded}
+use Rattle.aia_standing.specs.Loads.{sets_loaded}
 use Rattle.aia_world.specs.Found.{IsFound}
 use Rattle.aia_standing.specs.Stands.{CoreTakes}
 use Rattle.aia_standing.proofs.EventLemmas.{still}

@@ -1,7 +1,7 @@
 use Rattle.std.proofs.Common.{◌≡◌, ◌+◌, ◌*◌, ◌/◌, ap, ◌∙◌, arith}
 use Rattle.aia_model.specs.declared.part.Part.TheVariants as parts
-use Rattle.aia_image.proofs.WordLemmas.{word_seen, word_is_part}
-use Rattle.aia_image.proofs.word.save_word.Goals as goal
+use Rattle.aia_standing.proofs.WordLemmas.{word_seen, word_is_part}
+use Rattle.aia_hyp.proofs.slot_words.save_word.Goals as goal
 
 pub returns : goal.returns
 returns c =

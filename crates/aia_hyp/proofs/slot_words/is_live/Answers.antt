@@ -1,6 +1,6 @@
 use Rattle.std.proofs.Common.{◌≡◌, ◌+◌, ◌*◌, ◌/◌, arith}
-use Rattle.aia_image.proofs.WordLemmas.{word_seen, live_word}
-use Rattle.aia_image.proofs.word.is_live.Goals as goal
+use Rattle.aia_standing.proofs.WordLemmas.{word_seen, live_word}
+use Rattle.aia_hyp.proofs.slot_words.is_live.Goals as goal
 
 pub returns : goal.returns
 returns c =

@@ -7,13 +7,13 @@ use aia_model::Part;
 use aia_regs::bit;
 
 /// The version of images that there is.
-pub const IMAGE_VERSION: u32 = 1;
+pub(crate) const IMAGE_VERSION: u32 = 1;
 
 /// Tells whether a part may be loaded where each set of a file has so many words, 1 to
 /// `FILE_WORDS`: it says what an image of such a file may say.
 ///
 /// Profile.
-pub fn is_loadable(part: &Part, words: u32) -> bool
+pub(crate) fn is_loadable(part: &Part, words: u32) -> bool
     requires some { 1 ≤ words }
     requires few { words ≤ FILE_WORDS }
     ensures { result ≡ is_loadable (64 * words - 1) part.now }

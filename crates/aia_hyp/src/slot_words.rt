@@ -4,7 +4,7 @@ ghost use Rattle.aia_regs.specs.declared.limits.TheConstants.{VCPUS, FILE_WORDS}
 ghost use Rattle.aia_file.specs.InterruptFile.{is_live};
 ghost use Rattle.aia_world.specs.SlotAccess.{file_of_slot, DoneInSlot};
 ghost use Rattle.aia_model.specs.declared.part.Part.TheVariants as parts;
-ghost use Rattle.aia_image.specs.Loads.{sets_loaded};
+ghost use Rattle.aia_standing.specs.Loads.{sets_loaded};
 
 use aia_fabric::Fabric;
 use aia_model::Part;
@@ -13,7 +13,7 @@ use aia_regs::{FileReg, Op};
 /// Gives the part of an image that has word `w` of both sets of a slot, a word that files have.
 ///
 /// Profile.
-pub fn save_word(fabric: &Fabric, slot: u32, w: u32) -> Part
+pub(crate) fn save_word(fabric: &Fabric, slot: u32, w: u32) -> Part
     requires slot { slot < VCPUS }
     requires word { w < (fabric.now.n + 1) / 64 }
     ensures { result ≡ parts.Word w (word_of (file_of_slot fabric.now slot 0).pending (64 * w) 64)
@@ -32,7 +32,7 @@ pub fn save_word(fabric: &Fabric, slot: u32, w: u32) -> Part
 /// enables, of the identities that files have; all else stays, what was pending there too.
 ///
 /// Profile.
-pub fn load_word(fabric: &mut Fabric, slot: u32, w: u32, pending: u64, enable: u64)
+pub(crate) fn load_word(fabric: &mut Fabric, slot: u32, w: u32, pending: u64, enable: u64)
     requires slot { slot < VCPUS }
     requires word { w < FILE_WORDS }
     ensures { DoneInSlot fabric.old fabric.new slot 0 (sets_loaded w pending enable) }
@@ -43,7 +43,7 @@ pub fn load_word(fabric: &mut Fabric, slot: u32, w: u32, pending: u64, enable: u
 
 /// Tells whether an identity of word `w` of a slot, a word that files have, is both pending and
 /// enabled.
-pub fn is_live(fabric: &Fabric, slot: u32, w: u32) -> bool
+pub(crate) fn is_live(fabric: &Fabric, slot: u32, w: u32) -> bool
     requires slot { slot < VCPUS }
     requires word { w < (fabric.now.n + 1) / 64 }
     ensures { result ≡ is_live (file_of_slot fabric.now slot 0) w }
