@@ -3,7 +3,7 @@
 //! move from standard input, one step a line, and prints the verdict on it.
 #![tactic(auto)]
 
-use aia_program::start;
+use aia_replay::start;
 use std::process::ExitCode;
 
 fn main(rt: HostRuntime) -> ExitCode {

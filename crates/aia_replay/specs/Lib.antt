@@ -4,3 +4,4 @@ pub mod Streams
 pub mod Runs
 pub mod Wires
 pub mod Plans
+pub mod Command

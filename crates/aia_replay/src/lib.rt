@@ -1,5 +1,5 @@
 //! The engine that answers lines, and the runs: from a source's bytes to a sink's, and of a
-//! generated script to its summary.
+//! generated script to its summary; and what the program `aia` does with its words.
 #![tactic(auto)]
 
 mod buffered;
@@ -13,6 +13,7 @@ mod plan_reader;
 mod plan_so_far;
 mod program;
 mod replayer;
+mod starting;
 mod stop;
 mod wires;
 
@@ -22,3 +23,4 @@ pub use aia_generate::{generate, lcg};
 pub use aia_runs::limits::SOURCE_BYTES as SCRIPT_BYTES;
 pub use engine::Engine;
 pub use program::{Status, run};
+pub use starting::{command, start};

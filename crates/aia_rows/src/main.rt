@@ -16,7 +16,7 @@ use crate::folder::replay_folder;
 use crate::replays::Tally;
 use crate::table::replay_table;
 use crate::words::run_commands;
-use aia_program::start;
+use aia_replay::start;
 use std::process::ExitCode;
 use std::{fs, io};
 

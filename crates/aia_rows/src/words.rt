@@ -2,7 +2,7 @@
 
 use crate::replays::Tally;
 use aia_io::{MemSink, MemSource};
-use aia_program::command;
+use aia_replay::command;
 use std::io;
 use std::process::ExitCode;
 

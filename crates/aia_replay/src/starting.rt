@@ -1,5 +1,4 @@
 //! What the program `aia` does: the words of the command line, the ends, the exit status.
-#![tactic(auto)]
 
 ghost use Rattle.std.specs.Prelude.{◌≡◌, ◌≢◌, ◌+◌, ◌⊎◌, ◌↔◌, ℕ, true, Contains, Some, None};
 ghost use Rattle.std.specs.Process.{exit_status};
@@ -9,10 +8,11 @@ ghost use Rattle.aia_command.specs.CommandLine.{subcommand_of};
 ghost use Rattle.aia_io.specs.Ends.{Rose, TakesAll};
 ghost use Rattle.aia_replay.specs.Runs.{Ends, FitsIn, IsDoneOrMemory, WritesAnswers, WritesVerdict, reads_source};
 ghost use Rattle.aia_runs.specs.Words.{AreNoText, AreRefused, asked_by, words_of};
-ghost use Rattle.aia_program.specs.Command.{exit_number, exit_numbers};
+ghost use Rattle.aia_replay.specs.Command.{exit_number, exit_numbers};
 
+use crate::program::{Status, run};
 use aia_io::{Sink, Source, StdSink, StdSource};
-use aia_replay::{SCRIPT_BYTES, Status, run};
+use aia_runs::limits::SOURCE_BYTES;
 use aia_runs::{arguments, refusal, words};
 use std::alloc::Global;
 use std::io;
@@ -70,7 +70,7 @@ pub fn command<S: Source, K: Sink>(
         → (¬ Rose (S.faults source.old) (S.faults source.new))
         → (¬ Rose (K.faults sink.old) (K.faults sink.new))
         → (reads_source (asked_by subcommand_of arguments) ≡ true
-        → FitsIn SCRIPT_BYTES (S.supply source.old) (S.supply source.new))
+        → FitsIn SOURCE_BYTES (S.supply source.old) (S.supply source.new))
         → (exit_status result ≡ 0) ⊎ (exit_status result ≡ 5) }
 {
     let status = match arguments {
@@ -100,7 +100,7 @@ fn run_words<S: Source, K: Sink>(
         → (¬ Rose (S.faults source.old) (S.faults source.new))
         → (¬ Rose (K.faults sink.old) (K.faults sink.new))
         → (reads_source (subcommand_of (words_of arguments.now)) ≡ true
-        → FitsIn SCRIPT_BYTES (S.supply source.old) (S.supply source.new))
+        → FitsIn SOURCE_BYTES (S.supply source.old) (S.supply source.new))
         → IsDoneOrMemory result }
 {
     match words(alloc, arguments) {
