@@ -2,7 +2,7 @@
 //! plan whether it is safe and tells its host, or which rule it breaks, and where.
 #![tactic(auto)]
 
-use plans_program::start;
+use plans_text::start;
 use std::process::ExitCode;
 
 fn main(rt: HostRuntime) -> ExitCode {

@@ -1,8 +1,7 @@
 //! Runs between ends that fail, or take little at a time.
 
 use aia_io::{MemSink, MemSource};
-use plans_program::{Status, run};
-use plans_text::Outcome;
+use plans_text::{Outcome, Status, run};
 use std::alloc::{AllocError, Global};
 use std::test::Fail;
 

@@ -1,2 +1,5 @@
 pub mod FileLemmas
 pub mod StreamLemmas
+pub mod NumberLemmas
+pub mod PieceLemmas
+pub mod WordLemmas

@@ -1,21 +1,32 @@
-//! The texts of plan files: what line a text spells, which plans lines make, and what is answered.
+//! The texts of plan files: what line a text spells, which plans lines make, and what is answered;
+//! and what the program `plans` does: the words of the command line, the ends, the exit status.
 //! Profile.
 #![tactic(auto)]
 
 mod answer;
+mod command_line;
 mod draft;
+mod judging;
+pub mod laws;
 pub mod limits;
 mod line;
 mod outcome;
 mod parse;
 mod plan_file;
 mod plan_reader;
+mod program;
 mod shown;
+mod starting;
 mod untold;
 mod words;
 
+// The most bytes of a file of plans.
+pub use aia_runs::limits::SOURCE_BYTES as FILE_BYTES;
+pub use command_line::Subcommand;
 pub use line::{Line, Reading};
 pub use outcome::{Answered, Outcome};
 pub use parse::parse_line;
 pub use plan_file::answers;
 pub use plan_reader::PlanReader;
+pub use program::{Status, run};
+pub use starting::{command, start};

@@ -1,3 +1,0 @@
-pub mod NumberLemmas
-pub mod PieceLemmas
-pub mod WordLemmas

@@ -1,6 +1,0 @@
-use Rattle.std.proofs.Common.{sym, ◌∙◌}
-use Rattle.plans_program.proofs.NumberLemmas.{judged_by_number}
-use Rattle.plans_program.proofs.starting.command.Goals as goal
-
-pub returns-clause-done : goal.returns-clause-done
-returns-clause-done g c = λ outcome is. judged_by_number _ c.run_arguments.result outcome _ _ _ _ _ _ _ _ c.run_arguments.ensures.ends (sym c.exit_code.ensures.by_status ∙ is)
