@@ -1,1 +1,3 @@
 pub mod SupplyLemmas
+pub mod CutLemmas
+pub mod PieceLemmas

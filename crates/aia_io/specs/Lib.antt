@@ -6,3 +6,6 @@ pub mod QuietSource
 pub mod StdSink
 pub mod StdSource
 pub mod Tape
+pub mod Lines
+pub mod Taken
+pub mod Words

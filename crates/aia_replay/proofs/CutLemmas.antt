@@ -7,8 +7,8 @@ use Rattle.std.proofs.Math.Seq.{take-length, take-append-add}
 use Rattle.std.proofs.lemmas.List.Sums.{fails_before_first, passes_at_first}
 use Rattle.std.proofs.lemmas.Bool.{cases_lt, cond-true, cond-false, lt-ltb, le-ltb, false≢true}
 use Rattle.memchr.specs.Find.{IsFirstByte}
-use Rattle.aia_runs.specs.Lines.{NoEnd}
-use Rattle.aia_runs.proofs.CutLemmas.{front_cut, last_cut}
+use Rattle.aia_io.specs.Lines.{NoEnd}
+use Rattle.aia_io.proofs.CutLemmas.{front_cut, last_cut}
 use Rattle.aia_model.specs.Text.{texts_of}
 
 -- the first place that a search finds

@@ -3,7 +3,7 @@ use Rattle.std.proofs.Common.{◌≡◌, ℕ, List, [], ◌∷◌, ◌++◌, tak
 use Rattle.std.proofs.lemmas.List.{append-nil}
 use Rattle.aia_replay.specs.declared.replayer.Replayer.{Replayer}
 use Rattle.aia_io.specs.Ends.{CutOff}
-use Rattle.aia_runs.specs.Lines.{NoEnd}
+use Rattle.aia_io.specs.Lines.{NoEnd}
 use Rattle.aia_replay.specs.Runs.{CutsLines}
 use Rattle.aia_replay.specs.Streams.{HasAnswered, HasStopped, Feeds, FeedsFront, FeedsStop, AnswersText, LacksMemory}
 use Rattle.aia_replay.proofs.HeldLemmas.{part_kept, line_ended, holds_cut, line_stopped, with_part, as_kept, lacks_kept}

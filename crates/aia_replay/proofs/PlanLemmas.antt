@@ -15,14 +15,14 @@ use Rattle.aia_command.specs.declared.subcommand.Subcommand.TheVariants.{Audit}
 use Rattle.aia_script.specs.StepText.{step_of, step_at}
 use Rattle.aia_audit.specs.PlanText.{PlanRead, audit_text, plan_of, read_word, with_step, with_text, with_texts}
 use Rattle.aia_audit.specs.PlanText.PlanRead.{Steps, BadAt}
-use Rattle.aia_runs.specs.declared.limits.TheConstants.{SOURCE_BYTES}
+use Rattle.aia_io.specs.declared.limits.TheConstants.{SOURCE_BYTES}
 use Rattle.aia_replay.specs.declared.plan_reader.PlanReader.{PlanReader}
 use Rattle.aia_replay.specs.declared.program.Status.{Status}
 use Rattle.aia_replay.specs.declared.program.Status.TheVariants.{Done, ReadFault, WriteFault, Memory, TooLong}
-use Rattle.aia_runs.specs.Lines.{NoEnd}
+use Rattle.aia_io.specs.Lines.{NoEnd}
 use Rattle.aia_replay.specs.Runs.{Ends}
 use Rattle.aia_replay.specs.Plans.{BeginsPlan, FeedsPlan, FinishesPlan, HoldsPlan, StreamsPlan, plan_read}
-use Rattle.aia_runs.specs.Taken.{ReadsOn}
+use Rattle.aia_io.specs.Taken.{ReadsOn}
 use Rattle.aia_replay.proofs.CutLemmas.{texts_front, take_again}
 use Rattle.aia_replay.proofs.HeldLemmas.{one_text}
 use Rattle.aia_replay.proofs.ProgramLemmas.{all_of}

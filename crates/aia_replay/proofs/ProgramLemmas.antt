@@ -7,9 +7,9 @@ use Rattle.aia_command.specs.declared.subcommand.Subcommand.TheVariants.{Replay,
 use Rattle.aia_model.specs.Script.{answers}
 use Rattle.aia_replay.specs.declared.program.Status.{Status}
 use Rattle.aia_replay.specs.declared.program.Status.TheVariants.{Done, Usage, ReadFault, WriteFault, Memory, TooLong}
-use Rattle.aia_runs.specs.declared.limits.TheConstants.{SOURCE_BYTES}
+use Rattle.aia_io.specs.declared.limits.TheConstants.{SOURCE_BYTES}
 use Rattle.aia_replay.specs.Runs.{AnswersWhole, WritesLines, CutsLines, StopsAtMachine, IsDoneOrMemory, Ends}
-use Rattle.aia_runs.specs.Taken.{IsAllLeft}
+use Rattle.aia_io.specs.Taken.{IsAllLeft}
 use Rattle.aia_io.specs.Ends.{Supply, Gives, Rose, CutOff, TakesAtMost}
 use Rattle.aia_replay.specs.declared.replayer.Replayer.{Replayer}
 use Rattle.aia_replay.specs.Streams.{Streams, StreamsFront, StreamsStop, WrittenFor, GoesPast}

@@ -4,14 +4,14 @@ use Rattle.std.specs.Io.KnownBytes.{Appends}
 use Rattle.std.proofs.lemmas.List.{append-nil, length-append}
 use Rattle.aia_replay.specs.declared.replayer.Replayer.{Replayer}
 use Rattle.aia_replay.specs.declared.program.Status.TheVariants.{Done, ReadFault, TooLong}
-use Rattle.aia_runs.specs.Taken.{ReadsOn}
+use Rattle.aia_io.specs.Taken.{ReadsOn}
 use Rattle.aia_replay.specs.Runs.{AnswersWhole}
 use Rattle.aia_replay.specs.Streams.{WritesOut, WritesOutFront, StreamsFront, HasAnswered, Begins, Feeds, FeedsFront, FeedsStop, Finishes, FinishesFront, FinishesStop, Streams, StreamsStop}
 use Rattle.aia_replay.proofs.HeldLemmas.{at_start}
 use Rattle.aia_io.specs.Ends.{Supply, Gives}
 use Rattle.aia_io.proofs.SupplyLemmas.{gives_nothing}
 use Rattle.aia_io.specs.declared.source.Read.TheVariants as reads
-use Rattle.aia_runs.specs.declared.limits.TheConstants.{SOURCE_BYTES}
+use Rattle.aia_io.specs.declared.limits.TheConstants.{SOURCE_BYTES}
 
 -- ---- the loop
 

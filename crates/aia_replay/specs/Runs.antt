@@ -2,10 +2,10 @@
 use Rattle.std.specs.Prelude.{◌≡◌, ◌≢◌, ℕ, ◌+◌, ◌≤◌, ◌⊎◌, Bool, true, false, List, [], ◌∷◌, ◌++◌, length, Option, Some, None, IfSome}
 use Rattle.std.specs.Io.KnownBytes.{Appends}
 use Rattle.aia_io.specs.Ends.{Supply, Gives, Rose, RoseBy, Takes, CutOff, TakesAll, TakesAtMost}
-use Rattle.aia_runs.specs.declared.limits.TheConstants.{SOURCE_BYTES}
-use Rattle.aia_runs.specs.Taken.{IsAllLeft}
-use Rattle.aia_runs.specs.Words.{EndsUnasked}
-pub use Rattle.aia_runs.specs.Lines.{NoEnd}
+use Rattle.aia_io.specs.declared.limits.TheConstants.{SOURCE_BYTES}
+use Rattle.aia_io.specs.Taken.{IsAllLeft}
+use Rattle.aia_io.specs.Words.{EndsUnasked}
+pub use Rattle.aia_io.specs.Lines.{NoEnd}
 use Rattle.aia_command.specs.declared.subcommand.Subcommand.{Subcommand}
 use Rattle.aia_command.specs.declared.subcommand.Subcommand.TheVariants.{Replay, Generate, Audit}
 use Rattle.aia_model.specs.declared.parsed.Parsed.{Parsed}

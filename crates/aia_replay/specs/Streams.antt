@@ -2,9 +2,9 @@
 use Rattle.std.specs.Prelude.{◌≡◌, ◌≢◌, ℕ, ◌+◌, ◌<◌, ◌≤◌, ◌⊎◌, List, [], ◌∷◌, ◌++◌, length, take, Option}
 use Rattle.std.specs.Io.KnownBytes.{Appends}
 use Rattle.aia_io.specs.Ends.{Supply, Gives, CutOff, TakesAtMost}
-use Rattle.aia_runs.specs.declared.limits.TheConstants.{SOURCE_BYTES}
-use Rattle.aia_runs.specs.Taken.{IsAllLeft}
-use Rattle.aia_runs.specs.Lines.{NoEnd}
+use Rattle.aia_io.specs.declared.limits.TheConstants.{SOURCE_BYTES}
+use Rattle.aia_io.specs.Taken.{IsAllLeft}
+use Rattle.aia_io.specs.Lines.{NoEnd}
 use Rattle.aia_model.specs.Event.{History}
 use Rattle.aia_model.specs.Text.{texts_of}
 use Rattle.aia_model.specs.declared.parsed.Parsed.{Parsed}

@@ -5,9 +5,8 @@ ghost use Rattle.aia_model.specs.Answer.{answer_text};
 ghost use Rattle.aia_replay.specs.Buffered.{Gathers};
 
 use crate::limits::BUFFER_BYTES;
-use aia_io::Sink;
+use aia_io::{Sink, SinkFault, write_all};
 use aia_model::limits::ANSWER_BYTES;
-use aia_runs::{SinkFault, write_all};
 use aia_script::{Answer, print_answer, push_answer};
 use arrayvec::ArrayVec;
 

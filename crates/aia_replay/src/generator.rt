@@ -10,8 +10,7 @@ use crate::engine::Engine;
 use crate::program::Status;
 use aia_command::{MOST_LINES, Subcommand};
 use aia_generate::{Tally, generated_lines, summary};
-use aia_io::Sink;
-use aia_runs::write_all;
+use aia_io::{Sink, write_all};
 use arrayvec::ArrayVec;
 use std::alloc::{AllocError, Global};
 

@@ -1,7 +1,7 @@
 ghost use Rattle.std.specs.Prelude.{◌≡◌, ◌≢◌, ◌↔◌, ◌⊎◌, ◌+◌, ℕ, true, Some, None};
 ghost use Rattle.aia_io.specs.Ends.{Rose, TakesAll};
 ghost use Rattle.aia_command.specs.CommandLine.{subcommand_of};
-ghost use Rattle.aia_runs.specs.Words.{asked};
+ghost use Rattle.aia_io.specs.Words.{asked};
 ghost use Rattle.aia_replay.specs.Runs.{reads_source, Ends, StopsAtMachine, WritesAnswers, WritesVerdict, FitsIn, IsDoneOrMemory};
 ghost use Rattle.aia_replay.specs.Streams.{Begins};
 
@@ -11,8 +11,7 @@ use crate::replayer::Replayer;
 use crate::stop::Stop;
 use aia_audit::Kind;
 use aia_command::{Subcommand, read_words};
-use aia_io::{Sink, Source};
-use aia_runs::limits::SOURCE_BYTES;
+use aia_io::{SOURCE_BYTES, Sink, Source};
 use std::alloc::Global;
 
 /// How a run ended.

@@ -7,13 +7,11 @@ ghost use Rattle.aia_plan.specs.declared.step.Kind.{Kind};
 ghost use Rattle.aia_command.specs.CommandLine.{subcommand_of};
 ghost use Rattle.aia_io.specs.Ends.{Rose, TakesAll};
 ghost use Rattle.aia_replay.specs.Runs.{Ends, FitsIn, IsDoneOrMemory, WritesAnswers, WritesVerdict, reads_source};
-ghost use Rattle.aia_runs.specs.Words.{AreNoText, AreRefused, asked_by, words_of};
+ghost use Rattle.aia_io.specs.Words.{AreNoText, AreRefused, asked_by, words_of};
 ghost use Rattle.aia_replay.specs.Command.{exit_number, exit_numbers};
 
 use crate::program::{Status, run};
-use aia_io::{Sink, Source, StdSink, StdSource};
-use aia_runs::limits::SOURCE_BYTES;
-use aia_runs::{arguments, refusal, words};
+use aia_io::{SOURCE_BYTES, Sink, Source, StdSink, StdSource, arguments, refusal, words};
 use std::alloc::Global;
 use std::io;
 use std::process::ExitCode;

@@ -1,4 +1,4 @@
-use aia_runs::SinkFault;
+use aia_io::SinkFault;
 use std::alloc::AllocError;
 
 /// What ends a run before the source is read to its end, other than the source.

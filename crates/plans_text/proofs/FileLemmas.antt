@@ -3,7 +3,7 @@ use Rattle.std.proofs.Common.{append_assoc, ◌≡◌, ℕ, ◌+◌, ◌<◌, Li
 use Rattle.std.specs.Prelude.{position}
 use Rattle.std.proofs.lemmas.List.{length-map}
 use Rattle.std.proofs.lemmas.Option.{slice_get-map}
-use Rattle.aia_runs.proofs.CutLemmas.{CutsAtEnds, cut_at_end, front_cut, is_end, last_cut, no_end_at_all, no_end_before}
+use Rattle.aia_io.proofs.CutLemmas.{CutsAtEnds, cut_at_end, front_cut, is_end, last_cut, no_end_at_all, no_end_before}
 use Rattle.plans_text.specs.PlanFile.{Read, none_read, with_text, with_texts, all_answers, all_outcomes, answers, outcome, texts_of}
 
 pub ruleset place_lemmas = (slice_get-map, length-map)

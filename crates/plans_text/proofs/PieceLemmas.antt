@@ -5,7 +5,7 @@ use Rattle.std.specs.Io.KnownBytes.{Appends, Keeps, Consumes, IsAtEnd}
 use Rattle.std.proofs.KnownBytes.{Appends-nil, Appends-trans, Consumes-whole}
 use Rattle.aia_io.specs.Ends.{Supply, Gives, GivesNone, Rose, CutOff}
 use Rattle.aia_io.proofs.SupplyLemmas.{gives_nothing, gives_more, gives_no_more}
-use Rattle.aia_runs.specs.declared.limits.TheConstants.{SOURCE_BYTES}
+use Rattle.aia_io.specs.declared.limits.TheConstants.{SOURCE_BYTES}
 use Rattle.plans_text.specs.declared.outcome.Outcome.{Outcome}
 use Rattle.plans_text.specs.PlanFile.{Read, answers, outcome}
 use Rattle.plans_text.specs.declared.judging.Stop.{Stop}

@@ -13,8 +13,8 @@ use Rattle.plans_text.specs.Reading.{Text, reading}
 use Rattle.plans_text.specs.declared.outcome.Outcome.{Outcome}
 use Rattle.plans_text.specs.PlanFile.{AreInFile, Read, all_answers, all_outcomes, answers, as_read, bad_at, line_read, none_read, outcome, plan_answer, read_of, texts_of, with_line, with_text, with_texts}
 use Rattle.plans_text.specs.Streaming.{AreWhole, HasRead, WhateverWasRead, after, ended_answers}
-use Rattle.aia_runs.specs.Lines.{NoEnd}
-use Rattle.aia_runs.proofs.CutLemmas.{cut_at_end, front_cut, is_end, last_cut, no_end_at_all, no_end_before}
+use Rattle.aia_io.specs.Lines.{NoEnd}
+use Rattle.aia_io.proofs.CutLemmas.{cut_at_end, front_cut, is_end, last_cut, no_end_at_all, no_end_before}
 use Rattle.plans_text.proofs.FileLemmas.{texts_cut}
 
 -- ---- answers that were taken out change nothing of what is read on

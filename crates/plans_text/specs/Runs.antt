@@ -2,9 +2,9 @@
 use Rattle.std.specs.Prelude.{◌≡◌, ◌≢◌, ℕ, ◌+◌, ◌≤◌, ◌⊎◌, List, ◌++◌, length, Option, Some, None, IfSome}
 use Rattle.std.specs.Io.KnownBytes.{Appends}
 use Rattle.aia_io.specs.Ends.{Supply, Gives, Rose, Takes, TakesAtMost, TakesAll, CutOff}
-use Rattle.aia_runs.specs.declared.limits.TheConstants.{SOURCE_BYTES}
-use Rattle.aia_runs.specs.Lines.{NoEnd}
-use Rattle.aia_runs.specs.Words.{EndsUnasked}
+use Rattle.aia_io.specs.declared.limits.TheConstants.{SOURCE_BYTES}
+use Rattle.aia_io.specs.Lines.{NoEnd}
+use Rattle.aia_io.specs.Words.{EndsUnasked}
 use Rattle.plans_text.specs.declared.plan_reader.PlanReader.{PlanReader}
 use Rattle.plans_text.specs.declared.outcome.Outcome.{Outcome}
 use Rattle.plans_text.specs.PlanFile.{answers}

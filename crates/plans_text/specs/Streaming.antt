@@ -1,6 +1,6 @@
 -- A file of plans that comes in pieces: what was read, and what was answered of it.
 use Rattle.std.specs.Prelude.{◌≡◌, ℕ, ◌≤◌, [], ◌++◌, length}
-use Rattle.aia_runs.specs.Lines.{NoEnd}
+use Rattle.aia_io.specs.Lines.{NoEnd}
 use Rattle.plans_text.specs.declared.plan_reader.PlanReader.{PlanReader}
 use Rattle.plans_text.specs.Reading.{Text}
 use Rattle.plans_text.specs.PlanFile.{AreInFile, Read, none_read, read_of, texts_of, with_texts}

@@ -1,7 +1,7 @@
 //! A file of plans, as far as its texts are read.
 
 ghost use Rattle.std.specs.Prelude.{◌≡◌, ◌+◌, ◌-◌, ◌^◌, ◌<◌, [], IfOk, OnOk, None, nat_eq, position};
-ghost use Rattle.aia_runs.specs.Lines.{NoEnd};
+ghost use Rattle.aia_io.specs.Lines.{NoEnd};
 ghost use Rattle.plans_text.specs.PlanFile as file;
 ghost use Rattle.plans_text.specs.PlanFile.{AreInFile, read_of};
 

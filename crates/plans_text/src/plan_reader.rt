@@ -1,7 +1,7 @@
 //! A file of plans that comes in pieces.
 
 ghost use Rattle.std.specs.Prelude.{◌≡◌, ◌+◌, ◌-◌, ◌^◌, ◌<◌, ◌++◌, List, [], ◌∷◌, IfOk, OnOk, length};
-ghost use Rattle.aia_runs.specs.Lines.{NoEnd};
+ghost use Rattle.aia_io.specs.Lines.{NoEnd};
 ghost use Rattle.plans_text.specs.PlanFile as file;
 ghost use Rattle.plans_text.specs.PlanFile.{AreInFile};
 ghost use Rattle.plans_text.specs.Streaming.{HasRead, IsReady, NoneWaits, WhateverWasRead, lines_read};

@@ -1,7 +1,7 @@
 //! A run of the program.
 
 ghost use Rattle.std.specs.Prelude.{◌≡◌, ◌≢◌, ◌↔◌, ◌≤◌, [], Some, None};
-ghost use Rattle.aia_runs.specs.Words.{asked};
+ghost use Rattle.aia_io.specs.Words.{asked};
 ghost use Rattle.plans_text.specs.CommandLine.{subcommand_of};
 ghost use Rattle.plans_text.specs.Runs.{EndsAsAsked};
 

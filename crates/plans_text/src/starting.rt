@@ -3,14 +3,13 @@
 ghost use Rattle.std.specs.Prelude.{◌≡◌, ◌≢◌, ◌⊎◌, ◌↔◌, ℕ, Contains, Some, None};
 ghost use Rattle.std.specs.Process.{exit_status};
 ghost use Rattle.plans_text.specs.CommandLine.{subcommand_of};
-ghost use Rattle.aia_runs.specs.Words.{AreRefused, asked_by, words_of};
+ghost use Rattle.aia_io.specs.Words.{AreRefused, asked_by, words_of};
 ghost use Rattle.plans_text.specs.Command.{exit_number, exit_numbers, outcome_number};
 ghost use Rattle.plans_text.specs.Runs.{EndsAsAsked, JudgesAll};
 
 use crate::outcome::Outcome;
 use crate::program::{Status, run};
-use aia_io::{Sink, Source, StdSink, StdSource};
-use aia_runs::{arguments, refusal, words};
+use aia_io::{Sink, Source, StdSink, StdSource, arguments, refusal, words};
 use std::alloc::Global;
 use std::io;
 use std::process::ExitCode;

@@ -1,4 +1,4 @@
-use Rattle.aia_runs.proofs.PieceLemmas.{all_of_rest}
+use Rattle.aia_io.proofs.PieceLemmas.{all_of_rest}
 use Rattle.aia_c.proofs.TextLemmas.{one_more}
 use Rattle.aia_c.proofs.texts.answer_script.Goals as goal
 

@@ -1,4 +1,4 @@
-use Rattle.aia_runs.proofs.CutLemmas.{is_end}
+use Rattle.aia_io.proofs.CutLemmas.{is_end}
 use Rattle.aia_replay.proofs.CutLemmas.{first_place}
 use Rattle.aia_replay.proofs.pieces.line_end.Goals as goal
 

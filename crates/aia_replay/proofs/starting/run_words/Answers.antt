@@ -1,6 +1,6 @@
 use Rattle.std.proofs.Common.{◌≡◌, ap, sym, ◌∙◌}
 use Rattle.aia_command.specs.CommandLine.{subcommand_of}
-use Rattle.aia_runs.specs.Words.{asked, words_of}
+use Rattle.aia_io.specs.Words.{asked, words_of}
 use Rattle.aia_replay.proofs.starting.run_words.Goals as goal
 
 pub returns-in-Ok-clause-ends : goal.returns-in-Ok-clause-ends

@@ -1,5 +1,5 @@
 use Rattle.std.proofs.Common.{◌≤◌, ◌-◌}
-use Rattle.aia_runs.specs.declared.limits.TheConstants.{SOURCE_BYTES}
+use Rattle.aia_io.specs.declared.limits.TheConstants.{SOURCE_BYTES}
 use Rattle.plans_text.proofs.PieceLemmas.{SoFar}
 use Rattle.plans_text.proofs.judging.judge_file.Given as goal
 

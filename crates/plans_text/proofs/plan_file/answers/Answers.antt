@@ -2,8 +2,8 @@ use Rattle.std.proofs.Common.{◌≡◌, ◌∙◌, ◌+◌, ap, subst, sym, IfO
 use Rattle.plans_text.specs.declared.outcome.Outcome.{Outcome}
 use Rattle.plans_text.specs.Reading.{Text}
 use Rattle.plans_text.specs.PlanFile.{read_of, texts_of, with_texts}
-use Rattle.aia_runs.proofs.CutLemmas.{end_within, no_end_at_all}
-use Rattle.aia_runs.proofs.PieceLemmas.{all_of_rest}
+use Rattle.aia_io.proofs.CutLemmas.{end_within, no_end_at_all}
+use Rattle.aia_io.proofs.PieceLemmas.{all_of_rest}
 use Rattle.plans_text.proofs.FileLemmas.{text_more, whole, whole_outcome}
 use Rattle.plans_text.proofs.plan_file.answers.Goals as goal
 

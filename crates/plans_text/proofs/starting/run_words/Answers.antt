@@ -1,6 +1,6 @@
 use Rattle.std.proofs.Common.{◌≡◌, ap, sym, ◌∙◌}
 use Rattle.plans_text.specs.CommandLine.{subcommand_of}
-use Rattle.aia_runs.specs.Words.{asked, words_of}
+use Rattle.aia_io.specs.Words.{asked, words_of}
 use Rattle.plans_text.proofs.starting.run_words.Goals as goal
 
 pub returns-in-Ok-clause-usage : goal.returns-in-Ok-clause-usage

@@ -1,7 +1,7 @@
 use Rattle.std.proofs.Common.{◌≡◌, ◌+◌, ◌∷◌, ◌++◌, take, Some, refl, sym, ap, ◌∙◌}
 use Rattle.std.specs.Prelude.{position}
-use Rattle.aia_runs.proofs.CutLemmas.{is_end, cut_at_end, no_end_before, no_end_at_all}
-use Rattle.aia_runs.proofs.PieceLemmas.{all_of_rest}
+use Rattle.aia_io.proofs.CutLemmas.{is_end, cut_at_end, no_end_before, no_end_at_all}
+use Rattle.aia_io.proofs.PieceLemmas.{all_of_rest}
 use Rattle.aia_replay.proofs.PlanLemmas.{plan_fed_nothing, plan_fed_line, plan_fed_rest}
 use Rattle.aia_replay.proofs.plan_reader.PlanReader.feed.Goals as goal
 

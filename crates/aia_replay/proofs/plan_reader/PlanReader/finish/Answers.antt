@@ -3,7 +3,7 @@ use Rattle.std.proofs.lemmas.Bool.{eqb-true}
 use Rattle.std.proofs.lemmas.List.{append-nil}
 use Rattle.aia_audit.specs.PlanText.{with_text}
 use Rattle.aia_replay.specs.Plans.{plan_read}
-use Rattle.aia_runs.proofs.PieceLemmas.{not_empty}
+use Rattle.aia_io.proofs.PieceLemmas.{not_empty}
 use Rattle.aia_replay.proofs.PlanLemmas.{plan_finished, plan_finished_line}
 use Rattle.aia_replay.proofs.plan_reader.PlanReader.finish.Goals as goal
 

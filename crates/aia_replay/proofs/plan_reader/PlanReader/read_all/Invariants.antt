@@ -1,6 +1,6 @@
 use Rattle.std.proofs.Common.{◌≡◌, ◌≤◌, ◌-◌}
 use Rattle.aia_replay.specs.Plans.{AreInside}
-use Rattle.aia_runs.specs.declared.limits.TheConstants.{SOURCE_BYTES}
+use Rattle.aia_io.specs.declared.limits.TheConstants.{SOURCE_BYTES}
 use Rattle.aia_replay.proofs.PlanLemmas.{PlanReadSoFar}
 use Rattle.aia_replay.proofs.plan_reader.PlanReader.read_all.Given as goal
 

@@ -1,7 +1,7 @@
 use Rattle.std.proofs.Common.{rules, ◌≡◌, ◌+◌, ◌∷◌, ◌++◌, take, Some, sym, ap, ◌∙◌, arith}
 use Rattle.std.specs.Prelude.{position}
-use Rattle.aia_runs.proofs.CutLemmas.{is_end, cut_at_end, no_end_before, no_end_at_all}
-use Rattle.aia_runs.proofs.PieceLemmas.{all_of_rest}
+use Rattle.aia_io.proofs.CutLemmas.{is_end, cut_at_end, no_end_before, no_end_at_all}
+use Rattle.aia_io.proofs.PieceLemmas.{all_of_rest}
 use Rattle.aia_replay.proofs.FeedLemmas.{fed_nothing, fed_line, fed_front, fed_stop, fed_rest}
 use Rattle.aia_replay.proofs.replayer.Replayer.feed.Goals as goal
 

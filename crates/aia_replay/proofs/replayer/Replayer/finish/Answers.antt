@@ -3,7 +3,7 @@ use Rattle.std.proofs.lemmas.Bool.{eqb-true}
 use Rattle.std.specs.Io.KnownBytes.{Appends}
 use Rattle.aia_io.specs.Ends.{CutOff}
 use Rattle.aia_replay.specs.Streams.{AnswersText}
-use Rattle.aia_runs.proofs.PieceLemmas.{not_empty}
+use Rattle.aia_io.proofs.PieceLemmas.{not_empty}
 use Rattle.aia_replay.proofs.HeldLemmas.{finished_empty, finished_line, finished_cut, holds_cut_all, last_stopped}
 use Rattle.aia_replay.proofs.replayer.Replayer.finish.Goals as goal
 use Rattle.aia_replay.proofs.replayer.Replayer.finish.Goals.{then-not-is_empty+in_ok-answer_kept, else-not-is_empty}

@@ -1,6 +1,6 @@
 use Rattle.std.proofs.lemmas.Result.{on_ok_weaker}
 use Rattle.plans_text.specs.PlanFile.{read_of}
-use Rattle.aia_runs.proofs.PieceLemmas.{not_empty}
+use Rattle.aia_io.proofs.PieceLemmas.{not_empty}
 use Rattle.plans_text.proofs.StreamLemmas.{last_of}
 use Rattle.plans_text.proofs.plan_file.PlanFile.add_last.Goals as goal
 

@@ -1,6 +1,6 @@
 use Rattle.std.proofs.Common.{arith, refl, sym, ap, ◌∙◌, ◌+◌, length, length-drop}
-use Rattle.aia_runs.proofs.CutLemmas.{end_within}
-use Rattle.aia_runs.proofs.PieceLemmas.{all_of_rest}
+use Rattle.aia_io.proofs.CutLemmas.{end_within}
+use Rattle.aia_io.proofs.PieceLemmas.{all_of_rest}
 use Rattle.plans_text.proofs.StreamLemmas.{fed_nothing, fed_line, fed_last, kept_on}
 use Rattle.plans_text.proofs.plan_reader.PlanReader.feed.Goals as goal
 

@@ -4,7 +4,7 @@ ghost use Rattle.std.specs.Prelude.{◌≤◌, OnOk, OnErr, length};
 ghost use Rattle.std.specs.Io.KnownBytes.{Appends};
 ghost use Rattle.aia_io.specs.Ends.{Rose, CutOff};
 
-use aia_io::{Sink, Write};
+use crate::sink::{Sink, Write};
 
 /// The sink failed, and its count of faults rose.
 #[derive(Clone, Copy, Debug, PartialEq, Eq)]

@@ -2,9 +2,9 @@
 
 ghost use Rattle.std.specs.Prelude.{◌<◌, ◌≤◌, length};
 ghost use Rattle.aia_io.specs.Ends.{ReadHasCause, ReadsFront};
-ghost use Rattle.aia_runs.specs.Taken.{ReadsOn};
+ghost use Rattle.aia_io.specs.Taken.{ReadsOn};
 
-use aia_io::{Read, Source};
+use crate::source::{Read, Source};
 
 /// Reads at most `most` bytes into the front of `piece`.
 pub fn read_front<S: Source>(source: &mut S, piece: &mut [u8], most: usize) -> Read

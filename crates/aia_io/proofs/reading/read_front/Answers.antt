@@ -1,6 +1,6 @@
 use Rattle.std.proofs.Common.{drop}
-use Rattle.aia_runs.proofs.PieceLemmas.{reads_on}
-use Rattle.aia_runs.proofs.reading.read_front.Goals as goal
+use Rattle.aia_io.proofs.PieceLemmas.{reads_on}
+use Rattle.aia_io.proofs.reading.read_front.Goals as goal
 
 pub returns-clause-taken : goal.returns-clause-taken
 returns-clause-taken g c =

@@ -2,7 +2,7 @@
 
 ghost use Rattle.std.specs.Prelude.{◌≡◌, ◌≢◌, map, IfOk};
 ghost use Rattle.std.specs.IoError.{error_kind};
-ghost use Rattle.aia_runs.specs.Words.{words_of};
+ghost use Rattle.aia_io.specs.Words.{words_of};
 
 use std::alloc::{AllocError, Global};
 use std::io::ErrorKind;

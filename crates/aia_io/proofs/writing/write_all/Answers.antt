@@ -1,6 +1,6 @@
 use Rattle.std.proofs.Common.{arith}
-use Rattle.aia_runs.proofs.PieceLemmas.{wrote_more, cut_here}
-use Rattle.aia_runs.proofs.writing.write_all.Goals as goal
+use Rattle.aia_io.proofs.PieceLemmas.{wrote_more, cut_here}
+use Rattle.aia_io.proofs.writing.write_all.Goals as goal
 
 pub loop-at-preserved : goal.loop-at-preserved
 loop-at-preserved g c =

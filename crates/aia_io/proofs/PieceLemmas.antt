@@ -10,7 +10,7 @@ use Rattle.aia_io.specs.Ends.{Supply, Gives, Reads, CutOff}
 use Rattle.aia_io.specs.declared.source.Read.{Read}
 use Rattle.aia_io.specs.declared.source.Read.TheVariants as reads
 use Rattle.aia_io.proofs.SupplyLemmas.{gives_more, gives_no_more}
-use Rattle.aia_runs.specs.Taken.{ReadsOn}
+use Rattle.aia_io.specs.Taken.{ReadsOn}
 
 -- ---- what one read takes
 

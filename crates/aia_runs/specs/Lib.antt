@@ -1,4 +1,0 @@
--- What the two programs share.
-pub mod Taken
-pub mod Lines
-pub mod Words
