@@ -71,7 +71,8 @@ def helps(trial):
 def refused_words(trial):
     """Lists words that are wrong, by the tool."""
     for name in ("between-steps", "majors-table", "make", "documents", "step-numbers", "isolation",
-                 "from-memory", "migrations", "no-sense", "want-of-memory", "repeats"):
+                 "from-memory", "migrations", "no-sense", "want-of-memory", "repeats",
+                 "chain"):
         yield TOP / "suite" / name, ["--x"], ["a", "b", "c"]
     for name in ("isolation", "from-memory", "migrations", "no-sense"):
         yield TOP / "suite" / name, ["0"], ["x"], ["1", "x"]
