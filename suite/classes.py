@@ -6,7 +6,7 @@ from typing import NamedTuple
 from running import TOP, fail
 
 TABLE = TOP / "suite/classes.txt"
-SUITE, EXAMPLES = TOP / "crates/aia_rows/data/suite", TOP / "examples"
+SUITE, EXAMPLES = TOP / "crates/aia_script_tests/data/suite", TOP / "examples"
 STANDARD, CLASSES = "standard", ("standard", "profile", "text")
 DELIVERIES = {"direct": "direct delivery", "msis": "delivery by MSIs"}
 MOST_BITS = 8

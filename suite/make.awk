@@ -80,10 +80,10 @@ function add_theorem(    script, clause) {
     "pub fn " theorem "()\n    ensures { " clause " }\n{}\n"
 }
 
-# The script's file and that of its answers, for the program aia_rows, which the gate runs. One of
+# The script's file and that of its answers, for the program aia_script_tests, which the gate runs. One of
 # examples/ stands there too.
 function write_files() {
-  write_pair("crates/aia_rows/data/" path)
+  write_pair("crates/aia_script_tests/data/" path)
   if (path ~ /^examples\//) write_pair(path)
 }
 

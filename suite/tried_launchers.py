@@ -88,7 +88,7 @@ class Tree:
         rt = self.path / "rt"
         rt.write_text(
             f"#!/bin/sh\necho \"$*\" >> '{self.calls}'\n"
-            "for crate in aia_regs plans_machine plans_run; do\n"
+            "for crate in aia_regs plans_rules plans_counterexamples; do\n"
             "  echo \"rt: chose --jobs 4 for $crate\"\n  echo flood flood flood >&2\n"
             "  sleep 1.2\n  echo \"crate $crate: modules loaded=1 checked=1\"\ndone\n"
             f"mkdir -p out\nprintf '#!/bin/sh\\n{program}\\n' > out/${{PWD##*/}}\n"

@@ -460,7 +460,7 @@ def lints_as_documents(trial):
              for form in linting_plans.FORMS.get(name, f"`{name}`").replace("`", "").split(" or ")}
     trial.sees(told(judged, "Write down your own, in ten minutes") >= forms, "the steps of judge")
     wrong = []
-    for path in sorted((TOP / "crates/aia_rows/data").glob("*/*.script")):
+    for path in sorted((TOP / "crates/aia_script_tests/data").glob("*/*.script")):
         said = answers.answers(path.with_suffix(".out").read_bytes())
         texts = [text for text in reading.texts(path.read_bytes()) if not reading.is_skipped(text)]
         wrong += [(path.name, text) for text, answer in zip(texts, said, strict=True)

@@ -224,10 +224,10 @@ def step_line(step, word):
 def told_plan(move):
     """Lists the lines of a plan of homes, told as anybody's plan as `told_plan` has it."""
     told = {pattern.strip("()").split(" ")[0].removeprefix("accesses."): right
-            for pattern, right in clauses("plans_tie", "Told", "told")}
+            for pattern, right in clauses("plans_of_aia", "Told", "told")}
     lines_ = [step_line(told[name], word) for name, word in move.accesses()]
     end = "Memory" if KINDS[move.kind][1] == "memory" else "File"
-    back = dict(clauses("plans_tie", "Told", "given_back"))[end]
+    back = dict(clauses("plans_of_aia", "Told", "given_back"))[end]
     return lines_ + [step_line(step, None) for step in back.split(" ∷ ") if step != "[]"]
 
 
@@ -239,7 +239,7 @@ def told_plans():
         size = int(re.search(r"(?m)^words (\d+)$", text)[1])
         steps = [line for line in text.strip().rpartition("\n\n")[2].split("\n") if line]
         if steps != told_plan(Move(kind, size)):
-            yield f"{name} is not the plan of {CALLED[kind]}, as plans_tie tells it"
+            yield f"{name} is not the plan of {CALLED[kind]}, as plans_of_aia tells it"
 
 
 # What the table of what stands where has, by the word of its last column: whether it is so of a

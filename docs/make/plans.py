@@ -1,4 +1,4 @@
-"""Reads the plans of moves out of the definitions of aia_home, and computes what stands where."""
+"""Reads the plans of moves out of the definitions of aia_vcpu, and computes what stands where."""
 
 import re
 from dataclasses import dataclass
@@ -41,10 +41,10 @@ def read_patterns(text):
 
 @cache
 def definition(name):
-    """Gives the clauses of a definition of aia_home, each as (patterns, right side)."""
+    """Gives the clauses of a definition of aia_vcpu, each as (patterns, right side)."""
     for module in MODULES:
-        if has_clauses("aia_home", module, name):
-            found = clauses("aia_home", module, name)
+        if has_clauses("aia_vcpu", module, name):
+            found = clauses("aia_vcpu", module, name)
             return [(read_patterns(patterns), right) for patterns, right in found]
     raise SystemExit(f"the plans name {name}, which docs/make/plans.py does not find")
 
@@ -61,7 +61,7 @@ def bound(pattern, value):
 
 
 def computed(name, values):
-    """Computes a definition of aia_home of some values."""
+    """Computes a definition of aia_vcpu of some values."""
     for patterns, right in definition(name):
         found = [bound(pattern, value) for pattern, value in zip(patterns, values)]
         if None not in found:
@@ -211,7 +211,7 @@ class Move:
 
     def accesses(self):
         """Lists its accesses in order, as (constructor, number of the word or None)."""
-        text = (TOP / "crates/aia_home/src/access.rt").read_text(encoding="utf-8")
+        text = (TOP / "crates/aia_vcpu/src/access.rt").read_text(encoding="utf-8")
         found = {}
         for name, word in re.findall(r"(?m)^    (\w+)(\(u32\))?,$", text):
             for w in range(self.words) if word else [None]:

@@ -8,12 +8,12 @@ ghost use Rattle.aia_model.specs.declared.domain_name.DomainName.TheVariants.{Ro
 ghost use Rattle.aia_model.specs.Act.Act.{Made, Driven, Written, Loaded, Sent, Aimed};
 ghost use Rattle.aia_model.specs.Sent.{msi_of};
 ghost use Rattle.aia_domain.specs.Domain.{is_ready};
-ghost use Rattle.aia_home.specs.Aims.{target_of};
+ghost use Rattle.aia_vcpu.specs.Aims.{target_of};
 ghost use Rattle.aia_model.specs.SourceOf.{harts_in, sources_in, register_read, is_signalled};
-ghost use Rattle.aia_wiring.specs.Aplic.{AplicStands, IsNewAplic, side};
-ghost use Rattle.aia_wiring.specs.Passing.{is_passable_source, with_aim, hart_count, is_passable_in, AimsIn};
-ghost use Rattle.aia_wiring.specs.Sending.{IsFirst, IsBySource, asks_by_genmsi, does_wait, waiting, Next};
-ghost use Rattle.aia_wiring.specs.Bits.{IsFirstSource, AreSources, source_sender};
+ghost use Rattle.aia_aplic_values.specs.Aplic.{AplicStands, IsNewAplic, side};
+ghost use Rattle.aia_aplic_values.specs.Passing.{is_passable_source, with_aim, hart_count, is_passable_in, AimsIn};
+ghost use Rattle.aia_aplic_values.specs.Sending.{IsFirst, IsBySource, asks_by_genmsi, does_wait, waiting, Next};
+ghost use Rattle.aia_aplic_values.specs.Bits.{IsFirstSource, AreSources, source_sender};
 
 use crate::bits::bits_search;
 use crate::guests::{are_for_guests, target_of};
@@ -41,7 +41,7 @@ pub struct Aplic {
 }
 
 impl Model for Aplic {
-    ghost use Rattle.aia_wiring.specs.Aplic.{AplicState};
+    ghost use Rattle.aia_aplic_values.specs.Aplic.{AplicState};
 
     ghost Value = { AplicState };
 
@@ -245,7 +245,7 @@ impl Aplic {
     /// Tells whether an MSI waits to be sent; where none does, `next_msi` sends none.
     ///
     /// AIA 1.0, APLIC, "Interrupt forwarding by MSIs".
-    #[tactic(auto, using(aia_wiring::proofs::FirstLemmas::none_is_first))]
+    #[tactic(auto, using(aia_aplic_values::proofs::FirstLemmas::none_is_first))]
     pub fn has_msi(&self) -> bool
         ensures waits { IsFalse result ↔ ((sender : Sender) → does_wait self.now sender ≡ false) }
         ensures none { IsFalse result → (past : Past) → AplicStands self.now past

@@ -2,7 +2,7 @@ ghost use Rattle.std.specs.Prelude.{◌≡◌, ℕ, ◌+◌, ◌*◌, ◌<◌, �
 ghost use Rattle.aia_model.specs.declared.domain_name.DomainName.{DomainName};
 ghost use Rattle.aia_model.specs.declared.domain_name.DomainName.TheVariants.{Root, Child};
 ghost use Rattle.aia_word.specs.Sets.{has_bit, word_of};
-ghost use Rattle.aia_wiring.specs.Bits.{IsFirstSource, AreSources};
+ghost use Rattle.aia_aplic_values.specs.Bits.{IsFirstSource, AreSources};
 ghost use Rattle.aia_regs.specs.declared.limits.TheConstants.{SOURCE_WORDS};
 
 use aia_model::DomainName;

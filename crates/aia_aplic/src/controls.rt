@@ -6,7 +6,7 @@ ghost use Rattle.aia_regs.specs.Top.{topi_value};
 ghost use Rattle.aia_domain.specs.InterruptSource.{EachSource};
 ghost use Rattle.aia_domain.specs.Domain.{with_sources};
 ghost use Rattle.aia_direct.specs.Idc.{new_idc, control_read, top_shown, claimed_top, signals_hart};
-ghost use Rattle.aia_wiring.specs.Controls.{EachControl, control_after, control_at, claimed_at};
+ghost use Rattle.aia_aplic_values.specs.Controls.{EachControl, control_after, control_at, claimed_at};
 
 use aia_direct::{Idc, claimi, signal, topi};
 use aia_domain::Domain;

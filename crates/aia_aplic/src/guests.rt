@@ -3,7 +3,7 @@
 
 ghost use Rattle.std.specs.Prelude.{◌≡◌, ◌<◌, ◌≤◌};
 ghost use Rattle.aia_regs.specs.declared.limits.TheConstants.{HARTS, IDENTITIES};
-ghost use Rattle.aia_home.specs.Aims.{target_of};
+ghost use Rattle.aia_vcpu.specs.Aims.{target_of};
 ghost use Rattle.aia_model.specs.AddressOf.{are_for_guests};
 
 use aia_msiaddr::Addresses;

@@ -1,4 +1,4 @@
-ghost use Rattle.aia_wiring.specs.Controls.{EachControl, control_after, control_at, claimed_at, hart_of_register};
+ghost use Rattle.aia_aplic_values.specs.Controls.{EachControl, control_after, control_at, claimed_at, hart_of_register};
 ghost use Rattle.aia_regs.specs.Top.{topi_value};
 ghost use Rattle.aia_source.specs.Wired.SourceDeed.{Forwarded};
 ghost use Rattle.aia_domain.specs.InterruptSource.{EachSource, changed_at, with_deed, with_target, source_at, is_active_at};
@@ -15,9 +15,9 @@ ghost use Rattle.aia_model.specs.declared.sender.Sender.TheVariants.{ByGenMsi, B
 ghost use Rattle.aia_model.specs.Act.Act.{Driven, Written, Loaded, Sent, Aimed};
 ghost use Rattle.aia_model.specs.SourceOf.{harts_in, sources_in, target, genmsi_of, own_read, is_signalled};
 ghost use Rattle.aia_model.specs.Sent.{domain_of_sender, register_of_sender};
-ghost use Rattle.aia_wiring.specs.Bits.{AreSources};
-ghost use Rattle.aia_wiring.specs.Side.{SideStands, IsNewSide};
-ghost use Rattle.aia_wiring.specs.Sending.{waits_in, waiting_in};
+ghost use Rattle.aia_aplic_values.specs.Bits.{AreSources};
+ghost use Rattle.aia_aplic_values.specs.Side.{SideStands, IsNewSide};
+ghost use Rattle.aia_aplic_values.specs.Sending.{waits_in, waiting_in};
 
 use crate::controls::{claim, load_control, new_controls, signal_of, store_control, topi_of};
 use aia_direct::Idc;
@@ -35,7 +35,7 @@ pub struct Side {
 }
 
 impl Model for Side {
-    ghost use Rattle.aia_wiring.specs.Side.{SideState};
+    ghost use Rattle.aia_aplic_values.specs.Side.{SideState};
 
     ghost Value = { SideState };
 

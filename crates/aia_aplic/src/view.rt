@@ -1,8 +1,8 @@
 ghost use Rattle.std.specs.Prelude.{◌≡◌, ℕ, ◌+◌, ◌*◌, ◌<◌};
 ghost use Rattle.aia_word.specs.Sets.{word_of};
 ghost use Rattle.aia_domain.specs.Domain.{is_ready};
-ghost use Rattle.aia_wiring.specs.Aplic.{side};
-ghost use Rattle.aia_wiring.specs.Bits.{AreSources};
+ghost use Rattle.aia_aplic_values.specs.Aplic.{side};
+ghost use Rattle.aia_aplic_values.specs.Bits.{AreSources};
 
 use crate::aplic::Aplic;
 use crate::bits::Bits;
@@ -22,7 +22,7 @@ impl<L: Ledger> Bits for ReadyView<'_, L> {
     ghost use Rattle.std.specs.Prelude.{◌≡◌, ◌+◌};
     ghost use Rattle.std.proofs.Common.{◌∙◌, refl};
     ghost use Rattle.aia_domain.specs.Domain.{is_ready};
-    ghost use Rattle.aia_wiring.specs.Aplic.{side};
+    ghost use Rattle.aia_aplic_values.specs.Aplic.{side};
 
     ghost members = { λ v name. is_ready (side v.aplic.now name).domain };
 

@@ -4,10 +4,10 @@ use Rattle.aia_plan.specs.declared.step.Kind.{Kind}
 use Rattle.aia_plan.specs.declared.step.Kind.TheVariants as kinds
 use Rattle.aia_plan.specs.declared.step.Step.{Step}
 use Rattle.aia_plan.specs.declared.step.Step.TheVariants as steps
-use Rattle.aia_home.specs.declared.end.End.TheVariants.{File, Memory}
-use Rattle.aia_home.specs.Plans.{plan}
-use Rattle.aia_home.specs.declared.access.Access.{Access}
-use Rattle.aia_home.specs.declared.access.Access.TheVariants.{TakeDelivery, PutDelivery, WriteNotice, WriteEntry, Fence, Map, GFence, TakePending, PutPending, TakeEnables, PutEnables, Look, TakeThreshold, PutThreshold, Post}
+use Rattle.aia_vcpu.specs.declared.end.End.TheVariants.{File, Memory}
+use Rattle.aia_vcpu.specs.Plans.{plan}
+use Rattle.aia_vcpu.specs.declared.access.Access.{Access}
+use Rattle.aia_vcpu.specs.declared.access.Access.TheVariants.{TakeDelivery, PutDelivery, WriteNotice, WriteEntry, Fence, Map, GFence, TakePending, PutPending, TakeEnables, PutEnables, Look, TakeThreshold, PutThreshold, Post}
 
 -- The access that a step is.
 abbrev pub access_of : Step → Access

@@ -3,7 +3,7 @@
 
 ghost use Rattle.std.specs.Prelude.{◌≡◌, ℕ, ◌<◌, ◌≤◌, ◌↔◌, true, false, length, Some, Contains, AllPairs};
 ghost use Rattle.aia_regs.specs.Top.{Pair};
-ghost use Rattle.aia_waiting.specs.Order.{comes_before};
+ghost use Rattle.aia_candidates.specs.Order.{comes_before};
 ghost use Rattle.aia_domain.specs.InterruptSource.{waiting_pair_at};
 ghost use Rattle.aia_domain.specs.Domain.{DomainState, is_ready, ready_from, candidates};
 

@@ -2,11 +2,11 @@ ghost use Rattle.std.specs.Prelude.{◌≡◌, ◌^◌, ◌<◌, ◌≤◌, fals
 ghost use Rattle.std.specs.Borrow.{Bor};
 ghost use Rattle.aia_word.specs.Sets.{has_bit};
 ghost use Rattle.aia_regs.specs.declared.limits.TheConstants.{VCPUS, FILE_WORDS};
-ghost use Rattle.aia_home.specs.declared.place.Place.{Place};
-ghost use Rattle.aia_home.specs.Vms.{vcpu};
-ghost use Rattle.aia_world.specs.Found.{IsFound};
-ghost use Rattle.aia_world.specs.Flights.{Fences};
-ghost use Rattle.aia_world.specs.Changes.{IsPlaceThere, words_at, pending_words, enable_words, pending_at, with_pending, enable_at, with_enable, with_entry_word, with_fence, with_map, with_gfence};
+ghost use Rattle.aia_vcpu.specs.declared.place.Place.{Place};
+ghost use Rattle.aia_vcpu.specs.Vms.{vcpu};
+ghost use Rattle.aia_fabric_values.specs.Found.{IsFound};
+ghost use Rattle.aia_fabric_values.specs.Flights.{Fences};
+ghost use Rattle.aia_fabric_values.specs.Changes.{IsPlaceThere, words_at, pending_words, enable_words, pending_at, with_pending, enable_at, with_enable, with_entry_word, with_fence, with_map, with_gfence};
 
 use crate::{At, Fabric, Found, map};
 use aia_mrif::{SlotMut, look};
@@ -16,7 +16,7 @@ use aia_word::Bank;
 /// What the steps of moves do, and an IOMMU that reads an entry again. Each touches one word of a
 /// place, one word or entry of a table, or one record, and all else stays; but the fence of an
 /// entry lands the stores in flight of its VM first.
-#[tactic(auto, using(aia_world::proofs::WholeLemmas::width_at, aia_world::proofs::WholeLemmas::vcpu_entry, aia_world::proofs::WholeLemmas::vcpu_words, aia_world::proofs::FoundLemmas::found_there))]
+#[tactic(auto, using(aia_fabric_values::proofs::WholeLemmas::width_at, aia_fabric_values::proofs::WholeLemmas::vcpu_entry, aia_fabric_values::proofs::WholeLemmas::vcpu_words, aia_fabric_values::proofs::FoundLemmas::found_there))]
 impl Fabric {
     // ---- the sets of a place
 

@@ -13,25 +13,25 @@ ghost use Rattle.aia_file.specs.Imsic.{IsThere, file_at, with_file};
 ghost use Rattle.aia_file.specs.Mrif.{mrif_in, stored};
 ghost use Rattle.aia_entry.specs.Tables.{table_of, route_of};
 ghost use Rattle.aia_entry.specs.Translation.{IsMask};
-ghost use Rattle.aia_home.specs.Vms.{Vcpu, vcpu, vcpus_in, is_vcpu_in, slot_of, notice_hart, vm_in};
-ghost use Rattle.aia_world.specs.World.{no_stage};
-ghost use Rattle.aia_world.specs.Found.{IsFound};
-ghost use Rattle.aia_world.specs.Making.{IsNew, with_vm, with_entry};
-ghost use Rattle.aia_world.specs.Stores.{StoresIn, Posts, counted, page_spot, named_spot, with_store};
-ghost use Rattle.aia_world.specs.Whole.{IsWhole};
+ghost use Rattle.aia_vcpu.specs.Vms.{Vcpu, vcpu, vcpus_in, is_vcpu_in, slot_of, notice_hart, vm_in};
+ghost use Rattle.aia_fabric_values.specs.World.{no_stage};
+ghost use Rattle.aia_fabric_values.specs.Found.{IsFound};
+ghost use Rattle.aia_fabric_values.specs.Making.{IsNew, with_vm, with_entry};
+ghost use Rattle.aia_fabric_values.specs.Stores.{StoresIn, Posts, counted, page_spot, named_spot, with_store};
+ghost use Rattle.aia_fabric_values.specs.Whole.{IsWhole};
 
 use crate::flights::Flights;
 use crate::vms::Vms;
 use crate::{Found, Stage, map};
 use aia_entry::{Iommu, Route};
 use aia_file::{File, Spot, Stored};
-use aia_home::{Place, Vm};
 use aia_imsic::Imsic;
 use aia_mrif::SlotMut;
 use aia_ram::Ram;
 use aia_regs::address_map::PAGE;
 use aia_regs::limits::{MEMORY_WORDS, VCPUS};
 use aia_regs::{FileReg, Op};
+use aia_vcpu::{Place, Vm};
 use std::alloc::{AllocError, Global};
 use std::marker::Model;
 
@@ -50,8 +50,8 @@ pub struct Fabric {
 }
 
 impl Model for Fabric {
-    ghost use Rattle.aia_world.specs.World.{World};
-    ghost use Rattle.aia_world.specs.Whole.{IsWhole};
+    ghost use Rattle.aia_fabric_values.specs.World.{World};
+    ghost use Rattle.aia_fabric_values.specs.Whole.{IsWhole};
 
     ghost Value = { World };
 
@@ -78,7 +78,7 @@ impl Model for Fabric {
     }) };
 }
 
-#[tactic(auto, using(aia_world::proofs::WholeLemmas::width_at))]
+#[tactic(auto, using(aia_fabric_values::proofs::WholeLemmas::width_at))]
 impl Fabric {
     /// Makes the machine's empty files, memory of zeros, the room for all VMs and their stores in
     /// flight, and an empty G-stage record for each of `VCPUS` virtual harts: of `harts` harts, 1

@@ -1,8 +1,8 @@
 ghost use Rattle.std.specs.Prelude.{◌≡◌, ◌<◌, ◌≤◌, Some, [], ◌∷◌, ◌++◌, length, remove, slice_get, slice_index_or, slice_set, IfOk};
 ghost use Rattle.aia_regs.specs.declared.limits.TheConstants.{VMS, STORES_IN_FLIGHT};
 
+use aia_fabric_values::Flying;
 use aia_regs::limits::{STORES_IN_FLIGHT, VMS};
-use aia_world::Flying;
 use arrayvec::ArrayVec;
 use std::alloc::{AllocError, Global};
 use std::marker::Model;
@@ -15,7 +15,7 @@ struct Flight {
 
 impl Model for Flight {
     ghost use Rattle.std.specs.Prelude.{List};
-    ghost use Rattle.aia_world.specs.declared.flying.Flying.{Flying};
+    ghost use Rattle.aia_fabric_values.specs.declared.flying.Flying.{Flying};
 
     ghost Value = { List Flying };
 
@@ -75,7 +75,7 @@ impl Model for Flights {
     ghost use Rattle.std.specs.Prelude.{◌≡◌, List};
     ghost use Rattle.std.specs.Vec.{vec_capacity};
     ghost use Rattle.aia_regs.specs.declared.limits.TheConstants.{VMS};
-    ghost use Rattle.aia_world.specs.declared.flying.Flying.{Flying};
+    ghost use Rattle.aia_fabric_values.specs.declared.flying.Flying.{Flying};
 
     ghost Value = { List (List Flying) };
 

@@ -3,7 +3,7 @@ ghost use Rattle.aia_word.specs.Top.{top_value};
 ghost use Rattle.aia_regs.specs.declared.limits.TheConstants.{VCPUS};
 ghost use Rattle.aia_file.specs.InterruptFile.{register_value, top_of, accessed, claimed};
 ghost use Rattle.aia_file.specs.SlotFile.{IsOfSets};
-ghost use Rattle.aia_world.specs.SlotAccess.{file_of_slot, DoneInSlot};
+ghost use Rattle.aia_fabric_values.specs.SlotAccess.{file_of_slot, DoneInSlot};
 
 use crate::Fabric;
 use aia_mrif::SlotMut;

@@ -2,13 +2,13 @@ ghost use Rattle.std.specs.Prelude.{◌≡◌, ◌%◌, ◌<◌, ◌≤◌, leng
 ghost use Rattle.aia_regs.specs.declared.address_map.TheConstants.{PAGE};
 ghost use Rattle.aia_regs.specs.declared.limits.TheConstants.{STORES_IN_FLIGHT};
 ghost use Rattle.aia_entry.specs.Tables.{table_of, route_of};
-ghost use Rattle.aia_world.specs.World.{flight_of};
-ghost use Rattle.aia_world.specs.Flights.{Sends, Lands, LandsAll, with_flight};
+ghost use Rattle.aia_fabric_values.specs.World.{flight_of};
+ghost use Rattle.aia_fabric_values.specs.Flights.{Sends, Lands, LandsAll, with_flight};
 
 use crate::Fabric;
 use aia_entry::Route;
+use aia_fabric_values::Flying;
 use aia_regs::address_map::PAGE;
-use aia_world::Flying;
 
 /// Stores of devices that are in flight.
 impl Fabric {

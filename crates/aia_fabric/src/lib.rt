@@ -14,5 +14,5 @@ mod map;
 mod stores;
 mod vms;
 
-pub use aia_world::{At, Flying, Found, Stage};
+pub use aia_fabric_values::{At, Flying, Found, Stage};
 pub use fabric::Fabric;

@@ -2,11 +2,11 @@ ghost use Rattle.std.specs.Prelude.{◌≡◌, ◌+◌, ◌^◌, ◌<◌, ◌≤
 ghost use Rattle.aia_word.specs.Packed.{ones};
 ghost use Rattle.aia_regs.specs.declared.limits.TheConstants.{VMS, VCPUS};
 ghost use Rattle.aia_entry.specs.Translation.{IsMask};
-ghost use Rattle.aia_home.specs.Vms.{vcpus_in};
-ghost use Rattle.aia_world.specs.Making.{MakesVm};
+ghost use Rattle.aia_vcpu.specs.Vms.{vcpus_in};
+ghost use Rattle.aia_fabric_values.specs.Making.{MakesVm};
 
 use crate::{Fabric, map};
-use aia_home::Vm;
+use aia_vcpu::Vm;
 
 impl Fabric {
     /// Makes the next VM, while fewer than `VMS` stand: of `vcpus` virtual harts, at most 2^k where

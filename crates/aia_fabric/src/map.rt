@@ -6,8 +6,8 @@ ghost use Rattle.aia_regs.specs.declared.address_map.TheConstants.{PAGE};
 ghost use Rattle.aia_regs.specs.declared.limits.TheConstants.{HARTS, VMS, VCPUS, MEMORY_WORDS};
 ghost use Rattle.aia_entry.specs.Format.{mrif_word, notice_word};
 ghost use Rattle.aia_ram.specs.Words.{HasWordAt};
-ghost use Rattle.aia_world.specs.Stores.{slot_at};
-ghost use Rattle.aia_world.specs.Making.{table_byte};
+ghost use Rattle.aia_fabric_values.specs.Stores.{slot_at};
+ghost use Rattle.aia_fabric_values.specs.Making.{table_byte};
 
 use aia_entry::mrif;
 use aia_ram::Ram;

@@ -3,10 +3,10 @@ ghost use Rattle.aia_regs.specs.declared.address_map.TheConstants.{PAGE};
 ghost use Rattle.aia_regs.specs.declared.limits.TheConstants.{VCPUS};
 ghost use Rattle.aia_file.specs.Imsic.{IsThere};
 ghost use Rattle.aia_entry.specs.Tables.{table_of, route_of};
-ghost use Rattle.aia_home.specs.Vms.{Vcpu, vcpu, vcpus_in, is_vcpu_in, slot_of};
-ghost use Rattle.aia_world.specs.World.{OnlyStores, stage_of};
-ghost use Rattle.aia_world.specs.Found.{IsFound};
-ghost use Rattle.aia_world.specs.Stores.{ReachesByRecord, Reaches, ReachesBy, StoresInGuestFile, StoresInSlot, NoticedAt, page_spot};
+ghost use Rattle.aia_vcpu.specs.Vms.{Vcpu, vcpu, vcpus_in, is_vcpu_in, slot_of};
+ghost use Rattle.aia_fabric_values.specs.World.{OnlyStores, stage_of};
+ghost use Rattle.aia_fabric_values.specs.Found.{IsFound};
+ghost use Rattle.aia_fabric_values.specs.Stores.{ReachesByRecord, Reaches, ReachesBy, StoresInGuestFile, StoresInSlot, NoticedAt, page_spot};
 
 use crate::map::slot_at;
 use crate::{Fabric, Found};
@@ -20,7 +20,7 @@ impl Fabric {
     /// due. Tells the route. All but files, memory and the count of notices stays.
     ///
     /// AIA 1.0, IOMMU Support for MSIs to Virtual Machines.
-    #[tactic(auto, using(aia_world::proofs::FrameLemmas::reaches_rest))]
+    #[tactic(auto, using(aia_fabric_values::proofs::FrameLemmas::reaches_rest))]
     pub fn device_store(&mut self, vm: u32, addr: u64, value: u32) -> Route
         requires { vm < length self.old.vms }
         ensures route { result ≡ route_of (table_of self.old.tables vm) addr }
@@ -41,7 +41,7 @@ impl Fabric {
     /// due. All but files, memory and the count of notices stays.
     ///
     /// The hypervisor extension 1.0; profile.
-    #[tactic(auto, using(aia_world::proofs::FrameLemmas::record_rest, aia_world::proofs::FoundLemmas::found_there))]
+    #[tactic(auto, using(aia_fabric_values::proofs::FrameLemmas::record_rest, aia_fabric_values::proofs::FoundLemmas::found_there))]
     pub fn guest_store(&mut self, to: Found, value: u32)
         requires { IsFound self.old to }
         ensures reaches { ReachesByRecord (stage_of self.old (vcpu to.vm to.number)).in_force
@@ -68,7 +68,7 @@ impl Fabric {
     ///
     /// AIA 1.0, IOMMU Support for MSIs to Virtual Machines, "Memory-resident interrupt files".
     /// Profile: passes.
-    #[tactic(auto, using(aia_world::proofs::FrameLemmas::slot_rest))]
+    #[tactic(auto, using(aia_fabric_values::proofs::FrameLemmas::slot_rest))]
     pub fn slot_store(&mut self, q: u32, value: u32)
         requires { q < vcpus_in self.old.vms }
         ensures stores { (g : Vcpu) → is_vcpu_in self.old.vms g ≡ true → slot_of self.old.vms g ≡ q

@@ -1,9 +1,9 @@
 ghost use Rattle.std.specs.Prelude.{◌≡◌, ℕ, ◌<◌, ◌≤◌, true, [], ◌∷◌, ◌++◌, length, take, IfOk};
 ghost use Rattle.aia_regs.specs.declared.limits.TheConstants.{VMS, VCPUS};
-ghost use Rattle.aia_home.specs.Vms.{Vcpu, vcpu, vcpus_in, is_vcpu_in, slot_of, notice_hart, vm_in};
+ghost use Rattle.aia_vcpu.specs.Vms.{Vcpu, vcpu, vcpus_in, is_vcpu_in, slot_of, notice_hart, vm_in};
 
-use aia_home::{Vm, notice_hart_of, vcpus_in};
 use aia_regs::limits::VMS;
+use aia_vcpu::{Vm, notice_hart_of, vcpus_in};
 use std::alloc::{AllocError, Global};
 use std::marker::Model;
 
@@ -17,7 +17,7 @@ impl Model for Vms {
     ghost use Rattle.std.specs.Prelude.{◌≡◌, List};
     ghost use Rattle.std.specs.Vec.{vec_capacity};
     ghost use Rattle.aia_regs.specs.declared.limits.TheConstants.{VMS};
-    ghost use Rattle.aia_home.specs.declared.vm.Vm.{Vm};
+    ghost use Rattle.aia_vcpu.specs.declared.vm.Vm.{Vm};
 
     ghost Value = { List Vm };
 
@@ -87,7 +87,7 @@ impl Vms {
     }
 
     /// Gives the slot of a virtual hart that is there.
-    #[tactic(auto, using(aia_home::proofs::OwnerLemmas::vcpus_first))]
+    #[tactic(auto, using(aia_vcpu::proofs::OwnerLemmas::vcpus_first))]
     pub fn slot_of(&self, vm: u32, number: u32) -> u32
         requires there { is_vcpu_in self.now (vcpu vm number) ≡ true }
         requires few { vcpus_in self.now ≤ VCPUS }

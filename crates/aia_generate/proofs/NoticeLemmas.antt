@@ -7,9 +7,9 @@ use Rattle.std.specs.Prelude.{slice_get}
 use Rattle.std.specs.List.{remove, filter, list_any, range_with_len}
 use Rattle.std.specs.Prelude.{flat_map}
 use Rattle.aia_word.proofs.LeastLemmas.{least_of_is}
-use Rattle.aia_home.specs.Vms.{Vcpu, vcpu, is_vcpu}
-use Rattle.aia_home.specs.declared.end.End.TheVariants.{File, Memory}
-use Rattle.aia_home.specs.Plans.{plan_steps}
+use Rattle.aia_vcpu.specs.Vms.{Vcpu, vcpu, is_vcpu}
+use Rattle.aia_vcpu.specs.declared.end.End.TheVariants.{File, Memory}
+use Rattle.aia_vcpu.specs.Plans.{plan_steps}
 use Rattle.std.specs.Option.{option_map_or}
 use Rattle.aia_model.specs.declared.line.Line.{Line}
 use Rattle.aia_model.specs.declared.line.Line.TheVariants.{Machine, Wire, Load, Store, Send, Step}
@@ -39,7 +39,7 @@ use Rattle.aia_model.proofs.HistoryLemmas.{msi_by_pass, line_happens, after_happ
 use Rattle.aia_model.specs.Answer.{delivered, given_on, msi_taken, oldest_landed, landed_first, step_taken, steps_taken, steps_of, deed_taken, line_taken, history_after, after, after_lines}
 use Rattle.aia_model.specs.Flight.{Sending, flight}
 use Rattle.aia_model.specs.HomeOf.{home}
-use Rattle.aia_home.specs.Routes.{is_at_fence}
+use Rattle.aia_vcpu.specs.Routes.{is_at_fence}
 use Rattle.aia_regs.specs.declared.limits.TheConstants.{IDENTITIES, STORES_IN_FLIGHT, FILE_WORDS, PASSES}
 use Rattle.aia_model.proofs.AnswerLemmas.{machine_refusal}
 use Rattle.aia_model.proofs.FlightLemmas.{same_first}

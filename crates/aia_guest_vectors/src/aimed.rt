@@ -1,13 +1,13 @@
 //! A script that is stopped in the middle of a move, between two steps that aim passed sources.
 
 ghost use Rattle.std.specs.Prelude.{◌≡◌, ◌+◌, None, Some};
-ghost use Rattle.aia_home.specs.Aims.{host_identity, target_of};
-ghost use Rattle.aia_home.specs.Home.Home.{OnWay};
-ghost use Rattle.aia_home.specs.Home.Way.{Outward};
-ghost use Rattle.aia_home.specs.declared.access.Access.TheVariants.{GFence};
-ghost use Rattle.aia_home.specs.declared.end.End.TheVariants.{File, Memory};
-ghost use Rattle.aia_home.specs.Plans.{plan_step};
-ghost use Rattle.aia_home.specs.Vms.{vcpu};
+ghost use Rattle.aia_vcpu.specs.Aims.{host_identity, target_of};
+ghost use Rattle.aia_vcpu.specs.Home.Home.{OnWay};
+ghost use Rattle.aia_vcpu.specs.Home.Way.{Outward};
+ghost use Rattle.aia_vcpu.specs.declared.access.Access.TheVariants.{GFence};
+ghost use Rattle.aia_vcpu.specs.declared.end.End.TheVariants.{File, Memory};
+ghost use Rattle.aia_vcpu.specs.Plans.{plan_step};
+ghost use Rattle.aia_vcpu.specs.Vms.{vcpu};
 ghost use Rattle.aia_model.specs.declared.domain_name.DomainName.TheVariants.{Child};
 ghost use Rattle.aia_model.specs.Aim.{pass_reach};
 ghost use Rattle.aia_model.specs.Histories.{IsHistory};

@@ -1,7 +1,7 @@
 ghost use Rattle.std.specs.Prelude.{◌≡◌};
 ghost use Rattle.aia_model.specs.declared.line.Line.TheVariants.{Send, Land, Refetch};
 ghost use Rattle.aia_model.specs.declared.answer.Answer.TheVariants.{Okay};
-ghost use Rattle.aia_standing.specs.Stands.{CoreTakes, answer_by};
+ghost use Rattle.aia_hyp_values.specs.Stands.{CoreTakes, answer_by};
 
 use crate::hypervisor_core::{Core, taken_by};
 use aia_model::Refusal;

@@ -5,8 +5,8 @@ ghost use Rattle.std.specs.Int.{is_in_range};
 ghost use Rattle.aia_regs.specs.declared.limits.TheConstants.{GUEST_FILES, IDENTITIES, PASSES};
 ghost use Rattle.aia_file.specs.Map.{spot_at};
 ghost use Rattle.aia_file.specs.Imsic.{IsThere};
-ghost use Rattle.aia_home.specs.declared.place.Place.{Place};
-ghost use Rattle.aia_home.specs.Aims.{target_to};
+ghost use Rattle.aia_vcpu.specs.declared.place.Place.{Place};
+ghost use Rattle.aia_vcpu.specs.Aims.{target_to};
 ghost use Rattle.aia_model.specs.declared.answer.Answer.TheVariants.{Okay, Refused};
 ghost use Rattle.aia_model.specs.declared.line.Line.TheVariants as lines;
 ghost use Rattle.aia_model.specs.Event.{History};
@@ -14,21 +14,21 @@ ghost use Rattle.aia_model.specs.Event.Event.{Accepted, Delivered, Relayed};
 ghost use Rattle.aia_model.specs.Aim.{aimed_by};
 ghost use Rattle.aia_model.specs.Passes.{is_passed, passes_of};
 ghost use Rattle.aia_model.specs.Refusal.{refusal};
-ghost use Rattle.aia_standing.specs.Core.{resident_at};
-ghost use Rattle.aia_world.specs.Found.{IsFound};
-ghost use Rattle.aia_standing.specs.Moves.{UnlessRefused};
-ghost use Rattle.aia_standing.specs.Passes.{AimsBy, TellsOf, number_of_pass};
-ghost use Rattle.aia_standing.specs.Stands.{CoreStands, CorePasses, CoreHears, CoreGoes, MayPass, RefusesPass, MayGo, answer_by};
+ghost use Rattle.aia_hyp_values.specs.Core.{resident_at};
+ghost use Rattle.aia_fabric_values.specs.Found.{IsFound};
+ghost use Rattle.aia_hyp_values.specs.Moves.{UnlessRefused};
+ghost use Rattle.aia_hyp_values.specs.Passes.{AimsBy, TellsOf, number_of_pass};
+ghost use Rattle.aia_hyp_values.specs.Stands.{CoreStands, CorePasses, CoreHears, CoreGoes, MayPass, RefusesPass, MayGo, answer_by};
 
 use crate::hypervisor_core::{Core, is_host};
 use aia_fabric::Found;
 use aia_file::Spot;
+use aia_hyp_values::{Passed, Stay};
 use aia_model::{Msi, Refusal};
 use aia_move::{Plan, Targets};
 use aia_regs::address_map::PAGE;
 use aia_regs::limits::{FIRST_PASS_IDENTITY, PASSES};
 use aia_regs::{FileReg, Op};
-use aia_standing::{Passed, Stay};
 
 /// Wired sources that are passed to virtual harts, and the MSIs that an APLIC makes.
 impl Core {

@@ -4,25 +4,25 @@ ghost use Rattle.aia_regs.specs.FileRegisters.{select_written};
 ghost use Rattle.aia_csr.specs.CsrAccess.{ReachesUsable, csr_access};
 ghost use Rattle.aia_major.specs.VsMajor.{vti_of};
 ghost use Rattle.aia_major.specs.Kept.{majors_shown};
-ghost use Rattle.aia_home.specs.Vms.{vcpu, is_vcpu_in};
+ghost use Rattle.aia_vcpu.specs.Vms.{vcpu, is_vcpu_in};
 ghost use Rattle.aia_model.specs.declared.line.Line.TheVariants.{GuestCsr};
 ghost use Rattle.aia_model.specs.declared.answer.Answer.TheVariants.{Wide};
-ghost use Rattle.aia_world.specs.Changes.{spot_of};
-ghost use Rattle.aia_world.specs.Found.{IsFound};
-ghost use Rattle.aia_world.specs.Whole.{IsWhole};
-ghost use Rattle.aia_standing.specs.Core.{no_record, record_of, resident_at, runs_in};
-ghost use Rattle.aia_standing.specs.Stands.{CoreTakes, answer_by};
+ghost use Rattle.aia_fabric_values.specs.Changes.{spot_of};
+ghost use Rattle.aia_fabric_values.specs.Found.{IsFound};
+ghost use Rattle.aia_fabric_values.specs.Whole.{IsWhole};
+ghost use Rattle.aia_hyp_values.specs.Core.{no_record, record_of, resident_at, runs_in};
+ghost use Rattle.aia_hyp_values.specs.Stands.{CoreTakes, answer_by};
 
 use crate::hypervisor_core::{Core, claim_or_read, select_after};
 use crate::majors::{access_sie_in, access_sip_in, stopi_in};
 use aia_csr::{CsrAccess, decide};
 use aia_fabric::Found;
 use aia_file::Spot;
-use aia_home::Place;
+use aia_hyp_values::VcpuRecord;
 use aia_model::Refusal;
 use aia_move::Plan;
 use aia_regs::{Csr, Level, Op};
-use aia_standing::VcpuRecord;
+use aia_vcpu::Place;
 
 impl Core {
     /// Does a CSR instruction of a virtual hart, and answers what the CSR read before it. `Err` is

@@ -18,26 +18,26 @@ ghost use Rattle.aia_model.specs.FileOf.{FileName};
 ghost use Rattle.aia_model.specs.declared.line.Line.TheVariants.{Load, Store, Vm};
 ghost use Rattle.aia_model.specs.declared.line.Line.TheVariants as lines;
 ghost use Rattle.aia_model.specs.Refusal.{is_vm_size, lacks_room};
-ghost use Rattle.aia_world.specs.Whole.{IsWhole};
+ghost use Rattle.aia_fabric_values.specs.Whole.{IsWhole};
 ghost use Rattle.aia_model.specs.declared.answer.Answer.TheVariants.{Okay, Narrow, Wide};
-ghost use Rattle.aia_world.specs.Found.{IsFound};
-ghost use Rattle.aia_home.specs.Vms.{vcpu};
-ghost use Rattle.aia_standing.specs.Core.{no_record, record_of};
-ghost use Rattle.aia_standing.specs.HostFiles.{IsHost, HasDone, name_of, csr_line, host_spot, is_host_spot, file_in, select_place, select_in};
-ghost use Rattle.aia_standing.specs.Stands.{CoreStands, StandsForSome, CoreTakes, CoreBegins, answer_by, core_refusal, signals_of, route_answer};
+ghost use Rattle.aia_fabric_values.specs.Found.{IsFound};
+ghost use Rattle.aia_vcpu.specs.Vms.{vcpu};
+ghost use Rattle.aia_hyp_values.specs.Core.{no_record, record_of};
+ghost use Rattle.aia_hyp_values.specs.HostFiles.{IsHost, HasDone, name_of, csr_line, host_spot, is_host_spot, file_in, select_place, select_in};
+ghost use Rattle.aia_hyp_values.specs.Stands.{CoreStands, StandsForSome, CoreTakes, CoreBegins, answer_by, core_refusal, signals_of, route_answer};
 
 use crate::passes::Passes;
 use aia_csr::{CsrAccess, decide};
 use aia_entry::{Route, is_mask};
 use aia_fabric::{Fabric, Found};
 use aia_file::Spot;
+use aia_hyp_values::VcpuRecord;
 use aia_model::Refusal;
 use aia_move::Plan;
 use aia_pool::Pool;
 use aia_regs::address_map::{PAGE, is_in_memory};
 use aia_regs::limits::{GUEST_FILES, HARTS, VCPUS, VM_VCPUS, VMS};
 use aia_regs::{Csr, FileReg, Level, Op};
-use aia_standing::VcpuRecord;
 use std::alloc::{AllocError, Global};
 use std::marker::Model;
 
@@ -63,8 +63,8 @@ impl Model for Core {
     ghost use Rattle.std.specs.Prelude.{◌≡◌};
     ghost use Rattle.std.specs.Vec.{vec_capacity};
     ghost use Rattle.aia_regs.specs.declared.limits.TheConstants.{VCPUS};
-    ghost use Rattle.aia_standing.specs.Core.{CoreState};
-    ghost use Rattle.aia_standing.specs.Stands.{StandsForSome};
+    ghost use Rattle.aia_hyp_values.specs.Core.{CoreState};
+    ghost use Rattle.aia_hyp_values.specs.Stands.{StandsForSome};
 
     ghost Value = { CoreState };
 
@@ -380,7 +380,7 @@ fn select_place(level: Level, hart: u32) -> usize
 }
 
 /// Accesses the select CSR of a hart at a level of the host, and gives the old select number.
-#[tactic(auto, using(aia_standing::proofs::NameLemmas::other_place))]
+#[tactic(auto, using(aia_hyp_values::proofs::NameLemmas::other_place))]
 fn access_select(selects: &mut [u64; SELECTS], level: Level, hart: u32, op: Op) -> u64
     requires host { IsHost level }
     requires few { hart < HARTS }
@@ -409,7 +409,7 @@ pub(crate) fn select_after(op: Op, before: u64) -> u64
 
 /// Reads the topei CSR of a file that is there, and claims the identity on top where the
 /// instruction writes; all else stays.
-#[tactic(auto, using(aia_standing::proofs::EventLemmas::kept_file))]
+#[tactic(auto, using(aia_hyp_values::proofs::EventLemmas::kept_file))]
 pub(crate) fn claim_or_read(fabric: &mut Fabric, spot: Spot, op: Op) -> u64
     requires { IsThere fabric.old.imsic spot }
     ensures value { result ≡ top_value (top_of (shown (file_at fabric.old.imsic spot))) }

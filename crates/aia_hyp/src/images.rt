@@ -6,27 +6,27 @@ ghost use Rattle.aia_regs.specs.declared.limits.TheConstants.{VCPUS};
 ghost use Rattle.aia_regs.specs.declared.access.Op.TheVariants as ops;
 ghost use Rattle.aia_regs.specs.FileRegisters.{select_written};
 ghost use Rattle.aia_major.specs.VsMajor.{is_hvictl};
-ghost use Rattle.aia_home.specs.Vms.{vcpu};
-ghost use Rattle.aia_world.specs.Whole.{IsWhole};
+ghost use Rattle.aia_vcpu.specs.Vms.{vcpu};
+ghost use Rattle.aia_fabric_values.specs.Whole.{IsWhole};
 ghost use Rattle.aia_model.specs.declared.line.Line.TheVariants.{Save, LoadPart};
 ghost use Rattle.aia_model.specs.declared.answer.Answer.TheVariants as kinds;
 ghost use Rattle.aia_model.specs.declared.answer.Answer.TheVariants.{Okay};
 ghost use Rattle.aia_model.specs.declared.part.Part.TheVariants as parts;
 ghost use Rattle.aia_model.specs.Image.{part_of, is_loadable, majors_loaded};
-ghost use Rattle.aia_standing.specs.Core.{no_record, record_of, parked_at, MajorsDone};
-ghost use Rattle.aia_standing.specs.Images.{state_in};
-ghost use Rattle.aia_world.specs.Found.{IsFound};
-ghost use Rattle.aia_standing.specs.Stands.{CoreTakes, answer_by};
+ghost use Rattle.aia_hyp_values.specs.Core.{no_record, record_of, parked_at, MajorsDone};
+ghost use Rattle.aia_hyp_values.specs.Images.{state_in};
+ghost use Rattle.aia_fabric_values.specs.Found.{IsFound};
+ghost use Rattle.aia_hyp_values.specs.Stands.{CoreTakes, answer_by};
 
 use crate::hypervisor_core::{Core, select_after};
 use crate::loadable::{IMAGE_VERSION, is_loadable};
 use crate::slot_words::{is_live, load_word, save_word};
 use aia_fabric::Found;
-use aia_home::Rest;
+use aia_hyp_values::{Stay, VcpuRecord};
 use aia_model::{Part, Refusal};
 use aia_move::{KeptNumbers, Plan};
 use aia_regs::Op;
-use aia_standing::{Stay, VcpuRecord};
+use aia_vcpu::Rest;
 
 /// How many parts an image has beside the words of the sets.
 const FIRST_WORD: u64 = 3;

@@ -8,18 +8,18 @@ ghost use Rattle.aia_file.specs.InterruptFile.{top_of, signals};
 ghost use Rattle.aia_file.specs.FileState.{shown};
 ghost use Rattle.aia_major.specs.VsMajor.{is_major, is_hvictl, with_injection, with_hviprio1, with_hvictl, with_sip, with_sie, stopi_value, sip_value, sie_value};
 ghost use Rattle.aia_major.specs.Kept.{majors_shown};
-ghost use Rattle.aia_home.specs.Vms.{vcpu, is_vcpu_in, slot_of};
+ghost use Rattle.aia_vcpu.specs.Vms.{vcpu, is_vcpu_in, slot_of};
 ghost use Rattle.aia_model.specs.declared.line.Line.TheVariants.{Inject, Hvictl, Hviprio};
 ghost use Rattle.aia_model.specs.declared.answer.Answer.TheVariants.{Okay};
-ghost use Rattle.aia_standing.specs.Core.{no_record, MajorsDone};
-ghost use Rattle.aia_standing.specs.Stands.{CoreTakes, answer_by};
+ghost use Rattle.aia_hyp_values.specs.Core.{no_record, MajorsDone};
+ghost use Rattle.aia_hyp_values.specs.Stands.{CoreTakes, answer_by};
 
 use crate::hypervisor_core::Core;
 use aia_file::File;
+use aia_hyp_values::VcpuRecord;
 use aia_model::Refusal;
 use aia_move::Plan;
 use aia_regs::Op;
-use aia_standing::VcpuRecord;
 
 impl Core {
     /// Sets the level in `hvip` of the major interrupt whose bit of `sip` is `bit`, 1, 5, 9 or 13,

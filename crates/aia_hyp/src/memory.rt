@@ -8,25 +8,25 @@ ghost use Rattle.aia_regs.specs.declared.limits.TheConstants.{VCPUS};
 ghost use Rattle.aia_regs.specs.FileRegisters.{number_after};
 ghost use Rattle.aia_csr.specs.CsrAccess.{is_file_csr, IsFileCsr};
 ghost use Rattle.aia_file.specs.InterruptFile.{top_of};
-ghost use Rattle.aia_home.specs.Vms.{vcpu, is_vcpu_in};
-ghost use Rattle.aia_world.specs.SlotAccess.{file_of_slot};
-ghost use Rattle.aia_world.specs.Whole.{IsWhole};
+ghost use Rattle.aia_vcpu.specs.Vms.{vcpu, is_vcpu_in};
+ghost use Rattle.aia_fabric_values.specs.SlotAccess.{file_of_slot};
+ghost use Rattle.aia_fabric_values.specs.Whole.{IsWhole};
 ghost use Rattle.aia_model.specs.declared.line.Line.TheVariants.{Enter, Exit, GuestCsr};
 ghost use Rattle.aia_model.specs.declared.answer.Answer.TheVariants.{Okay, Wide};
-ghost use Rattle.aia_standing.specs.Core.{no_record, record_of, resident_at, entered_at};
-ghost use Rattle.aia_standing.specs.Memory.{Enters, is_outside_sets, kept_after, kept_value, TopDone};
-ghost use Rattle.aia_world.specs.Found.{IsFound};
-ghost use Rattle.aia_standing.specs.Stands.{CoreTakes, answer_by};
+ghost use Rattle.aia_hyp_values.specs.Core.{no_record, record_of, resident_at, entered_at};
+ghost use Rattle.aia_hyp_values.specs.Memory.{Enters, is_outside_sets, kept_after, kept_value, TopDone};
+ghost use Rattle.aia_fabric_values.specs.Found.{IsFound};
+ghost use Rattle.aia_hyp_values.specs.Stands.{CoreTakes, answer_by};
 
 use crate::guest::access_select_in;
 use crate::hypervisor_core::Core;
 use aia_csr::CsrAccess;
 use aia_fabric::{Fabric, Found};
-use aia_home::Rest;
+use aia_hyp_values::{Stay, VcpuRecord};
 use aia_model::Refusal;
 use aia_move::{KeptNumbers, Plan};
 use aia_regs::{Csr, FileReg, Op};
-use aia_standing::{Stay, VcpuRecord};
+use aia_vcpu::Rest;
 
 impl Core {
     /// Has a virtual hart run from memory: from now on it runs, and its interrupts stay in its

@@ -1,33 +1,33 @@
 ghost use Rattle.std.specs.Prelude.{◌≡◌, ◌<◌, ◌≤◌, true, false, length, slice_index_or, slice_set, Option, Some, None, IfSome, IfNone, OnOk};
 ghost use Rattle.std.specs.Vec.{vec_capacity};
-ghost use Rattle.aia_home.specs.Vms.{vcpu, is_vcpu_in};
-ghost use Rattle.aia_home.specs.Home.{is_moving};
+ghost use Rattle.aia_vcpu.specs.Vms.{vcpu, is_vcpu_in};
+ghost use Rattle.aia_vcpu.specs.Home.{is_moving};
 ghost use Rattle.aia_pool.specs.Leases.{Leases};
 ghost use Rattle.aia_model.specs.declared.line.Line.TheVariants.{Step};
 ghost use Rattle.aia_model.specs.declared.line.Line.TheVariants as lines;
 ghost use Rattle.aia_model.specs.declared.answer.Answer.TheVariants.{Okay};
-ghost use Rattle.aia_moving.specs.PlanState.{PlanState, moving_of};
-ghost use Rattle.aia_moving.specs.Plan.{IsInPhase};
-ghost use Rattle.aia_moving.specs.Move.{MoveFits, width};
-ghost use Rattle.aia_moving.specs.Targets.{ArePasses, AimsAs, next_aim};
+ghost use Rattle.aia_move_values.specs.PlanState.{PlanState, moving_of};
+ghost use Rattle.aia_move_values.specs.Plan.{IsInPhase};
+ghost use Rattle.aia_move_values.specs.Move.{MoveFits, width};
+ghost use Rattle.aia_move_values.specs.Targets.{ArePasses, AimsAs, next_aim};
 ghost use Rattle.aia_model.specs.Event.{History};
 ghost use Rattle.aia_model.specs.Event.Event.{Stepped};
 ghost use Rattle.aia_model.specs.Aim.{aimed_by};
 ghost use Rattle.aia_model.specs.Refusal.{refusal};
-ghost use Rattle.aia_standing.specs.Core.{no_kept, no_record, record_of, home_in, has_plan};
-ghost use Rattle.aia_standing.specs.Passes.{own_passes, AimsBy};
-ghost use Rattle.aia_standing.specs.Stands.{CoreStands, CoreTakes, answer_by};
-ghost use Rattle.aia_world.specs.Found.{IsFound};
-ghost use Rattle.aia_standing.specs.Moves.{UnlessRefused, WholeAims, step_answer, MakesOne, WantBegins, LeaveBegins, ArriveBegins, ShiftBegins, MoveBegins, MoveGoes, StaysInPlace, MoveInPlace, IsAtItsLast, stay_after, back_of, with_back, IsOutThere};
+ghost use Rattle.aia_hyp_values.specs.Core.{no_kept, no_record, record_of, home_in, has_plan};
+ghost use Rattle.aia_hyp_values.specs.Passes.{own_passes, AimsBy};
+ghost use Rattle.aia_hyp_values.specs.Stands.{CoreStands, CoreTakes, answer_by};
+ghost use Rattle.aia_fabric_values.specs.Found.{IsFound};
+ghost use Rattle.aia_hyp_values.specs.Moves.{UnlessRefused, WholeAims, step_answer, MakesOne, WantBegins, LeaveBegins, ArriveBegins, ShiftBegins, MoveBegins, MoveGoes, StaysInPlace, MoveInPlace, IsAtItsLast, stay_after, back_of, with_back, IsOutThere};
 
 use crate::hypervisor_core::Core;
 use crate::passes::Passes;
 use aia_fabric::{Fabric, Found};
-use aia_home::Rest;
+use aia_hyp_values::{Stay, VcpuRecord};
 use aia_model::{Refusal, Want};
 use aia_move::{KeptNumbers, Outcome, Plan, Targets, Who};
 use aia_pool::Pool;
-use aia_standing::{Stay, VcpuRecord};
+use aia_vcpu::Rest;
 
 impl Core {
     /// Moves a virtual hart, by all steps of its plan. `Err` is `Range` where the virtual hart or

@@ -1,13 +1,13 @@
 ghost use Rattle.std.specs.Prelude.{◌≡◌, ◌<◌, ◌≤◌, ◌++◌, [], ◌∷◌, nat_eq, length, slice_index_or};
 ghost use Rattle.aia_regs.specs.declared.limits.TheConstants.{PASSES};
 ghost use Rattle.aia_word.specs.Sets.{least_of};
-ghost use Rattle.aia_home.specs.Vms.{vcpu};
+ghost use Rattle.aia_vcpu.specs.Vms.{vcpu};
 ghost use Rattle.aia_model.specs.Passes.{no_pass};
-ghost use Rattle.aia_standing.specs.Passes.{pass_shown, own_passes};
+ghost use Rattle.aia_hyp_values.specs.Passes.{pass_shown, own_passes};
 
+use aia_hyp_values::Passed;
 use aia_move::Pass;
 use aia_regs::limits::PASSES;
-use aia_standing::Passed;
 use arrayvec::ArrayVec;
 use std::marker::Model;
 
@@ -20,7 +20,7 @@ pub struct Passes {
 impl Model for Passes {
     ghost use Rattle.std.specs.Prelude.{List, map};
     ghost use Rattle.aia_model.specs.Passes.{Pass};
-    ghost use Rattle.aia_standing.specs.Passes.{pass_shown};
+    ghost use Rattle.aia_hyp_values.specs.Passes.{pass_shown};
 
     ghost Value = { List Pass };
 

@@ -1,6 +1,6 @@
 ghost use Rattle.aia_model.specs.declared.line.Line.TheVariants.{Ipi};
 ghost use Rattle.aia_model.specs.declared.answer.Answer.TheVariants.{Okay};
-ghost use Rattle.aia_standing.specs.Stands.{CoreTakes, answer_by};
+ghost use Rattle.aia_hyp_values.specs.Stands.{CoreTakes, answer_by};
 
 use crate::hypervisor_core::Core;
 use aia_model::Refusal;

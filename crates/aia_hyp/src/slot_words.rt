@@ -2,9 +2,9 @@ ghost use Rattle.std.specs.Prelude.{◌≡◌, ◌+◌, ◌*◌, ◌/◌, ◌<�
 ghost use Rattle.aia_word.specs.Sets.{word_of};
 ghost use Rattle.aia_regs.specs.declared.limits.TheConstants.{VCPUS, FILE_WORDS};
 ghost use Rattle.aia_file.specs.InterruptFile.{is_live};
-ghost use Rattle.aia_world.specs.SlotAccess.{file_of_slot, DoneInSlot};
+ghost use Rattle.aia_fabric_values.specs.SlotAccess.{file_of_slot, DoneInSlot};
 ghost use Rattle.aia_model.specs.declared.part.Part.TheVariants as parts;
-ghost use Rattle.aia_standing.specs.Loads.{sets_loaded};
+ghost use Rattle.aia_hyp_values.specs.Loads.{sets_loaded};
 
 use aia_fabric::Fabric;
 use aia_model::Part;

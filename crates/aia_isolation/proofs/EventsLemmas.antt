@@ -1,11 +1,11 @@
 -- What was said to a virtual hart is what the events that concern its VM say.
 use Rattle.std.proofs.Common.{◌≡◌, ℕ, Bool, true, false, nat_eq, List, [], ◌∷◌, Option, Some, None, inl, inr, refl, sym, ap, subst, ◌∙◌}
 use Rattle.std.proofs.lemmas.Bool.{cases_Bool, cond-true, cond-false}
-use Rattle.aia_home.specs.Vms.{Vcpu}
+use Rattle.aia_vcpu.specs.Vms.{Vcpu}
 use Rattle.aia_model.specs.Event.{Event, History}
 use Rattle.aia_model.specs.Event.Event.{Accepted, Began, Stepped, Delivered, Landed, Relayed}
 use Rattle.aia_model.specs.Flight.{flight, flying}
-use Rattle.aia_home.specs.Vms.{is_vcpu}
+use Rattle.aia_vcpu.specs.Vms.{is_vcpu}
 use Rattle.aia_model.specs.declared.line.Line.{Line}
 use Rattle.aia_model.specs.declared.line.Line.TheVariants.{Machine, Send, GuestCsr, Ipi, Inject, Hvictl, Hviprio, LoadPart}
 use Rattle.aia_model.specs.declared.line.Line.TheVariants as lines

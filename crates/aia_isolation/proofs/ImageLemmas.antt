@@ -5,7 +5,7 @@ use Rattle.std.specs.List.{Contains}
 use Rattle.std.proofs.lemmas.List.{reverse-append}
 use Rattle.aia_regs.specs.declared.access.Csr.{Csr}
 use Rattle.aia_regs.specs.declared.access.Op.{Op}
-use Rattle.aia_home.specs.Vms.{Vcpu, vcpu}
+use Rattle.aia_vcpu.specs.Vms.{Vcpu, vcpu}
 use Rattle.aia_model.specs.declared.line.Line.TheVariants.{Machine, GuestCsr, Save}
 use Rattle.aia_model.specs.declared.answer.Answer.TheVariants as answers
 use Rattle.aia_model.specs.Event.{Event, History, has_machine, greatest_identity_of}

@@ -1,8 +1,8 @@
 -- A VM reaches the host's files by its notices alone.
 use Rattle.std.proofs.Common.{◌≡◌, List, [], ◌∷◌, ℕ, Bool, true, false, if◌then◌else◌, Option, Some, None, inl, inr, ◌⊎◌, refl, arith, sym, ap, ◌∙◌}
 use Rattle.std.proofs.lemmas.Bool.{cases_Bool, cond-true, cond-false, eqb-true, false≢true}
-use Rattle.aia_home.specs.Vms.{Vcpu, vcpu}
-use Rattle.aia_home.proofs.VmLemmas.{same_slot}
+use Rattle.aia_vcpu.specs.Vms.{Vcpu, vcpu}
+use Rattle.aia_vcpu.proofs.VmLemmas.{same_slot}
 use Rattle.aia_model.specs.declared.line.Line.{Line}
 use Rattle.aia_model.specs.declared.line.Line.TheVariants.{Send, Land, GuestCsr, Ipi}
 use Rattle.aia_model.specs.declared.line.Line.TheVariants as lines

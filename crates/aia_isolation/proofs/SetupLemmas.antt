@@ -7,8 +7,8 @@ use Rattle.std.proofs.lemmas.List.{length-map, map-append}
 use Rattle.std.proofs.lemmas.Option.{slice_get-map}
 use Rattle.aia_regs.specs.Request.{requested}
 use Rattle.aia_entry.specs.Translation.{file_number}
-use Rattle.aia_home.specs.declared.vm.Vm.{Vm}
-use Rattle.aia_home.specs.Vms.{Vcpu, vcpu, is_vcpu, vm_in}
+use Rattle.aia_vcpu.specs.declared.vm.Vm.{Vm}
+use Rattle.aia_vcpu.specs.Vms.{Vcpu, vcpu, is_vcpu, vm_in}
 use Rattle.aia_model.specs.declared.line.Line.TheVariants.{Machine, Send, Ipi}
 use Rattle.aia_model.specs.declared.line.Line.TheVariants as lines
 use Rattle.aia_model.specs.Event.{Event, History, MachineSize, machine_of}

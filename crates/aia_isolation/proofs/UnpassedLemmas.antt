@@ -4,9 +4,9 @@ use Rattle.std.proofs.Common.{◌≡◌, ℕ, zero, suc, Bool, true, false, cond
 use Rattle.std.proofs.lemmas.Bool.{and_right}
 use Rattle.std.proofs.lemmas.Bool.Decides.{nat_tests}
 use Rattle.aia_word.specs.Sets.{least_of}
-use Rattle.aia_home.specs.Vms.{Vcpu}
-use Rattle.aia_home.specs.Aims.{is_aiming, aims_done}
-use Rattle.aia_home.specs.Routes.{is_at_fence}
+use Rattle.aia_vcpu.specs.Vms.{Vcpu}
+use Rattle.aia_vcpu.specs.Aims.{is_aiming, aims_done}
+use Rattle.aia_vcpu.specs.Routes.{is_at_fence}
 use Rattle.aia_model.specs.declared.answer.Answer.{Answer}
 use Rattle.aia_model.specs.declared.line.Line.{Line}
 use Rattle.aia_model.specs.declared.line.Line.TheVariants as lines

@@ -1,6 +1,6 @@
 -- What images say to a virtual hart, and what events say that come later. Vocabulary.
 use Rattle.std.specs.Prelude.{◌≡◌, ℕ, Bool, true, is_none, List, [], ◌∷◌, ◌++◌, map}
-use Rattle.aia_home.specs.Vms.{Vcpu}
+use Rattle.aia_vcpu.specs.Vms.{Vcpu}
 use Rattle.aia_model.specs.declared.line.Line.TheVariants.{Machine}
 use Rattle.aia_model.specs.Event.{Event, History}
 use Rattle.aia_model.specs.Event.Event.{Accepted}

@@ -3,7 +3,7 @@
 ghost use Rattle.std.specs.Prelude.{◌≡◌, ℕ, true, List, [], ◌∷◌, ◌++◌, reverse, None};
 ghost use Rattle.aia_regs.specs.declared.access.Csr.{Csr};
 ghost use Rattle.aia_regs.specs.declared.access.Op.{Op};
-ghost use Rattle.aia_home.specs.Vms.{Vcpu, vcpu};
+ghost use Rattle.aia_vcpu.specs.Vms.{Vcpu, vcpu};
 ghost use Rattle.aia_model.specs.declared.answer.Answer.TheVariants as answers;
 ghost use Rattle.aia_model.specs.declared.line.Line.TheVariants.{GuestCsr, Save};
 ghost use Rattle.aia_model.specs.Event.{Event, History, has_machine, greatest_identity_of};

@@ -7,13 +7,13 @@ ghost use Rattle.std.specs.Prelude.{◌≡◌, true, [], ◌∷◌, ◌++◌, le
 ghost use Rattle.aia_regs.specs.declared.access.Csr.TheVariants.{Select, Reg, Topei, Sip};
 ghost use Rattle.aia_regs.specs.declared.access.Op.TheVariants.{Read, Write};
 ghost use Rattle.aia_regs.specs.BitUpdate.BitUpdate.{Ask, Clear};
-ghost use Rattle.aia_home.specs.Vms.{vcpu};
+ghost use Rattle.aia_vcpu.specs.Vms.{vcpu};
 ghost use Rattle.aia_model.specs.Event.{has_machine};
 ghost use Rattle.aia_model.specs.Image.{GuestState};
 ghost use Rattle.aia_model.specs.StateOf.{state_of};
 ghost use Rattle.aia_isolation.specs.Images.{loads_of, IsWholeImage};
-ghost use Rattle.aia_home.specs.declared.rest.Rest.TheVariants.{Parked};
-ghost use Rattle.aia_home.specs.Home.Home.{InMemory};
+ghost use Rattle.aia_vcpu.specs.declared.rest.Rest.TheVariants.{Parked};
+ghost use Rattle.aia_vcpu.specs.Home.Home.{InMemory};
 ghost use Rattle.aia_model.specs.declared.answer.Answer.TheVariants.{Wide};
 ghost use Rattle.aia_model.specs.GuestFile.{guest_file};
 ghost use Rattle.aia_model.specs.HomeOf.{home};

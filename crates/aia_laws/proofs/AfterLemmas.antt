@@ -1,6 +1,6 @@
 -- What a line makes of a virtual hart: a move changes nothing there, nor does an MSI that is
 -- delivered, and any other accepted line does what its one event does.
-use Rattle.aia_home.specs.Routes.{is_at_fence}
+use Rattle.aia_vcpu.specs.Routes.{is_at_fence}
 use Rattle.aia_regs.specs.BitUpdate.BitUpdate.{Ask, Nothing}
 use Rattle.aia_regs.specs.Request.{requested}
 use Rattle.aia_model.specs.Passes.{passes_of, nth_pass, passed_by, passes_for}
@@ -14,7 +14,7 @@ use Rattle.std.proofs.Common.{◌≡◌, ◌≢◌, ℕ, zero, suc, true, false,
 use Rattle.std.proofs.lemmas.Bool.{cond-false, not-true, eqb-false, ne_eqb, and_left, and_right, false≢true, eq-eqb, cases_Bool, or_parts}
 use Rattle.aia_regs.specs.BitUpdate.{settle, names}
 use Rattle.aia_file.specs.InterruptFile.{InterruptFile}
-use Rattle.aia_home.specs.Vms.{Vcpu, vcpu, is_vcpu}
+use Rattle.aia_vcpu.specs.Vms.{Vcpu, vcpu, is_vcpu}
 use Rattle.aia_model.specs.declared.line.Line.{Line}
 use Rattle.aia_model.specs.declared.line.Line.TheVariants.{Machine, Wire, Load, Store, GuestCsr, Ipi, Step, Land, LoadPart}
 use Rattle.aia_model.specs.declared.line.Line.TheVariants as lines

@@ -1,12 +1,12 @@
 -- A whole move comes to its fence within its steps.
 use Rattle.std.proofs.Common.{◌≡◌, ℕ, suc, ◌+◌, true, false, nat_lt, arith}
 use Rattle.std.proofs.lemmas.Bool.{eq-eqb, ne_eqb, and_left}
-use Rattle.aia_home.specs.Home.{Home, old_end, new_end}
-use Rattle.aia_home.specs.Home.Home.{OnWay}
-use Rattle.aia_home.specs.Plans.{plan_step, plan_steps}
-use Rattle.aia_home.specs.declared.access.Access.TheVariants.{Fence}
-use Rattle.aia_home.specs.Aims.{aims_step, is_aiming, further}
-use Rattle.aia_home.specs.Routes.{is_at_fence}
+use Rattle.aia_vcpu.specs.Home.{Home, old_end, new_end}
+use Rattle.aia_vcpu.specs.Home.Home.{OnWay}
+use Rattle.aia_vcpu.specs.Plans.{plan_step, plan_steps}
+use Rattle.aia_vcpu.specs.declared.access.Access.TheVariants.{Fence}
+use Rattle.aia_vcpu.specs.Aims.{aims_step, is_aiming, further}
+use Rattle.aia_vcpu.specs.Routes.{is_at_fence}
 
 -- The fence comes after so many steps more.
 abbrev pub FenceIn : ℕ → Home → Type 0

@@ -14,9 +14,9 @@ use Rattle.aia_file.specs.InterruptFile.{InterruptFile}
 use Rattle.aia_file.specs.Map.{is_guest_page}
 use Rattle.aia_file.proofs.MapLemmas.{in_page, before_page, after_page, spot_of_host, spot_of_guest}
 use Rattle.aia_regs.proofs.ListLemmas.{here_or_later, nowhere}
-use Rattle.aia_home.specs.declared.place.Place.{Place}
-use Rattle.aia_home.specs.Vms.{Vcpu, notice_identity}
-use Rattle.aia_home.specs.Aims.{host_identity}
+use Rattle.aia_vcpu.specs.declared.place.Place.{Place}
+use Rattle.aia_vcpu.specs.Vms.{Vcpu, notice_identity}
+use Rattle.aia_vcpu.specs.Aims.{host_identity}
 use Rattle.aia_model.specs.declared.line.Line.{Line}
 use Rattle.aia_model.specs.declared.msi.Msi.{Msi}
 use Rattle.aia_model.specs.Event.{History, has_machine, harts_of, guests_of}

@@ -1,7 +1,7 @@
 -- A line that loads a part of an image.
 use Rattle.std.proofs.Common.{◌≡◌, ◌≢◌, ◌∷◌, None, inl, inr, refl, sym, ap, ◌∙◌}
 use Rattle.std.proofs.lemmas.Bool.{cases_Bool}
-use Rattle.aia_home.specs.Vms.{Vcpu, is_vcpu}
+use Rattle.aia_vcpu.specs.Vms.{Vcpu, is_vcpu}
 use Rattle.aia_word.specs.Top.{top_value}
 use Rattle.aia_regs.specs.declared.access.Csr.{Csr}
 use Rattle.aia_regs.specs.declared.access.Csr.TheVariants.{Select, Reg, Topei, Topi, Sip, Sie}
@@ -19,7 +19,7 @@ use Rattle.aia_model.specs.Refusal.{refusal}
 use Rattle.aia_model.specs.Answer.{after, delivered, csr_shown, guest_csr_value}
 use Rattle.aia_model.proofs.AnswerLemmas.{after_by}
 use Rattle.aia_model.proofs.SentLemmas.{none_sent_by}
-use Rattle.aia_home.proofs.VmLemmas.{same_vcpu}
+use Rattle.aia_vcpu.proofs.VmLemmas.{same_vcpu}
 use Rattle.aia_model.proofs.MoveLemmas.{is_itself}
 
 after_load : (h : History) (x : Vcpu) (part : Part) → refusal h (LoadPart x.vm x.number part) ≡ None → after h (LoadPart x.vm x.number part) ≡ Accepted (LoadPart x.vm x.number part) ∷ h

@@ -7,8 +7,8 @@ use Rattle.std.proofs.lemmas.Bool.Decides.{nat_tests}
 use Rattle.aia_regs.specs.declared.limits.TheConstants.{VCPUS}
 use Rattle.aia_file.specs.InterruptFile.{is_greatest_identity}
 use Rattle.aia_file.proofs.SizeLemmas.{enough_identities}
-use Rattle.aia_home.specs.Vms.{Vcpu, vcpus_in}
-use Rattle.aia_home.proofs.VmLemmas.{vcpus_more}
+use Rattle.aia_vcpu.specs.Vms.{Vcpu, vcpus_in}
+use Rattle.aia_vcpu.proofs.VmLemmas.{vcpus_more}
 use Rattle.aia_model.specs.declared.line.Line.TheVariants.{Machine}
 use Rattle.aia_model.specs.declared.line.Line.TheVariants as lines
 use Rattle.aia_model.specs.Event.{History, has_machine, greatest_identity_of, file_words}

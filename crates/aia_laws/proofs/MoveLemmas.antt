@@ -3,7 +3,7 @@
 use Rattle.std.proofs.Common.{◌≡◌, ◌≢◌, ℕ, false, ◌∷◌, Option, Some, None, inl, inr, refl, ap, ◌∙◌}
 use Rattle.std.proofs.lemmas.Bool.{cases_Bool}
 use Rattle.aia_file.specs.InterruptFile.{InterruptFile}
-use Rattle.aia_home.specs.Vms.{Vcpu, is_vcpu}
+use Rattle.aia_vcpu.specs.Vms.{Vcpu, is_vcpu}
 use Rattle.aia_model.specs.declared.line.Line.{Line}
 use Rattle.aia_model.specs.Move.{LineDeed, line_deed}
 use Rattle.aia_model.specs.Move.LineDeed.{NoMove, Whole, Begins, Steps, Lands}

@@ -10,7 +10,7 @@ use Rattle.aia_regs.specs.Fields.{bit_number}
 use Rattle.aia_file.specs.InterruptFile.{is_greatest_identity}
 use Rattle.aia_major.specs.VsMajor.{majors_word, fits_hvip, fits_hviprio1, fits_hvictl}
 use Rattle.aia_major.proofs.RegisterLemmas.{majors_word-bit}
-use Rattle.aia_home.specs.Vms.{Vcpu, vcpu}
+use Rattle.aia_vcpu.specs.Vms.{Vcpu, vcpu}
 use Rattle.aia_model.specs.declared.line.Line.TheVariants.{Save, LoadPart}
 use Rattle.aia_model.specs.declared.part.Part.{Part}
 use Rattle.aia_model.specs.declared.part.Part.TheVariants as parts
@@ -25,8 +25,8 @@ use Rattle.aia_model.specs.Image.{GuestState, part_of, parts_in, is_loadable}
 use Rattle.aia_model.specs.StateOf.{state_of}
 use Rattle.aia_model.specs.Histories.{IsHistory}
 use Rattle.aia_model.specs.Vms.{has_vcpu}
-use Rattle.aia_home.specs.declared.rest.Rest.TheVariants.{Parked}
-use Rattle.aia_home.specs.Home.Home.{InMemory}
+use Rattle.aia_vcpu.specs.declared.rest.Rest.TheVariants.{Parked}
+use Rattle.aia_vcpu.specs.Home.Home.{InMemory}
 use Rattle.aia_model.specs.HomeOf.{home}
 use Rattle.aia_model.specs.Refusal.{refusal}
 use Rattle.aia_model.specs.Answer.{answer}

@@ -4,7 +4,7 @@ use Rattle.std.specs.Int.{is_in_range}
 use Rattle.aia_file.specs.InterruptFile.{is_greatest_identity}
 use Rattle.aia_regs.specs.declared.access.Csr.TheVariants.{Sip, Sie}
 use Rattle.aia_major.specs.VsMajor.{VsMajorState}
-use Rattle.aia_home.specs.Vms.{Vcpu, vcpu, is_vcpu}
+use Rattle.aia_vcpu.specs.Vms.{Vcpu, vcpu, is_vcpu}
 use Rattle.aia_model.specs.declared.line.Line.TheVariants.{GuestCsr, Inject, Hvictl, Hviprio, LoadPart}
 use Rattle.aia_model.specs.Event.{History, has_machine, greatest_identity_of}
 use Rattle.aia_model.specs.Event.Event.{Accepted, Began, Stepped, Delivered, Landed, Relayed}

@@ -6,7 +6,7 @@ use Rattle.aia_regs.specs.declared.access.Csr.TheVariants.{Select, Reg, Topei}
 use Rattle.aia_regs.specs.declared.access.Op.{Op}
 use Rattle.aia_regs.specs.declared.access.Level.TheVariants as levels
 use Rattle.aia_csr.specs.CsrAccess.{csr_access, IsFileCsr}
-use Rattle.aia_home.specs.Vms.{Vcpu}
+use Rattle.aia_vcpu.specs.Vms.{Vcpu}
 use Rattle.aia_model.specs.declared.answer.Answer.{Answer}
 use Rattle.aia_model.specs.declared.answer.Answer.TheVariants.{Wide, Refused}
 use Rattle.aia_model.specs.declared.refusal.Refusal.TheVariants.{Illegal, Virtual}

@@ -7,10 +7,10 @@ use Rattle.std.proofs.lemmas.Bool.Decides.{nat_tests}
 use Rattle.aia_regs.specs.BitUpdate.{BitUpdate, settle}
 use Rattle.aia_regs.specs.BitUpdate.BitUpdate.{Ask, Clear, Nothing}
 use Rattle.aia_file.specs.InterruptFile.{InterruptFile}
-use Rattle.aia_home.specs.Vms.{Vcpu, vcpu}
-use Rattle.aia_home.specs.declared.rest.Rest.TheVariants.{Parked}
-use Rattle.aia_home.specs.Home.Home.{InMemory}
-use Rattle.aia_home.proofs.VmLemmas.{slot_below, same_vcpu}
+use Rattle.aia_vcpu.specs.Vms.{Vcpu, vcpu}
+use Rattle.aia_vcpu.specs.declared.rest.Rest.TheVariants.{Parked}
+use Rattle.aia_vcpu.specs.Home.Home.{InMemory}
+use Rattle.aia_vcpu.proofs.VmLemmas.{slot_below, same_vcpu}
 use Rattle.aia_model.specs.declared.line.Line.TheVariants.{Machine, Ipi, Send, Exit, LoadPart}
 use Rattle.aia_model.specs.declared.part.Part.TheVariants as parts
 use Rattle.aia_model.specs.declared.line.Line.TheVariants as lines
@@ -35,8 +35,8 @@ use Rattle.aia_laws.proofs.MachineLemmas.{identities_for_all, enabled_in_words}
 use Rattle.aia_model.proofs.PlaceLemmas.{machine_first}
 use Rattle.aia_model.proofs.PassesStandLemmas.{passes_stand}
 use Rattle.std.specs.Option.{option_map}
-use Rattle.aia_home.specs.Vms.{notice_hart, notice_identity}
-use Rattle.aia_home.specs.Aims.{host_identity}
+use Rattle.aia_vcpu.specs.Vms.{notice_hart, notice_identity}
+use Rattle.aia_vcpu.specs.Aims.{host_identity}
 use Rattle.aia_model.specs.Passes.{nth_pass}
 use Rattle.aia_laws.proofs.NoticeLemmas.{noticed_while_parked}
 

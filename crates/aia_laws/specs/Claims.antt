@@ -4,7 +4,7 @@ use Rattle.std.specs.Prelude.{◌≡◌, ℕ, ◌≤◌, true, false, nat_eq, if
 use Rattle.aia_word.specs.Top.{lets_through}
 use Rattle.aia_regs.specs.declared.access.Csr.{Csr}
 use Rattle.aia_file.specs.InterruptFile.{InterruptFile}
-use Rattle.aia_home.specs.Vms.{Vcpu}
+use Rattle.aia_vcpu.specs.Vms.{Vcpu}
 use Rattle.aia_model.specs.Event.{History, has_machine}
 use Rattle.aia_model.specs.Vms.{has_vcpu}
 use Rattle.aia_model.specs.HomeOf.{home}

@@ -3,8 +3,8 @@ use Rattle.std.specs.Prelude.{ℕ, Bool, ◌&&◌, is_none, if◌then◌else◌,
 use Rattle.std.specs.Option.{option_map}
 use Rattle.aia_regs.specs.BitUpdate.{BitUpdate}
 use Rattle.aia_regs.specs.BitUpdate.BitUpdate.{Nothing}
-use Rattle.aia_home.specs.Vms.{Vcpu, is_vcpu, notice_identity}
-use Rattle.aia_home.specs.Aims.{host_identity}
+use Rattle.aia_vcpu.specs.Vms.{Vcpu, is_vcpu, notice_identity}
+use Rattle.aia_vcpu.specs.Aims.{host_identity}
 use Rattle.aia_model.specs.declared.msi.Msi.{Msi}
 use Rattle.aia_model.specs.Event.{History, has_hart}
 use Rattle.aia_model.specs.Event.Event.{Delivered, Relayed}

@@ -5,7 +5,7 @@ use Rattle.std.specs.Int.{is_in_range}
 use Rattle.std.specs.List.{Contains, join_with_byte}
 use Rattle.aia_file.specs.InterruptFile.{is_greatest_identity, empty_file}
 use Rattle.aia_major.specs.VsMajor.{is_major, fits_hviprio1, fits_hvictl, new_majors}
-use Rattle.aia_home.specs.Vms.{Vcpu}
+use Rattle.aia_vcpu.specs.Vms.{Vcpu}
 use Rattle.aia_model.specs.AnswerText.{decimal_text}
 use Rattle.aia_model.specs.Image.{GuestState, part_of, parts_in, part_loaded}
 

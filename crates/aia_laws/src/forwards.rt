@@ -3,7 +3,7 @@
 ghost use Rattle.std.specs.Prelude.{◌≡◌, ℕ, true, None, Some};
 ghost use Rattle.std.specs.List.{Contains};
 ghost use Rattle.aia_regs.specs.BitUpdate.{settle};
-ghost use Rattle.aia_home.specs.Vms.{Vcpu};
+ghost use Rattle.aia_vcpu.specs.Vms.{Vcpu};
 ghost use Rattle.aia_model.specs.declared.line.Line.{Line};
 ghost use Rattle.aia_model.specs.declared.msi.Msi.{Msi};
 ghost use Rattle.aia_model.specs.Event.{History};

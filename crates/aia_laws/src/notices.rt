@@ -1,9 +1,9 @@
 //! Notices: that the host is told of each interrupt of a virtual hart that is parked.
 
 ghost use Rattle.std.specs.Prelude.{◌≡◌, ℕ, true, false, Some};
-ghost use Rattle.aia_home.specs.Vms.{Vcpu};
-ghost use Rattle.aia_home.specs.declared.rest.Rest.TheVariants.{Parked};
-ghost use Rattle.aia_home.specs.Home.Home.{InMemory};
+ghost use Rattle.aia_vcpu.specs.Vms.{Vcpu};
+ghost use Rattle.aia_vcpu.specs.declared.rest.Rest.TheVariants.{Parked};
+ghost use Rattle.aia_vcpu.specs.Home.Home.{InMemory};
 ghost use Rattle.aia_model.specs.Event.{Event, History};
 ghost use Rattle.aia_model.specs.HomeOf.{home};
 ghost use Rattle.aia_model.specs.Notice.{noticed};

@@ -1,7 +1,7 @@
 //! The newest word decides: of every interrupt file, over whole histories.
 
 ghost use Rattle.std.specs.Prelude.{◌≡◌, ℕ};
-ghost use Rattle.aia_home.specs.Vms.{Vcpu};
+ghost use Rattle.aia_vcpu.specs.Vms.{Vcpu};
 ghost use Rattle.aia_model.specs.Event.{History};
 ghost use Rattle.aia_model.specs.GuestFile.{guest_file};
 ghost use Rattle.aia_model.specs.FileOf.{FileName, file_of};

@@ -2,12 +2,12 @@
 use Rattle.std.proofs.Common.{◌≡◌, ℕ, false, is_none, ◌∷◌, Option, Some, None, refl, sym, subst, ◌∙◌}
 use Rattle.std.specs.Option.{option_map_or}
 use Rattle.std.proofs.lemmas.Bool.{cond-true}
-use Rattle.aia_home.specs.Vms.{Vcpu, vcpu}
-use Rattle.aia_home.specs.Home.{Way, old_end, new_end, Home, is_moving, rests_in_memory, at_first, leaving, arriving, shifting}
-use Rattle.aia_home.specs.declared.rest.Rest.TheVariants.{Parked}
-use Rattle.aia_home.specs.Home.Home.{InMemory, Resident, OnWay}
-use Rattle.aia_home.specs.Home.Way.{Outward, Inward, Across}
-use Rattle.aia_home.specs.Plans.{plan_steps}
+use Rattle.aia_vcpu.specs.Vms.{Vcpu, vcpu}
+use Rattle.aia_vcpu.specs.Home.{Way, old_end, new_end, Home, is_moving, rests_in_memory, at_first, leaving, arriving, shifting}
+use Rattle.aia_vcpu.specs.declared.rest.Rest.TheVariants.{Parked}
+use Rattle.aia_vcpu.specs.Home.Home.{InMemory, Resident, OnWay}
+use Rattle.aia_vcpu.specs.Home.Way.{Outward, Inward, Across}
+use Rattle.aia_vcpu.specs.Plans.{plan_steps}
 use Rattle.aia_model.specs.declared.line.Line.TheVariants as lines
 use Rattle.aia_model.specs.declared.want.Want.{Want}
 use Rattle.aia_model.specs.declared.want.Want.TheVariants as wants

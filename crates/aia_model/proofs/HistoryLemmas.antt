@@ -1,11 +1,11 @@
 -- Histories whose every event may happen: that of each script is one.
 use Rattle.std.proofs.Common.{◌≡◌, ℕ, zero, suc, ◌+◌, ◌-◌, ◌<◌, ◌≤◌, Bool, true, false, ◌&&◌, if◌then◌else◌, nat_eq, nat_lt, is_none, is_some, length, List, [], ◌∷◌, Option, Some, None, inl, inr, refl, sym, ap, subst, ◌∙◌, arith}
 use Rattle.std.proofs.lemmas.Bool.{cases_Bool, cases_eq, cases_lt, not-false, eqb-true, eq-eqb, ltb-true, ltb-false, lt-ltb, and_parts, and_from, false≢true}
-use Rattle.aia_home.specs.Vms.{Vcpu, vcpu}
-use Rattle.aia_home.specs.Home.{Home, is_moving, led_to, at_rest, old_end, new_end}
-use Rattle.aia_home.specs.Plans.{plan_steps}
-use Rattle.aia_home.specs.Aims.{aims_step, AreAimed, further}
-use Rattle.aia_home.specs.Home.Home.{InMemory, Resident, OnWay}
+use Rattle.aia_vcpu.specs.Vms.{Vcpu, vcpu}
+use Rattle.aia_vcpu.specs.Home.{Home, is_moving, led_to, at_rest, old_end, new_end}
+use Rattle.aia_vcpu.specs.Plans.{plan_steps}
+use Rattle.aia_vcpu.specs.Aims.{aims_step, AreAimed, further}
+use Rattle.aia_vcpu.specs.Home.Home.{InMemory, Resident, OnWay}
 use Rattle.aia_model.specs.declared.line.Line.{Line}
 use Rattle.aia_model.specs.declared.line.Line.TheVariants.{Machine, Step, Send, Land}
 use Rattle.aia_model.specs.declared.line.Line.TheVariants as lines
@@ -30,11 +30,11 @@ use Rattle.aia_model.specs.Text.{texts_of}
 use Rattle.aia_model.specs.Script.{after_text, after_texts, history_of}
 use Rattle.aia_model.proofs.AnswerLemmas.{after_by}
 use Rattle.aia_model.proofs.BeginLemmas.{may_begin, IsBegun, begun, moves_its_own}
-use Rattle.aia_home.specs.Vms.{is_vcpu_in}
-use Rattle.aia_home.specs.BySteps.{new_file}
-use Rattle.aia_home.specs.declared.place.Place.{Place}
-use Rattle.aia_home.specs.Routes.{is_at_fence, is_closed, origin, MayReach}
-use Rattle.aia_home.proofs.HomeLemmas.{not_the_last}
+use Rattle.aia_vcpu.specs.Vms.{is_vcpu_in}
+use Rattle.aia_vcpu.specs.BySteps.{new_file}
+use Rattle.aia_vcpu.specs.declared.place.Place.{Place}
+use Rattle.aia_vcpu.specs.Routes.{is_at_fence, is_closed, origin, MayReach}
+use Rattle.aia_vcpu.proofs.HomeLemmas.{not_the_last}
 use Rattle.aia_model.specs.Flight.{Sending, flight, flying}
 use Rattle.aia_model.specs.GuestFile.{sent_to}
 use Rattle.aia_model.specs.ReachOf.{sent_into, MayFly, AllMayFly, IsForOne, AllAreForOne}

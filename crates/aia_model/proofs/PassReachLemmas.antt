@@ -3,15 +3,15 @@ use Rattle.std.proofs.Common.{◌≡◌, ◌+◌, ◌||◌, ℕ, Bool, true, fal
 use Rattle.std.specs.Option.{option_map_or}
 use Rattle.std.proofs.lemmas.Bool.{cases_Bool, cond-true, cond-false}
 use Rattle.std.proofs.lemmas.Bool.Decides.{nat_tests}
-use Rattle.aia_home.specs.declared.place.Place.{Place}
-use Rattle.aia_home.specs.Home.{Home, left, led_to, at_rest, holds, ended, one_more, leaving, arriving, shifting}
-use Rattle.aia_home.specs.declared.rest.Rest.TheVariants.{Parked}
-use Rattle.aia_home.specs.Home.Home.{InMemory, Resident, OnWay}
-use Rattle.aia_home.specs.Plans.{is_at_last, stepped}
-use Rattle.aia_home.specs.BySteps.{new_file}
-use Rattle.aia_home.specs.Routes.{origin}
-use Rattle.aia_home.specs.Aims.{aims_done, is_aiming, aimed, further, pass_reaches, AreAimed}
-use Rattle.aia_home.proofs.HomeLemmas.{not_the_last, origin_is_held, new_is_held}
+use Rattle.aia_vcpu.specs.declared.place.Place.{Place}
+use Rattle.aia_vcpu.specs.Home.{Home, left, led_to, at_rest, holds, ended, one_more, leaving, arriving, shifting}
+use Rattle.aia_vcpu.specs.declared.rest.Rest.TheVariants.{Parked}
+use Rattle.aia_vcpu.specs.Home.Home.{InMemory, Resident, OnWay}
+use Rattle.aia_vcpu.specs.Plans.{is_at_last, stepped}
+use Rattle.aia_vcpu.specs.BySteps.{new_file}
+use Rattle.aia_vcpu.specs.Routes.{origin}
+use Rattle.aia_vcpu.specs.Aims.{aims_done, is_aiming, aimed, further, pass_reaches, AreAimed}
+use Rattle.aia_vcpu.proofs.HomeLemmas.{not_the_last, origin_is_held, new_is_held}
 use Rattle.aia_model.specs.HomeOf.{guest_place}
 
 none_below : (r : ℕ) → nat_lt r 0 ≡ false

@@ -10,12 +10,12 @@ use Rattle.std.proofs.lemmas.List.{take-append-le}
 use Rattle.aia_regs.specs.declared.limits.TheConstants.{PASSES}
 use Rattle.aia_word.specs.Sets.{least_of}
 use Rattle.aia_word.proofs.LeastLemmas.{least_of-found, least_of_is, least_of_is_none}
-use Rattle.aia_home.specs.Vms.{Vcpu, vcpu, is_vcpu, notice_hart}
-use Rattle.aia_home.specs.Home.{Home, is_moving}
-use Rattle.aia_home.specs.Home.Home.{OnWay}
-use Rattle.aia_home.specs.BySteps.{new_file, is_drained}
-use Rattle.aia_home.proofs.PassLemmas.{pass_drained}
-use Rattle.aia_home.specs.Aims.{is_aiming, aims_done, aimed, further, pass_reaches, target_to}
+use Rattle.aia_vcpu.specs.Vms.{Vcpu, vcpu, is_vcpu, notice_hart}
+use Rattle.aia_vcpu.specs.Home.{Home, is_moving}
+use Rattle.aia_vcpu.specs.Home.Home.{OnWay}
+use Rattle.aia_vcpu.specs.BySteps.{new_file, is_drained}
+use Rattle.aia_vcpu.proofs.PassLemmas.{pass_drained}
+use Rattle.aia_vcpu.specs.Aims.{is_aiming, aims_done, aimed, further, pass_reaches, target_to}
 use Rattle.aia_model.specs.declared.line.Line.{Line}
 use Rattle.aia_model.specs.declared.line.Line.TheVariants.{Machine, Wire, Load, Store}
 use Rattle.aia_model.specs.declared.line.Line.TheVariants as lines
@@ -37,7 +37,7 @@ use Rattle.aia_model.specs.Refusal.{refusal}
 use Rattle.aia_model.specs.Histories.{MayHappen, IsHistory}
 use Rattle.aia_model.specs.PassesStand.{PassStands, AllPassesStand}
 use Rattle.aia_model.proofs.RefusalLemmas.{machine_allowed, pass_allowed, store_allowed, PassAllowed}
-use Rattle.aia_home.proofs.VmLemmas.{same_vcpu}
+use Rattle.aia_vcpu.proofs.VmLemmas.{same_vcpu}
 use Rattle.aia_model.proofs.MoveLemmas.{is_itself}
 use Rattle.aia_model.proofs.FlightLemmas.{stays_there}
 use Rattle.aia_model.proofs.PassLemmas.{none_passed, aimed_on, rank_below}

@@ -3,18 +3,18 @@ use Rattle.std.proofs.Common.{◌≡◌, ℕ, true, false, Option, Some, None, r
 use Rattle.std.specs.Prelude.{IsSome, option_map, not, nat_lt}
 use Rattle.std.proofs.lemmas.Bool.{ltb-true, eq-eqb, false≢true, and_parts}
 use Rattle.aia_word.specs.Sets.{has_bit}
-use Rattle.aia_home.specs.declared.place.Place.{Place}
-use Rattle.aia_home.specs.declared.access.Access.{Access}
-use Rattle.aia_home.specs.declared.access.Access.TheVariants.{TakeDelivery, PutDelivery, TakePending, PutPending, TakeEnables, PutEnables, Look, TakeThreshold, PutThreshold}
-use Rattle.aia_home.specs.declared.end.End.{End}
-use Rattle.aia_home.specs.Home.{Way, Progress, Home, is_file, left, led_to, end_at, old_end, new_end}
-use Rattle.aia_home.specs.Home.Home.{OnWay}
-use Rattle.aia_home.specs.Plans.{IsAt, IsNext, plan_has, plan_step, is_last_made}
-use Rattle.aia_home.specs.Phases.{Phase, phase_begins, begins}
-use Rattle.aia_home.specs.BySteps.{old_file, new_file}
-use Rattle.aia_world.specs.World.{World}
-use Rattle.aia_moving.specs.Move.{Moving, width, MoveFits}
-use Rattle.aia_moving.specs.Accesses.{HasFile, WordFits}
+use Rattle.aia_vcpu.specs.declared.place.Place.{Place}
+use Rattle.aia_vcpu.specs.declared.access.Access.{Access}
+use Rattle.aia_vcpu.specs.declared.access.Access.TheVariants.{TakeDelivery, PutDelivery, TakePending, PutPending, TakeEnables, PutEnables, Look, TakeThreshold, PutThreshold}
+use Rattle.aia_vcpu.specs.declared.end.End.{End}
+use Rattle.aia_vcpu.specs.Home.{Way, Progress, Home, is_file, left, led_to, end_at, old_end, new_end}
+use Rattle.aia_vcpu.specs.Home.Home.{OnWay}
+use Rattle.aia_vcpu.specs.Plans.{IsAt, IsNext, plan_has, plan_step, is_last_made}
+use Rattle.aia_vcpu.specs.Phases.{Phase, phase_begins, begins}
+use Rattle.aia_vcpu.specs.BySteps.{old_file, new_file}
+use Rattle.aia_fabric_values.specs.World.{World}
+use Rattle.aia_move_values.specs.Move.{Moving, width, MoveFits}
+use Rattle.aia_move_values.specs.Accesses.{HasFile, WordFits}
 
 -- the word that it names, and what is put
 pub word_fits : (w : World) (s : Moving) (access : Access) → MoveFits w s → IsNext (width w) s.home access → WordFits access (width w) s.hand.word

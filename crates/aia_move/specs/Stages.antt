@@ -1,15 +1,15 @@
 -- The phase that a plan is in, as its code has it, and as the type of a state tells it.
 use Rattle.std.specs.Prelude.{Bool, true, false, Option, Some, None}
-use Rattle.aia_home.specs.Phases.{Phase, following}
-use Rattle.aia_home.specs.Phases.Phase.{FirstPhase, ClosingPhase, DrainPhase, EnablePhase, LookPhase, LastPhase}
-use Rattle.aia_moving.specs.Move.{Moving}
+use Rattle.aia_vcpu.specs.Phases.{Phase, following}
+use Rattle.aia_vcpu.specs.Phases.Phase.{FirstPhase, ClosingPhase, DrainPhase, EnablePhase, LookPhase, LastPhase}
+use Rattle.aia_move_values.specs.Move.{Moving}
 use Rattle.aia_move.specs.declared.phase.Stage.{Stage}
 use Rattle.aia_move.specs.declared.phase.Stage.TheVariants as stages
 use Rattle.aia_move.specs.declared.plan.Course.{Course}
 use Rattle.aia_move.specs.declared.plan.Course.TheVariants as courses
 use Rattle.aia_move.specs.declared.plan.State.{State}
 use Rattle.aia_move.specs.declared.plan.State.TheVariants as states
-use Rattle.aia_moving.specs.PlanState.{PlanState}
+use Rattle.aia_move_values.specs.PlanState.{PlanState}
 
 -- The move.
 abbrev pub move_of : Course → Moving

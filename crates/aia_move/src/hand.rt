@@ -4,14 +4,14 @@ ghost use Rattle.aia_regs.specs.FileRegisters.{IsUsable};
 ghost use Rattle.aia_file.specs.InterruptFile.{register_value};
 ghost use Rattle.aia_file.specs.FileState.{shown};
 ghost use Rattle.aia_file.specs.Imsic.{IsThere, file_at};
-ghost use Rattle.aia_home.specs.declared.place.Place.{Place};
-ghost use Rattle.aia_home.specs.Home.{Way, Progress, left, led_to};
-ghost use Rattle.aia_places.specs.Places.{entry_word, second_word};
-ghost use Rattle.aia_places.specs.Holds.{meets};
-ghost use Rattle.aia_world.specs.Changes.{PutsRegister, spot_of, with_entry_word};
-ghost use Rattle.aia_moving.specs.Move.{IsWho, place_at, spot_in, width};
-ghost use Rattle.aia_moving.specs.Accesses.{Executes, HasFile, WordFits, moved};
-ghost use Rattle.aia_moving.specs.Plan.{kept_hand};
+ghost use Rattle.aia_vcpu.specs.declared.place.Place.{Place};
+ghost use Rattle.aia_vcpu.specs.Home.{Way, Progress, left, led_to};
+ghost use Rattle.aia_vcpu_places.specs.Places.{entry_word, second_word};
+ghost use Rattle.aia_vcpu_places.specs.Holds.{meets};
+ghost use Rattle.aia_fabric_values.specs.Changes.{PutsRegister, spot_of, with_entry_word};
+ghost use Rattle.aia_move_values.specs.Move.{IsWho, place_at, spot_in, width};
+ghost use Rattle.aia_move_values.specs.Accesses.{Executes, HasFile, WordFits, moved};
+ghost use Rattle.aia_move_values.specs.Plan.{kept_hand};
 
 use crate::kind::spot;
 use crate::{Access, KeptNumbers, Who};
@@ -36,7 +36,7 @@ pub struct Hand {
 }
 
 impl Model for Hand {
-    ghost use Rattle.aia_places.specs.Holds.{Hand};
+    ghost use Rattle.aia_vcpu_places.specs.Holds.{Hand};
 
     ghost Value = { Hand };
 
@@ -55,7 +55,7 @@ impl Model for Hand {
     } };
 }
 
-#[tactic(auto, using(aia_moving::proofs::WhoLemmas::small_who, aia_moving::proofs::WhoLemmas::small_file, aia_moving::proofs::WhoLemmas::posts_if))]
+#[tactic(auto, using(aia_move_values::proofs::WhoLemmas::small_who, aia_move_values::proofs::WhoLemmas::small_file, aia_move_values::proofs::WhoLemmas::posts_if))]
 impl Hand {
     /// Carries the numbers that were kept, and no word.
     pub fn of(kept: KeptNumbers) -> Hand
@@ -168,7 +168,7 @@ fn put(fabric: &mut Fabric, file: Option<&FileLease>, reg: FileReg, value: u64)
 /// Writes word 1 of the entry: where notices go.
 ///
 /// AIA 1.0, IOMMU Support for MSIs to Virtual Machines, "MSI page tables".
-#[tactic(auto, using(aia_moving::proofs::WhoLemmas::small_who))]
+#[tactic(auto, using(aia_move_values::proofs::WhoLemmas::small_who))]
 fn write_notice(fabric: &mut Fabric, who: &Who)
     requires { IsWho fabric.old who.now }
     ensures { fabric.new ≡ with_entry_word fabric.old who.now.found.vm who.now.found.number 1
@@ -183,7 +183,7 @@ fn write_notice(fabric: &mut Fabric, who: &Who)
 /// Writes word 0 of the entry: it leads to a guest file that is there, `None`: to the slot.
 ///
 /// AIA 1.0, IOMMU Support for MSIs to Virtual Machines, "MSI page tables".
-#[tactic(auto, using(aia_moving::proofs::WhoLemmas::small_who, aia_moving::proofs::WhoLemmas::small_file))]
+#[tactic(auto, using(aia_move_values::proofs::WhoLemmas::small_who, aia_move_values::proofs::WhoLemmas::small_file))]
 fn write_entry(fabric: &mut Fabric, who: &Who, to: Option<&FileLease>)
     requires who { IsWho fabric.old who.now }
     requires there { IfSome to (λ lease. IsThere fabric.old.imsic (spot_of lease.now)) }

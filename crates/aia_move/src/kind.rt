@@ -1,18 +1,18 @@
 ghost use Rattle.std.specs.Prelude.{◌≡◌, ℕ, option_map, refl};
 ghost use Rattle.std.specs.Borrow.{Bor};
-ghost use Rattle.aia_home.specs.declared.place.Place.{Place};
-ghost use Rattle.aia_home.specs.Home.{Way, Progress, end_at, left, led_to};
-ghost use Rattle.aia_home.specs.Home.Home.{OnWay};
-ghost use Rattle.aia_home.specs.Home.Way.{Outward, Inward, Across};
-ghost use Rattle.aia_home.specs.Phases.{Phase, after_shared};
-ghost use Rattle.aia_home.specs.Phases.Phase.{LookPhase, LastPhase};
+ghost use Rattle.aia_vcpu.specs.declared.place.Place.{Place};
+ghost use Rattle.aia_vcpu.specs.Home.{Way, Progress, end_at, left, led_to};
+ghost use Rattle.aia_vcpu.specs.Home.Home.{OnWay};
+ghost use Rattle.aia_vcpu.specs.Home.Way.{Outward, Inward, Across};
+ghost use Rattle.aia_vcpu.specs.Phases.{Phase, after_shared};
+ghost use Rattle.aia_vcpu.specs.Phases.Phase.{LookPhase, LastPhase};
 ghost use Rattle.aia_file.specs.Imsic.{IsThere};
-ghost use Rattle.aia_world.specs.World.{World};
-ghost use Rattle.aia_world.specs.Changes.{spot_of};
-ghost use Rattle.aia_moving.specs.Move.{IsWho, MoveFits};
-ghost use Rattle.aia_moving.specs.Turns.{GivesBack};
-ghost use Rattle.aia_moving.specs.PlanState.{moving_of};
-ghost use Rattle.aia_moving.specs.Plan.{IsInPhase, begun, empty_hand, kept_hand};
+ghost use Rattle.aia_fabric_values.specs.World.{World};
+ghost use Rattle.aia_fabric_values.specs.Changes.{spot_of};
+ghost use Rattle.aia_move_values.specs.Move.{IsWho, MoveFits};
+ghost use Rattle.aia_move_values.specs.Turns.{GivesBack};
+ghost use Rattle.aia_move_values.specs.PlanState.{moving_of};
+ghost use Rattle.aia_move_values.specs.Plan.{IsInPhase, begun, empty_hand, kept_hand};
 
 use crate::hand::Hand;
 use crate::moves::Move;
@@ -20,8 +20,8 @@ use crate::phase::{Last, Look};
 use crate::plan::{Course, Plan};
 use crate::{KeptNumbers, Outcome, Who};
 use aia_file::Spot;
-use aia_home::End;
 use aia_pool::FileLease;
+use aia_vcpu::End;
 
 /// A virtual hart that leaves its guest file: its interrupts go to its slot of memory.
 pub type Leave<P> = Move<ToMemory, P>;
@@ -151,7 +151,7 @@ impl Kind for ToOtherFile {
     ghost follows = { λ k at. refl };
 }
 
-#[tactic(auto, using(aia_moving::proofs::WhoLemmas::begins_fit))]
+#[tactic(auto, using(aia_move_values::proofs::WhoLemmas::begins_fit))]
 impl Plan {
     /// Begins to move a virtual hart from a guest file to memory. Its steps can be made where the
     /// virtual hart and the file are there.

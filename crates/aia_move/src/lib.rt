@@ -10,8 +10,8 @@ pub mod phase;
 mod plan;
 mod targets;
 
-pub use aia_home::Access;
-pub use aia_moving::{Closed, KeptNumbers, Next, Outcome, Pass, Turn, Who};
+pub use aia_move_values::{Closed, KeptNumbers, Next, Outcome, Pass, Turn, Who};
+pub use aia_vcpu::Access;
 pub use hand::Hand;
 pub use kind::{Arrive, Leave, Shift, spot};
 pub use plan::{Plan, State};

@@ -1,23 +1,23 @@
 ghost use Rattle.std.specs.Prelude.{◌≡◌, ℕ, ◌+◌, ◌<◌, ◌≤◌, nat_lt, true, false, if◌then◌else◌, is_none, ⊤};
-ghost use Rattle.aia_home.specs.Plans.{steps_done, is_at_last};
-ghost use Rattle.aia_home.specs.Phases.{begins, following};
-ghost use Rattle.aia_home.specs.Phases.Phase.{FirstPhase, ClosingPhase, EnablePhase, LookPhase, LastPhase, AllDone};
-ghost use Rattle.aia_moving.specs.Move.{MoveFits, width};
-ghost use Rattle.aia_moving.specs.Targets.{ArePasses, AimsAs, aim_of, next_aim, has_unaimed};
-ghost use Rattle.aia_moving.specs.Accesses.{ExecutesNext};
-ghost use Rattle.aia_moving.specs.Landings.{OnceLanded};
-ghost use Rattle.aia_moving.specs.Turns.{IsIn, IsAtAims, GoesOn, AimsOn, EndsAs, MatchTurn, MatchClosed};
+ghost use Rattle.aia_vcpu.specs.Plans.{steps_done, is_at_last};
+ghost use Rattle.aia_vcpu.specs.Phases.{begins, following};
+ghost use Rattle.aia_vcpu.specs.Phases.Phase.{FirstPhase, ClosingPhase, EnablePhase, LookPhase, LastPhase, AllDone};
+ghost use Rattle.aia_move_values.specs.Move.{MoveFits, width};
+ghost use Rattle.aia_move_values.specs.Targets.{ArePasses, AimsAs, aim_of, next_aim, has_unaimed};
+ghost use Rattle.aia_move_values.specs.Accesses.{ExecutesNext};
+ghost use Rattle.aia_move_values.specs.Landings.{OnceLanded};
+ghost use Rattle.aia_move_values.specs.Turns.{IsIn, IsAtAims, GoesOn, AimsOn, EndsAs, MatchTurn, MatchClosed};
 ghost use Rattle.aia_move.specs.Stages.{phase_at};
-ghost use Rattle.aia_moving.specs.Plan.{past_phase};
-ghost use Rattle.aia_moving.specs.Plan.{IsInDrain, NextStepIsOf, begun, GoesInPhase, GoesInPlace, next_phase};
+ghost use Rattle.aia_move_values.specs.Plan.{past_phase};
+ghost use Rattle.aia_move_values.specs.Plan.{IsInDrain, NextStepIsOf, begun, GoesInPhase, GoesInPlace, next_phase};
 
 use crate::hand::Hand;
 use crate::kind::{Kind, end_of};
 use crate::phase::{Aim, Closing, Drain, Enable, First, Last, Look, Stage};
 use crate::{Closed, Outcome, Targets, Turn, Who};
 use aia_fabric::Fabric;
-use aia_home::access_at;
 use aia_regs::limits::FIRST_PASS_IDENTITY;
+use aia_vcpu::access_at;
 use std::marker::{Model, PhantomData};
 
 /// A virtual hart that is moved, by a plan of a kind, in one of its phases. A step is one access,
@@ -38,8 +38,8 @@ pub struct Move<K: Kind, P> {
 }
 
 impl<K: Kind, P> Model for Move<K, P> {
-    ghost use Rattle.aia_home.specs.Home.Home.{OnWay};
-    ghost use Rattle.aia_moving.specs.Move.{Moving};
+    ghost use Rattle.aia_vcpu.specs.Home.Home.{OnWay};
+    ghost use Rattle.aia_move_values.specs.Move.{Moving};
 
     ghost Value = { Moving };
 

@@ -1,20 +1,20 @@
 ghost use Rattle.std.specs.Prelude.{◌≡◌, ℕ, true, Some, ⊤};
-ghost use Rattle.aia_home.specs.Plans.{is_at_last};
-ghost use Rattle.aia_home.specs.Phases.Phase.{FirstPhase};
-ghost use Rattle.aia_places.specs.Stores.{AreApart};
-ghost use Rattle.aia_moving.specs.Move.{MoveFits, width};
-ghost use Rattle.aia_moving.specs.Targets.{ArePasses, AimsAs, next_aim};
-ghost use Rattle.aia_moving.specs.Turns.{EndsAs, LeavesEmpty};
-ghost use Rattle.aia_moving.specs.PlanState.{moving_of};
+ghost use Rattle.aia_vcpu.specs.Plans.{is_at_last};
+ghost use Rattle.aia_vcpu.specs.Phases.Phase.{FirstPhase};
+ghost use Rattle.aia_vcpu_places.specs.Stores.{AreApart};
+ghost use Rattle.aia_move_values.specs.Move.{MoveFits, width};
+ghost use Rattle.aia_move_values.specs.Targets.{ArePasses, AimsAs, next_aim};
+ghost use Rattle.aia_move_values.specs.Turns.{EndsAs, LeavesEmpty};
+ghost use Rattle.aia_move_values.specs.PlanState.{moving_of};
 ghost use Rattle.aia_move.specs.Stages.{move_of, plan_of};
-ghost use Rattle.aia_moving.specs.Plan.{IsInPhase, MatchNext, StepsTo, StepsInPlace};
+ghost use Rattle.aia_move_values.specs.Plan.{IsInPhase, MatchNext, StepsTo, StepsInPlace};
 
 use crate::kind::{ToFile, ToMemory, ToOtherFile};
 use crate::moves::Move;
 use crate::phase::{Aim, Closing, Drain, Enable, First, Last, Look, Stage};
 use crate::{Arrive, Leave, Outcome, Shift, Targets};
 use aia_fabric::Fabric;
-use aia_moving::Next;
+use aia_move_values::Next;
 use std::marker::Model;
 
 /// A move under way, in one of its phases.
@@ -33,7 +33,7 @@ pub(crate) enum Course {
 }
 
 impl Model for Plan {
-    ghost use Rattle.aia_moving.specs.PlanState.{PlanState};
+    ghost use Rattle.aia_move_values.specs.PlanState.{PlanState};
     ghost use Rattle.aia_move.specs.Stages.{move_of, phase_at};
 
     ghost Value = { PlanState };
@@ -71,7 +71,7 @@ impl Plan {
     /// leaves the fabric as it is. Before the access of the entry's fence all stores in flight of
     /// the VM land, the oldest first. `Finished` exactly at the last access: the guest file that
     /// the move leaves, where it leaves one, is then empty.
-    #[tactic(auto, using(aia_moving::proofs::PhaseLemmas::finishes))]
+    #[tactic(auto, using(aia_move_values::proofs::PhaseLemmas::finishes))]
     pub fn step<T: Targets>(mut self, fabric: &mut Fabric, targets: &mut T) -> Next<Plan>
         requires fits { MoveFits fabric.old (moving_of self) }
         requires phase { IsInPhase (width fabric.old) self }
@@ -111,7 +111,7 @@ impl Plan {
 
     /// Makes the last step of the plan, an access. The guest file that the move leaves, where it
     /// leaves one, is then empty.
-    #[tactic(auto, using(aia_moving::proofs::MoveKept::ended_empty))]
+    #[tactic(auto, using(aia_move_values::proofs::MoveKept::ended_empty))]
     pub fn finish(self, fabric: &mut Fabric) -> Outcome
         requires fits { MoveFits fabric.old (moving_of self) }
         requires last { is_at_last (width fabric.old) (moving_of self).home ≡ true }

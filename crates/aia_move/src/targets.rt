@@ -1,7 +1,7 @@
 ghost use Rattle.std.specs.Prelude.{◌≡◌, ℕ, ◌<◌, ◌≤◌};
 ghost use Rattle.aia_regs.specs.declared.limits.TheConstants.{IDENTITIES};
-ghost use Rattle.aia_home.specs.Aims.{target_of};
-ghost use Rattle.aia_moving.specs.Targets.{TargetMap, AimsOne};
+ghost use Rattle.aia_vcpu.specs.Aims.{target_of};
+ghost use Rattle.aia_move_values.specs.Targets.{TargetMap, AimsOne};
 
 /// The wired sources of a machine, as moves see them: where each leads, and which are ready, so
 /// that MSIs to guests may be made of them.

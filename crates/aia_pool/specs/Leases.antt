@@ -1,7 +1,7 @@
 -- Which guest files of the harts are handed out. Vocabulary.
 use Rattle.std.specs.Prelude.{ℕ, ◌+◌, ◌-◌, ◌*◌, ◌<◌, ◌≤◌, Bool, false, not, List, slice_index_or, slice_set, Option}
 use Rattle.aia_word.specs.Sets.{least_of}
-use Rattle.aia_home.specs.declared.place.Place.{Place}
+use Rattle.aia_vcpu.specs.declared.place.Place.{Place}
 
 -- How many harts there are, how many guest files each has, and of each file, hart by hart, whether
 -- it is out.

@@ -2,8 +2,8 @@
 //! what was proved.
 
 ghost use Rattle.std.specs.Prelude.{◌≡◌, ◌*◌, Bool, false, length};
-ghost use Rattle.aia_home.specs.declared.place.Place.{Place};
-ghost use Rattle.aia_home.specs.Home.{is_place};
+ghost use Rattle.aia_vcpu.specs.declared.place.Place.{Place};
+ghost use Rattle.aia_vcpu.specs.Home.{is_place};
 ghost use Rattle.aia_pool.specs.Leases.{Leases, IsFileThere, is_out, with_out};
 
 /// A guest file that is handed out is out, one that came back is not, and every other file stays as

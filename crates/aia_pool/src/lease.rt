@@ -1,6 +1,6 @@
 ghost use Rattle.std.specs.Prelude.{◌≡◌};
 
-use aia_home::Place;
+use aia_vcpu::Place;
 use std::marker::Model;
 
 /// A guest file of a hart that is handed out. It can't be copied: nobody else has the file until it
@@ -11,7 +11,7 @@ pub struct FileLease {
 }
 
 impl Model for FileLease {
-    ghost use Rattle.aia_home.specs.declared.place.Place.{Place};
+    ghost use Rattle.aia_vcpu.specs.declared.place.Place.{Place};
 
     ghost Value = { Place };
 

@@ -4,7 +4,7 @@ ghost use Rattle.aia_regs.specs.declared.limits.TheConstants.{HARTS, GUEST_FILES
 ghost use Rattle.aia_pool.specs.Leases.{IsFileThere, is_out, least_free, with_out};
 
 use crate::FileLease;
-use aia_home::Place;
+use aia_vcpu::Place;
 use std::alloc::{AllocError, Global};
 use std::marker::Model;
 

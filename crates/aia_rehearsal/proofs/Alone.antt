@@ -13,24 +13,24 @@ use Rattle.aia_entry.specs.declared.table.Route.TheVariants.{Other, Fault, To}
 use Rattle.aia_entry.specs.Format.{decoded}
 use Rattle.aia_entry.specs.Tables.{table_of, route_of}
 use Rattle.aia_entry.proofs.TableLemmas.{fenced_elsewhere}
-use Rattle.aia_home.specs.declared.place.Place.{Place}
-use Rattle.aia_home.specs.declared.rest.Rest.TheVariants.{Parked}
-use Rattle.aia_home.specs.Home.Home.{InMemory}
-use Rattle.aia_home.specs.Vms.{Vcpu, vcpu, is_vcpu_in, slot_of, notice_identity, notice_hart}
-use Rattle.aia_home.proofs.VmLemmas.{same_slot}
-use Rattle.aia_places.specs.Places.{Places}
-use Rattle.aia_world.specs.declared.stage.Stage.{Stage}
-use Rattle.aia_world.specs.World.{World, stage_of, flight_of, no_stage}
-use Rattle.aia_world.specs.Whole.{IsWhole}
-use Rattle.aia_world.specs.Making.{entry_word_place}
-use Rattle.aia_world.specs.Stores.{Reaches, ReachesBy, ReachesByRecord, named_spot}
-use Rattle.aia_world.specs.Flights.{Sends, Lands, LandsOldest}
-use Rattle.aia_moving.specs.Views.{places_of}
-use Rattle.aia_world.specs.Changes.{pending_words, enable_words, with_pending, with_enable, with_entry_word, with_fence, with_stage}
-use Rattle.aia_moving.proofs.ViewLemmas.{fence-places, slot_low}
-use Rattle.aia_world.proofs.WholeLemmas.{vcpu_entry, notice_hart_there}
-use Rattle.aia_moving.specs.Move.{PostsIf}
-use Rattle.aia_moving.specs.Touches.{SameMachine}
+use Rattle.aia_vcpu.specs.declared.place.Place.{Place}
+use Rattle.aia_vcpu.specs.declared.rest.Rest.TheVariants.{Parked}
+use Rattle.aia_vcpu.specs.Home.Home.{InMemory}
+use Rattle.aia_vcpu.specs.Vms.{Vcpu, vcpu, is_vcpu_in, slot_of, notice_identity, notice_hart}
+use Rattle.aia_vcpu.proofs.VmLemmas.{same_slot}
+use Rattle.aia_vcpu_places.specs.Places.{Places}
+use Rattle.aia_fabric_values.specs.declared.stage.Stage.{Stage}
+use Rattle.aia_fabric_values.specs.World.{World, stage_of, flight_of, no_stage}
+use Rattle.aia_fabric_values.specs.Whole.{IsWhole}
+use Rattle.aia_fabric_values.specs.Making.{entry_word_place}
+use Rattle.aia_fabric_values.specs.Stores.{Reaches, ReachesBy, ReachesByRecord, named_spot}
+use Rattle.aia_fabric_values.specs.Flights.{Sends, Lands, LandsOldest}
+use Rattle.aia_move_values.specs.Views.{places_of}
+use Rattle.aia_fabric_values.specs.Changes.{pending_words, enable_words, with_pending, with_enable, with_entry_word, with_fence, with_stage}
+use Rattle.aia_move_values.proofs.ViewLemmas.{fence-places, slot_low}
+use Rattle.aia_fabric_values.proofs.WholeLemmas.{vcpu_entry, notice_hart_there}
+use Rattle.aia_move_values.specs.Move.{PostsIf}
+use Rattle.aia_move_values.specs.Touches.{SameMachine}
 use Rattle.aia_plan.specs.declared.step.Step.{Step}
 use Rattle.aia_plan.specs.declared.step.Step.TheVariants as steps
 use Rattle.aia_rehearsal.specs.declared.place.Place as ends
@@ -40,8 +40,8 @@ use Rattle.aia_rehearsal.specs.Steps.{Puts, Makes}
 use Rattle.aia_rehearsal.specs.Stands.{Routes, routes_of, side_of}
 use Rattle.aia_rehearsal.specs.Events.{Event, Happens, IsAlone, NamesElsewhere}
 use Rattle.aia_rehearsal.specs.Events.Event.{Steps, DeviceStores, PeerStores, DeviceSends, StoreLands, EntryRead}
-use Rattle.aia_moving.proofs.WhoLemmas.{small_who}
-use Rattle.aia_moving.proofs.TouchLemmas.{one_entry}
+use Rattle.aia_move_values.proofs.WhoLemmas.{small_who}
+use Rattle.aia_move_values.proofs.TouchLemmas.{one_entry}
 use Rattle.aia_rehearsal.proofs.PlaceSteps.{pending_routes, enabled_routes}
 use Rattle.aia_rehearsal.proofs.Carried.{side_same}
 use Rattle.aia_rehearsal.proofs.StoreSeen.{at_spot, at_slot}

@@ -12,22 +12,22 @@ use Rattle.aia_entry.specs.declared.table.Route.TheVariants.{Other, Fault, To}
 use Rattle.aia_entry.specs.Tables.{table_of, entry_in_force, leads_by, route_of}
 use Rattle.aia_entry.specs.Translation.{is_msi_address, file_number}
 use Rattle.aia_entry.proofs.TableLemmas.{fenced_elsewhere}
-use Rattle.aia_home.specs.declared.place.Place.{Place}
-use Rattle.aia_home.specs.Home.{is_place}
-use Rattle.aia_home.specs.Vms.{Vcpu, is_vcpu_in, slot_of, notice_identity, notice_hart}
-use Rattle.aia_home.proofs.HomeLemmas.{same_place, is_itself_place}
-use Rattle.aia_home.proofs.VmLemmas.{same_slot}
-use Rattle.aia_places.specs.Places.{leads_to}
-use Rattle.aia_world.specs.declared.flying.Flying.{Flying}
-use Rattle.aia_world.specs.World.{World, flight_of, stage_of}
-use Rattle.aia_world.specs.Whole.{IsWhole}
-use Rattle.aia_world.specs.Stores.{StoresInGuestFile, Reaches, ReachesByRecord, named_spot}
-use Rattle.aia_world.specs.Flights.{Sends, with_flight}
-use Rattle.aia_world.specs.Changes.{spot_of, with_fence}
-use Rattle.aia_moving.proofs.OwnLemmas.{guest_spot}
-use Rattle.aia_world.proofs.PlaceLemmas.{slot_found}
-use Rattle.aia_world.proofs.WholeLemmas.{notice_hart_there}
-use Rattle.aia_moving.proofs.ViewLemmas.{slot_low}
+use Rattle.aia_vcpu.specs.declared.place.Place.{Place}
+use Rattle.aia_vcpu.specs.Home.{is_place}
+use Rattle.aia_vcpu.specs.Vms.{Vcpu, is_vcpu_in, slot_of, notice_identity, notice_hart}
+use Rattle.aia_vcpu.proofs.HomeLemmas.{same_place, is_itself_place}
+use Rattle.aia_vcpu.proofs.VmLemmas.{same_slot}
+use Rattle.aia_vcpu_places.specs.Places.{leads_to}
+use Rattle.aia_fabric_values.specs.declared.flying.Flying.{Flying}
+use Rattle.aia_fabric_values.specs.World.{World, flight_of, stage_of}
+use Rattle.aia_fabric_values.specs.Whole.{IsWhole}
+use Rattle.aia_fabric_values.specs.Stores.{StoresInGuestFile, Reaches, ReachesByRecord, named_spot}
+use Rattle.aia_fabric_values.specs.Flights.{Sends, with_flight}
+use Rattle.aia_fabric_values.specs.Changes.{spot_of, with_fence}
+use Rattle.aia_move_values.proofs.OwnLemmas.{guest_spot}
+use Rattle.aia_fabric_values.proofs.PlaceLemmas.{slot_found}
+use Rattle.aia_fabric_values.proofs.WholeLemmas.{notice_hart_there}
+use Rattle.aia_move_values.proofs.ViewLemmas.{slot_low}
 use Rattle.aia_plan.specs.Transit.{Side, Flight, Transit, landed, happened}
 use Rattle.aia_plan.specs.Transit.Side.{Old, New}
 use Rattle.aia_plan.specs.Transit.{Happening as happenings}
@@ -36,7 +36,7 @@ use Rattle.aia_rehearsal.specs.declared.place.Place.TheVariants.{File, Slot}
 use Rattle.aia_rehearsal.specs.Rehearsed.{Passage, Rehearsed, mover_of, on, at_of, file_of, names_on, IsFileThere}
 use Rattle.aia_rehearsal.specs.Stands.{sets_at, routes_of, is_file_at, leads, side_of, identity_asked, onto_flights, flights_in, FlightsStand, StandsFor}
 use Rattle.aia_rehearsal.specs.Events.{is_for_moved, NamesElsewhere}
-use Rattle.aia_moving.proofs.WhoLemmas.{small_who}
+use Rattle.aia_move_values.proofs.WhoLemmas.{small_who}
 use Rattle.aia_rehearsal.proofs.RouteSteps.{all_kept}
 use Rattle.aia_rehearsal.proofs.StoreSeen.{file_hit, slot_hit, at_spot, at_slot}
 use Rattle.aia_rehearsal.proofs.Landings.{side_by, landed_on, store_lands, entry_lands, one_led, one_file_hit, one_slot_hit, named_spot_there}

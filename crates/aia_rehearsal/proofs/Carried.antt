@@ -5,14 +5,14 @@ use Rattle.aia_file.specs.declared.spot.Spot.{Spot}
 use Rattle.aia_file.specs.Imsic.{ImsicState, IsThere}
 use Rattle.aia_entry.specs.declared.entry.Entry.{Entry}
 use Rattle.aia_entry.specs.declared.entry.Entry.TheVariants.{Basic, Mrif, NotValid, Custom, Misconfigured}
-use Rattle.aia_home.specs.Vms.{vcpu, is_vcpu_in, slot_of, notice_hart}
-use Rattle.aia_world.specs.declared.flying.Flying.{Flying}
-use Rattle.aia_world.specs.World.{World, flight_of}
-use Rattle.aia_world.specs.Stores.{page_spot}
-use Rattle.aia_world.specs.Changes.{spot_of}
-use Rattle.aia_moving.specs.declared.who.Who.{Who}
-use Rattle.aia_moving.specs.Move.{IsWho, width}
-use Rattle.aia_moving.specs.Touches.{SameMachine}
+use Rattle.aia_vcpu.specs.Vms.{vcpu, is_vcpu_in, slot_of, notice_hart}
+use Rattle.aia_fabric_values.specs.declared.flying.Flying.{Flying}
+use Rattle.aia_fabric_values.specs.World.{World, flight_of}
+use Rattle.aia_fabric_values.specs.Stores.{page_spot}
+use Rattle.aia_fabric_values.specs.Changes.{spot_of}
+use Rattle.aia_move_values.specs.declared.who.Who.{Who}
+use Rattle.aia_move_values.specs.Move.{IsWho, width}
+use Rattle.aia_move_values.specs.Touches.{SameMachine}
 use Rattle.aia_plan.specs.Transit.{Transit}
 use Rattle.aia_plan.specs.Transit.Side.{Old, New}
 use Rattle.aia_rehearsal.specs.declared.place.Place as ends

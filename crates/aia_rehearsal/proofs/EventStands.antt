@@ -9,13 +9,13 @@ use Rattle.aia_entry.specs.declared.entry.Entry.{Entry}
 use Rattle.aia_entry.specs.declared.entry.Entry.TheVariants.{Basic, Mrif, NotValid, Custom, Misconfigured}
 use Rattle.aia_entry.specs.Tables.{table_of, entry_in_force, leads_by, route_of}
 use Rattle.aia_entry.specs.Translation.{is_msi_address, file_number}
-use Rattle.aia_home.specs.Vms.{Vcpu, vcpu, is_vcpu}
-use Rattle.aia_home.proofs.VmLemmas.{same_vcpu}
-use Rattle.aia_world.specs.World.{World, flight_of, stage_of}
-use Rattle.aia_world.specs.Whole.{IsWhole}
-use Rattle.aia_world.specs.Stores.{ReachesByRecord}
-use Rattle.aia_world.specs.Flights.{Lands}
-use Rattle.aia_world.specs.Changes.{with_fence}
+use Rattle.aia_vcpu.specs.Vms.{Vcpu, vcpu, is_vcpu}
+use Rattle.aia_vcpu.proofs.VmLemmas.{same_vcpu}
+use Rattle.aia_fabric_values.specs.World.{World, flight_of, stage_of}
+use Rattle.aia_fabric_values.specs.Whole.{IsWhole}
+use Rattle.aia_fabric_values.specs.Stores.{ReachesByRecord}
+use Rattle.aia_fabric_values.specs.Flights.{Lands}
+use Rattle.aia_fabric_values.specs.Changes.{with_fence}
 use Rattle.aia_plan.specs.Transit.{Side, Transit, Happening, happened, all_happened}
 use Rattle.aia_plan.specs.Transit.{Happening as happenings}
 use Rattle.aia_rehearsal.specs.Rehearsed.{Passage, Rehearsed, mover_of}

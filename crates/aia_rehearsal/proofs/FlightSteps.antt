@@ -4,14 +4,14 @@ use Rattle.std.specs.Prelude.{remove, take, slice_get, slice_index_or}
 use Rattle.std.proofs.lemmas.Bool.{cases_eq}
 use Rattle.std.proofs.lemmas.List.{get_or-set_same, get_or-set_other}
 use Rattle.aia_file.specs.Imsic.{ImsicState}
-use Rattle.aia_world.specs.declared.flying.Flying.{Flying}
-use Rattle.aia_world.specs.World.{World, OnlyStores, flight_of}
-use Rattle.aia_world.specs.Whole.{IsWhole}
-use Rattle.aia_world.specs.Flights.{Lands, LandsOldest, Fences, with_flight}
-use Rattle.aia_world.specs.Changes.{with_fence}
-use Rattle.aia_world.proofs.FrameLemmas.{entry_rest}
-use Rattle.aia_world.proofs.FlightLemmas.{fence_leaves_none}
-use Rattle.aia_world.proofs.WholeLemmas.{vcpu_entry}
+use Rattle.aia_fabric_values.specs.declared.flying.Flying.{Flying}
+use Rattle.aia_fabric_values.specs.World.{World, OnlyStores, flight_of}
+use Rattle.aia_fabric_values.specs.Whole.{IsWhole}
+use Rattle.aia_fabric_values.specs.Flights.{Lands, LandsOldest, Fences, with_flight}
+use Rattle.aia_fabric_values.specs.Changes.{with_fence}
+use Rattle.aia_fabric_values.proofs.FrameLemmas.{entry_rest}
+use Rattle.aia_fabric_values.proofs.FlightLemmas.{fence_leaves_none}
+use Rattle.aia_fabric_values.proofs.WholeLemmas.{vcpu_entry}
 use Rattle.aia_rehearsal.proofs.RouteSteps.{refetched}
 use Rattle.aia_plan.specs.declared.step.Step.TheVariants.{Fence}
 use Rattle.aia_plan.specs.Transit.{Side, Flight, Transit, landed, all_landed, one_landed, all_but, stepped, happened}

@@ -10,14 +10,14 @@ use Rattle.aia_file.proofs.MapLemmas.{machine_of_spot, host_of_spot, guest_of_sp
 use Rattle.aia_regs.specs.declared.address_map.TheConstants.{PAGE}
 use Rattle.aia_entry.specs.declared.entry.Entry.{Entry}
 use Rattle.aia_entry.specs.declared.entry.Entry.TheVariants.{Basic, Mrif, NotValid, Custom, Misconfigured}
-use Rattle.aia_home.specs.declared.place.Place.{Place}
-use Rattle.aia_world.specs.World.{World, OnlyStores}
-use Rattle.aia_world.specs.Whole.{IsWhole}
+use Rattle.aia_vcpu.specs.declared.place.Place.{Place}
+use Rattle.aia_fabric_values.specs.World.{World, OnlyStores}
+use Rattle.aia_fabric_values.specs.Whole.{IsWhole}
 use Rattle.std.specs.Int.{is_in_range}
-use Rattle.aia_world.specs.Stores.{ReachesBy, page_spot, named_spot, slot_at}
-use Rattle.aia_world.specs.Changes.{spot_of}
-use Rattle.aia_world.proofs.PlaceLemmas.{slot_begins}
-use Rattle.aia_moving.specs.Touches.{SameMachine}
+use Rattle.aia_fabric_values.specs.Stores.{ReachesBy, page_spot, named_spot, slot_at}
+use Rattle.aia_fabric_values.specs.Changes.{spot_of}
+use Rattle.aia_fabric_values.proofs.PlaceLemmas.{slot_begins}
+use Rattle.aia_move_values.specs.Touches.{SameMachine}
 use Rattle.aia_plan.specs.Transit.{Side, Transit, landed}
 use Rattle.aia_plan.specs.Transit.Side.{Old, New}
 use Rattle.aia_rehearsal.specs.declared.place.Place as ends

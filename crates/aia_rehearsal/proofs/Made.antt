@@ -7,26 +7,26 @@ use Rattle.std.proofs.lemmas.List.{get_or-replicate}
 use Rattle.std.proofs.lemmas.List.Elements.{All-nil}
 use Rattle.aia_file.specs.Imsic.{ImsicState, IsThere, file_at}
 use Rattle.aia_entry.specs.Tables.{table_of, entry_in_force}
-use Rattle.aia_home.specs.declared.place.Place.{Place}
-use Rattle.aia_home.specs.declared.vm.Vm.{Vm}
-use Rattle.aia_home.specs.Vms.{Vcpu, vcpu, is_vcpu_in, slot_of, notice_hart, vcpus_in}
-use Rattle.aia_world.specs.declared.flying.Flying.{Flying}
-use Rattle.aia_world.specs.declared.stage.Stage.{Stage}
-use Rattle.aia_world.specs.World.{World, flight_of, stage_of, no_stage}
-use Rattle.aia_world.specs.Whole.{IsWhole}
-use Rattle.aia_world.specs.Making.{IsNew, MakesVm, new_world, made_entry, entry_word_place, notice_page}
-use Rattle.aia_moving.proofs.ViewLemmas.{slot_low}
+use Rattle.aia_vcpu.specs.declared.place.Place.{Place}
+use Rattle.aia_vcpu.specs.declared.vm.Vm.{Vm}
+use Rattle.aia_vcpu.specs.Vms.{Vcpu, vcpu, is_vcpu_in, slot_of, notice_hart, vcpus_in}
+use Rattle.aia_fabric_values.specs.declared.flying.Flying.{Flying}
+use Rattle.aia_fabric_values.specs.declared.stage.Stage.{Stage}
+use Rattle.aia_fabric_values.specs.World.{World, flight_of, stage_of, no_stage}
+use Rattle.aia_fabric_values.specs.Whole.{IsWhole}
+use Rattle.aia_fabric_values.specs.Making.{IsNew, MakesVm, new_world, made_entry, entry_word_place, notice_page}
+use Rattle.aia_move_values.proofs.ViewLemmas.{slot_low}
 use Rattle.aia_regs.specs.declared.limits.TheConstants.{VCPUS}
 use Rattle.aia_regs.specs.declared.address_map.TheConstants.{PAGE}
 use Rattle.aia_regs.specs.AddressMap.{supervisor_page, slot_address}
 use Rattle.aia_entry.specs.declared.entry.Entry.TheVariants.{Mrif}
 use Rattle.aia_entry.specs.Format.{mrif_word, notice_word}
-use Rattle.aia_places.specs.Places.{leads_to, entry_word}
+use Rattle.aia_vcpu_places.specs.Places.{leads_to, entry_word}
 use Rattle.aia_file.specs.FileState.{shown}
 use Rattle.aia_file.specs.InterruptFile.{SameFile, empty_file}
-use Rattle.aia_world.specs.Changes.{spot_of}
-use Rattle.aia_moving.specs.declared.who.Who.{Who}
-use Rattle.aia_moving.specs.Move.{IsWho}
+use Rattle.aia_fabric_values.specs.Changes.{spot_of}
+use Rattle.aia_move_values.specs.declared.who.Who.{Who}
+use Rattle.aia_move_values.specs.Move.{IsWho}
 use Rattle.aia_plan.specs.Transit.{Side}
 use Rattle.aia_plan.specs.Transit.Side.{Old, New}
 use Rattle.aia_rehearsal.specs.declared.place.Place as ends
@@ -42,14 +42,14 @@ use Rattle.aia_regs.specs.declared.limits.TheConstants.{HARTS}
 use Rattle.aia_entry.specs.declared.entry.Entry.TheVariants.{NotValid}
 use Rattle.aia_entry.specs.Format.{decoded}
 use Rattle.aia_entry.specs.Tables.{no_table}
-use Rattle.aia_places.specs.Places.{second_word}
-use Rattle.aia_places.proofs.EntryLemmas.{entry_back}
-use Rattle.aia_world.proofs.PlaceLemmas.{slot_found}
-use Rattle.aia_world.proofs.WholeLemmas.{notice_hart_there}
+use Rattle.aia_vcpu_places.specs.Places.{second_word}
+use Rattle.aia_vcpu_places.proofs.EntryLemmas.{entry_back}
+use Rattle.aia_fabric_values.proofs.PlaceLemmas.{slot_found}
+use Rattle.aia_fabric_values.proofs.WholeLemmas.{notice_hart_there}
 use Rattle.aia_rehearsal.specs.Stands.{side_of}
 use Rattle.aia_rehearsal.specs.Events.{IsAlone}
-use Rattle.aia_home.specs.Home.{is_place}
-use Rattle.aia_world.specs.Changes.{with_entry_word, with_fence, with_map, with_gfence}
+use Rattle.aia_vcpu.specs.Home.{is_place}
+use Rattle.aia_fabric_values.specs.Changes.{with_entry_word, with_fence, with_map, with_gfence}
 use Rattle.aia_plan.specs.declared.step.Step.TheVariants.{Word0, Map, GFence}
 use Rattle.aia_plan.specs.Transit.{stepped, happened}
 use Rattle.aia_plan.specs.Transit.{Happening as happenings}

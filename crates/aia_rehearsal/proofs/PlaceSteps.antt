@@ -9,19 +9,19 @@ use Rattle.aia_file.specs.FileState.{shown}
 use Rattle.aia_file.specs.Imsic.{file_at}
 use Rattle.aia_file.proofs.PlaceLemmas.{kept_elsewhere}
 use Rattle.aia_file.specs.Mrif.{pending_place, enable_place}
-use Rattle.aia_home.specs.Vms.{Vcpu}
-use Rattle.aia_places.specs.Places.{of_file, of_slot}
-use Rattle.aia_places.specs.Steps.{Shows, replaced_by}
-use Rattle.aia_world.specs.World.{World}
-use Rattle.aia_world.specs.Whole.{IsWhole}
-use Rattle.aia_world.specs.Making.{entry_word_place}
-use Rattle.aia_world.specs.Changes.{spot_of, with_word, pending_words, enable_words, pending_at, with_pending, enable_at, with_enable}
-use Rattle.aia_moving.proofs.ViewLemmas.{here, spots_apart, word_replaced, slot_pending-written, slot_enabled-written, has_slot, place_shows}
+use Rattle.aia_vcpu.specs.Vms.{Vcpu}
+use Rattle.aia_vcpu_places.specs.Places.{of_file, of_slot}
+use Rattle.aia_vcpu_places.specs.Steps.{Shows, replaced_by}
+use Rattle.aia_fabric_values.specs.World.{World}
+use Rattle.aia_fabric_values.specs.Whole.{IsWhole}
+use Rattle.aia_fabric_values.specs.Making.{entry_word_place}
+use Rattle.aia_fabric_values.specs.Changes.{spot_of, with_word, pending_words, enable_words, pending_at, with_pending, enable_at, with_enable}
+use Rattle.aia_move_values.proofs.ViewLemmas.{here, spots_apart, word_replaced, slot_pending-written, slot_enabled-written, has_slot, place_shows}
 use Rattle.aia_rehearsal.specs.declared.place.Place as ends
 use Rattle.aia_rehearsal.specs.declared.place.Place.TheVariants.{File, Slot}
 use Rattle.aia_rehearsal.specs.Rehearsed.{at_of, AreTwo, IsFileThere}
 use Rattle.aia_rehearsal.specs.Stands.{sets_at, routes_of}
-use Rattle.aia_moving.proofs.MadeView.{other_way}
+use Rattle.aia_move_values.proofs.MadeView.{other_way}
 
 pub two_turned : (a b : ends.Place) → AreTwo a b → AreTwo b a
 two_turned (File p) (File q) two = other_way p q two

@@ -2,10 +2,10 @@
 use Rattle.std.proofs.Common.{ℕ, ◌<◌, ◌≤◌, arith}
 use Rattle.std.proofs.lemmas.Bool.Decides.{nat_tests}
 use Rattle.aia_regs.specs.declared.limits.TheConstants.{HARTS, GUEST_FILES, IDENTITIES, FILE_WORDS}
-use Rattle.aia_home.specs.declared.place.Place.{Place}
-use Rattle.aia_world.specs.World.{World}
-use Rattle.aia_world.specs.Whole.{IsWhole}
-use Rattle.aia_moving.specs.Move.{width}
+use Rattle.aia_vcpu.specs.declared.place.Place.{Place}
+use Rattle.aia_fabric_values.specs.World.{World}
+use Rattle.aia_fabric_values.specs.Whole.{IsWhole}
+use Rattle.aia_move_values.specs.Move.{width}
 use Rattle.aia_rehearsal.specs.declared.place.Place.TheVariants.{File}
 use Rattle.aia_rehearsal.specs.Rehearsed.{IsFileThere}
 

@@ -15,20 +15,20 @@ use Rattle.aia_file.specs.declared.spot.Spot.TheVariants.{SupervisorFile}
 use Rattle.aia_file.specs.Imsic.{ImsicState, IsThere, file_at, with_file}
 use Rattle.aia_file.proofs.PlaceLemmas.{kept_elsewhere}
 use Rattle.aia_entry.specs.Format.{decoded}
-use Rattle.aia_home.specs.declared.place.Place.{Place}
-use Rattle.aia_home.specs.Home.{is_place}
-use Rattle.aia_home.specs.declared.rest.Rest.TheVariants.{Parked}
-use Rattle.aia_home.specs.Home.Home.{InMemory}
-use Rattle.aia_home.specs.Vms.{slot_of}
-use Rattle.aia_places.specs.Places.{Places, TwoSets, of_file, of_slot, leads_to, entry_word, second_word, IsInMap}
-use Rattle.aia_places.proofs.EntryLemmas.{entry_back}
-use Rattle.aia_world.specs.World.{World}
-use Rattle.aia_world.specs.Whole.{IsWhole}
-use Rattle.aia_world.specs.Changes.{spot_of, pending_words, enable_words, pending_at, with_pending, enable_at, with_enable, with_state, with_entry_word, with_fence, with_map, with_gfence}
-use Rattle.aia_moving.proofs.ViewLemmas.{here, spots_apart, word0-places, word1-places, fence-places, map-places, gfence-places}
-use Rattle.aia_world.proofs.WholeLemmas.{notice_hart_there}
-use Rattle.aia_moving.specs.Move.{PostsIf, width}
-use Rattle.aia_moving.specs.Touches.{SameMachine}
+use Rattle.aia_vcpu.specs.declared.place.Place.{Place}
+use Rattle.aia_vcpu.specs.Home.{is_place}
+use Rattle.aia_vcpu.specs.declared.rest.Rest.TheVariants.{Parked}
+use Rattle.aia_vcpu.specs.Home.Home.{InMemory}
+use Rattle.aia_vcpu.specs.Vms.{slot_of}
+use Rattle.aia_vcpu_places.specs.Places.{Places, TwoSets, of_file, of_slot, leads_to, entry_word, second_word, IsInMap}
+use Rattle.aia_vcpu_places.proofs.EntryLemmas.{entry_back}
+use Rattle.aia_fabric_values.specs.World.{World}
+use Rattle.aia_fabric_values.specs.Whole.{IsWhole}
+use Rattle.aia_fabric_values.specs.Changes.{spot_of, pending_words, enable_words, pending_at, with_pending, enable_at, with_enable, with_state, with_entry_word, with_fence, with_map, with_gfence}
+use Rattle.aia_move_values.proofs.ViewLemmas.{here, spots_apart, word0-places, word1-places, fence-places, map-places, gfence-places}
+use Rattle.aia_fabric_values.proofs.WholeLemmas.{notice_hart_there}
+use Rattle.aia_move_values.specs.Move.{PostsIf, width}
+use Rattle.aia_move_values.specs.Touches.{SameMachine}
 use Rattle.aia_plan.specs.declared.step.Step.TheVariants.{Word0, Map, GFence, TakeP, PutP, TakeE, PutE}
 use Rattle.aia_plan.specs.Transit.{Side, Transit, stepped}
 use Rattle.aia_plan.specs.Transit.Side.{Old, New}
@@ -37,12 +37,12 @@ use Rattle.aia_rehearsal.specs.declared.place.Place.TheVariants.{File, Slot}
 use Rattle.aia_rehearsal.specs.Rehearsed.{Passage, Carried, Rehearsed, mover_of, on, at_of, at, file_of, names_on, IsFileThere}
 use Rattle.aia_rehearsal.specs.Steps.{identities_in, Puts}
 use Rattle.aia_rehearsal.specs.Stands.{sets_at, Routes, routes_of, SetsStand, RoutesStand, StandsFor}
-use Rattle.aia_moving.proofs.WhoLemmas.{small_who}
+use Rattle.aia_move_values.proofs.WhoLemmas.{small_who}
 use Rattle.aia_rehearsal.proofs.Places.{file_in_map}
 use Rattle.aia_rehearsal.proofs.SetSteps.{pending_taken, enables_taken, pending_put, enables_put}
 use Rattle.aia_rehearsal.proofs.PlaceSteps.{two_turned, pending_here, enabled_here, pending_shown, enabled_shown, pending_elsewhere, enabled_elsewhere, pending_routes, enabled_routes}
 use Rattle.aia_rehearsal.proofs.Carried.{stand_on, same_machine}
-use Rattle.aia_home.proofs.HomeLemmas.{same_place}
+use Rattle.aia_vcpu.proofs.HomeLemmas.{same_place}
 
 -- what the places of a virtual hart show of its routes
 abbrev routes_in : Places → Routes

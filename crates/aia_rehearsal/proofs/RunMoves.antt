@@ -4,11 +4,11 @@ use Rattle.std.specs.Prelude.{slice_get, is_some, length, take}
 use Rattle.std.specs.List.{list_any}
 use Rattle.std.proofs.lemmas.Bool.{cases_eq, ne_eqb}
 use Rattle.aia_regs.specs.declared.address_map.TheConstants.{PAGE}
-use Rattle.aia_home.specs.Vms.{vcpu, is_vcpu}
-use Rattle.aia_world.specs.declared.flying.Flying.{Flying}
-use Rattle.aia_world.specs.World.{World, flight_of}
-use Rattle.aia_world.specs.Whole.{IsWhole}
-use Rattle.aia_moving.specs.Move.{width}
+use Rattle.aia_vcpu.specs.Vms.{vcpu, is_vcpu}
+use Rattle.aia_fabric_values.specs.declared.flying.Flying.{Flying}
+use Rattle.aia_fabric_values.specs.World.{World, flight_of}
+use Rattle.aia_fabric_values.specs.Whole.{IsWhole}
+use Rattle.aia_move_values.specs.Move.{width}
 use Rattle.aia_plan.specs.declared.step.Step.{Step}
 use Rattle.aia_plan.specs.declared.step.Step.TheVariants as steps
 use Rattle.aia_plan.specs.Transit.{Side, Flight, Transit, Happening, is_identity, landed, all_landed, one_landed, stepped, happened, all_happened}

@@ -2,23 +2,23 @@
 use Rattle.std.proofs.Common.{◌≡◌, ℕ, ◌+◌, length, refl, sym, ◌∙◌, subst}
 use Rattle.aia_regs.specs.declared.file_registers.FileReg.{FileReg}
 use Rattle.aia_regs.specs.declared.file_registers.FileReg.TheVariants.{Delivery, Threshold}
-use Rattle.aia_world.specs.declared.at.At.{At}
-use Rattle.aia_world.specs.declared.at.At.TheVariants as ats
-use Rattle.aia_world.specs.World.{World, OnlyStores, flight_of}
-use Rattle.aia_world.specs.Changes.{with_pending, with_enable}
-use Rattle.aia_world.proofs.FlightLemmas.{all_landed_rest}
-use Rattle.aia_world.proofs.FrameLemmas.{entry_rest, reaches_rest, record_rest}
+use Rattle.aia_fabric_values.specs.declared.at.At.{At}
+use Rattle.aia_fabric_values.specs.declared.at.At.TheVariants as ats
+use Rattle.aia_fabric_values.specs.World.{World, OnlyStores, flight_of}
+use Rattle.aia_fabric_values.specs.Changes.{with_pending, with_enable}
+use Rattle.aia_fabric_values.proofs.FlightLemmas.{all_landed_rest}
+use Rattle.aia_fabric_values.proofs.FrameLemmas.{entry_rest, reaches_rest, record_rest}
 use Rattle.std.proofs.Common.{◌%◌}
 use Rattle.aia_regs.specs.declared.address_map.TheConstants.{PAGE}
 use Rattle.aia_entry.specs.declared.table.Route.{Route}
 use Rattle.aia_entry.specs.declared.table.Route.TheVariants.{Other, Fault, To}
 use Rattle.aia_entry.specs.Tables.{table_of, route_of}
-use Rattle.aia_home.specs.Vms.{vcpu}
-use Rattle.aia_world.specs.World.{stage_of}
-use Rattle.aia_world.specs.Flights.{Sends}
+use Rattle.aia_vcpu.specs.Vms.{vcpu}
+use Rattle.aia_fabric_values.specs.World.{stage_of}
+use Rattle.aia_fabric_values.specs.Flights.{Sends}
 use Rattle.aia_rehearsal.specs.Events.{Event, Happens}
 use Rattle.aia_rehearsal.specs.Events.Event.{Steps, DeviceStores, PeerStores, DeviceSends, StoreLands, EntryRead}
-use Rattle.aia_moving.specs.Touches.{SameMachine}
+use Rattle.aia_move_values.specs.Touches.{SameMachine}
 use Rattle.aia_plan.specs.declared.step.Step.{Step}
 use Rattle.aia_plan.specs.declared.step.Step.TheVariants as steps
 use Rattle.aia_plan.specs.Transit.Side.{Old, New}
@@ -27,7 +27,7 @@ use Rattle.aia_rehearsal.specs.declared.place.Place.TheVariants.{File, Slot}
 use Rattle.aia_rehearsal.specs.Rehearsed.{Rehearsed, at, IsOf}
 use Rattle.aia_rehearsal.specs.Steps.{Puts, Makes, after}
 use Rattle.aia_rehearsal.proofs.Carried.{of_same, same_machine}
-use Rattle.aia_moving.proofs.StepLemmas.{post_kept}
+use Rattle.aia_move_values.proofs.StepLemmas.{post_kept}
 
 same_by : (w u x : World) → u ≡ x → SameMachine w x → SameMachine w u
 same_by w u x e same = subst (λ (y : World). SameMachine w y) (sym e) same

@@ -6,8 +6,8 @@ use Rattle.std.proofs.lemmas.Bool.{cases_eq, eq-eqb, ne_eqb, cond-true, cond-fal
 use Rattle.std.proofs.lemmas.Bool.Decides.{nat_tests}
 use Rattle.aia_word.specs.Sets.{has_bit}
 use Rattle.aia_word.proofs.BitLemmas.{has_bit-zero, has_bit-or, has_bit-clear}
-use Rattle.aia_places.specs.Places.{TwoSets}
-use Rattle.aia_places.specs.Steps.{Shows, replaced_by}
+use Rattle.aia_vcpu_places.specs.Places.{TwoSets}
+use Rattle.aia_vcpu_places.specs.Steps.{Shows, replaced_by}
 use Rattle.aia_plan.specs.declared.step.Step.TheVariants.{TakeP, PutP, TakeE, PutE}
 use Rattle.aia_plan.specs.Transit.{Transit, is_identity, without_word, of_word, stepped}
 use Rattle.aia_rehearsal.specs.Rehearsed.{Carried}

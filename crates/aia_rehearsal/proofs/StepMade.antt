@@ -6,17 +6,17 @@ use Rattle.std.proofs.lemmas.Nat.Bits.{bit_at_clear_same}
 use Rattle.aia_word.specs.Sets.{has_bit}
 use Rattle.aia_regs.specs.declared.file_registers.FileReg.TheVariants.{Delivery, Threshold}
 use Rattle.aia_file.specs.Imsic.{file_at}
-use Rattle.aia_home.specs.declared.place.Place.{Place}
-use Rattle.aia_home.specs.declared.access.Access.{Access}
-use Rattle.aia_home.specs.declared.access.Access.TheVariants as accesses
-use Rattle.aia_home.specs.Home.{Way, Progress, left, led_to, at_first}
-use Rattle.aia_home.specs.Home.Way.{Outward, Inward, Across}
-use Rattle.aia_places.specs.Places.{entry_word}
-use Rattle.aia_places.specs.Holds.{Hand}
-use Rattle.aia_world.specs.World.{World}
-use Rattle.aia_world.specs.Changes.{PutsRegister, pending_words, enable_words, pending_at, with_pending, enable_at, with_enable, with_entry_word, with_map}
-use Rattle.aia_moving.specs.Move.{spot_in, place_at}
-use Rattle.aia_moving.specs.Accesses.{NoZero, WordFits, Executes, moved}
+use Rattle.aia_vcpu.specs.declared.place.Place.{Place}
+use Rattle.aia_vcpu.specs.declared.access.Access.{Access}
+use Rattle.aia_vcpu.specs.declared.access.Access.TheVariants as accesses
+use Rattle.aia_vcpu.specs.Home.{Way, Progress, left, led_to, at_first}
+use Rattle.aia_vcpu.specs.Home.Way.{Outward, Inward, Across}
+use Rattle.aia_vcpu_places.specs.Places.{entry_word}
+use Rattle.aia_vcpu_places.specs.Holds.{Hand}
+use Rattle.aia_fabric_values.specs.World.{World}
+use Rattle.aia_fabric_values.specs.Changes.{PutsRegister, pending_words, enable_words, pending_at, with_pending, enable_at, with_enable, with_entry_word, with_map}
+use Rattle.aia_move_values.specs.Move.{spot_in, place_at}
+use Rattle.aia_move_values.specs.Accesses.{NoZero, WordFits, Executes, moved}
 use Rattle.aia_plan.specs.Plan.{IsInside}
 use Rattle.aia_plan.specs.declared.step.Step.{Step}
 use Rattle.aia_plan.specs.declared.step.Step.TheVariants.{Quiet, Word1, Word0, Fence, Map, Unmap, Remap, GFence, TakeP, PutP, TakeE, PutE, Look, TakeT, PutT, Post, Wake}

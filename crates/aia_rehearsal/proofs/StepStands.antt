@@ -1,9 +1,9 @@
 -- A step of a plan that is rehearsed is that step of the state for which the rehearsal stands.
 use Rattle.std.proofs.Common.{◌≡◌, refl, sym, subst}
 use Rattle.aia_regs.specs.declared.file_registers.FileReg.TheVariants.{Delivery, Threshold}
-use Rattle.aia_world.specs.World.{World}
-use Rattle.aia_world.specs.Whole.{IsWhole}
-use Rattle.aia_moving.specs.Move.{width}
+use Rattle.aia_fabric_values.specs.World.{World}
+use Rattle.aia_fabric_values.specs.Whole.{IsWhole}
+use Rattle.aia_move_values.specs.Move.{width}
 use Rattle.aia_plan.specs.Plan.{IsInside}
 use Rattle.aia_plan.specs.declared.step.Step.{Step}
 use Rattle.aia_plan.specs.declared.step.Step.TheVariants.{Quiet, Word1, Word0, Fence, Map, Unmap, Remap, GFence, TakeP, PutP, TakeE, PutE, Look, TakeT, PutT, Post, Wake}

@@ -19,20 +19,20 @@ use Rattle.aia_file.specs.declared.stored.Stored.{Stored}
 use Rattle.aia_file.specs.declared.stored.Stored.TheVariants.{Discarded, Quiet, Notice}
 use Rattle.aia_file.specs.Mrif.{mrif_in, stored}
 use Rattle.aia_entry.specs.Tables.{table_of, entry_in_force}
-use Rattle.aia_home.specs.declared.place.Place.{Place}
-use Rattle.aia_home.proofs.HomeLemmas.{same_place}
-use Rattle.aia_places.specs.Places.{TwoSets, of_file, of_slot}
-use Rattle.aia_world.specs.World.{World, OnlyStores, stage_of}
-use Rattle.aia_world.specs.Whole.{IsWhole}
-use Rattle.aia_world.specs.Making.{entry_word_place}
-use Rattle.aia_world.specs.Stores.{StoresIn, StoresInGuestFile, Posts, NoticedAt, NoticedBy, StoresInSlot, with_store}
-use Rattle.aia_world.specs.Changes.{spot_of, with_state}
-use Rattle.aia_world.proofs.FrameLemmas.{none_rest, stores_rest, slot_rest}
-use Rattle.aia_world.proofs.PlaceLemmas.{slot_takes_store, other_slot_stays}
-use Rattle.aia_moving.proofs.StoreViews.{entry_words_kept}
-use Rattle.aia_moving.proofs.ViewLemmas.{spots_apart, has_slot}
-use Rattle.aia_world.proofs.WholeLemmas.{width_at}
-use Rattle.aia_moving.specs.Move.{width}
+use Rattle.aia_vcpu.specs.declared.place.Place.{Place}
+use Rattle.aia_vcpu.proofs.HomeLemmas.{same_place}
+use Rattle.aia_vcpu_places.specs.Places.{TwoSets, of_file, of_slot}
+use Rattle.aia_fabric_values.specs.World.{World, OnlyStores, stage_of}
+use Rattle.aia_fabric_values.specs.Whole.{IsWhole}
+use Rattle.aia_fabric_values.specs.Making.{entry_word_place}
+use Rattle.aia_fabric_values.specs.Stores.{StoresIn, StoresInGuestFile, Posts, NoticedAt, NoticedBy, StoresInSlot, with_store}
+use Rattle.aia_fabric_values.specs.Changes.{spot_of, with_state}
+use Rattle.aia_fabric_values.proofs.FrameLemmas.{none_rest, stores_rest, slot_rest}
+use Rattle.aia_fabric_values.proofs.PlaceLemmas.{slot_takes_store, other_slot_stays}
+use Rattle.aia_move_values.proofs.StoreViews.{entry_words_kept}
+use Rattle.aia_move_values.proofs.ViewLemmas.{spots_apart, has_slot}
+use Rattle.aia_fabric_values.proofs.WholeLemmas.{width_at}
+use Rattle.aia_move_values.specs.Move.{width}
 use Rattle.aia_plan.specs.Transit.{is_identity, with_one}
 use Rattle.aia_rehearsal.specs.declared.place.Place as ends
 use Rattle.aia_rehearsal.specs.declared.place.Place.TheVariants.{File, Slot}

@@ -8,10 +8,10 @@ use Rattle.std.proofs.lemmas.Bool.{cases_Bool, cases_eq, cond-true, cond-false}
 use Rattle.aia_word.specs.Sets.{has_bit}
 use Rattle.aia_word.proofs.BitLemmas.{has_bit-zero}
 use Rattle.aia_file.specs.Imsic.{ImsicState}
-use Rattle.aia_places.specs.Places.{leads_to, entry_word}
-use Rattle.aia_world.specs.declared.flying.Flying.{Flying}
-use Rattle.aia_world.specs.World.{World, flight_of}
-use Rattle.aia_moving.specs.Move.{width}
+use Rattle.aia_vcpu_places.specs.Places.{leads_to, entry_word}
+use Rattle.aia_fabric_values.specs.declared.flying.Flying.{Flying}
+use Rattle.aia_fabric_values.specs.World.{World, flight_of}
+use Rattle.aia_move_values.specs.Move.{width}
 use Rattle.aia_plan.specs.Plan.{IsInside}
 use Rattle.aia_plan.specs.Rule.{failing}
 use Rattle.aia_plan.specs.Safe.{IsStart, IsMoved}

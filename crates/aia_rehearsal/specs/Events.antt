@@ -4,15 +4,15 @@ use Rattle.std.specs.Prelude.{◌≡◌, ◌≢◌, ℕ, ◌%◌, ◌<◌, Bool,
 use Rattle.aia_regs.specs.declared.address_map.TheConstants.{PAGE}
 use Rattle.aia_entry.specs.Tables.{table_of, route_of}
 use Rattle.aia_entry.specs.Translation.{is_msi_address, file_number}
-use Rattle.aia_home.specs.declared.place.Place.{Place}
+use Rattle.aia_vcpu.specs.declared.place.Place.{Place}
 use Rattle.aia_entry.specs.Format.{decoded}
-use Rattle.aia_home.specs.Vms.{Vcpu, vcpu, is_vcpu, is_vcpu_in}
-use Rattle.aia_world.specs.declared.flying.Flying.{Flying}
-use Rattle.aia_world.specs.World.{World, flight_of, stage_of}
-use Rattle.aia_world.specs.Stores.{Reaches, ReachesByRecord}
-use Rattle.aia_world.specs.Flights.{Sends, Lands}
-use Rattle.aia_world.specs.Changes.{with_fence}
-use Rattle.aia_moving.specs.Move.{width}
+use Rattle.aia_vcpu.specs.Vms.{Vcpu, vcpu, is_vcpu, is_vcpu_in}
+use Rattle.aia_fabric_values.specs.declared.flying.Flying.{Flying}
+use Rattle.aia_fabric_values.specs.World.{World, flight_of, stage_of}
+use Rattle.aia_fabric_values.specs.Stores.{Reaches, ReachesByRecord}
+use Rattle.aia_fabric_values.specs.Flights.{Sends, Lands}
+use Rattle.aia_fabric_values.specs.Changes.{with_fence}
+use Rattle.aia_move_values.specs.Move.{width}
 use Rattle.aia_plan.specs.Plan.{IsInside}
 use Rattle.aia_plan.specs.declared.step.Step.{Step}
 use Rattle.aia_plan.specs.Transit.{Side, Happening}

@@ -1,16 +1,16 @@
 -- What is rehearsed: whose interrupts go from which place to which, and what is carried between
 -- steps. Profile.
 use Rattle.std.specs.Prelude.{◌≡◌, ℕ, ⊤, Bool, false, Option, Some, None}
-use Rattle.aia_home.specs.declared.place.Place.{Place}
-use Rattle.aia_home.specs.Vms.{Vcpu, vcpu}
-use Rattle.aia_home.specs.Home.{is_place}
-use Rattle.aia_world.specs.declared.at.At.{At}
-use Rattle.aia_world.specs.declared.at.At.TheVariants as ats
-use Rattle.aia_world.specs.World.{World}
+use Rattle.aia_vcpu.specs.declared.place.Place.{Place}
+use Rattle.aia_vcpu.specs.Vms.{Vcpu, vcpu}
+use Rattle.aia_vcpu.specs.Home.{is_place}
+use Rattle.aia_fabric_values.specs.declared.at.At.{At}
+use Rattle.aia_fabric_values.specs.declared.at.At.TheVariants as ats
+use Rattle.aia_fabric_values.specs.World.{World}
 use Rattle.aia_file.specs.Imsic.{IsThere}
-use Rattle.aia_world.specs.Changes.{spot_of}
-use Rattle.aia_moving.specs.declared.who.Who.{Who}
-use Rattle.aia_moving.specs.Move.{IsWho}
+use Rattle.aia_fabric_values.specs.Changes.{spot_of}
+use Rattle.aia_move_values.specs.declared.who.Who.{Who}
+use Rattle.aia_move_values.specs.Move.{IsWho}
 use Rattle.aia_plan.specs.Transit.{Side}
 use Rattle.aia_plan.specs.Transit.Side.{Old, New}
 use Rattle.aia_rehearsal.specs.declared.place.Place as ends

@@ -4,12 +4,12 @@ use Rattle.std.specs.Prelude.{◌≡◌, ◌≢◌, ℕ, ◌/◌, ◌%◌, ◌<�
 use Rattle.std.specs.List.{list_any}
 use Rattle.aia_word.specs.Sets.{has_bit}
 use Rattle.aia_regs.specs.declared.address_map.TheConstants.{PAGE}
-use Rattle.aia_home.specs.Vms.{vcpu, is_vcpu}
-use Rattle.aia_places.specs.Places.{leads_to, entry_word, second_word}
-use Rattle.aia_world.specs.declared.flying.Flying.{Flying}
-use Rattle.aia_world.specs.World.{World, flight_of}
-use Rattle.aia_world.specs.Whole.{IsWhole}
-use Rattle.aia_moving.specs.Move.{width}
+use Rattle.aia_vcpu.specs.Vms.{vcpu, is_vcpu}
+use Rattle.aia_vcpu_places.specs.Places.{leads_to, entry_word, second_word}
+use Rattle.aia_fabric_values.specs.declared.flying.Flying.{Flying}
+use Rattle.aia_fabric_values.specs.World.{World, flight_of}
+use Rattle.aia_fabric_values.specs.Whole.{IsWhole}
+use Rattle.aia_move_values.specs.Move.{width}
 use Rattle.aia_plan.specs.Plan.{Plan}
 use Rattle.aia_plan.specs.declared.step.Step.TheVariants as steps
 use Rattle.aia_plan.specs.Transit.{Side, Flight, Transit, is_identity}

@@ -14,18 +14,18 @@ use Rattle.aia_file.specs.Mrif.{mrif_in}
 use Rattle.aia_entry.specs.declared.entry.Entry.{Entry}
 use Rattle.aia_entry.specs.declared.entry.Entry.TheVariants.{Basic, Mrif}
 use Rattle.aia_entry.specs.Tables.{table_of, entry_in_force}
-use Rattle.aia_home.specs.declared.place.Place.{Place}
-use Rattle.aia_home.specs.Home.{is_place}
-use Rattle.aia_home.specs.Vms.{Vcpu}
-use Rattle.aia_places.specs.Places.{TwoSets, of_file, of_slot, leads_to, entry_word, second_word}
-use Rattle.aia_world.specs.declared.at.At.{At}
-use Rattle.aia_world.specs.declared.at.At.TheVariants as ats
-use Rattle.aia_world.specs.declared.flying.Flying.{Flying}
-use Rattle.aia_world.specs.declared.stage.Stage.{Stage}
-use Rattle.aia_world.specs.World.{World, flight_of, stage_of}
-use Rattle.aia_world.specs.Making.{entry_word_place}
-use Rattle.aia_world.specs.Stores.{page_spot, slot_at}
-use Rattle.aia_moving.specs.Move.{width}
+use Rattle.aia_vcpu.specs.declared.place.Place.{Place}
+use Rattle.aia_vcpu.specs.Home.{is_place}
+use Rattle.aia_vcpu.specs.Vms.{Vcpu}
+use Rattle.aia_vcpu_places.specs.Places.{TwoSets, of_file, of_slot, leads_to, entry_word, second_word}
+use Rattle.aia_fabric_values.specs.declared.at.At.{At}
+use Rattle.aia_fabric_values.specs.declared.at.At.TheVariants as ats
+use Rattle.aia_fabric_values.specs.declared.flying.Flying.{Flying}
+use Rattle.aia_fabric_values.specs.declared.stage.Stage.{Stage}
+use Rattle.aia_fabric_values.specs.World.{World, flight_of, stage_of}
+use Rattle.aia_fabric_values.specs.Making.{entry_word_place}
+use Rattle.aia_fabric_values.specs.Stores.{page_spot, slot_at}
+use Rattle.aia_move_values.specs.Move.{width}
 use Rattle.aia_plan.specs.Transit.{Side, Flight, Transit}
 use Rattle.aia_plan.specs.Transit.Side.{Old, New}
 use Rattle.aia_rehearsal.specs.declared.place.Place as ends

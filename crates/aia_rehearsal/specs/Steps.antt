@@ -8,15 +8,15 @@ use Rattle.aia_plan.specs.Transit.Side.{Old, New}
 use Rattle.aia_regs.specs.declared.file_registers.FileReg.{FileReg}
 use Rattle.aia_regs.specs.declared.file_registers.FileReg.TheVariants.{Delivery, Threshold}
 use Rattle.aia_file.specs.Imsic.{file_at}
-use Rattle.aia_home.specs.declared.access.Access.{Access}
-use Rattle.aia_home.specs.declared.access.Access.TheVariants as accesses
-use Rattle.aia_places.specs.Places.{entry_word, second_word}
-use Rattle.aia_places.specs.Holds.{Hand, meets}
-use Rattle.aia_world.specs.declared.at.At.TheVariants as ats
-use Rattle.aia_world.specs.World.{World}
-use Rattle.aia_world.specs.Flights.{Fences}
-use Rattle.aia_world.specs.Changes.{PutsRegister, spot_of, pending_words, enable_words, pending_at, with_pending, enable_at, with_enable, with_entry_word, with_map, with_gfence}
-use Rattle.aia_moving.specs.Move.{PostsIf}
+use Rattle.aia_vcpu.specs.declared.access.Access.{Access}
+use Rattle.aia_vcpu.specs.declared.access.Access.TheVariants as accesses
+use Rattle.aia_vcpu_places.specs.Places.{entry_word, second_word}
+use Rattle.aia_vcpu_places.specs.Holds.{Hand, meets}
+use Rattle.aia_fabric_values.specs.declared.at.At.TheVariants as ats
+use Rattle.aia_fabric_values.specs.World.{World}
+use Rattle.aia_fabric_values.specs.Flights.{Fences}
+use Rattle.aia_fabric_values.specs.Changes.{PutsRegister, spot_of, pending_words, enable_words, pending_at, with_pending, enable_at, with_enable, with_entry_word, with_map, with_gfence}
+use Rattle.aia_move_values.specs.Move.{PostsIf}
 use Rattle.aia_rehearsal.specs.declared.place.Place as ends
 use Rattle.aia_rehearsal.specs.declared.place.Place.TheVariants.{File, Slot}
 use Rattle.aia_rehearsal.specs.Rehearsed.{Passage, Carried, Rehearsed, mover_of, at, names_on}

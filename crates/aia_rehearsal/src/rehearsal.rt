@@ -1,10 +1,10 @@
 ghost use Rattle.std.specs.Prelude.{◌≡◌, ℕ, ◌/◌, ◌+◌, ◌<◌, ◌≤◌, false};
 ghost use Rattle.aia_word.specs.Sets.{has_bit};
-ghost use Rattle.aia_home.specs.declared.access.Access.TheVariants as accesses;
+ghost use Rattle.aia_vcpu.specs.declared.access.Access.TheVariants as accesses;
 ghost use Rattle.aia_plan.specs.Plan.{IsInside};
 ghost use Rattle.aia_plan.specs.Transit.{Transit, stepped};
-ghost use Rattle.aia_moving.specs.Move.{width};
-ghost use Rattle.aia_moving.specs.Touches.{SameMachine};
+ghost use Rattle.aia_move_values.specs.Move.{width};
+ghost use Rattle.aia_move_values.specs.Touches.{SameMachine};
 ghost use Rattle.aia_rehearsal.specs.Rehearsed.{Rehearsed, NotBothSlots, IsOf, from_to};
 ghost use Rattle.aia_rehearsal.specs.Steps.{Makes, after, identities_in, number_at, access_made, hand_for, carried_after};
 ghost use Rattle.aia_rehearsal.specs.Stands.{StandsFor};

@@ -3,11 +3,11 @@ use Rattle.std.proofs.Common.{◌≡◌, ℕ, zero, suc, ◌<◌, Bool, true, fa
 use Rattle.std.specs.List.{AllByRecursion}
 use Rattle.std.specs.Int.{is_in_range}
 use Rattle.std.proofs.lemmas.Bool.{cases_Bool, and_parts, and_from, ltb-true, true≢false}
-use Rattle.aia_home.specs.Vms.{Vcpu, vcpu}
-use Rattle.aia_home.specs.Home.{Home}
-use Rattle.aia_home.specs.Routes.{is_at_fence}
-use Rattle.aia_home.specs.Aims.{is_aiming, aims_done}
-use Rattle.aia_home.proofs.PassLemmas.{aim_is_no_fence}
+use Rattle.aia_vcpu.specs.Vms.{Vcpu, vcpu}
+use Rattle.aia_vcpu.specs.Home.{Home}
+use Rattle.aia_vcpu.specs.Routes.{is_at_fence}
+use Rattle.aia_vcpu.specs.Aims.{is_aiming, aims_done}
+use Rattle.aia_vcpu.proofs.PassLemmas.{aim_is_no_fence}
 use Rattle.aia_model.specs.declared.answer.Answer.{Answer}
 use Rattle.aia_model.specs.declared.line.Line.{Line}
 use Rattle.aia_model.specs.declared.line.Line.TheVariants as lines
@@ -30,23 +30,23 @@ use Rattle.aia_model.proofs.PlaceLemmas.{machine_first}
 use Rattle.aia_model.proofs.PassesStandLemmas.{passes_stand}
 use Rattle.aia_model.proofs.OwnPassLemmas.{own_is}
 use Rattle.aia_model.proofs.HistoryLemmas.{line_happens}
-use Rattle.aia_wiring.specs.Aplic.{AplicStands}
-use Rattle.aia_wiring.specs.Passing.{is_passable_source}
-use Rattle.aia_wiring.proofs.PassingLemmas.{harts-stand}
-use Rattle.aia_wiring.proofs.AimSteps.{passable-stands}
+use Rattle.aia_aplic_values.specs.Aplic.{AplicStands}
+use Rattle.aia_aplic_values.specs.Passing.{is_passable_source}
+use Rattle.aia_aplic_values.proofs.PassingLemmas.{harts-stand}
+use Rattle.aia_aplic_values.proofs.AimSteps.{passable-stands}
 use Rattle.aia_model.specs.declared.want.Want.{Want}
 use Rattle.aia_model.specs.declared.want.Want.TheVariants as wants
 use Rattle.aia_model.specs.Move.{wanted_move}
-use Rattle.aia_standing.specs.Moves.{UnlessRefused, WholeAims}
-use Rattle.aia_standing.specs.Passes.{AimsBy, StepsAim, TellsOf}
-use Rattle.aia_standing.specs.Stands.{CoreStands, CoreTakes, CorePasses, MayPass}
-use Rattle.aia_standing.proofs.ForwardLemmas.{each_at}
-use Rattle.aia_standing.proofs.MoveWhole.{one_step_more}
+use Rattle.aia_hyp_values.specs.Moves.{UnlessRefused, WholeAims}
+use Rattle.aia_hyp_values.specs.Passes.{AimsBy, StepsAim, TellsOf}
+use Rattle.aia_hyp_values.specs.Stands.{CoreStands, CoreTakes, CorePasses, MayPass}
+use Rattle.aia_hyp_values.proofs.ForwardLemmas.{each_at}
+use Rattle.aia_hyp_values.proofs.MoveWhole.{one_step_more}
 use Rattle.aia_replay.specs.declared.machine.Machine.{Machine}
 use Rattle.aia_replay.specs.declared.wires.Wires.{Wires}
 use Rattle.aia_replay.specs.Wires.{WiresAim, targets_of}
 use Rattle.aia_replay.specs.Stands.{MachineStands, MachineTakes, act_taken, StandsForSome}
-use Rattle.aia_wiring.proofs.SizeLemmas.{same_sources, same_harts}
+use Rattle.aia_aplic_values.proofs.SizeLemmas.{same_sources, same_harts}
 use Rattle.aia_model.specs.Passable.{is_passable}
 use Rattle.aia_source.specs.Registers.{is_by_msi, domaincfg_kept, same_bool}
 use Rattle.aia_model.specs.declared.domain_name.DomainName.TheVariants.{Child}

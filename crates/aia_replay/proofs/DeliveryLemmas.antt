@@ -14,12 +14,12 @@ use Rattle.aia_model.specs.declared.line.Line.TheVariants as lines
 use Rattle.aia_model.specs.declared.want.Want.TheVariants as wants
 use Rattle.aia_model.specs.Answer.{delivered, line_taken, history_after, given_on, msi_taken}
 use Rattle.aia_model.proofs.AnswerLemmas.{after_by}
-use Rattle.aia_wiring.specs.Aplic.{AplicState, AplicStands}
-use Rattle.aia_wiring.specs.Sending.{Next}
-use Rattle.aia_wiring.proofs.SendingLemmas.{msis_next, settled_next}
+use Rattle.aia_aplic_values.specs.Aplic.{AplicState, AplicStands}
+use Rattle.aia_aplic_values.specs.Sending.{Next}
+use Rattle.aia_aplic_values.proofs.SendingLemmas.{msis_next, settled_next}
 use Rattle.aia_replay.specs.declared.machine.Machine.{Machine}
-use Rattle.aia_standing.specs.Core.{CoreState}
-use Rattle.aia_standing.specs.Stands.{CoreStands, CoreHears, line_served, MayGo}
+use Rattle.aia_hyp_values.specs.Core.{CoreState}
+use Rattle.aia_hyp_values.specs.Stands.{CoreStands, CoreHears, line_served, MayGo}
 use Rattle.aia_replay.specs.Stands.{MachineHolds, MachineTakes, MachineServes, Delivers, act_taken, StandsForSome, CanDeliver, CanDeliverSome}
 use Rattle.aia_model.specs.Passes.{passed_by}
 use Rattle.aia_model.specs.Aim.{pass_reach, IsForwardIf}

@@ -12,7 +12,7 @@ use Rattle.aia_model.specs.Event.Event.{Accepted}
 use Rattle.aia_model.specs.Refusal.{refusal, is_machine_size}
 use Rattle.aia_model.specs.Answer.{answer, after, history_after}
 use Rattle.aia_model.proofs.AnswerLemmas.{answered, after_by, machine_refusal}
-use Rattle.aia_wiring.proofs.SendingLemmas.{none_begun}
+use Rattle.aia_aplic_values.proofs.SendingLemmas.{none_begun}
 use Rattle.aia_model.specs.Act.Act.{Made}
 use Rattle.aia_replay.specs.declared.machine.Machine.{Machine}
 use Rattle.aia_replay.specs.Stands.{StandsForSome, EngineState, MachineHolds, MachineStands, StandsFor, Serves}

@@ -17,8 +17,8 @@ use Rattle.aia_model.specs.Sent.{with_act, acts_of, with_all_sent, waiting_msis}
 use Rattle.aia_model.specs.Refusal.{refusal, makes_machine}
 use Rattle.aia_model.specs.Answer.{answer, after, line_taken, delivered}
 use Rattle.aia_model.specs.Script.{text_answer, after_text}
-use Rattle.aia_standing.specs.Stands.{CoreStands, line_served}
-use Rattle.aia_wiring.specs.Aplic.{AplicStands}
+use Rattle.aia_hyp_values.specs.Stands.{CoreStands, line_served}
+use Rattle.aia_aplic_values.specs.Aplic.{AplicStands}
 use Rattle.aia_replay.specs.declared.machine.Machine.{Machine}
 
 -- ---- a machine

@@ -1,9 +1,9 @@
 -- The APLIC of a machine as the targets that moves see, and what an aim makes of it. Vocabulary.
 use Rattle.std.specs.Prelude.{ℕ}
 use Rattle.aia_model.specs.Act.{Past}
-use Rattle.aia_wiring.specs.Aplic.{AplicState, AplicStands}
-use Rattle.aia_wiring.specs.Passing.{with_aim, hart_count, target_in, is_passable_in}
-use Rattle.aia_moving.specs.Targets.{TargetMap, AimsOne}
+use Rattle.aia_aplic_values.specs.Aplic.{AplicState, AplicStands}
+use Rattle.aia_aplic_values.specs.Passing.{with_aim, hart_count, target_in, is_passable_in}
+use Rattle.aia_move_values.specs.Targets.{TargetMap, AimsOne}
 
 -- The target of each source is the one that the child domain keeps; a source is ready where MSIs to
 -- guests may be made of it.

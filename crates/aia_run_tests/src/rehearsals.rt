@@ -3,8 +3,8 @@
 ghost use Rattle.std.specs.Prelude.{◌≡◌, ◌<◌, ◌≤◌, ◌⊎◌, IfOk, IfSome};
 ghost use Rattle.std.specs.List.{All};
 ghost use Rattle.aia_plan.specs.Plan.{IsInside};
-ghost use Rattle.aia_moving.specs.Move.{IsWho, width};
-ghost use Rattle.aia_moving.specs.Touches.{SameMachine};
+ghost use Rattle.aia_move_values.specs.Move.{IsWho, width};
+ghost use Rattle.aia_move_values.specs.Touches.{SameMachine};
 ghost use Rattle.aia_rehearsal.specs.declared.place.Place.TheVariants as places;
 ghost use Rattle.aia_rehearsal.specs.Rehearsed.{IsOf, IsFileThere, NotBothSlots};
 

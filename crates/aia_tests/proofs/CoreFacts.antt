@@ -5,8 +5,8 @@ use Rattle.aia_model.specs.Event.{History, harts_of}
 use Rattle.aia_model.specs.Event.Event.{Delivered}
 use Rattle.aia_model.specs.declared.refusal.Refusal.{Refusal}
 use Rattle.aia_model.specs.declared.refusal.Refusal.TheVariants.{Range}
-use Rattle.aia_standing.specs.Core.{CoreState}
-use Rattle.aia_standing.specs.Stands.{CoreStands, StandsForSome, MayGo, signals_of}
+use Rattle.aia_hyp_values.specs.Core.{CoreState}
+use Rattle.aia_hyp_values.specs.Stands.{CoreStands, StandsForSome, MayGo, signals_of}
 
 -- an MSI that is of no source may be delivered
 pub may_hear : (x : CoreState) (address value : ℕ) → StandsForSome x → MayGo x (Delivered (record { address = address; value = value; source = None }))

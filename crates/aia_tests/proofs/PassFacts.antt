@@ -25,13 +25,13 @@ use Rattle.aia_model.specs.Flight.{flight}
 use Rattle.aia_model.specs.ReachOf.{in_force_of}
 use Rattle.aia_model.specs.Notice.{look_saw}
 use Rattle.aia_model.specs.FileAfter.{file_by, select_by}
-use Rattle.aia_moving.specs.Targets.{AimsOne}
-use Rattle.aia_standing.specs.Core.{CoreState}
-use Rattle.aia_standing.specs.Passes.{TellsOf}
-use Rattle.aia_standing.specs.Stands.{CoreStands, CoreBegins, CoreTakes, MayPass, line_served}
-use Rattle.aia_standing.proofs.EventLemmas.{hosts_line}
-use Rattle.aia_standing.proofs.StoreLemmas.{line_rests}
-use Rattle.aia_standing.proofs.PageLemmas.{no_file_there}
+use Rattle.aia_move_values.specs.Targets.{AimsOne}
+use Rattle.aia_hyp_values.specs.Core.{CoreState}
+use Rattle.aia_hyp_values.specs.Passes.{TellsOf}
+use Rattle.aia_hyp_values.specs.Stands.{CoreStands, CoreBegins, CoreTakes, MayPass, line_served}
+use Rattle.aia_hyp_values.proofs.EventLemmas.{hosts_line}
+use Rattle.aia_hyp_values.proofs.StoreLemmas.{line_rests}
+use Rattle.aia_hyp_values.proofs.PageLemmas.{no_file_there}
 use Rattle.aia_tests.specs.PassHistories.{stored, made, one_ready}
 
 -- ---- a core with such a source

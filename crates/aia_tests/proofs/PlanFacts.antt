@@ -1,14 +1,14 @@
 -- A step of a plan leaves who is moved as it is; after one in place the next can be made still.
 use Rattle.std.proofs.Common.{◌≡◌, [], Bool, true, false, Option, Some, None, sym, ap, subst, ◌∙◌}
 use Rattle.std.specs.Prelude.{⊤}
-use Rattle.aia_world.specs.World.{World}
-use Rattle.aia_moving.specs.declared.turn.Next.{Next}
-use Rattle.aia_moving.specs.declared.turn.Next.TheVariants.{Again, Finished}
-use Rattle.aia_moving.specs.declared.who.Who.{Who}
-use Rattle.aia_moving.specs.Move.{Moving, width, MoveFits}
-use Rattle.aia_moving.specs.Targets.{Aim, next_aim}
-use Rattle.aia_moving.specs.PlanState.{PlanState, moving_of}
-use Rattle.aia_moving.specs.Plan.{IsInPhase, MatchNext, StepsTo, StepsInPlace}
+use Rattle.aia_fabric_values.specs.World.{World}
+use Rattle.aia_move_values.specs.declared.turn.Next.{Next}
+use Rattle.aia_move_values.specs.declared.turn.Next.TheVariants.{Again, Finished}
+use Rattle.aia_move_values.specs.declared.who.Who.{Who}
+use Rattle.aia_move_values.specs.Move.{Moving, width, MoveFits}
+use Rattle.aia_move_values.specs.Targets.{Aim, next_aim}
+use Rattle.aia_move_values.specs.PlanState.{PlanState, moving_of}
+use Rattle.aia_move_values.specs.Plan.{IsInPhase, MatchNext, StepsTo, StepsInPlace}
 
 pub none_still : (aim : Option Aim) (w u : World) (m : Moving) (next : Next PlanState) → StepsTo aim w m u next → m.who.passes.items ≡ [] → MatchNext next (λ p. (moving_of p).who.passes.items ≡ []) (λ o. ⊤)
 none_still None w u m (Again p) steps none = ap (λ (who : Who). who.passes.items) steps.then.same_who ∙ none

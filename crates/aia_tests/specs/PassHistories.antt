@@ -1,11 +1,11 @@
 -- What has happened as tests pass a source: a machine of one hart with one guest file and two wired
 -- sources, of which MSIs to guests may be made of the first, and a VM of one virtual hart.
 use Rattle.std.specs.Prelude.{ℕ, nat_eq, if◌then◌else◌, [], ◌∷◌}
-use Rattle.aia_moving.specs.Targets.{TargetMap}
+use Rattle.aia_move_values.specs.Targets.{TargetMap}
 use Rattle.aia_model.specs.declared.line.Line.TheVariants as lines
 use Rattle.aia_model.specs.Event.{History}
 use Rattle.aia_model.specs.Event.Event.{Accepted}
-use Rattle.aia_standing.specs.Example.{accepted, passable_lines}
+use Rattle.aia_hyp_values.specs.Example.{accepted, passable_lines}
 
 -- The machine is made, and the stores that make its first source passable are done.
 abbrev pub stored : History

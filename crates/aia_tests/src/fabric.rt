@@ -4,9 +4,9 @@ use crate::same;
 use aia_entry::{Entry, Route, is_mask};
 use aia_fabric::Fabric;
 use aia_file::Spot;
-use aia_home::{Vm, notice_hart_of, vcpus_in};
 use aia_regs::limits::{GUEST_FILES, HARTS, SLOTS, VCPUS, VM_VCPUS, VMS};
 use aia_regs::{FileReg, Op};
+use aia_vcpu::{Vm, notice_hart_of, vcpus_in};
 use std::alloc::{AllocError, Global};
 use std::test::Fail;
 

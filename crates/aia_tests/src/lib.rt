@@ -1,5 +1,5 @@
 //! The tests of the parts: each public call of a crate below `aia_replay`, with ample memory, but
-//! for those of wired sources, which `aia_wired_tests` calls, and those of texts, which
+//! for those of wired sources, which `aia_aplic_tests` calls, and those of texts, which
 //! `aia_text_tests` calls.
 #![tactic(auto)]
 

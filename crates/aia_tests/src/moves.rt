@@ -3,9 +3,9 @@
 
 ghost use Rattle.std.specs.Prelude.{◌≡◌, ◌<◌, false, [], IfSome, refl};
 ghost use Rattle.aia_word.specs.Sets.{has_bit};
-ghost use Rattle.aia_moving.specs.Move.{IsWho, MoveFits, width};
-ghost use Rattle.aia_moving.specs.PlanState.{moving_of};
-ghost use Rattle.aia_moving.specs.Plan.{IsInPhase};
+ghost use Rattle.aia_move_values.specs.Move.{IsWho, MoveFits, width};
+ghost use Rattle.aia_move_values.specs.PlanState.{moving_of};
+ghost use Rattle.aia_move_values.specs.Plan.{IsInPhase};
 ghost use Rattle.std.proofs.Common.{ap};
 ghost use Rattle.std.proofs.lemmas.Bool.{false≢true};
 
@@ -15,11 +15,11 @@ use crate::same;
 use aia_entry::{Entry, Route};
 use aia_fabric::{At, Fabric};
 use aia_file::Spot;
-use aia_home::Place;
 use aia_move::{KeptNumbers, Next, Plan, Targets, Who};
 use aia_pool::{FileLease, Pool};
 use aia_regs::Op;
 use aia_regs::limits::{GUEST_FILES, HARTS};
+use aia_vcpu::Place;
 use arrayvec::ArrayVec;
 use std::alloc::{AllocError, Global};
 use std::process::Abort;

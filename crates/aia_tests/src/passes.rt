@@ -2,8 +2,8 @@
 
 ghost use Rattle.std.specs.Prelude.{◌≡◌, true, IfOk};
 ghost use Rattle.std.specs.Int.{is_in_range};
-ghost use Rattle.aia_standing.specs.Stands.{CoreStands};
-ghost use Rattle.aia_moving.specs.Targets.{AimsOne};
+ghost use Rattle.aia_hyp_values.specs.Stands.{CoreStands};
+ghost use Rattle.aia_move_values.specs.Targets.{AimsOne};
 ghost use Rattle.aia_tests.specs.PassHistories.{made, one_ready};
 
 use crate::same;

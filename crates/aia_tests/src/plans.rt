@@ -1,7 +1,7 @@
 //! The accesses of plans, by their places.
 
 use crate::same;
-use aia_home::{Access, End, access_at, plan_steps};
+use aia_vcpu::{Access, End, access_at, plan_steps};
 use std::test::Fail;
 
 #[test]

@@ -2,9 +2,9 @@
 //! themselves, with a VM of two virtual harts.
 
 ghost use Rattle.std.specs.Prelude.{◌≡◌, [], IfSome};
-ghost use Rattle.aia_moving.specs.Move.{IsWho, MoveFits, width};
-ghost use Rattle.aia_moving.specs.PlanState.{moving_of};
-ghost use Rattle.aia_moving.specs.Plan.{IsInPhase};
+ghost use Rattle.aia_move_values.specs.Move.{IsWho, MoveFits, width};
+ghost use Rattle.aia_move_values.specs.PlanState.{moving_of};
+ghost use Rattle.aia_move_values.specs.Plan.{IsInPhase};
 
 use crate::fabric::{pending, stores};
 use crate::looks::holds;

@@ -2,7 +2,7 @@
 
 ghost use Rattle.std.specs.Prelude.{◌≡◌, false, []};
 ghost use Rattle.aia_word.specs.Sets.{has_bit};
-ghost use Rattle.aia_moving.specs.Move.{IsWho};
+ghost use Rattle.aia_move_values.specs.Move.{IsWho};
 
 use crate::fabric::{pending, stores};
 use crate::looks::holds;

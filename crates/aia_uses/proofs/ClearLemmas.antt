@@ -8,7 +8,7 @@ use Rattle.aia_regs.specs.FileRegisters.{register_of, eip_said}
 use Rattle.aia_regs.specs.BitUpdate.{settle}
 use Rattle.aia_regs.specs.BitUpdate.BitUpdate.{Clear}
 use Rattle.aia_file.specs.InterruptFile.{top_of}
-use Rattle.aia_home.specs.Vms.{Vcpu, vcpu}
+use Rattle.aia_vcpu.specs.Vms.{Vcpu, vcpu}
 use Rattle.aia_model.specs.declared.line.Line.{Line}
 use Rattle.aia_model.specs.declared.line.Line.TheVariants.{GuestCsr}
 use Rattle.aia_model.specs.Event.{History, greatest_identity_of}

@@ -7,11 +7,11 @@ use Rattle.aia_word.specs.Top.{lets_through}
 use Rattle.aia_regs.specs.declared.access.Csr.TheVariants.{Reg, Topei}
 use Rattle.aia_regs.specs.declared.access.Op.TheVariants as ops
 use Rattle.aia_file.specs.InterruptFile.{top_of}
-use Rattle.aia_home.specs.Vms.{vcpu, is_vcpu}
+use Rattle.aia_vcpu.specs.Vms.{vcpu, is_vcpu}
 use Rattle.aia_regs.specs.declared.address_map.TheConstants.{PAGE}
 use Rattle.aia_regs.specs.Request.{requested}
 use Rattle.aia_regs.specs.BitUpdate.{names}
-use Rattle.aia_home.specs.Routes.{is_at_fence}
+use Rattle.aia_vcpu.specs.Routes.{is_at_fence}
 use Rattle.std.specs.List.{list_any}
 use Rattle.aia_model.specs.Event.{greatest_identity_of}
 use Rattle.aia_model.specs.Event.Event.{Accepted}

@@ -17,9 +17,9 @@ use Rattle.aia_model.specs.Sent.{all_senders}
 use Rattle.aia_model.specs.Answer.{answer, after}
 use Rattle.aia_file.specs.InterruptFile.{InterruptFile}
 use Rattle.aia_major.specs.VsMajor.{VsMajorState}
-use Rattle.aia_home.specs.Vms.{Vcpu, vcpu}
-use Rattle.aia_home.specs.declared.rest.Rest.TheVariants.{Parked}
-use Rattle.aia_home.specs.Home.Home.{InMemory}
+use Rattle.aia_vcpu.specs.Vms.{Vcpu, vcpu}
+use Rattle.aia_vcpu.specs.declared.rest.Rest.TheVariants.{Parked}
+use Rattle.aia_vcpu.specs.Home.Home.{InMemory}
 use Rattle.aia_model.specs.declared.line.Line.TheVariants.{Save, LoadPart}
 use Rattle.aia_model.specs.declared.part.Part.TheVariants as parts
 use Rattle.aia_model.specs.GuestFile.{guest_select, guest_file}

@@ -3,8 +3,8 @@ use Rattle.std.proofs.Common.{◌≡◌, ℕ, true, false, not, [], ◌∷◌, O
 use Rattle.std.proofs.lemmas.Bool.{and_parts, and_from, or_cases, or_left, or_right, not-true, false≢true, false_from_ne_true}
 use Rattle.aia_regs.specs.BitUpdate.{BitUpdate}
 use Rattle.aia_regs.specs.BitUpdate.BitUpdate.{Ask, Clear, Nothing}
-use Rattle.aia_home.specs.Vms.{Vcpu}
-use Rattle.aia_home.proofs.VmLemmas.{same_vcpu}
+use Rattle.aia_vcpu.specs.Vms.{Vcpu}
+use Rattle.aia_vcpu.proofs.VmLemmas.{same_vcpu}
 use Rattle.aia_model.specs.Event.{Event, History}
 use Rattle.aia_model.specs.Notice.{noticed}
 use Rattle.aia_model.specs.FileAfter.{pending_said}

@@ -2,8 +2,8 @@
 -- host was told since, told anew without them.
 use Rattle.std.specs.Prelude.{◌≡◌, ◌⊎◌, ℕ, true, [], ◌∷◌}
 use Rattle.aia_regs.specs.BitUpdate.BitUpdate.{Ask}
-use Rattle.aia_home.specs.Vms.{Vcpu}
-use Rattle.aia_home.specs.Home.{is_resident}
+use Rattle.aia_vcpu.specs.Vms.{Vcpu}
+use Rattle.aia_vcpu.specs.Home.{is_resident}
 use Rattle.aia_model.specs.Move.Move.{Leaves}
 use Rattle.aia_model.specs.Event.{Event, History}
 use Rattle.aia_model.specs.Event.Event.{Began}

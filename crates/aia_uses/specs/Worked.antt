@@ -2,10 +2,10 @@
 use Rattle.std.specs.Prelude.{ℕ, zero, suc, [], ◌∷◌, Some}
 use Rattle.aia_regs.specs.declared.access.Csr.TheVariants.{Select, Reg}
 use Rattle.aia_regs.specs.declared.access.Op.TheVariants.{Write}
-use Rattle.aia_home.specs.declared.end.End.TheVariants.{File, Memory}
-use Rattle.aia_home.specs.declared.access.Access.TheVariants.{Fence}
-use Rattle.aia_home.specs.Plans.{plan_step, plan_steps}
-use Rattle.aia_home.specs.Vms.{vcpu}
+use Rattle.aia_vcpu.specs.declared.end.End.TheVariants.{File, Memory}
+use Rattle.aia_vcpu.specs.declared.access.Access.TheVariants.{Fence}
+use Rattle.aia_vcpu.specs.Plans.{plan_step, plan_steps}
+use Rattle.aia_vcpu.specs.Vms.{vcpu}
 use Rattle.aia_model.specs.declared.line.Line.TheVariants as lines
 use Rattle.aia_model.specs.declared.msi.Msi.{Msi}
 use Rattle.aia_model.specs.Move.Move.{Arrives, Leaves}

@@ -7,7 +7,7 @@ ghost use Rattle.aia_regs.specs.declared.access.Op.{Op};
 ghost use Rattle.aia_regs.specs.declared.access.Op.TheVariants.{Write};
 ghost use Rattle.aia_regs.specs.Operations.{is_writing};
 ghost use Rattle.aia_file.specs.InterruptFile.{InterruptFile};
-ghost use Rattle.aia_home.specs.Vms.{Vcpu, vcpu};
+ghost use Rattle.aia_vcpu.specs.Vms.{Vcpu, vcpu};
 ghost use Rattle.aia_model.specs.declared.line.Line.TheVariants.{GuestCsr};
 ghost use Rattle.aia_model.specs.declared.answer.Answer.TheVariants.{Wide};
 ghost use Rattle.aia_model.specs.Event.{History};

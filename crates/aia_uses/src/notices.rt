@@ -3,7 +3,7 @@
 ghost use Rattle.std.specs.Prelude.{◌≡◌, ℕ, ◌%◌, ◌&&◌, true, Some};
 ghost use Rattle.aia_regs.specs.declared.address_map.TheConstants.{PAGE};
 ghost use Rattle.aia_regs.specs.Request.{requested};
-ghost use Rattle.aia_home.specs.Vms.{Vcpu, vcpu};
+ghost use Rattle.aia_vcpu.specs.Vms.{Vcpu, vcpu};
 ghost use Rattle.aia_model.specs.declared.line.Line.TheVariants as lines;
 ghost use Rattle.aia_model.specs.declared.msi.Msi.{Msi};
 ghost use Rattle.aia_model.specs.declared.part.Part.{Part};

@@ -13,7 +13,7 @@ ghost use Rattle.aia_regs.specs.FileRegisters.{register_of, eip_said};
 ghost use Rattle.aia_regs.specs.Request.{requested};
 ghost use Rattle.aia_regs.specs.BitUpdate.BitUpdate.{Ask, Clear};
 ghost use Rattle.aia_file.specs.InterruptFile.{top_of};
-ghost use Rattle.aia_home.specs.Vms.{Vcpu, vcpu, is_vcpu};
+ghost use Rattle.aia_vcpu.specs.Vms.{Vcpu, vcpu, is_vcpu};
 ghost use Rattle.aia_model.specs.declared.line.Line.{Line};
 ghost use Rattle.aia_model.specs.declared.line.Line.TheVariants as lines;
 ghost use Rattle.aia_model.specs.declared.msi.Msi.{Msi};

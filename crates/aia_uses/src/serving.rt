@@ -9,7 +9,7 @@ ghost use Rattle.aia_regs.specs.declared.access.Op.TheVariants.{Read, Write};
 ghost use Rattle.aia_regs.specs.FileRegisters.{register_of};
 ghost use Rattle.aia_csr.specs.CsrAccess.{IsFileCsr};
 ghost use Rattle.aia_file.specs.InterruptFile.{top_of, register_value};
-ghost use Rattle.aia_home.specs.Vms.{Vcpu, vcpu};
+ghost use Rattle.aia_vcpu.specs.Vms.{Vcpu, vcpu};
 ghost use Rattle.aia_model.specs.declared.answer.Answer.TheVariants.{Wide};
 ghost use Rattle.aia_model.specs.declared.line.Line.TheVariants.{GuestCsr, Enter, Exit};
 ghost use Rattle.aia_model.specs.Event.{History, has_machine};

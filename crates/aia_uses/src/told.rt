@@ -2,9 +2,9 @@
 
 ghost use Rattle.std.specs.Prelude.{◌≡◌, ℕ, true, Some};
 ghost use Rattle.aia_regs.specs.BitUpdate.BitUpdate.{Ask, Clear};
-ghost use Rattle.aia_home.specs.Vms.{Vcpu, vcpu, notice_hart, notice_identity};
-ghost use Rattle.aia_home.specs.declared.rest.Rest.TheVariants.{Parked};
-ghost use Rattle.aia_home.specs.Home.Home.{InMemory};
+ghost use Rattle.aia_vcpu.specs.Vms.{Vcpu, vcpu, notice_hart, notice_identity};
+ghost use Rattle.aia_vcpu.specs.declared.rest.Rest.TheVariants.{Parked};
+ghost use Rattle.aia_vcpu.specs.Home.Home.{InMemory};
 ghost use Rattle.aia_model.specs.Event.{History};
 ghost use Rattle.aia_model.specs.Vms.{vms_of};
 ghost use Rattle.aia_model.specs.HomeOf.{home};

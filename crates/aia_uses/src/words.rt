@@ -2,7 +2,7 @@
 
 ghost use Rattle.std.specs.Prelude.{◌≡◌, ℕ, true, false, [], ◌∷◌};
 ghost use Rattle.aia_regs.specs.BitUpdate.BitUpdate.{Ask, Clear, Nothing};
-ghost use Rattle.aia_home.specs.Vms.{Vcpu, vcpu};
+ghost use Rattle.aia_vcpu.specs.Vms.{Vcpu, vcpu};
 ghost use Rattle.aia_model.specs.Event.{Event, History};
 ghost use Rattle.aia_model.specs.Histories.{IsHistory};
 ghost use Rattle.aia_model.specs.FileAfter.{pending_said, enabled_said};

@@ -3,20 +3,20 @@ use Rattle.std.proofs.Common.{◌≡◌, ℕ, zero, suc, ◌<◌, Bool, true, fa
 use Rattle.std.specs.Prelude.{slice_get, option_map, replicate}
 use Rattle.std.proofs.lemmas.List.{length-replicate, get_or-replicate, length-map}
 use Rattle.std.proofs.lemmas.Option.{slice_get-get_or, slice_get-map}
-use Rattle.plans_machine.specs.declared.step.Step.{Step}
-use Rattle.plans_machine.specs.declared.setting.Kind.{Kind}
-use Rattle.plans_machine.specs.declared.setting.Kind.TheVariants.{Routed}
-use Rattle.plans_machine.specs.declared.step.Bank.TheVariants.{Pending, Enabled}
-use Rattle.plans_machine.specs.Setting.{Setting, setting_of, all_below, any_below}
-use Rattle.plans_machine.specs.Rules.{Done, frees, writes_notice, is_noticed, is_turned, is_reached, old_holds, hand_holds, is_moved, is_reported}
+use Rattle.plans_rules.specs.declared.step.Step.{Step}
+use Rattle.plans_rules.specs.declared.setting.Kind.{Kind}
+use Rattle.plans_rules.specs.declared.setting.Kind.TheVariants.{Routed}
+use Rattle.plans_rules.specs.declared.step.Bank.TheVariants.{Pending, Enabled}
+use Rattle.plans_rules.specs.Setting.{Setting, setting_of, all_below, any_below}
+use Rattle.plans_rules.specs.Rules.{Done, frees, writes_notice, is_noticed, is_turned, is_reached, old_holds, hand_holds, is_moved, is_reported}
 use Rattle.plans_judge.specs.declared.table.Table.{Table}
 use Rattle.plans_judge.specs.declared.lead.Lead.{Lead}
 use Rattle.plans_judge.specs.declared.word.Word.{Word}
-use Rattle.plans_machine.specs.declared.step.Number.{Number}
-use Rattle.plans_machine.specs.declared.step.Number.TheVariants.{Threshold, Delivery}
-use Rattle.plans_machine.specs.declared.step.Place.TheVariants.{Old, New}
-use Rattle.plans_machine.specs.declared.step.Step.TheVariants.{Zero, ZeroNumber, TakeNumber, PutNumber}
-use Rattle.plans_machine.specs.declared.setting.Terms.{Terms}
+use Rattle.plans_rules.specs.declared.step.Number.{Number}
+use Rattle.plans_rules.specs.declared.step.Number.TheVariants.{Threshold, Delivery}
+use Rattle.plans_rules.specs.declared.step.Place.TheVariants.{Old, New}
+use Rattle.plans_rules.specs.declared.step.Step.TheVariants.{Zero, ZeroNumber, TakeNumber, PutNumber}
+use Rattle.plans_rules.specs.declared.setting.Terms.{Terms}
 use Rattle.plans_judge.specs.declared.word.World.{World}
 use Rattle.plans_judge.specs.Table.{AllAfter, Stands, lead_first, lead_after, lead_at, is_turned_at, is_taken_at, is_kept_at, is_reported_at, word_first, word_after, word_at, standing_first, standing_after, standing_at, world_at}
 

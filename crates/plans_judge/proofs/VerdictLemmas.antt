@@ -5,17 +5,17 @@ use Rattle.std.specs.List.{All, AllByRecursion}
 use Rattle.std.proofs.lemmas.Bool.{false≢true}
 use Rattle.std.proofs.lemmas.List.{drop_more, drop_all}
 use Rattle.std.proofs.lemmas.Option.{slice_get-get_or, same_Some}
-use Rattle.plans_machine.specs.declared.rule.Rule.{Rule}
-use Rattle.plans_machine.specs.declared.rule.Rule.TheVariants.{Notice}
-use Rattle.plans_machine.specs.declared.step.Step.{Step}
-use Rattle.plans_machine.specs.Setting.{Setting, setting_of}
-use Rattle.plans_machine.specs.declared.setting.Kind.{Kind}
-use Rattle.plans_machine.specs.declared.setting.Terms.{Terms}
-use Rattle.plans_machine.specs.Rules.{Done, lets, lets_end, lets_rest, moves, accepts}
-use Rattle.plans_machine.specs.Safe.{IsInFile, IsSafe, IsTold}
-use Rattle.plans_machine.proofs.BoolLaws.{and_of, and_left, and_false_left, and_false_right}
-use Rattle.plans_machine.proofs.Safety.{IsOfSafety}
-use Rattle.plans_machine.proofs.RulesAreSafe.{five_kept, rules_are_safe, only_these, rules_are_told}
+use Rattle.plans_rules.specs.declared.rule.Rule.{Rule}
+use Rattle.plans_rules.specs.declared.rule.Rule.TheVariants.{Notice}
+use Rattle.plans_rules.specs.declared.step.Step.{Step}
+use Rattle.plans_rules.specs.Setting.{Setting, setting_of}
+use Rattle.plans_rules.specs.declared.setting.Kind.{Kind}
+use Rattle.plans_rules.specs.declared.setting.Terms.{Terms}
+use Rattle.plans_rules.specs.Rules.{Done, lets, lets_end, lets_rest, moves, accepts}
+use Rattle.plans_rules.specs.Safe.{IsInFile, IsSafe, IsTold}
+use Rattle.plans_rules.proofs.BoolLaws.{and_of, and_left, and_false_left, and_false_right}
+use Rattle.plans_rules.proofs.Safety.{IsOfSafety}
+use Rattle.plans_rules.proofs.RulesAreSafe.{five_kept, rules_are_safe, only_these, rules_are_told}
 use Rattle.plans_judge.specs.declared.judging.Part.TheVariants.{Safety, Telling}
 use Rattle.plans_judge.specs.declared.judging.Break.{Break}
 use Rattle.plans_judge.specs.declared.verdict.Verdict.{Verdict}

@@ -2,19 +2,19 @@
 -- as the rules do. Profile.
 use Rattle.std.specs.Prelude.{◌≡◌, ℕ, ◌<◌, length, Bool, true, false, not, ◌&&◌, ◌||◌, List, Some, None, slice_get, option_map}
 use Rattle.std.specs.List.{list_any}
-use Rattle.plans_machine.specs.declared.step.Bank.{Bank}
-use Rattle.plans_machine.specs.declared.step.Bank.TheVariants.{Pending, Enabled}
-use Rattle.plans_machine.specs.declared.step.Number.{Number}
-use Rattle.plans_machine.specs.declared.step.Number.TheVariants.{Threshold, Delivery}
-use Rattle.plans_machine.specs.declared.step.Place.TheVariants.{Old, New}
-use Rattle.plans_machine.specs.declared.step.Step.{Step}
-use Rattle.plans_machine.specs.declared.step.Step.TheVariants.{ZeroNumber, TakeNumber, PutNumber}
-use Rattle.plans_machine.specs.declared.setting.Kind.{Kind}
-use Rattle.plans_machine.specs.declared.setting.Kind.TheVariants.{Routed, Switched}
-use Rattle.plans_machine.specs.declared.setting.Spot.{Spot}
-use Rattle.plans_machine.specs.declared.setting.Spot.TheVariants.{InOld, InHand, InNew}
-use Rattle.plans_machine.specs.Setting.{Setting, setting_of, same_number, same_spot}
-use Rattle.plans_machine.specs.Rules.{turns, fences, switches, takes, fills, blanks, frees, looks, posts, tells, Done, is_turned, is_fenced, old_holds, hand_holds, is_filled, is_blank, has_number, are_heeded, is_noticed, all_led, is_looked, is_reported}
+use Rattle.plans_rules.specs.declared.step.Bank.{Bank}
+use Rattle.plans_rules.specs.declared.step.Bank.TheVariants.{Pending, Enabled}
+use Rattle.plans_rules.specs.declared.step.Number.{Number}
+use Rattle.plans_rules.specs.declared.step.Number.TheVariants.{Threshold, Delivery}
+use Rattle.plans_rules.specs.declared.step.Place.TheVariants.{Old, New}
+use Rattle.plans_rules.specs.declared.step.Step.{Step}
+use Rattle.plans_rules.specs.declared.step.Step.TheVariants.{ZeroNumber, TakeNumber, PutNumber}
+use Rattle.plans_rules.specs.declared.setting.Kind.{Kind}
+use Rattle.plans_rules.specs.declared.setting.Kind.TheVariants.{Routed, Switched}
+use Rattle.plans_rules.specs.declared.setting.Spot.{Spot}
+use Rattle.plans_rules.specs.declared.setting.Spot.TheVariants.{InOld, InHand, InNew}
+use Rattle.plans_rules.specs.Setting.{Setting, setting_of, same_number, same_spot}
+use Rattle.plans_rules.specs.Rules.{turns, fences, switches, takes, fills, blanks, frees, looks, posts, tells, Done, is_turned, is_fenced, old_holds, hand_holds, is_filled, is_blank, has_number, are_heeded, is_noticed, all_led, is_looked, is_reported}
 use Rattle.plans_judge.specs.declared.lead.Lead.{Lead}
 use Rattle.plans_judge.specs.declared.standing.Standing.{Standing}
 use Rattle.plans_judge.specs.declared.table.Table.{Table}

@@ -1,10 +1,10 @@
 -- The verdict on a plan. Profile.
 use Rattle.std.specs.Prelude.{ℕ, zero, suc, true, false, List, [], ◌∷◌, Option, Some, None, slice_get, option_map}
-use Rattle.plans_machine.specs.declared.rule.Rule.{Rule}
-use Rattle.plans_machine.specs.declared.rule.Rule.TheVariants.{Routes, Words, Blank, Numbers, Freeing, Notice}
-use Rattle.plans_machine.specs.declared.step.Step.{Step}
-use Rattle.plans_machine.specs.Setting.{Setting}
-use Rattle.plans_machine.specs.Rules.{Done, lets, lets_end}
+use Rattle.plans_rules.specs.declared.rule.Rule.{Rule}
+use Rattle.plans_rules.specs.declared.rule.Rule.TheVariants.{Routes, Words, Blank, Numbers, Freeing, Notice}
+use Rattle.plans_rules.specs.declared.step.Step.{Step}
+use Rattle.plans_rules.specs.Setting.{Setting}
+use Rattle.plans_rules.specs.Rules.{Done, lets, lets_end}
 use Rattle.plans_judge.specs.declared.judging.Part.{Part}
 use Rattle.plans_judge.specs.declared.judging.Part.TheVariants.{Safety, Telling}
 use Rattle.plans_judge.specs.declared.judging.Break.{Break}

@@ -2,15 +2,15 @@
 
 ghost use Rattle.std.specs.Prelude.{◌≡◌, ◌≢◌, ℕ, true, List, [], length, IfOk, Ok};
 ghost use Rattle.std.specs.List.{All};
-ghost use Rattle.plans_machine.specs.Setting.{setting_of};
-ghost use Rattle.plans_machine.specs.Safe.{IsInFile, IsSafe, IsTold};
-ghost use Rattle.plans_machine.specs.Rules.{Done};
+ghost use Rattle.plans_rules.specs.Setting.{setting_of};
+ghost use Rattle.plans_rules.specs.Safe.{IsInFile, IsSafe, IsTold};
+ghost use Rattle.plans_rules.specs.Rules.{Done};
 ghost use Rattle.plans_judge.specs.Table.{Stands};
 ghost use Rattle.plans_judge.specs.Verdicts.{break_in, first_break, refused_by, rules_of, verdict_on};
 
 use crate::table::Table;
 use crate::verdict::Verdict;
-use plans_machine::{Kind, Rule, Step, Terms};
+use plans_rules::{Kind, Rule, Step, Terms};
 use std::alloc::{AllocError, Global};
 
 /// A part of the rules.

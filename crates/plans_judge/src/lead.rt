@@ -1,11 +1,11 @@
 //! Where the stores of a producer are led.
 
 ghost use Rattle.std.specs.Prelude.{◌≡◌, ◌||◌, length};
-ghost use Rattle.plans_machine.specs.Rules as rules;
-ghost use Rattle.plans_machine.specs.Setting.{all_below, any_below};
+ghost use Rattle.plans_rules.specs.Rules as rules;
+ghost use Rattle.plans_rules.specs.Setting.{all_below, any_below};
 ghost use Rattle.plans_judge.specs.Table.{AllAfter, lead_after, lead_first, is_led_at, is_turned_at, led_by};
 
-use plans_machine::{Kind, Step};
+use plans_rules::{Kind, Step};
 
 /// What the steps so far have made of a producer's route.
 #[derive(Clone, Copy)]

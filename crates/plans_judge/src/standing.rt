@@ -1,7 +1,7 @@
 ghost use Rattle.std.specs.Prelude.{◌≡◌};
 ghost use Rattle.plans_judge.specs.Table.{standing_after, standing_first, standing_in};
 
-use plans_machine::{Number, Place, Spot, Step};
+use plans_rules::{Number, Place, Spot, Step};
 
 /// In which spots a number stands as it was at the start.
 #[derive(Clone, Copy)]

@@ -1,20 +1,20 @@
 //! What is known of a plan after some of its steps, so that each step is judged in one look.
 
 ghost use Rattle.std.specs.Prelude.{◌≡◌, ◌<◌, ◌&&◌, ℕ, length, List, [], ◌∷◌, map, replicate, IfOk};
-ghost use Rattle.plans_machine.specs.Rules as rules;
-ghost use Rattle.plans_machine.specs.Rules.{Done};
-ghost use Rattle.plans_machine.specs.Safe.{IsInFile};
-ghost use Rattle.plans_machine.specs.Setting.{setting_of};
+ghost use Rattle.plans_rules.specs.Rules as rules;
+ghost use Rattle.plans_rules.specs.Rules.{Done};
+ghost use Rattle.plans_rules.specs.Safe.{IsInFile};
+ghost use Rattle.plans_rules.specs.Setting.{setting_of};
 ghost use Rattle.plans_judge.specs.Table.{Stands, flags_at, lead_first, word_first, world_at};
 ghost use Rattle.plans_judge.specs.Verdicts.{refusing, refusing_end, rules_of};
-ghost use Rattle.plans_machine.specs.declared.rule.Rule.TheVariants as rule_;
-ghost use Rattle.plans_machine.specs.declared.setting.Spot.TheVariants as spot;
+ghost use Rattle.plans_rules.specs.declared.rule.Rule.TheVariants as rule_;
+ghost use Rattle.plans_rules.specs.declared.setting.Spot.TheVariants as spot;
 
 use crate::judging::Part;
 use crate::lead::{Lead, all_led, any_turned, lead_all};
 use crate::standing::Standing;
 use crate::word::{Flags, Word, World, all_kept, all_reported, all_taken, step_all};
-use plans_machine::{Bank, Kind, Number, Place, Rule, Spot, Step, Terms};
+use plans_rules::{Bank, Kind, Number, Place, Rule, Spot, Step, Terms};
 use std::alloc::{AllocError, Global};
 
 /// What the steps so far have reached.

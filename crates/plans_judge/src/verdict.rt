@@ -1,4 +1,4 @@
-use plans_machine::Rule;
+use plans_rules::Rule;
 
 /// What is found of a plan.
 #[derive(Clone, Copy, Debug, PartialEq, Eq)]

@@ -1,11 +1,11 @@
 //! What is known of a word of 64 identities.
 
 ghost use Rattle.std.specs.Prelude.{◌≡◌, length};
-ghost use Rattle.plans_machine.specs.Rules as rules;
-ghost use Rattle.plans_machine.specs.Setting.{all_below};
+ghost use Rattle.plans_rules.specs.Rules as rules;
+ghost use Rattle.plans_rules.specs.Setting.{all_below};
 ghost use Rattle.plans_judge.specs.Table.{AllAfter, flags_after, flags_moved, is_kept_at, is_reported_at, is_taken_at, looked_after, reported_after, word_after, word_first, word_settled};
 
-use plans_machine::{Bank, Place, Step};
+use plans_rules::{Bank, Place, Step};
 
 /// What the steps so far have made of a word of one set.
 #[derive(Clone, Copy)]

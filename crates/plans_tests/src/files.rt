@@ -1,7 +1,7 @@
 //! What is answered of files of plans, by the rows that are laws too.
 
+use plans_counterexamples::{losing_run, untold_run};
 use plans_judge::{Kind, Rule, Spot, Step, Terms, Verdict, judge};
-use plans_run::{losing_run, untold_run};
 use plans_text::{Line, Outcome, Reading, answers, parse_line};
 use std::alloc::{AllocError, Global};
 use std::test::Fail;

@@ -2,32 +2,32 @@
 -- of a refused one a line about a run. Profile.
 use Rattle.std.specs.Prelude.{ℕ, ◌+◌, ◌-◌, Bool, true, false, ◌&&◌, nat_eq, nat_lt, nat_le, if◌then◌else◌, List, [], ◌∷◌, ◌++◌, length, map, Option, Some, None, codes, decimal, slice_get}
 use Rattle.std.specs.List.{All, onto_first}
-use Rattle.plans_machine.specs.declared.setting.Kind.{Kind}
-use Rattle.plans_machine.specs.declared.setting.Spot.{Spot}
-use Rattle.plans_machine.specs.declared.setting.Spot.TheVariants.{InOld, InHand, InNew}
-use Rattle.plans_machine.specs.declared.setting.Terms.{Terms}
-use Rattle.plans_machine.specs.declared.rule.Rule.{Rule}
-use Rattle.plans_machine.specs.declared.rule.Rule.TheVariants as rules
-use Rattle.plans_machine.specs.declared.step.Step.{Step}
-use Rattle.plans_machine.specs.declared.step.Step.TheVariants as steps
-use Rattle.plans_machine.specs.Setting.{setting_of}
-use Rattle.plans_machine.specs.Safe.{IsInFile}
+use Rattle.plans_rules.specs.declared.setting.Kind.{Kind}
+use Rattle.plans_rules.specs.declared.setting.Spot.{Spot}
+use Rattle.plans_rules.specs.declared.setting.Spot.TheVariants.{InOld, InHand, InNew}
+use Rattle.plans_rules.specs.declared.setting.Terms.{Terms}
+use Rattle.plans_rules.specs.declared.rule.Rule.{Rule}
+use Rattle.plans_rules.specs.declared.rule.Rule.TheVariants as rules
+use Rattle.plans_rules.specs.declared.step.Step.{Step}
+use Rattle.plans_rules.specs.declared.step.Step.TheVariants as steps
+use Rattle.plans_rules.specs.Setting.{setting_of}
+use Rattle.plans_rules.specs.Safe.{IsInFile}
 use Rattle.plans_judge.specs.declared.verdict.Verdict.{Verdict}
 use Rattle.plans_judge.specs.declared.verdict.Verdict.TheVariants.{Accepted, Refused}
 use Rattle.plans_judge.specs.Verdicts.{verdict_on}
-use Rattle.plans_machine.specs.declared.step.Bank.{Bank}
-use Rattle.plans_machine.specs.declared.step.Bank.TheVariants.{Pending, Enabled}
-use Rattle.plans_run.specs.declared.trace.Begin.{Begin}
-use Rattle.plans_run.specs.declared.trace.Begin.TheVariants as begins
-use Rattle.plans_run.specs.declared.trace.Route.{Route}
-use Rattle.plans_run.specs.declared.trace.Route.TheVariants.{Written, InForce}
-use Rattle.plans_run.specs.declared.run.Extra.{Extra}
-use Rattle.plans_run.specs.declared.run.Extra.TheVariants as extras
-use Rattle.plans_run.specs.declared.run.Run.{Run}
-use Rattle.plans_run.specs.declared.untold.Store.{Store}
-use Rattle.plans_run.specs.declared.untold.UntoldRun.{UntoldRun}
-use Rattle.plans_run.specs.Search.{losing_run_of}
-use Rattle.plans_run.specs.UntoldSearch.{untold_run_of}
+use Rattle.plans_rules.specs.declared.step.Bank.{Bank}
+use Rattle.plans_rules.specs.declared.step.Bank.TheVariants.{Pending, Enabled}
+use Rattle.plans_counterexamples.specs.declared.trace.Begin.{Begin}
+use Rattle.plans_counterexamples.specs.declared.trace.Begin.TheVariants as begins
+use Rattle.plans_counterexamples.specs.declared.trace.Route.{Route}
+use Rattle.plans_counterexamples.specs.declared.trace.Route.TheVariants.{Written, InForce}
+use Rattle.plans_counterexamples.specs.declared.run.Extra.{Extra}
+use Rattle.plans_counterexamples.specs.declared.run.Extra.TheVariants as extras
+use Rattle.plans_counterexamples.specs.declared.run.Run.{Run}
+use Rattle.plans_counterexamples.specs.declared.untold.Store.{Store}
+use Rattle.plans_counterexamples.specs.declared.untold.UntoldRun.{UntoldRun}
+use Rattle.plans_counterexamples.specs.Search.{losing_run_of}
+use Rattle.plans_counterexamples.specs.UntoldSearch.{untold_run_of}
 use Rattle.plans_text.specs.declared.shown.Shown.{Shown}
 use Rattle.plans_text.specs.declared.shown.Shown.TheVariants as shows
 use Rattle.plans_text.specs.declared.limits.TheConstants.{WORDS, PRODUCERS, STEPS}

@@ -2,19 +2,19 @@
 use Rattle.std.specs.Prelude.{ℕ, ◌+◌, ◌-◌, ◌*◌, Bool, not, nat_eq, nat_le, if◌then◌else◌, List, [], ◌∷◌, length, take, drop, Option, Some, None, codes, position}
 use Rattle.std.specs.Int.{is_in_range}
 use Rattle.std.specs.Str.{bytes_eq}
-use Rattle.plans_machine.specs.declared.step.Place.{Place}
-use Rattle.plans_machine.specs.declared.step.Place.TheVariants.{Old, New}
-use Rattle.plans_machine.specs.declared.step.Bank.{Bank}
-use Rattle.plans_machine.specs.declared.step.Bank.TheVariants.{Pending, Enabled}
-use Rattle.plans_machine.specs.declared.step.Number.{Number}
-use Rattle.plans_machine.specs.declared.step.Number.TheVariants.{Threshold, Delivery}
-use Rattle.plans_machine.specs.declared.step.Step.{Step}
-use Rattle.plans_machine.specs.declared.step.Step.TheVariants as steps
-use Rattle.plans_machine.specs.declared.setting.Kind.{Kind}
-use Rattle.plans_machine.specs.declared.setting.Kind.TheVariants.{Routed, Switched}
-use Rattle.plans_machine.specs.declared.setting.Spot.{Spot}
-use Rattle.plans_machine.specs.declared.setting.Spot.TheVariants.{InOld, InHand, InNew}
-use Rattle.plans_run.specs.Search.{or_else}
+use Rattle.plans_rules.specs.declared.step.Place.{Place}
+use Rattle.plans_rules.specs.declared.step.Place.TheVariants.{Old, New}
+use Rattle.plans_rules.specs.declared.step.Bank.{Bank}
+use Rattle.plans_rules.specs.declared.step.Bank.TheVariants.{Pending, Enabled}
+use Rattle.plans_rules.specs.declared.step.Number.{Number}
+use Rattle.plans_rules.specs.declared.step.Number.TheVariants.{Threshold, Delivery}
+use Rattle.plans_rules.specs.declared.step.Step.{Step}
+use Rattle.plans_rules.specs.declared.step.Step.TheVariants as steps
+use Rattle.plans_rules.specs.declared.setting.Kind.{Kind}
+use Rattle.plans_rules.specs.declared.setting.Kind.TheVariants.{Routed, Switched}
+use Rattle.plans_rules.specs.declared.setting.Spot.{Spot}
+use Rattle.plans_rules.specs.declared.setting.Spot.TheVariants.{InOld, InHand, InNew}
+use Rattle.plans_counterexamples.specs.Search.{or_else}
 use Rattle.plans_text.specs.declared.limits.TheConstants.{LINE_BYTES}
 use Rattle.plans_text.specs.declared.line.Line.{Line}
 use Rattle.plans_text.specs.declared.line.Line.TheVariants as lines

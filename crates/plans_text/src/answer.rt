@@ -1,7 +1,7 @@
 //! What is answered of a plan.
 
 ghost use Rattle.std.specs.Prelude.{◌≡◌, ◌++◌, Some, OnOk, map, decimal, slice_get};
-ghost use Rattle.plans_run.specs.declared.run.Extra.TheVariants as extras;
+ghost use Rattle.plans_counterexamples.specs.declared.run.Extra.TheVariants as extras;
 ghost use Rattle.plans_text.specs.PlanFile as file;
 ghost use Rattle.plans_text.specs.PlanFile.{place_of};
 
@@ -9,8 +9,8 @@ use crate::draft::Mark;
 use crate::shown::Shown;
 use crate::untold::push_untold;
 use itoa::Buffer;
+use plans_counterexamples::{Begin, Extra, Route, Run};
 use plans_judge::{Bank, Rule, Verdict};
-use plans_run::{Begin, Extra, Route, Run};
 use std::alloc::AllocError;
 
 /// Gives the word of a rule.

@@ -1,4 +1,4 @@
-use plans_machine::{Bank, Kind, Number, Spot, Step};
+use plans_rules::{Bank, Kind, Number, Spot, Step};
 
 /// What a line of a plan file says.
 #[derive(Clone, Copy, Debug, PartialEq, Eq)]

@@ -10,7 +10,7 @@ use crate::words::{
     at_end, bank_named, before_comment, kind_named, next_word, number_named, numeral_at,
     place_named, spot_named,
 };
-use plans_machine::{Place, Step};
+use plans_rules::{Place, Step};
 
 /// Reads a word of a set: its set and its number. `None`: it is none.
 #[tactic(auto, unfolding(crate::specs::Reading::word_at))]

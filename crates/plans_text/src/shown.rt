@@ -3,8 +3,8 @@
 ghost use Rattle.std.specs.Prelude.{◌≡◌};
 ghost use Rattle.plans_text.specs.PlanFile as file;
 
+use plans_counterexamples::{Run, UntoldRun, losing_run, untold_run};
 use plans_judge::{Kind, Rule, Step, Terms, Verdict};
-use plans_run::{Run, UntoldRun, losing_run, untold_run};
 
 /// What is shown of a plan beside its verdict.
 #[derive(Clone, Copy)]

@@ -6,8 +6,8 @@ ghost use Rattle.plans_text.specs.PlanFile.{place_of};
 
 use crate::answer::{push_none, push_number, push_store};
 use crate::draft::Mark;
+use plans_counterexamples::{Store, UntoldRun};
 use plans_judge::Spot;
-use plans_run::{Store, UntoldRun};
 use std::alloc::AllocError;
 
 /// Gives the words for where a number is.

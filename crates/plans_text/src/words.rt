@@ -4,7 +4,7 @@ ghost use Rattle.std.specs.Prelude.{◌≡◌, ◌≤◌, length, nat_eq, not, p
 ghost use Rattle.std.specs.Option.{option_map};
 ghost use Rattle.plans_text.specs.Reading as reading;
 
-use plans_machine::{Bank, Kind, Number, Place, Spot};
+use plans_rules::{Bank, Kind, Number, Place, Spot};
 
 /// A word, and the text behind it.
 pub(crate) type Cut<'a> = (&'a [u8], &'a [u8]);

@@ -1,8 +1,8 @@
 use Rattle.std.proofs.Common.{◌*◌, ap, subst, ◌∙◌, arith}
 use Rattle.aia_word.specs.Sets.{word_of}
 use Rattle.aia_model.specs.declared.domain_name.DomainName.TheVariants.{Root, Child}
-use Rattle.aia_wiring.specs.Bits.{AreSources}
-use Rattle.aia_wiring.proofs.BitsLemmas.{one_word_more, word_found}
+use Rattle.aia_aplic_values.specs.Bits.{AreSources}
+use Rattle.aia_aplic_values.proofs.BitsLemmas.{one_word_more, word_found}
 use Rattle.aia_aplic.proofs.bits.bits_search.Goals as goal
 
 pub returns-in-Some-clause-first : goal.returns-in-Some-clause-first

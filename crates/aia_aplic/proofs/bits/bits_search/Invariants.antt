@@ -1,6 +1,6 @@
 use Rattle.std.proofs.Common.{◌≡◌, ◌+◌, ◌*◌}
 use Rattle.aia_model.specs.declared.domain_name.DomainName.TheVariants.{Root, Child}
-use Rattle.aia_wiring.proofs.BitsLemmas.{ShowNone}
+use Rattle.aia_aplic_values.proofs.BitsLemmas.{ShowNone}
 use Rattle.aia_aplic.proofs.bits.bits_search.Given as goal
 
 abbrev pub invariant-loop-k : goal.invariant-loop-k

@@ -1,7 +1,7 @@
 use Rattle.std.proofs.Common.{◌≡◌, slice_get, option_map, get_or, ap, ◌∙◌}
 use Rattle.std.proofs.lemmas.Option.{slice_get-get_or, get_or_from_slice_get}
 use Rattle.aia_direct.specs.Idc.{IdcState, new_idc, claimed_top, top_shown}
-use Rattle.aia_wiring.specs.Controls.{control_at}
+use Rattle.aia_aplic_values.specs.Controls.{control_at}
 use Rattle.aia_aplic.proofs.controls.claim.Goals as goal
 
 pub returns-clause-sources : goal.returns-clause-sources

@@ -1,5 +1,5 @@
 use Rattle.std.proofs.Common.{◌-◌, ◌/◌, sym, arith}
-use Rattle.aia_world.proofs.PlaceLemmas.{no_slot, slot_by_number}
+use Rattle.aia_fabric_values.proofs.PlaceLemmas.{no_slot, slot_by_number}
 use Rattle.aia_fabric.proofs.map.slot_at.Goals as goal
 use Rattle.aia_fabric.proofs.map.slot_at.Goals.{else-addr-eq0-via-then-addr-eq0+else-slot-from, else-addr-eq0-via-else-addr-eq0}
 use Rattle.aia_regs.specs.declared.address_map.TheConstants.{MEMORY, SLOT}

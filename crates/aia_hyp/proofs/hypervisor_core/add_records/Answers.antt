@@ -1,5 +1,5 @@
 use Rattle.std.proofs.Common.{◌∙◌}
-use Rattle.aia_standing.proofs.VmLines.{one_record_more}
+use Rattle.aia_hyp_values.proofs.VmLines.{one_record_more}
 use Rattle.aia_hyp.proofs.hypervisor_core.add_records.Goals as goal
 
 pub loop-preserved : goal.loop-preserved

@@ -1,6 +1,6 @@
 use Rattle.std.specs.Prelude.{◌≡◌, ◌++◌, replicate}
 use Rattle.std.specs.Vec.{vec_capacity}
-use Rattle.aia_standing.specs.Core.{no_record}
+use Rattle.aia_hyp_values.specs.Core.{no_record}
 use Rattle.aia_hyp.proofs.hypervisor_core.add_records.Given as goal
 
 -- so many records are added, and there is as much room

@@ -1,5 +1,5 @@
 use Rattle.std.proofs.Common.{sym, ◌∙◌}
-use Rattle.aia_standing.proofs.VmLines.{size_by_ones}
+use Rattle.aia_hyp_values.proofs.VmLines.{size_by_ones}
 use Rattle.aia_hyp.proofs.hypervisor_core.is_vm_size.Goals as goal
 
 pub returns-then-is_mask : goal.returns-then-is_mask

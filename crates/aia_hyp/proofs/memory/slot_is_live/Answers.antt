@@ -1,8 +1,8 @@
 use Rattle.std.proofs.Common.{refl}
 use Rattle.aia_file.specs.InterruptFile.{InterruptFile, top_of}
 use Rattle.aia_file.proofs.TopLemmas.{top_is_some}
-use Rattle.aia_world.specs.World.{World}
-use Rattle.aia_world.specs.SlotAccess.{file_of_slot}
+use Rattle.aia_fabric_values.specs.World.{World}
+use Rattle.aia_fabric_values.specs.SlotAccess.{file_of_slot}
 use Rattle.aia_hyp.proofs.memory.slot_is_live.Goals as goal
 
 pub returns-clause-value : goal.returns-clause-value

@@ -1,7 +1,7 @@
 use Rattle.std.proofs.Common.{sym, ap, ◌∙◌}
 use Rattle.std.proofs.lemmas.List.{get_or_default}
-use Rattle.aia_standing.specs.Core.{VcpuRecord}
-use Rattle.aia_standing.specs.Core.{no_record}
+use Rattle.aia_hyp_values.specs.Core.{VcpuRecord}
+use Rattle.aia_hyp_values.specs.Core.{no_record}
 use Rattle.aia_hyp.proofs.moves.carry_on.Goals as goal
 
 pub step_in_place-requires-clause-fits : goal.step_in_place-requires-clause-fits

@@ -1,5 +1,5 @@
 use Rattle.std.proofs.Common.{◌≡◌, ◌+◌, ◌*◌, ◌/◌, arith}
-use Rattle.aia_standing.proofs.WordLemmas.{word_seen, live_word}
+use Rattle.aia_hyp_values.proofs.WordLemmas.{word_seen, live_word}
 use Rattle.aia_hyp.proofs.slot_words.is_live.Goals as goal
 
 pub returns : goal.returns

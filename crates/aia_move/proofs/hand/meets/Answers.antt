@@ -1,4 +1,4 @@
-use Rattle.aia_places.proofs.LookLemmas.{meets-and}
+use Rattle.aia_vcpu_places.proofs.LookLemmas.{meets-and}
 use Rattle.aia_move.proofs.hand.meets.Goals as goal
 
 pub returns : goal.returns

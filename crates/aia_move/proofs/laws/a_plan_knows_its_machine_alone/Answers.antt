@@ -1,5 +1,5 @@
-use Rattle.aia_moving.proofs.StepLemmas.{fits_still}
-use Rattle.aia_moving.proofs.MachineLemmas.{phase_still, machine_touched}
+use Rattle.aia_move_values.proofs.StepLemmas.{fits_still}
+use Rattle.aia_move_values.proofs.MachineLemmas.{phase_still, machine_touched}
 use Rattle.aia_move.proofs.laws.a_plan_knows_its_machine_alone.Goals as goal
 
 pub returns-clause-fits : goal.returns-clause-fits

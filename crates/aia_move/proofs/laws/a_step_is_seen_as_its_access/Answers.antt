@@ -1,4 +1,4 @@
-use Rattle.aia_moving.proofs.MadeView.{made_view}
+use Rattle.aia_move_values.proofs.MadeView.{made_view}
 use Rattle.aia_move.proofs.laws.a_step_is_seen_as_its_access.Goals as goal
 
 pub returns : goal.returns

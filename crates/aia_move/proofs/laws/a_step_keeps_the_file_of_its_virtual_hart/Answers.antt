@@ -1,4 +1,4 @@
-use Rattle.aia_moving.proofs.MoveKept.{goes_kept, ends_kept, ends_empty, aims_kept}
+use Rattle.aia_move_values.proofs.MoveKept.{goes_kept, ends_kept, ends_empty, aims_kept}
 use Rattle.aia_move.proofs.laws.a_step_keeps_the_file_of_its_virtual_hart.Goals as goal
 
 pub returns-clause-goes : goal.returns-clause-goes

@@ -1,4 +1,4 @@
-use Rattle.aia_moving.proofs.TouchLemmas.{step_touches, view_stays}
+use Rattle.aia_move_values.proofs.TouchLemmas.{step_touches, view_stays}
 use Rattle.aia_move.proofs.laws.a_step_touches_only_its_own.Goals as goal
 
 pub returns-clause-touches : goal.returns-clause-touches

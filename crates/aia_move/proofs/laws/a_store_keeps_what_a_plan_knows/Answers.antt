@@ -1,6 +1,6 @@
 use Rattle.aia_regs.specs.declared.address_map.TheConstants.{PAGE}
 use Rattle.std.specs.Prelude.{◌%◌}
-use Rattle.aia_moving.proofs.KnowsLemmas.{device_knows, flight_knows, peer_knows, others_know, host_knows}
+use Rattle.aia_move_values.proofs.KnowsLemmas.{device_knows, flight_knows, peer_knows, others_know, host_knows}
 use Rattle.aia_move.proofs.laws.a_store_keeps_what_a_plan_knows.Goals as goal
 
 pub returns-clause-device : goal.returns-clause-device

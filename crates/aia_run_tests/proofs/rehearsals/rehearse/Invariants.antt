@@ -1,5 +1,5 @@
 use Rattle.std.proofs.Common.{◌≡◌}
-use Rattle.aia_moving.specs.Touches.{SameMachine}
+use Rattle.aia_move_values.specs.Touches.{SameMachine}
 use Rattle.aia_run_tests.proofs.rehearsals.rehearse.Given as goal
 
 abbrev pub invariant-loop-k : goal.invariant-loop-k

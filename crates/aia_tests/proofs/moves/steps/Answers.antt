@@ -1,6 +1,6 @@
-use Rattle.aia_moving.specs.declared.turn.Next.TheVariants.{Again}
-use Rattle.aia_moving.specs.PlanState.{moving_of}
-use Rattle.aia_moving.specs.Targets.{next_aim}
+use Rattle.aia_move_values.specs.declared.turn.Next.TheVariants.{Again}
+use Rattle.aia_move_values.specs.PlanState.{moving_of}
+use Rattle.aia_move_values.specs.Targets.{next_aim}
 use Rattle.aia_tests.proofs.PlanFacts.{none_still}
 use Rattle.aia_tests.proofs.moves.steps.Goals as goal
 

@@ -1,6 +1,6 @@
 use Rattle.std.proofs.Common.{ℕ, refl, ap, arith}
 use Rattle.aia_regs.specs.declared.access.Op.TheVariants.{Write}
-use Rattle.aia_home.specs.Vms.{vcpu}
+use Rattle.aia_vcpu.specs.Vms.{vcpu}
 use Rattle.aia_laws.specs.Claims.{MayBeClaimed, IsLeastToClaim}
 use Rattle.aia_model.specs.GuestFile.{guest_file}
 use Rattle.aia_uses.specs.Worked.{enabled, asked}

@@ -16,7 +16,7 @@ use Rattle.aia_model.specs.SourceOf.{wire_of, enabled, target, pending, genmsi_w
 use Rattle.aia_model.specs.AddressOf.{addresses_of}
 use Rattle.aia_model.specs.Sent.{all_senders}
 use Rattle.aia_model.specs.Answer.{after}
-use Rattle.aia_home.specs.Vms.{vcpu}
+use Rattle.aia_vcpu.specs.Vms.{vcpu}
 use Rattle.aia_model.specs.declared.line.Line.TheVariants.{Wire}
 use Rattle.aia_model.specs.FileOf.{SupervisorFile}
 use Rattle.aia_model.specs.Script.{history_of}

@@ -1,5 +1,5 @@
 use Rattle.std.proofs.Common.{ap, ◌∙◌}
-use Rattle.aia_home.specs.Vms.{vcpu}
+use Rattle.aia_vcpu.specs.Vms.{vcpu}
 use Rattle.aia_model.specs.declared.part.Part.TheVariants as parts
 use Rattle.aia_uses.specs.Worked.{made}
 use Rattle.aia_uses.proofs.ImageFacts.{load_allowed, another, loads_one, none_there}

@@ -1,4 +1,4 @@
-use Rattle.aia_home.specs.Vms.{vcpu}
+use Rattle.aia_vcpu.specs.Vms.{vcpu}
 use Rattle.aia_model.specs.Script.{history_of}
 use Rattle.aia_model.proofs.HistoryLemmas.{script_happens}
 use Rattle.aia_uses.specs.declared.told.TheConstants.{TOLD}

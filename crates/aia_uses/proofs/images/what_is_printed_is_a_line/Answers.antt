@@ -1,5 +1,5 @@
 use Rattle.std.proofs.Common.{sym, ap, arith, ◌∙◌}
-use Rattle.aia_home.specs.Vms.{vcpu}
+use Rattle.aia_vcpu.specs.Vms.{vcpu}
 use Rattle.aia_model.specs.declared.part.Part.TheVariants as parts
 use Rattle.aia_model.specs.Image.{part_of}
 use Rattle.aia_model.specs.StateOf.{state_of}

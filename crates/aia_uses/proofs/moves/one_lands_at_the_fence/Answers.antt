@@ -1,5 +1,5 @@
 use Rattle.std.proofs.Common.{refl}
-use Rattle.aia_home.specs.Vms.{vcpu}
+use Rattle.aia_vcpu.specs.Vms.{vcpu}
 use Rattle.aia_model.specs.declared.line.Line.TheVariants as lines
 use Rattle.aia_uses.specs.Worked.{in_flight, moving}
 use Rattle.aia_uses.proofs.Facts.{fence_allowed, at_fence, one_in_flight, silent_before, asked_after, asked_while_moving}

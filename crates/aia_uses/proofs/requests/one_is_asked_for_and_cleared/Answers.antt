@@ -2,7 +2,7 @@ use Rattle.std.proofs.Common.{refl}
 use Rattle.aia_word.specs.Packed.{packed}
 use Rattle.aia_regs.specs.declared.access.Csr.TheVariants.{Reg, Topei}
 use Rattle.aia_regs.specs.declared.access.Op.TheVariants as ops
-use Rattle.aia_home.specs.Vms.{vcpu}
+use Rattle.aia_vcpu.specs.Vms.{vcpu}
 use Rattle.aia_model.specs.declared.line.Line.TheVariants as lines
 use Rattle.aia_uses.specs.Worked.{enabled, asked, selected}
 use Rattle.aia_uses.proofs.Facts.{msi_taken, msi_alone, was_silent, msi_asks, is_asked, claim_clears, still_asked, write_clears}

@@ -1,7 +1,7 @@
 use Rattle.std.proofs.Common.{refl}
 use Rattle.aia_regs.specs.declared.access.Csr.TheVariants.{Topei}
 use Rattle.aia_regs.specs.declared.access.Op.TheVariants.{Write}
-use Rattle.aia_home.specs.Vms.{vcpu}
+use Rattle.aia_vcpu.specs.Vms.{vcpu}
 use Rattle.aia_laws.specs.Claims.{HasCsr, HasSameFile}
 use Rattle.aia_uses.specs.Worked.{asked, entered}
 use Rattle.aia_uses.proofs.Facts.{serves_it, serves_in_memory, same_file, same_select}

@@ -2,7 +2,7 @@ use Rattle.aia_regs.specs.declared.access.Csr.TheVariants.{Select, Reg, Topei, T
 use Rattle.aia_regs.specs.declared.access.Op.TheVariants.{Read}
 use Rattle.std.proofs.Common.{ap, ◌∙◌}
 use Rattle.aia_word.specs.Top.{top_value}
-use Rattle.aia_home.specs.Vms.{vcpu}
+use Rattle.aia_vcpu.specs.Vms.{vcpu}
 use Rattle.aia_model.specs.declared.answer.Answer.TheVariants.{Wide}
 use Rattle.aia_uses.specs.Worked.{asked}
 use Rattle.aia_uses.proofs.Facts.{read_allowed, top_asked}

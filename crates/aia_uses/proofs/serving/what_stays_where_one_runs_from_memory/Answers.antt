@@ -1,5 +1,5 @@
 use Rattle.std.proofs.Common.{ap, ◌∙◌}
-use Rattle.aia_home.specs.Vms.{vcpu}
+use Rattle.aia_vcpu.specs.Vms.{vcpu}
 use Rattle.aia_uses.specs.Worked.{parked_asked, entered}
 use Rattle.aia_uses.proofs.Facts.{asked_when_parked, asked_when_entered}
 use Rattle.aia_uses.proofs.serving.what_stays_where_one_runs_from_memory.Goals as goal

@@ -1,5 +1,5 @@
 use Rattle.std.proofs.lemmas.Bool.{and_from}
-use Rattle.aia_home.specs.Vms.{notice_hart, notice_identity}
+use Rattle.aia_vcpu.specs.Vms.{notice_hart, notice_identity}
 use Rattle.aia_model.specs.Vms.{vms_of}
 use Rattle.aia_model.specs.FileOf.{SupervisorFile}
 use Rattle.aia_uses.proofs.SinceLemmas.{noticed_shown, told_shown}

@@ -12,7 +12,7 @@ use Rattle.aia_model.specs.Act.{newest}
 use Rattle.aia_model.specs.SourceOf.{genmsi_waits}
 use Rattle.aia_model.specs.Sent.{all_senders}
 use Rattle.aia_model.specs.Answer.{answer, after}
-use Rattle.aia_home.specs.Vms.{vcpu}
+use Rattle.aia_vcpu.specs.Vms.{vcpu}
 use Rattle.aia_model.specs.FileOf.{SupervisorFile}
 use Rattle.aia_model.specs.Script.{history_of}
 use Rattle.aia_model.proofs.HistoryLemmas.{script_happens}

@@ -1,5 +1,5 @@
 use Rattle.std.proofs.Common.{◌≡◌, drop}
-use Rattle.plans_machine.specs.Setting.{setting_of}
+use Rattle.plans_rules.specs.Setting.{setting_of}
 use Rattle.plans_judge.specs.Table.{Stands}
 use Rattle.plans_judge.specs.Verdicts.{break_in, first_break, rules_of, past}
 use Rattle.plans_judge.proofs.judging.break_in.Given as goal

@@ -1,5 +1,5 @@
 use Rattle.std.proofs.Common.{◌∙◌, sym}
-use Rattle.plans_machine.specs.Setting.{setting_of}
+use Rattle.plans_rules.specs.Setting.{setting_of}
 use Rattle.plans_judge.proofs.VerdictLemmas.{ok_is, accepted_safe, accepted_told, broken_unsafe, notice_safe}
 use Rattle.plans_judge.proofs.judging.judge.Goals as goal
 

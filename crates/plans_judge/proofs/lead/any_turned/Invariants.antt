@@ -1,5 +1,5 @@
 use Rattle.std.proofs.Common.{◌≡◌}
-use Rattle.plans_machine.specs.Setting.{any_below}
+use Rattle.plans_rules.specs.Setting.{any_below}
 use Rattle.plans_judge.specs.Table.{is_turned_at}
 use Rattle.plans_judge.proofs.lead.any_turned.Given as goal
 

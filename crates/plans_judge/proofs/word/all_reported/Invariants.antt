@@ -1,5 +1,5 @@
 use Rattle.std.proofs.Common.{◌≡◌}
-use Rattle.plans_machine.specs.Setting.{all_below}
+use Rattle.plans_rules.specs.Setting.{all_below}
 use Rattle.plans_judge.specs.Table.{is_reported_at}
 use Rattle.plans_judge.proofs.word.all_reported.Given as goal
 

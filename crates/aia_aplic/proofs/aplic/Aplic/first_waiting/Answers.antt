@@ -1,10 +1,10 @@
 use Rattle.std.proofs.Common.{Option, sym, subst, ◌∙◌}
 use Rattle.aia_model.specs.declared.sender.Sender.{Sender}
 use Rattle.aia_domain.specs.Domain.{is_ready}
-use Rattle.aia_wiring.specs.Aplic.{AplicState, AplicStands}
-use Rattle.aia_wiring.specs.Bits.{IsFirstSource}
-use Rattle.aia_wiring.specs.Sending.{IsFirst}
-use Rattle.aia_wiring.proofs.FirstLemmas.{root_genmsi_first, child_genmsi_first, source_first}
+use Rattle.aia_aplic_values.specs.Aplic.{AplicState, AplicStands}
+use Rattle.aia_aplic_values.specs.Bits.{IsFirstSource}
+use Rattle.aia_aplic_values.specs.Sending.{IsFirst}
+use Rattle.aia_aplic_values.proofs.FirstLemmas.{root_genmsi_first, child_genmsi_first, source_first}
 use Rattle.aia_aplic.proofs.aplic.Aplic.first_waiting.Goals as goal
 
 pub returns-then-genmsi_waits-clause-first : goal.returns-then-genmsi_waits-clause-first

@@ -1,5 +1,5 @@
 use Rattle.std.proofs.Common.{sym, ◌∙◌}
-use Rattle.aia_wiring.proofs.FirstLemmas.{genmsi_does_wait, ready_does_wait}
+use Rattle.aia_aplic_values.proofs.FirstLemmas.{genmsi_does_wait, ready_does_wait}
 use Rattle.aia_aplic.proofs.aplic.Aplic.has_msi.Goals as goal
 
 pub returns-then-genmsi_waits-clause-waits : goal.returns-then-genmsi_waits-clause-waits

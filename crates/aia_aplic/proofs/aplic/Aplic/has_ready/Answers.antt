@@ -1,7 +1,7 @@
 use Rattle.std.proofs.Common.{◌≡◌, ℕ, ◌↔◌, false, subst}
 use Rattle.aia_domain.specs.Domain.{DomainState, is_ready}
-use Rattle.aia_wiring.specs.Aplic.{AplicState}
-use Rattle.aia_wiring.proofs.FirstLemmas.{ready_in_first, ready_in_other}
+use Rattle.aia_aplic_values.specs.Aplic.{AplicState}
+use Rattle.aia_aplic_values.proofs.FirstLemmas.{ready_in_first, ready_in_other}
 use Rattle.aia_aplic.proofs.aplic.Aplic.has_ready.Goals as goal
 
 abbrev NoneReady : DomainState → Type 0

@@ -2,9 +2,9 @@ use Rattle.std.proofs.Common.{◌∷◌, sym, subst, ◌∙◌}
 use Rattle.aia_model.specs.declared.domain_name.DomainName.{DomainName}
 use Rattle.aia_model.specs.declared.domain_name.DomainName.TheVariants.{Root, Child}
 use Rattle.aia_model.specs.Act.Act.{Loaded}
-use Rattle.aia_wiring.specs.Aplic.{AplicState, AplicStands}
-use Rattle.aia_wiring.proofs.AddressSteps.{addresses_loaded}
-use Rattle.aia_wiring.proofs.SideLemmas.{root-side_loaded, child-side_loaded}
+use Rattle.aia_aplic_values.specs.Aplic.{AplicState, AplicStands}
+use Rattle.aia_aplic_values.proofs.AddressSteps.{addresses_loaded}
+use Rattle.aia_aplic_values.proofs.SideLemmas.{root-side_loaded, child-side_loaded}
 use Rattle.aia_aplic.proofs.aplic.Aplic.load_register.Goals as goal
 
 pub returns-in-Root-clause-stands : goal.returns-in-Root-clause-stands

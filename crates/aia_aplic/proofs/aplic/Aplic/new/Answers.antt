@@ -1,4 +1,4 @@
-use Rattle.aia_wiring.proofs.SideLemmas.{new-stands}
+use Rattle.aia_aplic_values.proofs.SideLemmas.{new-stands}
 use Rattle.aia_aplic.proofs.aplic.Aplic.new.Goals as goal
 
 pub returns-clause-stands : goal.returns-clause-stands

@@ -1,5 +1,5 @@
 use Rattle.std.proofs.Common.{◌∙◌}
-use Rattle.aia_wiring.proofs.AimSteps.{passable-stands}
+use Rattle.aia_aplic_values.proofs.AimSteps.{passable-stands}
 use Rattle.aia_aplic.proofs.aplic.Aplic.passable.Goals as goal
 
 pub returns-clause-by_past : goal.returns-clause-by_past

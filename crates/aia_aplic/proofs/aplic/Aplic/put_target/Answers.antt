@@ -1,8 +1,8 @@
 use Rattle.std.proofs.Common.{◌≡◌, true, sym, subst}
-use Rattle.aia_wiring.specs.Aplic.{AplicState, AplicStands}
-use Rattle.aia_wiring.specs.Passing.{is_passable_in, AimsIn}
-use Rattle.aia_wiring.proofs.AimSteps.{aplic-aimed}
-use Rattle.aia_wiring.proofs.PassingLemmas.{aimed-aims}
+use Rattle.aia_aplic_values.specs.Aplic.{AplicState, AplicStands}
+use Rattle.aia_aplic_values.specs.Passing.{is_passable_in, AimsIn}
+use Rattle.aia_aplic_values.proofs.AimSteps.{aplic-aimed}
+use Rattle.aia_aplic_values.proofs.PassingLemmas.{aimed-aims}
 use Rattle.aia_aplic.proofs.aplic.Aplic.put_target.Goals as goal
 
 pub returns-clause-stands : goal.returns-clause-stands

@@ -1,6 +1,6 @@
 use Rattle.std.proofs.Common.{sym, subst, ◌∙◌}
-use Rattle.aia_wiring.specs.Aplic.{AplicState, AplicStands}
-use Rattle.aia_wiring.proofs.SideLemmas.{root_sends, child_sends}
+use Rattle.aia_aplic_values.specs.Aplic.{AplicState, AplicStands}
+use Rattle.aia_aplic_values.proofs.SideLemmas.{root_sends, child_sends}
 use Rattle.aia_aplic.proofs.aplic.Aplic.send.Goals as goal
 
 pub returns-in-Root-clause-stands : goal.returns-in-Root-clause-stands

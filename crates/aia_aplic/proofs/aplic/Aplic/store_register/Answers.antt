@@ -2,9 +2,9 @@ use Rattle.std.proofs.Common.{◌∷◌, sym, subst, ◌∙◌}
 use Rattle.aia_model.specs.declared.domain_name.DomainName.{DomainName}
 use Rattle.aia_model.specs.declared.domain_name.DomainName.TheVariants.{Child}
 use Rattle.aia_model.specs.Act.Act.{Written}
-use Rattle.aia_wiring.specs.Aplic.{AplicState, AplicStands}
-use Rattle.aia_wiring.proofs.AddressSteps.{addresses_child}
-use Rattle.aia_wiring.proofs.SideLemmas.{root-side_other}
+use Rattle.aia_aplic_values.specs.Aplic.{AplicState, AplicStands}
+use Rattle.aia_aplic_values.proofs.AddressSteps.{addresses_child}
+use Rattle.aia_aplic_values.proofs.SideLemmas.{root-side_other}
 use Rattle.aia_aplic.proofs.aplic.Aplic.store_register.Goals as goal
 
 pub returns-in-Child : goal.returns-in-Child

@@ -2,11 +2,11 @@ use Rattle.std.proofs.Common.{◌∷◌, sym, ap, subst, ◌∙◌}
 use Rattle.aia_model.specs.declared.domain_name.DomainName.TheVariants.{Root, Child}
 use Rattle.aia_regs.specs.declared.domain_registers.DomainReg.{DomainReg}
 use Rattle.aia_model.specs.Act.Act.{Written}
-use Rattle.aia_wiring.specs.Side.{SideStands}
-use Rattle.aia_wiring.specs.Aplic.{AplicState, AplicStands}
+use Rattle.aia_aplic_values.specs.Side.{SideStands}
+use Rattle.aia_aplic_values.specs.Aplic.{AplicState, AplicStands}
 use Rattle.aia_msiaddr.specs.Registers.{address_written}
-use Rattle.aia_wiring.proofs.AddressSteps.{addresses_root}
-use Rattle.aia_wiring.proofs.SideLemmas.{child-side_other}
+use Rattle.aia_aplic_values.proofs.AddressSteps.{addresses_root}
+use Rattle.aia_aplic_values.proofs.SideLemmas.{child-side_other}
 use Rattle.aia_aplic.proofs.aplic.Aplic.store_root.Goals as goal
 
 pub returns-in_default : goal.returns-in_default

@@ -1,7 +1,7 @@
 use Rattle.std.proofs.Common.{sym, subst, ◌∙◌}
 use Rattle.aia_model.specs.declared.domain_name.DomainName.TheVariants.{Root, Child}
-use Rattle.aia_wiring.specs.Aplic.{AplicState, AplicStands}
-use Rattle.aia_wiring.proofs.AddressSteps.{addresses_driven}
+use Rattle.aia_aplic_values.specs.Aplic.{AplicState, AplicStands}
+use Rattle.aia_aplic_values.proofs.AddressSteps.{addresses_driven}
 use Rattle.aia_aplic.proofs.aplic.Aplic.wire.Goals as goal
 
 pub returns : goal.returns

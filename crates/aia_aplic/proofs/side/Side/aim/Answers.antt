@@ -1,7 +1,7 @@
 use Rattle.std.proofs.Common.{sym, subst}
 use Rattle.aia_model.specs.declared.domain_name.DomainName.TheVariants.{Child}
-use Rattle.aia_wiring.specs.Side.{SideState, SideStands}
-use Rattle.aia_wiring.proofs.AimSteps.{child-aimed}
+use Rattle.aia_aplic_values.specs.Side.{SideState, SideStands}
+use Rattle.aia_aplic_values.proofs.AimSteps.{child-aimed}
 use Rattle.aia_aplic.proofs.side.Side.aim.Goals as goal
 
 pub returns-clause-stands : goal.returns-clause-stands

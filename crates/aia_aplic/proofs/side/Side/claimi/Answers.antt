@@ -1,6 +1,6 @@
 use Rattle.std.proofs.Common.{◌<◌, ◌≤◌, length, subst, ◌∙◌, arith}
-use Rattle.aia_wiring.specs.Side.{SideState}
-use Rattle.aia_wiring.proofs.SideLemmas.{side-claimed, side-unclaimed, topi_there}
+use Rattle.aia_aplic_values.specs.Side.{SideState}
+use Rattle.aia_aplic_values.proofs.SideLemmas.{side-claimed, side-unclaimed, topi_there}
 use Rattle.aia_aplic.proofs.side.Side.claimi.Goals as goal
 
 pub returns-then-hart-len-clause-reads : goal.returns-then-hart-len-clause-reads

@@ -1,8 +1,8 @@
 use Rattle.std.proofs.Common.{refl, sym, subst, ◌∙◌}
 use Rattle.aia_regs.specs.declared.domain_registers.DomainReg.TheVariants.{SourceCfg}
 use Rattle.aia_model.specs.declared.domain_name.DomainName.TheVariants.{Child}
-use Rattle.aia_wiring.specs.Side.{SideState, SideStands}
-use Rattle.aia_wiring.proofs.SideLemmas.{child-side_written}
+use Rattle.aia_aplic_values.specs.Side.{SideState, SideStands}
+use Rattle.aia_aplic_values.proofs.SideLemmas.{child-side_written}
 use Rattle.aia_aplic.proofs.side.Side.delegate.Goals as goal
 
 pub returns-then-given : goal.returns-then-given

@@ -1,6 +1,6 @@
 use Rattle.std.proofs.Common.{◌≡◌, ℕ, ◌↔◌, false, IsFalse, subst}
 use Rattle.aia_domain.specs.Domain.{is_ready}
-use Rattle.aia_wiring.specs.Side.{SideState}
+use Rattle.aia_aplic_values.specs.Side.{SideState}
 use Rattle.aia_aplic.proofs.side.Side.has_ready.Goals as goal
 
 pub returns : goal.returns

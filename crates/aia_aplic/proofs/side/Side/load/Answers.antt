@@ -1,8 +1,8 @@
 use Rattle.std.proofs.Common.{sym, subst, ap, ◌∙◌}
-use Rattle.aia_wiring.specs.Side.{SideState, SideStands}
-use Rattle.aia_wiring.proofs.LoadedSteps.{is_claim}
-use Rattle.aia_wiring.proofs.Reading.{read-stands}
-use Rattle.aia_wiring.proofs.SideLemmas.{side-loaded, not_control, not_claim}
+use Rattle.aia_aplic_values.specs.Side.{SideState, SideStands}
+use Rattle.aia_aplic_values.proofs.LoadedSteps.{is_claim}
+use Rattle.aia_aplic_values.proofs.Reading.{read-stands}
+use Rattle.aia_aplic_values.proofs.SideLemmas.{side-loaded, not_control, not_claim}
 use Rattle.aia_aplic.proofs.side.Side.load.Goals as goal
 
 pub returns-in-TopI-clause-stands : goal.returns-in-TopI-clause-stands

@@ -1,8 +1,8 @@
 use Rattle.std.proofs.Common.{◌<◌, List, length, sym, ap, subst, ◌∙◌, arith}
 use Rattle.aia_direct.specs.Idc.{IdcState, control_read}
-use Rattle.aia_wiring.specs.Controls.{control_at}
-use Rattle.aia_wiring.specs.Side.{SideState, SideStands}
-use Rattle.aia_wiring.proofs.SideLemmas.{control_there}
+use Rattle.aia_aplic_values.specs.Controls.{control_at}
+use Rattle.aia_aplic_values.specs.Side.{SideState, SideStands}
+use Rattle.aia_aplic_values.proofs.SideLemmas.{control_there}
 use Rattle.aia_aplic.proofs.side.Side.load_control.Goals as goal
 
 pub returns-then-hart-len : goal.returns-then-hart-len

@@ -2,8 +2,8 @@ use Rattle.std.proofs.Common.{◌∷◌, List, sym, subst}
 use Rattle.aia_direct.specs.Idc.{IdcState}
 use Rattle.aia_model.specs.declared.sender.Sender.TheVariants.{ByGenMsi}
 use Rattle.aia_model.specs.Act.Act.{Sent}
-use Rattle.aia_wiring.specs.Side.{SideStands}
-use Rattle.aia_wiring.proofs.SideLemmas.{side-genmsi_sent}
+use Rattle.aia_aplic_values.specs.Side.{SideStands}
+use Rattle.aia_aplic_values.proofs.SideLemmas.{side-genmsi_sent}
 use Rattle.aia_aplic.proofs.side.Side.send_genmsi.Goals as goal
 
 pub returns-clause-stands : goal.returns-clause-stands

@@ -1,8 +1,8 @@
 use Rattle.std.proofs.Common.{◌<◌, List, length, sym, ap, subst, ◌∙◌, arith}
 use Rattle.aia_direct.specs.Idc.{IdcState, signals_hart}
-use Rattle.aia_wiring.specs.Controls.{control_at}
-use Rattle.aia_wiring.specs.Side.{SideState, SideStands}
-use Rattle.aia_wiring.proofs.SideLemmas.{signals_is}
+use Rattle.aia_aplic_values.specs.Controls.{control_at}
+use Rattle.aia_aplic_values.specs.Side.{SideState, SideStands}
+use Rattle.aia_aplic_values.proofs.SideLemmas.{signals_is}
 use Rattle.aia_aplic.proofs.side.Side.signal.Goals as goal
 
 pub returns-then-hart-len-clause-signal : goal.returns-then-hart-len-clause-signal

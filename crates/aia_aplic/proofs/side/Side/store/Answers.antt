@@ -1,4 +1,4 @@
-use Rattle.aia_wiring.proofs.SideLemmas.{side-written}
+use Rattle.aia_aplic_values.proofs.SideLemmas.{side-written}
 use Rattle.aia_aplic.proofs.side.Side.store.Goals as goal
 
 pub returns : goal.returns

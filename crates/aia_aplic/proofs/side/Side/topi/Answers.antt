@@ -1,9 +1,9 @@
 use Rattle.std.proofs.Common.{◌<◌, List, length, sym, ap, subst, ◌∙◌, arith}
 use Rattle.aia_regs.specs.Top.{topi_value}
 use Rattle.aia_direct.specs.Idc.{IdcState, top_shown}
-use Rattle.aia_wiring.specs.Controls.{control_at}
-use Rattle.aia_wiring.specs.Side.{SideState, SideStands}
-use Rattle.aia_wiring.proofs.SideLemmas.{topi_there}
+use Rattle.aia_aplic_values.specs.Controls.{control_at}
+use Rattle.aia_aplic_values.specs.Side.{SideState, SideStands}
+use Rattle.aia_aplic_values.proofs.SideLemmas.{topi_there}
 use Rattle.aia_aplic.proofs.side.Side.topi.Goals as goal
 
 pub returns-then-hart-len : goal.returns-then-hart-len

@@ -1,6 +1,6 @@
 use Rattle.std.proofs.Common.{sym, subst}
-use Rattle.aia_wiring.specs.Side.{SideState, SideStands}
-use Rattle.aia_wiring.proofs.SideLemmas.{side-driven}
+use Rattle.aia_aplic_values.specs.Side.{SideState, SideStands}
+use Rattle.aia_aplic_values.proofs.SideLemmas.{side-driven}
 use Rattle.aia_aplic.proofs.side.Side.wire.Goals as goal
 
 pub returns : goal.returns

@@ -1,4 +1,4 @@
-use Rattle.aia_world.proofs.WholeLemmas.{vm_whole}
+use Rattle.aia_fabric_values.proofs.WholeLemmas.{vm_whole}
 use Rattle.aia_fabric.proofs.fabric.Fabric.add_vm.Goals as goal
 
 pub invariant_of-self : goal.invariant_of-self

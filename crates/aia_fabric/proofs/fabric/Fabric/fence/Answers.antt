@@ -1,7 +1,7 @@
 use Rattle.std.proofs.Common.{sym, ap, ◌∙◌, length}
-use Rattle.aia_home.specs.Vms.{vcpu, is_vcpu_in, slot_of, notice_hart}
-use Rattle.aia_world.specs.World.{World, flight_of}
-use Rattle.aia_world.proofs.FlightLemmas.{all_landed_rest}
+use Rattle.aia_vcpu.specs.Vms.{vcpu, is_vcpu_in, slot_of, notice_hart}
+use Rattle.aia_fabric_values.specs.World.{World, flight_of}
+use Rattle.aia_fabric_values.proofs.FlightLemmas.{all_landed_rest}
 use Rattle.aia_fabric.proofs.fabric.Fabric.fence.Goals as goal
 
 pub refetch-requires : goal.refetch-requires

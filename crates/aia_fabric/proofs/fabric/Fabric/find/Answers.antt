@@ -1,5 +1,5 @@
 use Rattle.std.proofs.Common.{sym, ◌∙◌, arith}
-use Rattle.aia_world.proofs.WholeLemmas.{vcpu_entry}
+use Rattle.aia_fabric_values.proofs.WholeLemmas.{vcpu_entry}
 use Rattle.aia_fabric.proofs.fabric.Fabric.find.Goals as goal
 
 pub overflow_cast-vm : goal.overflow_cast-vm

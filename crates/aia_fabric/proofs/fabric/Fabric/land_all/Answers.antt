@@ -1,5 +1,5 @@
 use Rattle.std.proofs.Common.{◌<◌, length, arith}
-use Rattle.aia_world.proofs.FlightLemmas.{one_landed}
+use Rattle.aia_fabric_values.proofs.FlightLemmas.{one_landed}
 use Rattle.aia_fabric.proofs.fabric.Fabric.land_all.Goals as goal
 
 pub loop-preserved : goal.loop-preserved

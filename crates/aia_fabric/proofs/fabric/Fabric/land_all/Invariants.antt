@@ -1,4 +1,4 @@
-use Rattle.aia_world.proofs.FlightLemmas.{HaveLanded}
+use Rattle.aia_fabric_values.proofs.FlightLemmas.{HaveLanded}
 use Rattle.aia_fabric.proofs.fabric.Fabric.land_all.Given as goal
 
 abbrev pub invariant-loop : goal.invariant-loop

@@ -1,6 +1,6 @@
 use Rattle.std.proofs.Common.{rules, refl, arith}
 use Rattle.aia_file.specs.Mrif.{pending_place, enable_place}
-use Rattle.aia_world.proofs.WholeLemmas.{zero_bit}
+use Rattle.aia_fabric_values.proofs.WholeLemmas.{zero_bit}
 use Rattle.aia_fabric.proofs.fabric.Fabric.new.Goals as goal
 use Rattle.aia_regs.specs.declared.limits.TheConstants.{MEMORY_WORDS}
 

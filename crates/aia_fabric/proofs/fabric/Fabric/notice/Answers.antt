@@ -1,4 +1,4 @@
-use Rattle.aia_world.proofs.WholeLemmas.{noticed_there}
+use Rattle.aia_fabric_values.proofs.WholeLemmas.{noticed_there}
 use Rattle.aia_fabric.proofs.fabric.Fabric.notice.Goals as goal
 
 pub post-requires : goal.post-requires

@@ -1,4 +1,4 @@
-use Rattle.aia_world.proofs.WholeLemmas.{joined_whole}
+use Rattle.aia_fabric_values.proofs.WholeLemmas.{joined_whole}
 use Rattle.aia_fabric.proofs.fabric.Fabric.or_slot.Goals as goal
 
 pub invariant_of-self : goal.invariant_of-self

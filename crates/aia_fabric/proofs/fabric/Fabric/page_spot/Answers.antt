@@ -1,5 +1,5 @@
 use Rattle.std.proofs.Common.{sym, arith}
-use Rattle.aia_world.proofs.PlaceLemmas.{page_past}
+use Rattle.aia_fabric_values.proofs.PlaceLemmas.{page_past}
 use Rattle.aia_fabric.proofs.fabric.Fabric.page_spot.Goals as goal
 
 pub returns-in-None-clause-value : goal.returns-in-None-clause-value

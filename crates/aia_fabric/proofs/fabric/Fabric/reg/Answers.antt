@@ -1,6 +1,6 @@
 use Rattle.std.proofs.Common.{ap, ◌∙◌}
 use Rattle.aia_file.specs.FileState.{FileState}
-use Rattle.aia_world.proofs.WrittenWhole.{file_whole}
+use Rattle.aia_fabric_values.proofs.WrittenWhole.{file_whole}
 use Rattle.aia_fabric.proofs.fabric.Fabric.reg.Goals as goal
 
 pub invariant_of-self : goal.invariant_of-self

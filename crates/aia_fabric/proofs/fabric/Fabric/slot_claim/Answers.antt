@@ -1,6 +1,6 @@
 use Rattle.aia_file.specs.InterruptFile.{claimed}
 use Rattle.aia_fabric.specs.contracts.fabric.Fabric.{the_view}
-use Rattle.aia_world.proofs.SlotDeeds.{slot_whole, slot_done}
+use Rattle.aia_fabric_values.proofs.SlotDeeds.{slot_whole, slot_done}
 use Rattle.aia_fabric.proofs.fabric.Fabric.slot_claim.Goals as goal
 
 pub invariant_of-self : goal.invariant_of-self

@@ -3,8 +3,8 @@ use Rattle.aia_regs.specs.Operations.{FitsOp}
 use Rattle.aia_file.specs.InterruptFile.{accessed}
 use Rattle.aia_mrif.proofs.AccessLemmas.{accessed_by_write, read_leaves}
 use Rattle.aia_fabric.specs.contracts.fabric.Fabric.{the_view}
-use Rattle.aia_world.specs.SlotAccess.{file_of_slot}
-use Rattle.aia_world.proofs.SlotDeeds.{slot_whole, slot_done, nothing_done}
+use Rattle.aia_fabric_values.specs.SlotAccess.{file_of_slot}
+use Rattle.aia_fabric_values.proofs.SlotDeeds.{slot_whole, slot_done, nothing_done}
 use Rattle.aia_fabric.proofs.fabric.Fabric.slot_reg.Goals as goal
 use Rattle.aia_fabric.proofs.fabric.Fabric.slot_reg.Goals.{then-is_writing, else-is_writing}
 

@@ -1,4 +1,4 @@
-use Rattle.aia_world.proofs.WholeLemmas.{noticed_there}
+use Rattle.aia_fabric_values.proofs.WholeLemmas.{noticed_there}
 use Rattle.aia_fabric.proofs.fabric.Fabric.slot_store.Goals as goal
 
 pub store_in-requires-clause-there : goal.store_in-requires-clause-there

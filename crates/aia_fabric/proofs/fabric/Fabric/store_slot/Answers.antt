@@ -1,4 +1,4 @@
-use Rattle.aia_world.proofs.WholeLemmas.{store_whole}
+use Rattle.aia_fabric_values.proofs.WholeLemmas.{store_whole}
 use Rattle.aia_fabric.proofs.fabric.Fabric.store_slot.Goals as goal
 
 pub invariant_of-self : goal.invariant_of-self

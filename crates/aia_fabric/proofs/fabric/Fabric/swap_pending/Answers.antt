@@ -3,7 +3,7 @@ use Rattle.std.specs.Prelude.{slice_index}
 use Rattle.aia_word.specs.Sets.{has_bit}
 use Rattle.aia_file.specs.FileState.{FileState}
 use Rattle.aia_file.specs.Mrif.{pending_place}
-use Rattle.aia_world.proofs.WrittenWhole.{file_whole, pending_whole}
+use Rattle.aia_fabric_values.proofs.WrittenWhole.{file_whole, pending_whole}
 use Rattle.aia_fabric.proofs.fabric.Fabric.swap_pending.Goals as goal
 
 pub invariant_of-self : goal.invariant_of-self

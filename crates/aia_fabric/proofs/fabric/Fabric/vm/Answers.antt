@@ -1,7 +1,7 @@
 use Rattle.std.proofs.Common.{◌≡◌, length, arith}
-use Rattle.aia_home.specs.declared.vm.Vm.{Vm}
+use Rattle.aia_vcpu.specs.declared.vm.Vm.{Vm}
 use Rattle.aia_entry.proofs.TableLemmas.{mask_parts, has_entry}
-use Rattle.aia_world.proofs.MakingLemmas.{one_more_made}
+use Rattle.aia_fabric_values.proofs.MakingLemmas.{one_more_made}
 use Rattle.aia_fabric.proofs.fabric.Fabric.vm.Goals as goal
 
 pub loop-file-preserved : goal.loop-file-preserved

@@ -1,4 +1,4 @@
-use Rattle.aia_world.proofs.MakingLemmas.{HasMade}
+use Rattle.aia_fabric_values.proofs.MakingLemmas.{HasMade}
 use Rattle.aia_fabric.proofs.fabric.Fabric.vm.Given as goal
 
 abbrev pub invariant-loop-file : goal.invariant-loop-file

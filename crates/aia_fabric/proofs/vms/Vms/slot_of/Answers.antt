@@ -1,6 +1,6 @@
 use Rattle.std.proofs.Common.{◌≡◌, take, arith}
-use Rattle.aia_home.specs.Vms.{vcpus_in, vcpu}
-use Rattle.aia_home.proofs.VmLemmas.{slot_below}
+use Rattle.aia_vcpu.specs.Vms.{vcpus_in, vcpu}
+use Rattle.aia_vcpu.proofs.VmLemmas.{slot_below}
 use Rattle.aia_fabric.proofs.vms.Vms.slot_of.Goals as goal
 
 pub overflow_add-result : goal.overflow_add-result

@@ -9,14 +9,14 @@ use Rattle.aia_file.specs.InterruptFile.{SameFile, register_value, accessed}
 use Rattle.aia_file.specs.FileState.{shown}
 use Rattle.aia_file.specs.Imsic.{file_at}
 use Rattle.aia_model.specs.FileAfter.FileDeed.{Accesses}
-use Rattle.aia_standing.specs.Core.{CoreState}
-use Rattle.aia_standing.specs.HostFiles.{name_of, csr_line, select_in}
-use Rattle.aia_standing.specs.Stands.{CoreTakes}
+use Rattle.aia_hyp_values.specs.Core.{CoreState}
+use Rattle.aia_hyp_values.specs.HostFiles.{name_of, csr_line, select_in}
+use Rattle.aia_hyp_values.specs.Stands.{CoreTakes}
 use Rattle.aia_model.specs.declared.answer.Answer.TheVariants.{Wide}
-use Rattle.aia_standing.proofs.NameLemmas.{named_there}
-use Rattle.aia_standing.proofs.EventLemmas.{file_done, still}
-use Rattle.aia_standing.proofs.AccessLemmas.{of_file, file_reached, select_reached, top_reached, illegal, select_done}
-use Rattle.aia_standing.proofs.AccessLemmas as lemmas
+use Rattle.aia_hyp_values.proofs.NameLemmas.{named_there}
+use Rattle.aia_hyp_values.proofs.EventLemmas.{file_done, still}
+use Rattle.aia_hyp_values.proofs.AccessLemmas.{of_file, file_reached, select_reached, top_reached, illegal, select_done}
+use Rattle.aia_hyp_values.proofs.AccessLemmas as lemmas
 use Rattle.aia_hyp.proofs.hypervisor_core.Core.access.Goals.{After-access_select, After-reg, After-claim_or_read}
 use Rattle.aia_hyp.proofs.hypervisor_core.Core.access.Goals as goal
 

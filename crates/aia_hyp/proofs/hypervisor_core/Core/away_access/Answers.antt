@@ -1,9 +1,9 @@
 use Rattle.std.proofs.Common.{◌&&◌, is_some, Option, sym, ap, ◌∙◌}
-use Rattle.aia_moving.specs.declared.who.KeptNumbers.{KeptNumbers}
+use Rattle.aia_move_values.specs.declared.who.KeptNumbers.{KeptNumbers}
 use Rattle.aia_csr.specs.CsrAccess.{is_file_csr}
-use Rattle.aia_standing.specs.Core.{VcpuRecord}
-use Rattle.aia_standing.specs.Core.{entered_at}
-use Rattle.aia_standing.proofs.GuestAccesses.{guest_away}
+use Rattle.aia_hyp_values.specs.Core.{VcpuRecord}
+use Rattle.aia_hyp_values.specs.Core.{entered_at}
+use Rattle.aia_hyp_values.proofs.GuestAccesses.{guest_away}
 use Rattle.aia_hyp.proofs.hypervisor_core.Core.away_access.Goals as goal
 
 pub returns-in_default : goal.returns-in_default

@@ -3,9 +3,9 @@ use Rattle.aia_model.specs.declared.line.Line.TheVariants as lines
 use Rattle.aia_model.specs.declared.answer.Answer.TheVariants.{Okay}
 use Rattle.aia_model.specs.declared.refusal.Refusal.TheVariants as words
 use Rattle.aia_model.specs.declared.answer.Answer.TheVariants as answers
-use Rattle.aia_standing.specs.Stands.{CoreTakes, answer_by}
-use Rattle.aia_standing.proofs.BeginCore.{no_move}
-use Rattle.aia_standing.proofs.MoveLines.{begin_taken}
+use Rattle.aia_hyp_values.specs.Stands.{CoreTakes, answer_by}
+use Rattle.aia_hyp_values.proofs.BeginCore.{no_move}
+use Rattle.aia_hyp_values.proofs.MoveLines.{begin_taken}
 use Rattle.aia_hyp.proofs.hypervisor_core.Core.begin.Goals as goal
 
 pub returns-in_default : goal.returns-in_default

@@ -1,13 +1,13 @@
 use Rattle.std.proofs.Common.{List, length, refl, sym, ap, ◌∙◌, subst, arith}
 use Rattle.std.proofs.lemmas.List.{length-set}
-use Rattle.aia_world.specs.Found.{IsFound}
+use Rattle.aia_fabric_values.specs.Found.{IsFound}
 use Rattle.aia_model.specs.declared.answer.Answer.TheVariants.{Okay}
-use Rattle.aia_standing.specs.Core.{VcpuRecord}
-use Rattle.aia_standing.specs.Core.{CoreState}
-use Rattle.aia_standing.specs.Moves.{MoveBegins}
-use Rattle.aia_standing.specs.Stands.{answer_by}
-use Rattle.aia_standing.proofs.BeginCore.{begins_still}
-use Rattle.aia_standing.proofs.MoveCalls.{who_low, begin_call}
+use Rattle.aia_hyp_values.specs.Core.{VcpuRecord}
+use Rattle.aia_hyp_values.specs.Core.{CoreState}
+use Rattle.aia_hyp_values.specs.Moves.{MoveBegins}
+use Rattle.aia_hyp_values.specs.Stands.{answer_by}
+use Rattle.aia_hyp_values.proofs.BeginCore.{begins_still}
+use Rattle.aia_hyp_values.proofs.MoveCalls.{who_low, begin_call}
 use Rattle.aia_hyp.proofs.hypervisor_core.Core.begin_of.Goals.{After-swap_stay}
 use Rattle.aia_hyp.proofs.hypervisor_core.Core.begin_of.Goals as goal
 

@@ -1,8 +1,8 @@
 use Rattle.std.proofs.Common.{◌≡◌, sym, subst, ◌∙◌}
 use Rattle.aia_file.specs.Map.{spot_at}
-use Rattle.aia_world.specs.Whole.{IsWhole}
-use Rattle.aia_standing.specs.Core.{CoreState}
-use Rattle.aia_standing.proofs.ForwardLemmas.{then_relays, relayed_too, landed_alone}
+use Rattle.aia_fabric_values.specs.Whole.{IsWhole}
+use Rattle.aia_hyp_values.specs.Core.{CoreState}
+use Rattle.aia_hyp_values.proofs.ForwardLemmas.{then_relays, relayed_too, landed_alone}
 use Rattle.aia_hyp.proofs.hypervisor_core.Core.deliver.Goals as goal
 
 pub relay-requires : goal.relay-requires

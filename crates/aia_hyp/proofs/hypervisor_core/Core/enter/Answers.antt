@@ -2,12 +2,12 @@ use Rattle.std.proofs.Common.{refl, subst, arith}
 use Rattle.std.specs.Prelude.{slice_index_or}
 use Rattle.aia_model.specs.declared.answer.Answer.TheVariants.{Okay}
 use Rattle.aia_model.specs.declared.line.Line.TheVariants.{Enter}
-use Rattle.aia_standing.specs.Core.{CoreState, no_record, parked_at}
-use Rattle.aia_standing.specs.Memory.{EntersFrom}
-use Rattle.aia_standing.specs.Stands.{CoreTakes, answer_by}
-use Rattle.aia_standing.proofs.EventLemmas.{still}
-use Rattle.aia_standing.proofs.MoveCalls.{who_low}
-use Rattle.aia_standing.proofs.RunLines.{enters, no_vcpu_to_enter}
+use Rattle.aia_hyp_values.specs.Core.{CoreState, no_record, parked_at}
+use Rattle.aia_hyp_values.specs.Memory.{EntersFrom}
+use Rattle.aia_hyp_values.specs.Stands.{CoreTakes, answer_by}
+use Rattle.aia_hyp_values.proofs.EventLemmas.{still}
+use Rattle.aia_hyp_values.proofs.MoveCalls.{who_low}
+use Rattle.aia_hyp_values.proofs.RunLines.{enters, no_vcpu_to_enter}
 use Rattle.aia_hyp.proofs.hypervisor_core.Core.enter.Goals.{After-enter_in}
 use Rattle.aia_hyp.proofs.hypervisor_core.Core.enter.Goals as goal
 

@@ -1,17 +1,17 @@
 use Rattle.std.proofs.Common.{◌≡◌, true, get_or, sym, ap, ◌∙◌, subst, arith, refl}
 use Rattle.std.proofs.Math.ListN.{set}
-use Rattle.aia_home.specs.Vms.{vcpu}
-use Rattle.aia_home.specs.Home.{is_moving}
-use Rattle.aia_moving.specs.declared.turn.Next.TheVariants.{Finished}
-use Rattle.aia_moving.specs.PlanState.{moving_of}
-use Rattle.aia_moving.specs.Plan.{StepsTo}
-use Rattle.aia_moving.specs.Targets.{next_aim}
-use Rattle.aia_moving.proofs.PhaseLemmas.{finishes}
-use Rattle.aia_standing.specs.Core.{CoreState, no_record, record_of, home_in}
-use Rattle.aia_world.specs.Found.{IsFound}
-use Rattle.aia_standing.specs.Moves.{MoveGoes, IsAtItsLast}
-use Rattle.aia_standing.proofs.BeginCore.{at_stay}
-use Rattle.aia_standing.proofs.MoveCalls.{StepCalls, plan_known, back_known, step_called, harts_still, goes_still, who_still}
+use Rattle.aia_vcpu.specs.Vms.{vcpu}
+use Rattle.aia_vcpu.specs.Home.{is_moving}
+use Rattle.aia_move_values.specs.declared.turn.Next.TheVariants.{Finished}
+use Rattle.aia_move_values.specs.PlanState.{moving_of}
+use Rattle.aia_move_values.specs.Plan.{StepsTo}
+use Rattle.aia_move_values.specs.Targets.{next_aim}
+use Rattle.aia_move_values.proofs.PhaseLemmas.{finishes}
+use Rattle.aia_hyp_values.specs.Core.{CoreState, no_record, record_of, home_in}
+use Rattle.aia_fabric_values.specs.Found.{IsFound}
+use Rattle.aia_hyp_values.specs.Moves.{MoveGoes, IsAtItsLast}
+use Rattle.aia_hyp_values.proofs.BeginCore.{at_stay}
+use Rattle.aia_hyp_values.proofs.MoveCalls.{StepCalls, plan_known, back_known, step_called, harts_still, goes_still, who_still}
 use Rattle.aia_hyp.proofs.hypervisor_core.Core.finish_move.Goals.{After-finish-outcome, After-swap_stay-2}
 use Rattle.aia_hyp.proofs.hypervisor_core.Core.finish_move.Goals as goal
 

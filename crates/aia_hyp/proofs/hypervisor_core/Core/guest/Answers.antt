@@ -1,4 +1,4 @@
-use Rattle.aia_standing.proofs.GuestAccesses.{no_such_guest}
+use Rattle.aia_hyp_values.proofs.GuestAccesses.{no_such_guest}
 use Rattle.aia_hyp.proofs.hypervisor_core.Core.guest.Goals as goal
 
 pub returns-in_default : goal.returns-in_default

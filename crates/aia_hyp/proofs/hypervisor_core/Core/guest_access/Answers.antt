@@ -8,10 +8,10 @@ use Rattle.aia_file.specs.InterruptFile.{SameFile, register_value, top_of, acces
 use Rattle.aia_file.specs.FileState.{FileState, shown}
 use Rattle.aia_file.specs.declared.spot.Spot.{Spot}
 use Rattle.aia_file.specs.Imsic.{IsThere, file_at, with_file}
-use Rattle.aia_home.specs.declared.place.Place.{Place}
-use Rattle.aia_home.specs.Vms.{Vcpu, vcpu, is_vcpu_in}
-use Rattle.aia_world.specs.Whole.{IsWhole}
-use Rattle.aia_world.specs.Changes.{spot_of}
+use Rattle.aia_vcpu.specs.declared.place.Place.{Place}
+use Rattle.aia_vcpu.specs.Vms.{Vcpu, vcpu, is_vcpu_in}
+use Rattle.aia_fabric_values.specs.Whole.{IsWhole}
+use Rattle.aia_fabric_values.specs.Changes.{spot_of}
 use Rattle.aia_model.specs.declared.answer.Answer.TheVariants.{Wide}
 use Rattle.aia_model.specs.declared.line.Line.TheVariants.{GuestCsr}
 use Rattle.aia_word.specs.Top.{top_value}
@@ -22,12 +22,12 @@ use Rattle.aia_model.specs.Event.Event.{Accepted}
 use Rattle.aia_model.specs.Answer.{guest_csr_value}
 use Rattle.aia_model.specs.FileAfter.{file_after}
 use Rattle.aia_model.specs.FileAfter.FileDeed.{Accesses}
-use Rattle.aia_standing.specs.Core.{CoreState, no_record, record_of, resident_at, MajorsDone}
-use Rattle.aia_standing.specs.Stands.{StandsForSome, CoreTakes}
-use Rattle.aia_standing.proofs.EventLemmas.{still}
-use Rattle.aia_standing.proofs.GuestLookups.{reached, names, slot_is, slot_low}
-use Rattle.aia_standing.proofs.GuestAccesses.{file_there, guest_select_done, guest_file_done, guest_accessed, guest_virtual, guest_illegal}
-use Rattle.aia_standing.proofs.MajorLemmas.{IsOfMajors, accesses_sip, accesses_sie, accesses_topi, majors_accessed, majors_stay, stopi_read, sip_read, sie_read}
+use Rattle.aia_hyp_values.specs.Core.{CoreState, no_record, record_of, resident_at, MajorsDone}
+use Rattle.aia_hyp_values.specs.Stands.{StandsForSome, CoreTakes}
+use Rattle.aia_hyp_values.proofs.EventLemmas.{still}
+use Rattle.aia_hyp_values.proofs.GuestLookups.{reached, names, slot_is, slot_low}
+use Rattle.aia_hyp_values.proofs.GuestAccesses.{file_there, guest_select_done, guest_file_done, guest_accessed, guest_virtual, guest_illegal}
+use Rattle.aia_hyp_values.proofs.MajorLemmas.{IsOfMajors, accesses_sip, accesses_sie, accesses_topi, majors_accessed, majors_stay, stopi_read, sip_read, sie_read}
 use Rattle.aia_hyp.proofs.hypervisor_core.Core.guest_access.Goals.{After-access_select_in, After-reg, After-claim_or_read, After-stopi_in, After-access_sip_in, After-access_sie_in}
 use Rattle.aia_hyp.proofs.hypervisor_core.Core.guest_access.Goals as goal
 

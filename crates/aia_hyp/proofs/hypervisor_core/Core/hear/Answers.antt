@@ -3,13 +3,13 @@ use Rattle.aia_file.specs.Imsic.{ImsicState, IsThere}
 use Rattle.aia_file.specs.Map.{spot_at}
 use Rattle.aia_regs.specs.declared.limits.TheConstants.{HARTS}
 use Rattle.aia_model.specs.Event.Event.{Delivered}
-use Rattle.aia_standing.specs.Core.{CoreState}
-use Rattle.aia_standing.specs.Passes.{number_of_pass}
-use Rattle.aia_standing.specs.HostFiles.{is_host_spot}
-use Rattle.aia_standing.specs.Stands.{CoreHears, MayGo}
-use Rattle.aia_standing.proofs.NameLemmas.{not_nowhere}
-use Rattle.aia_standing.proofs.StoreLemmas.{msi_landed, msi_dropped}
-use Rattle.aia_standing.proofs.ForwardLemmas.{hears_on}
+use Rattle.aia_hyp_values.specs.Core.{CoreState}
+use Rattle.aia_hyp_values.specs.Passes.{number_of_pass}
+use Rattle.aia_hyp_values.specs.HostFiles.{is_host_spot}
+use Rattle.aia_hyp_values.specs.Stands.{CoreHears, MayGo}
+use Rattle.aia_hyp_values.proofs.NameLemmas.{not_nowhere}
+use Rattle.aia_hyp_values.proofs.StoreLemmas.{msi_landed, msi_dropped}
+use Rattle.aia_hyp_values.proofs.ForwardLemmas.{hears_on}
 use Rattle.aia_hyp.proofs.hypervisor_core.Core.hear.Goals.{After-host_store}
 use Rattle.aia_hyp.proofs.hypervisor_core.Core.hear.Goals as goal
 

@@ -1,5 +1,5 @@
 use Rattle.std.proofs.Common.{◌<◌, ◌≤◌, arith}
-use Rattle.aia_standing.proofs.SignalLemmas.{hgeip_taken, no_hart_for_it}
+use Rattle.aia_hyp_values.proofs.SignalLemmas.{hgeip_taken, no_hart_for_it}
 use Rattle.aia_hyp.proofs.hypervisor_core.Core.hgeip.Goals as goal
 
 pub returns-then-from-hart : goal.returns-then-from-hart

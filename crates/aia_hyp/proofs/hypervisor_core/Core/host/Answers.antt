@@ -1,6 +1,6 @@
 use Rattle.std.proofs.Common.{◌≤◌, subst, arith}
-use Rattle.aia_standing.specs.Core.{CoreState}
-use Rattle.aia_standing.proofs.AccessLemmas.{no_hart}
+use Rattle.aia_hyp_values.specs.Core.{CoreState}
+use Rattle.aia_hyp_values.proofs.AccessLemmas.{no_hart}
 use Rattle.aia_hyp.proofs.hypervisor_core.Core.host.Goals as goal
 
 pub returns-then-hart-from : goal.returns-then-hart-from

@@ -1,14 +1,14 @@
 use Rattle.std.proofs.Common.{◌≡◌, ◌<◌, true, false, length, refl, subst, arith}
 use Rattle.std.specs.Prelude.{OnOk}
 use Rattle.aia_major.specs.VsMajor.{is_hvictl, with_hvictl}
-use Rattle.aia_home.specs.Vms.{Vcpu, vcpu, is_vcpu_in, slot_of}
+use Rattle.aia_vcpu.specs.Vms.{Vcpu, vcpu, is_vcpu_in, slot_of}
 use Rattle.aia_model.specs.declared.answer.Answer.TheVariants.{Okay}
 use Rattle.aia_model.specs.declared.line.Line.TheVariants.{Hvictl}
-use Rattle.aia_standing.specs.Core.{CoreState, MajorsDone}
-use Rattle.aia_standing.specs.Stands.{CoreTakes, answer_by}
-use Rattle.aia_standing.proofs.EventLemmas.{still}
-use Rattle.aia_standing.proofs.MoveCalls.{who_low}
-use Rattle.aia_standing.proofs.MajorLemmas.{hvictl_line, no_such, majors_answered}
+use Rattle.aia_hyp_values.specs.Core.{CoreState, MajorsDone}
+use Rattle.aia_hyp_values.specs.Stands.{CoreTakes, answer_by}
+use Rattle.aia_hyp_values.proofs.EventLemmas.{still}
+use Rattle.aia_hyp_values.proofs.MoveCalls.{who_low}
+use Rattle.aia_hyp_values.proofs.MajorLemmas.{hvictl_line, no_such, majors_answered}
 use Rattle.aia_hyp.proofs.hypervisor_core.Core.hvictl.Goals.{After-set_hvictl_in}
 use Rattle.aia_hyp.proofs.hypervisor_core.Core.hvictl.Goals as goal
 

@@ -1,13 +1,13 @@
 use Rattle.std.proofs.Common.{◌≡◌, ◌<◌, true, false, length, refl, subst, arith}
 use Rattle.aia_major.specs.VsMajor.{with_hviprio1}
-use Rattle.aia_home.specs.Vms.{Vcpu, vcpu, is_vcpu_in, slot_of}
+use Rattle.aia_vcpu.specs.Vms.{Vcpu, vcpu, is_vcpu_in, slot_of}
 use Rattle.aia_model.specs.declared.answer.Answer.TheVariants.{Okay}
 use Rattle.aia_model.specs.declared.line.Line.TheVariants.{Hviprio}
-use Rattle.aia_standing.specs.Core.{CoreState, MajorsDone}
-use Rattle.aia_standing.specs.Stands.{CoreTakes}
-use Rattle.aia_standing.proofs.EventLemmas.{still}
-use Rattle.aia_standing.proofs.MoveCalls.{who_low}
-use Rattle.aia_standing.proofs.MajorLemmas.{hviprio_line, no_such, majors_taken}
+use Rattle.aia_hyp_values.specs.Core.{CoreState, MajorsDone}
+use Rattle.aia_hyp_values.specs.Stands.{CoreTakes}
+use Rattle.aia_hyp_values.proofs.EventLemmas.{still}
+use Rattle.aia_hyp_values.proofs.MoveCalls.{who_low}
+use Rattle.aia_hyp_values.proofs.MajorLemmas.{hviprio_line, no_such, majors_taken}
 use Rattle.aia_hyp.proofs.hypervisor_core.Core.hviprio.Goals.{After-set_hviprio_in}
 use Rattle.aia_hyp.proofs.hypervisor_core.Core.hviprio.Goals as goal
 

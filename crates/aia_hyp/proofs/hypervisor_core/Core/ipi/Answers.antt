@@ -1,14 +1,14 @@
 use Rattle.std.proofs.Common.{◌≡◌, true, false, refl, sym, ap, subst, ◌∙◌}
-use Rattle.aia_home.specs.Vms.{Vcpu, vcpu, is_vcpu_in}
-use Rattle.aia_world.specs.World.{stage_of}
-use Rattle.aia_world.specs.Stores.{ReachesByRecord}
+use Rattle.aia_vcpu.specs.Vms.{Vcpu, vcpu, is_vcpu_in}
+use Rattle.aia_fabric_values.specs.World.{stage_of}
+use Rattle.aia_fabric_values.specs.Stores.{ReachesByRecord}
 use Rattle.aia_model.specs.declared.answer.Answer.TheVariants.{Okay}
 use Rattle.aia_model.specs.declared.line.Line.TheVariants.{Ipi}
-use Rattle.aia_standing.specs.Core.{VcpuRecord}
-use Rattle.aia_standing.specs.Core.{CoreState, record_of, runs_in}
-use Rattle.aia_standing.specs.Stands.{CoreTakes}
-use Rattle.aia_standing.proofs.EventLemmas.{still}
-use Rattle.aia_standing.proofs.PeerLemmas.{no_sender, sender_away, no_peer, ipi_taken}
+use Rattle.aia_hyp_values.specs.Core.{VcpuRecord}
+use Rattle.aia_hyp_values.specs.Core.{CoreState, record_of, runs_in}
+use Rattle.aia_hyp_values.specs.Stands.{CoreTakes}
+use Rattle.aia_hyp_values.proofs.EventLemmas.{still}
+use Rattle.aia_hyp_values.proofs.PeerLemmas.{no_sender, sender_away, no_peer, ipi_taken}
 use Rattle.aia_hyp.proofs.hypervisor_core.Core.ipi.Goals.{After-guest_store}
 use Rattle.aia_hyp.proofs.hypervisor_core.Core.ipi.Goals as goal
 

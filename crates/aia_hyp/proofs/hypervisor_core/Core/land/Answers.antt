@@ -1,10 +1,10 @@
 use Rattle.std.proofs.Common.{◌≤◌, length, refl, arith}
-use Rattle.aia_world.specs.World.{flight_of}
+use Rattle.aia_fabric_values.specs.World.{flight_of}
 use Rattle.aia_model.specs.declared.line.Line.TheVariants.{Land}
 use Rattle.aia_model.specs.declared.answer.Answer.TheVariants.{Okay}
-use Rattle.aia_standing.specs.Stands.{CoreTakes}
-use Rattle.aia_standing.proofs.EventLemmas.{still}
-use Rattle.aia_standing.proofs.LandingLemmas.{land_taken, none_to_land, no_vm_for_landing}
+use Rattle.aia_hyp_values.specs.Stands.{CoreTakes}
+use Rattle.aia_hyp_values.proofs.EventLemmas.{still}
+use Rattle.aia_hyp_values.proofs.LandingLemmas.{land_taken, none_to_land, no_vm_for_landing}
 use Rattle.aia_hyp.proofs.hypervisor_core.Core.land.Goals.{After-land}
 use Rattle.aia_hyp.proofs.hypervisor_core.Core.land.Goals as goal
 

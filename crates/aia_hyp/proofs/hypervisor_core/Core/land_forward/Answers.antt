@@ -1,8 +1,8 @@
 use Rattle.std.proofs.Common.{refl, sym, subst}
 use Rattle.aia_model.specs.Event.Event.{Delivered}
-use Rattle.aia_standing.specs.Core.{CoreState}
-use Rattle.aia_standing.specs.Stands.{CoreGoes, MayGo}
-use Rattle.aia_standing.proofs.ForwardLemmas.{forwarding, goes_there, forward_goes, goes_on}
+use Rattle.aia_hyp_values.specs.Core.{CoreState}
+use Rattle.aia_hyp_values.specs.Stands.{CoreGoes, MayGo}
+use Rattle.aia_hyp_values.proofs.ForwardLemmas.{forwarding, goes_there, forward_goes, goes_on}
 use Rattle.aia_hyp.proofs.hypervisor_core.Core.land_forward.Goals.{After-host_store}
 use Rattle.aia_hyp.proofs.hypervisor_core.Core.land_forward.Goals as goal
 

@@ -1,8 +1,8 @@
 use Rattle.std.proofs.Common.{rules, ◌≡◌, Option, None, Some, Err, ap, ◌∙◌}
 use Rattle.aia_model.specs.declared.refusal.Refusal.{Refusal}
 use Rattle.aia_model.specs.declared.refusal.Refusal.TheVariants.{Fault}
-use Rattle.aia_standing.proofs.PageLemmas.{in_a_region}
-use Rattle.aia_standing.proofs.StoreLemmas.{load_refused, loaded}
+use Rattle.aia_hyp_values.proofs.PageLemmas.{in_a_region}
+use Rattle.aia_hyp_values.proofs.StoreLemmas.{load_refused, loaded}
 use Rattle.aia_hyp.proofs.hypervisor_core.Core.load.Goals as goal
 
 pub returns-in_err-_spot-clause-takes : goal.returns-in_err-_spot-clause-takes

@@ -3,30 +3,30 @@ use Rattle.aia_regs.specs.Fields.{bit_number}
 use Rattle.aia_regs.specs.FileRegisters.{select_written}
 use Rattle.aia_regs.specs.declared.access.Op.TheVariants as ops
 use Rattle.aia_file.specs.declared.spot.Spot.TheVariants as spots
-use Rattle.aia_home.specs.Vms.{vcpu, is_vcpu_in, vcpus_in, slot_of, notice_hart}
-use Rattle.aia_world.specs.World.{World}
-use Rattle.aia_world.specs.Stores.{Posts}
-use Rattle.aia_world.specs.SlotAccess.{DoneInSlot}
-use Rattle.aia_world.specs.Whole.{IsWhole}
+use Rattle.aia_vcpu.specs.Vms.{vcpu, is_vcpu_in, vcpus_in, slot_of, notice_hart}
+use Rattle.aia_fabric_values.specs.World.{World}
+use Rattle.aia_fabric_values.specs.Stores.{Posts}
+use Rattle.aia_fabric_values.specs.SlotAccess.{DoneInSlot}
+use Rattle.aia_fabric_values.specs.Whole.{IsWhole}
 use Rattle.aia_file.specs.InterruptFile.{is_live}
-use Rattle.aia_world.specs.SlotAccess.{file_of_slot}
+use Rattle.aia_fabric_values.specs.SlotAccess.{file_of_slot}
 use Rattle.aia_model.specs.declared.answer.Answer.TheVariants.{Okay}
 use Rattle.aia_model.specs.declared.line.Line.TheVariants.{LoadPart}
 use Rattle.aia_model.specs.declared.part.Part.{Part}
 use Rattle.aia_model.specs.declared.part.Part.TheVariants as parts
 use Rattle.aia_model.specs.Image.{is_loadable, majors_loaded}
-use Rattle.aia_moving.specs.declared.who.KeptNumbers.{KeptNumbers}
-use Rattle.aia_world.specs.declared.found.Found.{Found}
-use Rattle.aia_home.specs.declared.rest.Rest.TheVariants.{Parked}
-use Rattle.aia_standing.specs.declared.vcpu.Stay.TheVariants as stays
+use Rattle.aia_move_values.specs.declared.who.KeptNumbers.{KeptNumbers}
+use Rattle.aia_fabric_values.specs.declared.found.Found.{Found}
+use Rattle.aia_vcpu.specs.declared.rest.Rest.TheVariants.{Parked}
+use Rattle.aia_hyp_values.specs.declared.vcpu.Stay.TheVariants as stays
 use Rattle.std.specs.Prelude.{slice_index_or, slice_set}
-use Rattle.aia_standing.specs.Core.{CoreState, no_record, record_of, MajorsDone}
-use Rattle.aia_standing.specs.Loads.{sets_loaded}
-use Rattle.aia_world.specs.Found.{IsFound}
-use Rattle.aia_standing.specs.Stands.{CoreTakes}
-use Rattle.aia_standing.proofs.EventLemmas.{still}
-use Rattle.aia_standing.proofs.MoveCalls.{who_low}
-use Rattle.aia_standing.proofs.ImageLines.{IsLoad, found_below, found_few, majors_are_loaded, registers_are_loaded, numbers_are_loaded, word_told, word_untold}
+use Rattle.aia_hyp_values.specs.Core.{CoreState, no_record, record_of, MajorsDone}
+use Rattle.aia_hyp_values.specs.Loads.{sets_loaded}
+use Rattle.aia_fabric_values.specs.Found.{IsFound}
+use Rattle.aia_hyp_values.specs.Stands.{CoreTakes}
+use Rattle.aia_hyp_values.proofs.EventLemmas.{still}
+use Rattle.aia_hyp_values.proofs.MoveCalls.{who_low}
+use Rattle.aia_hyp_values.proofs.ImageLines.{IsLoad, found_below, found_few, majors_are_loaded, registers_are_loaded, numbers_are_loaded, word_told, word_untold}
 use Rattle.aia_hyp.proofs.hypervisor_core.Core.load_into.Goals.{After-load_numbers_in, After-load_majors_in, After-load_registers_in, After-notice, Else-is_live}
 use Rattle.aia_hyp.proofs.hypervisor_core.Core.load_into.Goals as goal
 

@@ -3,11 +3,11 @@ use Rattle.std.specs.Prelude.{Err}
 use Rattle.aia_model.specs.declared.answer.Answer.TheVariants.{Refused}
 use Rattle.aia_model.specs.declared.line.Line.TheVariants.{LoadPart}
 use Rattle.aia_model.specs.Image.{is_loadable}
-use Rattle.aia_standing.specs.Core.{CoreState, parked_at}
-use Rattle.aia_world.specs.Found.{IsFound}
-use Rattle.aia_standing.specs.Stands.{StandsForSome, CoreTakes}
-use Rattle.aia_standing.proofs.MoveCalls.{who_low}
-use Rattle.aia_standing.proofs.ImageLines.{no_vcpu_to_load, not_loadable, not_parked_to_load, found_stay}
+use Rattle.aia_hyp_values.specs.Core.{CoreState, parked_at}
+use Rattle.aia_fabric_values.specs.Found.{IsFound}
+use Rattle.aia_hyp_values.specs.Stands.{StandsForSome, CoreTakes}
+use Rattle.aia_hyp_values.proofs.MoveCalls.{who_low}
+use Rattle.aia_hyp_values.proofs.ImageLines.{no_vcpu_to_load, not_loadable, not_parked_to_load, found_stay}
 use Rattle.aia_hyp.proofs.hypervisor_core.Core.load_part.Goals as goal
 
 pub returns-in_default : goal.returns-in_default

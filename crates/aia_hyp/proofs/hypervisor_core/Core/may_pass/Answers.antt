@@ -1,12 +1,12 @@
 use Rattle.std.proofs.Common.{◌≡◌, ℕ, Option, Some, None, length, sym, ap, subst, ◌∙◌, arith}
 use Rattle.std.specs.Prelude.{is_some}
-use Rattle.aia_home.specs.Vms.{vcpu, is_vcpu_in}
+use Rattle.aia_vcpu.specs.Vms.{vcpu, is_vcpu_in}
 use Rattle.aia_model.specs.declared.answer.Answer.TheVariants.{Refused}
 use Rattle.aia_model.specs.declared.refusal.Refusal.TheVariants.{Busy, Passed}
-use Rattle.aia_standing.specs.Core.{CoreState}
-use Rattle.aia_standing.specs.Passes.{number_of_pass}
-use Rattle.aia_standing.specs.Stands.{RefusesPass}
-use Rattle.aia_standing.proofs.PassLemmas.{is_moved, is_passed, is_free}
+use Rattle.aia_hyp_values.specs.Core.{CoreState}
+use Rattle.aia_hyp_values.specs.Passes.{number_of_pass}
+use Rattle.aia_hyp_values.specs.Stands.{RefusesPass}
+use Rattle.aia_hyp_values.proofs.PassLemmas.{is_moved, is_passed, is_free}
 use Rattle.aia_hyp.proofs.hypervisor_core.Core.may_pass.Goals as goal
 
 pub returns-clause-refusal : goal.returns-clause-refusal

@@ -6,21 +6,21 @@ use Rattle.aia_regs.specs.FileRegisters.{select_written}
 use Rattle.aia_regs.specs.Operations.{is_writing}
 use Rattle.aia_csr.specs.declared.csr_access.CsrAccess.TheVariants as reaches
 use Rattle.aia_file.specs.InterruptFile.{SameFile, register_value, top_of, accessed, claimed}
-use Rattle.aia_home.specs.Vms.{Vcpu, vcpu, is_vcpu_in, slot_of}
-use Rattle.aia_world.specs.SlotAccess.{file_of_slot, DoneInSlot}
-use Rattle.aia_world.specs.Whole.{IsWhole}
-use Rattle.aia_moving.specs.declared.who.KeptNumbers.{KeptNumbers}
+use Rattle.aia_vcpu.specs.Vms.{Vcpu, vcpu, is_vcpu_in, slot_of}
+use Rattle.aia_fabric_values.specs.SlotAccess.{file_of_slot, DoneInSlot}
+use Rattle.aia_fabric_values.specs.Whole.{IsWhole}
+use Rattle.aia_move_values.specs.declared.who.KeptNumbers.{KeptNumbers}
 use Rattle.aia_model.specs.declared.answer.Answer.TheVariants.{Wide}
 use Rattle.aia_model.specs.declared.line.Line.TheVariants.{GuestCsr}
 use Rattle.aia_model.specs.FileAfter.FileDeed.{Accesses}
-use Rattle.aia_home.specs.declared.rest.Rest.TheVariants.{Entered}
-use Rattle.aia_standing.specs.declared.vcpu.Stay.TheVariants as stays
-use Rattle.aia_standing.specs.Core.{CoreState, no_record, record_of}
-use Rattle.aia_standing.specs.Memory.{file_in_memory, kept_after}
-use Rattle.aia_standing.specs.Stands.{CoreTakes}
-use Rattle.aia_standing.proofs.EventLemmas.{as_it_was, still}
-use Rattle.aia_standing.proofs.GuestLookups.{reached, names, slot_is, slot_low}
-use Rattle.aia_standing.proofs.MemoryAccesses.{memory_record_done, memory_slot_done, sets_accessed, sets_value, number_accessed, number_value, top_accessed, memory_accessed, memory_virtual}
+use Rattle.aia_vcpu.specs.declared.rest.Rest.TheVariants.{Entered}
+use Rattle.aia_hyp_values.specs.declared.vcpu.Stay.TheVariants as stays
+use Rattle.aia_hyp_values.specs.Core.{CoreState, no_record, record_of}
+use Rattle.aia_hyp_values.specs.Memory.{file_in_memory, kept_after}
+use Rattle.aia_hyp_values.specs.Stands.{CoreTakes}
+use Rattle.aia_hyp_values.proofs.EventLemmas.{as_it_was, still}
+use Rattle.aia_hyp_values.proofs.GuestLookups.{reached, names, slot_is, slot_low}
+use Rattle.aia_hyp_values.proofs.MemoryAccesses.{memory_record_done, memory_slot_done, sets_accessed, sets_value, number_accessed, number_value, top_accessed, memory_accessed, memory_virtual}
 use Rattle.aia_hyp.proofs.hypervisor_core.Core.memory_access.Goals.{After-access_select_in, After-access_kept_in, After-slot_reg, After-top_in}
 use Rattle.aia_hyp.proofs.hypervisor_core.Core.memory_access.Goals as goal
 

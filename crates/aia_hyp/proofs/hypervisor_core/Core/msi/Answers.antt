@@ -1,8 +1,8 @@
 use Rattle.std.proofs.Common.{◌≤◌, ◌<◌, refl, length, arith}
 use Rattle.aia_model.specs.declared.line.Line.TheVariants as lines
-use Rattle.aia_standing.specs.Stands.{CoreTakes, route_answer}
-use Rattle.aia_standing.proofs.EventLemmas.{still}
-use Rattle.aia_standing.proofs.DeviceLemmas.{no_vm_for_it, misaligned_store, store_taken}
+use Rattle.aia_hyp_values.specs.Stands.{CoreTakes, route_answer}
+use Rattle.aia_hyp_values.proofs.EventLemmas.{still}
+use Rattle.aia_hyp_values.proofs.DeviceLemmas.{no_vm_for_it, misaligned_store, store_taken}
 use Rattle.aia_hyp.proofs.hypervisor_core.Core.msi.Goals.{After-device_store}
 use Rattle.aia_hyp.proofs.hypervisor_core.Core.msi.Goals as goal
 

@@ -8,7 +8,7 @@ use Rattle.aia_file.specs.InterruptFile.{is_greatest_identity}
 use Rattle.aia_model.specs.declared.line.Line.TheVariants.{Machine}
 use Rattle.aia_model.specs.Event.Event.{Accepted}
 use Rattle.aia_model.specs.Refusal.{refusal}
-use Rattle.aia_standing.proofs.StandsLemmas.{begun}
+use Rattle.aia_hyp_values.proofs.StandsLemmas.{begun}
 use Rattle.aia_hyp.proofs.hypervisor_core.Core.new.Goals as goal
 
 -- a machine of the sizes that `new` takes may be made

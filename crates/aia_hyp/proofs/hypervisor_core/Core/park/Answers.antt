@@ -1,18 +1,18 @@
 use Rattle.std.proofs.Common.{◌≡◌, ◌+◌, true, refl, sym, subst, ◌∙◌, arith}
 use Rattle.aia_file.specs.declared.spot.Spot.TheVariants as spots
-use Rattle.aia_home.specs.Vms.{Vcpu, vcpu, is_vcpu_in, slot_of, notice_hart, notice_identity}
-use Rattle.aia_world.specs.World.{World}
-use Rattle.aia_world.specs.Stores.{Posts}
+use Rattle.aia_vcpu.specs.Vms.{Vcpu, vcpu, is_vcpu_in, slot_of, notice_hart, notice_identity}
+use Rattle.aia_fabric_values.specs.World.{World}
+use Rattle.aia_fabric_values.specs.Stores.{Posts}
 use Rattle.aia_model.specs.declared.answer.Answer.TheVariants.{Okay}
 use Rattle.aia_model.specs.declared.line.Line.TheVariants.{Exit}
-use Rattle.aia_home.specs.declared.rest.Rest.TheVariants.{Parked, Entered}
-use Rattle.aia_standing.specs.declared.vcpu.Stay.TheVariants as stays
-use Rattle.aia_standing.specs.Core.{CoreState, record_of}
-use Rattle.aia_standing.specs.Memory.{with_stay}
-use Rattle.aia_world.specs.Found.{IsFound}
-use Rattle.aia_standing.specs.Stands.{CoreTakes}
-use Rattle.aia_standing.proofs.EventLemmas.{still}
-use Rattle.aia_standing.proofs.RunLines.{exits, exit_is_loud, exit_is_quiet, live_top}
+use Rattle.aia_vcpu.specs.declared.rest.Rest.TheVariants.{Parked, Entered}
+use Rattle.aia_hyp_values.specs.declared.vcpu.Stay.TheVariants as stays
+use Rattle.aia_hyp_values.specs.Core.{CoreState, record_of}
+use Rattle.aia_hyp_values.specs.Memory.{with_stay}
+use Rattle.aia_fabric_values.specs.Found.{IsFound}
+use Rattle.aia_hyp_values.specs.Stands.{CoreTakes}
+use Rattle.aia_hyp_values.proofs.EventLemmas.{still}
+use Rattle.aia_hyp_values.proofs.RunLines.{exits, exit_is_loud, exit_is_quiet, live_top}
 use Rattle.aia_hyp.proofs.hypervisor_core.Core.park.Goals.{After-notice, Else-slot_is_live}
 use Rattle.aia_hyp.proofs.hypervisor_core.Core.park.Goals as goal
 

@@ -3,9 +3,9 @@ use Rattle.aia_model.specs.Aim.{aimed_by}
 use Rattle.aia_model.specs.declared.line.Line.TheVariants as lines
 use Rattle.aia_model.specs.Event.Event.{Accepted}
 use Rattle.aia_model.specs.Refusal.{refusal}
-use Rattle.aia_standing.specs.Passes.{AimsBy}
-use Rattle.aia_standing.specs.Stands.{CoreStands}
-use Rattle.aia_standing.proofs.PassLemmas.{pass_refused, pass_taken, unless_taken}
+use Rattle.aia_hyp_values.specs.Passes.{AimsBy}
+use Rattle.aia_hyp_values.specs.Stands.{CoreStands}
+use Rattle.aia_hyp_values.proofs.PassLemmas.{pass_refused, pass_taken, unless_taken}
 use Rattle.aia_hyp.proofs.hypervisor_core.Core.pass.Goals as goal
 
 pub returns-in-Ok-clause-takes : goal.returns-in-Ok-clause-takes

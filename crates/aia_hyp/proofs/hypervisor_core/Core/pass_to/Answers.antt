@@ -1,16 +1,16 @@
 use Rattle.std.proofs.Common.{◌≡◌, ◌<◌, true, List, [], ◌∷◌, ◌++◌, slice_index_or, length, sym, ap, subst, ◌∙◌, arith}
-use Rattle.aia_home.specs.Vms.{vcpu}
+use Rattle.aia_vcpu.specs.Vms.{vcpu}
 use Rattle.aia_file.specs.InterruptFile.{is_greatest_identity}
-use Rattle.aia_world.specs.Whole.{IsWhole}
-use Rattle.aia_world.proofs.WholeLemmas.{notice_hart_there}
-use Rattle.aia_home.specs.Aims.{target_to}
+use Rattle.aia_fabric_values.specs.Whole.{IsWhole}
+use Rattle.aia_fabric_values.proofs.WholeLemmas.{notice_hart_there}
+use Rattle.aia_vcpu.specs.Aims.{target_to}
 use Rattle.aia_model.specs.declared.line.Line.TheVariants as lines
 use Rattle.aia_model.specs.Event.Event.{Accepted}
 use Rattle.aia_model.specs.Passes.{Pass}
-use Rattle.aia_standing.specs.Core.{CoreState, resident_at}
-use Rattle.aia_standing.specs.Core.{VcpuRecord}
-use Rattle.aia_standing.specs.Stands.{CoreStands, StandsForSome}
-use Rattle.aia_standing.proofs.PassLemmas.{free_so, record_low, record_read, few_identities, resident_there, pass_stands, pass_aims, pass_stands_for_some}
+use Rattle.aia_hyp_values.specs.Core.{CoreState, resident_at}
+use Rattle.aia_hyp_values.specs.Core.{VcpuRecord}
+use Rattle.aia_hyp_values.specs.Stands.{CoreStands, StandsForSome}
+use Rattle.aia_hyp_values.proofs.PassLemmas.{free_so, record_low, record_read, few_identities, resident_there, pass_stands, pass_aims, pass_stands_for_some}
 use Rattle.aia_hyp.proofs.hypervisor_core.Core.pass_to.Goals as goal
 
 pub index-requires : goal.index-requires

@@ -1,5 +1,5 @@
 use Rattle.std.proofs.Common.{sym, ◌∙◌}
-use Rattle.aia_standing.proofs.PageLemmas.{host_is_free}
+use Rattle.aia_hyp_values.proofs.PageLemmas.{host_is_free}
 use Rattle.aia_hyp.proofs.hypervisor_core.Core.reach.Goals as goal
 
 pub returns-then-is_host-clause-refused : goal.returns-then-is_host-clause-refused

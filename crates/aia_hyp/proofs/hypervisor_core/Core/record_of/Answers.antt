@@ -1,9 +1,9 @@
 use Rattle.std.proofs.Common.{sym, ap, subst, ◌∙◌, arith}
-use Rattle.aia_home.specs.Vms.{vcpu}
-use Rattle.aia_world.specs.Found.{IsFound}
-use Rattle.aia_standing.specs.Core.{CoreState, record_of}
-use Rattle.aia_standing.proofs.MoveCalls.{who_low}
-use Rattle.aia_standing.proofs.PassLemmas.{record_read}
+use Rattle.aia_vcpu.specs.Vms.{vcpu}
+use Rattle.aia_fabric_values.specs.Found.{IsFound}
+use Rattle.aia_hyp_values.specs.Core.{CoreState, record_of}
+use Rattle.aia_hyp_values.proofs.MoveCalls.{who_low}
+use Rattle.aia_hyp_values.proofs.PassLemmas.{record_read}
 use Rattle.aia_hyp.proofs.hypervisor_core.Core.record_of.Goals as goal
 
 pub index-requires : goal.index-requires

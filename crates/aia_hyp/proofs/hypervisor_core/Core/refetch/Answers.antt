@@ -1,9 +1,9 @@
 use Rattle.std.proofs.Common.{refl, subst}
 use Rattle.aia_model.specs.declared.line.Line.TheVariants.{Refetch}
 use Rattle.aia_model.specs.declared.answer.Answer.TheVariants.{Okay}
-use Rattle.aia_standing.specs.Stands.{CoreTakes}
-use Rattle.aia_standing.proofs.EventLemmas.{still}
-use Rattle.aia_standing.proofs.RefetchLemmas.{refetch_taken, no_entry_to_read}
+use Rattle.aia_hyp_values.specs.Stands.{CoreTakes}
+use Rattle.aia_hyp_values.proofs.EventLemmas.{still}
+use Rattle.aia_hyp_values.proofs.RefetchLemmas.{refetch_taken, no_entry_to_read}
 use Rattle.aia_hyp.proofs.hypervisor_core.Core.refetch.Goals.{After-refetch}
 use Rattle.aia_hyp.proofs.hypervisor_core.Core.refetch.Goals as goal
 

@@ -1,12 +1,12 @@
 use Rattle.std.proofs.Common.{◌≤◌, refl, sym, ap, subst, ◌∙◌}
 use Rattle.aia_regs.specs.declared.limits.TheConstants.{PASSES}
-use Rattle.aia_home.specs.Vms.{vcpu, is_vcpu_in}
+use Rattle.aia_vcpu.specs.Vms.{vcpu, is_vcpu_in}
 use Rattle.aia_model.specs.Passes.{Pass}
 use Rattle.aia_model.specs.Event.Event.{Relayed}
-use Rattle.aia_standing.specs.Core.{CoreState}
-use Rattle.aia_standing.specs.Stands.{CoreGoes, MayGo}
-use Rattle.aia_standing.proofs.ForwardLemmas.{goes_on}
-use Rattle.aia_standing.proofs.RelayLemmas.{calls_go, may_relay}
+use Rattle.aia_hyp_values.specs.Core.{CoreState}
+use Rattle.aia_hyp_values.specs.Stands.{CoreGoes, MayGo}
+use Rattle.aia_hyp_values.proofs.ForwardLemmas.{goes_on}
+use Rattle.aia_hyp_values.proofs.RelayLemmas.{calls_go, may_relay}
 use Rattle.aia_hyp.proofs.hypervisor_core.Core.relay.Goals.{After-slot_store}
 use Rattle.aia_hyp.proofs.hypervisor_core.Core.relay.Goals as goal
 

@@ -1,20 +1,20 @@
 use Rattle.std.proofs.Common.{rules, ◌≡◌, ◌+◌, ◌/◌, ◌<◌, ap, sym, subst, ◌∙◌, arith}
 use Rattle.std.specs.Prelude.{Err}
-use Rattle.aia_world.specs.Whole.{IsWhole}
-use Rattle.aia_home.specs.Vms.{vcpu}
+use Rattle.aia_fabric_values.specs.Whole.{IsWhole}
+use Rattle.aia_vcpu.specs.Vms.{vcpu}
 use Rattle.aia_model.specs.declared.answer.Answer.TheVariants as kinds
 use Rattle.aia_model.specs.declared.answer.Answer.TheVariants.{Refused}
 use Rattle.aia_model.specs.declared.line.Line.TheVariants.{Save}
 use Rattle.aia_model.specs.Image.{part_of}
-use Rattle.aia_home.specs.declared.rest.Rest.TheVariants.{Parked}
-use Rattle.aia_standing.specs.declared.vcpu.Stay.TheVariants as stays
-use Rattle.aia_standing.specs.Core.{CoreState, record_of, parked_at}
-use Rattle.aia_standing.specs.Images.{state_in}
-use Rattle.aia_world.specs.Found.{IsFound}
-use Rattle.aia_standing.specs.Stands.{StandsForSome, CoreTakes}
-use Rattle.aia_standing.proofs.MoveCalls.{who_low}
-use Rattle.aia_standing.proofs.ImageLines.{no_vcpu_to_save, no_such_part, not_parked_to_save, saves, found_few, found_stay, small_number}
-use Rattle.aia_standing.proofs.RestLemmas.{parked_is}
+use Rattle.aia_vcpu.specs.declared.rest.Rest.TheVariants.{Parked}
+use Rattle.aia_hyp_values.specs.declared.vcpu.Stay.TheVariants as stays
+use Rattle.aia_hyp_values.specs.Core.{CoreState, record_of, parked_at}
+use Rattle.aia_hyp_values.specs.Images.{state_in}
+use Rattle.aia_fabric_values.specs.Found.{IsFound}
+use Rattle.aia_hyp_values.specs.Stands.{StandsForSome, CoreTakes}
+use Rattle.aia_hyp_values.proofs.MoveCalls.{who_low}
+use Rattle.aia_hyp_values.proofs.ImageLines.{no_vcpu_to_save, no_such_part, not_parked_to_save, saves, found_few, found_stay, small_number}
+use Rattle.aia_hyp_values.proofs.RestLemmas.{parked_is}
 use Rattle.aia_hyp.proofs.hypervisor_core.Core.save.Goals.{In_ok-kept}
 use Rattle.aia_hyp.proofs.hypervisor_core.Core.save.Goals as goal
 

@@ -1,9 +1,9 @@
 use Rattle.std.proofs.Common.{◌≤◌, ◌<◌, length, refl, arith}
-use Rattle.aia_world.specs.World.{flight_of}
+use Rattle.aia_fabric_values.specs.World.{flight_of}
 use Rattle.aia_model.specs.declared.line.Line.TheVariants.{Send}
-use Rattle.aia_standing.specs.Stands.{CoreTakes, route_answer}
-use Rattle.aia_standing.proofs.EventLemmas.{still}
-use Rattle.aia_standing.proofs.LandingLemmas.{send_taken, no_vm_for_sending, no_room_for_sending, misaligned_sending}
+use Rattle.aia_hyp_values.specs.Stands.{CoreTakes, route_answer}
+use Rattle.aia_hyp_values.proofs.EventLemmas.{still}
+use Rattle.aia_hyp_values.proofs.LandingLemmas.{send_taken, no_vm_for_sending, no_room_for_sending, misaligned_sending}
 use Rattle.aia_hyp.proofs.hypervisor_core.Core.send.Goals.{After-send}
 use Rattle.aia_hyp.proofs.hypervisor_core.Core.send.Goals as goal
 use Rattle.aia_regs.specs.declared.limits.TheConstants.{STORES_IN_FLIGHT}

@@ -1,7 +1,7 @@
 use Rattle.std.proofs.Common.{◌<◌, ap, arith, ◌∙◌}
 use Rattle.aia_file.specs.InterruptFile.{signals}
 use Rattle.aia_file.specs.FileState.{FileState, shown}
-use Rattle.aia_standing.proofs.EventLemmas.{signals_there}
+use Rattle.aia_hyp_values.proofs.EventLemmas.{signals_there}
 use Rattle.aia_hyp.proofs.hypervisor_core.Core.signals.Goals as goal
 
 pub returns-clause-value : goal.returns-clause-value

@@ -1,20 +1,20 @@
 use Rattle.std.proofs.Common.{◌≡◌, sym, subst, ◌∙◌}
-use Rattle.aia_world.specs.Found.{IsFound}
-use Rattle.aia_standing.specs.Moves.{UnlessRefused}
-use Rattle.aia_home.specs.Vms.{vcpu}
+use Rattle.aia_fabric_values.specs.Found.{IsFound}
+use Rattle.aia_hyp_values.specs.Moves.{UnlessRefused}
+use Rattle.aia_vcpu.specs.Vms.{vcpu}
 use Rattle.aia_model.specs.declared.line.Line.TheVariants.{Step}
 use Rattle.aia_model.specs.declared.refusal.Refusal.TheVariants.{Idle}
 use Rattle.aia_model.specs.declared.answer.Answer.TheVariants.{Refused}
-use Rattle.aia_standing.specs.Core.{CoreState}
-use Rattle.aia_standing.specs.Moves.{step_answer}
-use Rattle.aia_standing.specs.Stands.{StandsForSome, CoreTakes}
-use Rattle.aia_standing.proofs.MoveLines.{step_unrefused, step_taken, step_idle, no_step, moved_now}
+use Rattle.aia_hyp_values.specs.Core.{CoreState}
+use Rattle.aia_hyp_values.specs.Moves.{step_answer}
+use Rattle.aia_hyp_values.specs.Stands.{StandsForSome, CoreTakes}
+use Rattle.aia_hyp_values.proofs.MoveLines.{step_unrefused, step_taken, step_idle, no_step, moved_now}
 use Rattle.aia_model.specs.Event.{History}
 use Rattle.aia_model.specs.Event.Event.{Stepped}
 use Rattle.aia_model.specs.Aim.{aimed_by}
 use Rattle.aia_model.specs.Refusal.{refusal}
-use Rattle.aia_standing.specs.Passes.{AimsBy}
-use Rattle.aia_standing.specs.Stands.{CoreStands}
+use Rattle.aia_hyp_values.specs.Passes.{AimsBy}
+use Rattle.aia_hyp_values.specs.Stands.{CoreStands}
 use Rattle.aia_hyp.proofs.hypervisor_core.Core.step.Goals as goal
 
 pub returns-in_default-clause-takes : goal.returns-in_default-clause-takes

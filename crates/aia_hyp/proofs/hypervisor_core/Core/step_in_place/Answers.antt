@@ -1,20 +1,20 @@
 use Rattle.std.proofs.Common.{◌≡◌, true, get_or, sym, ap, ◌∙◌, subst, arith, refl, List}
-use Rattle.aia_home.specs.Vms.{vcpu, is_vcpu_in}
-use Rattle.aia_home.specs.Home.{is_moving}
-use Rattle.aia_home.specs.declared.vm.Vm.{Vm}
+use Rattle.aia_vcpu.specs.Vms.{vcpu, is_vcpu_in}
+use Rattle.aia_vcpu.specs.Home.{is_moving}
+use Rattle.aia_vcpu.specs.declared.vm.Vm.{Vm}
 use Rattle.aia_file.specs.InterruptFile.{is_greatest_identity}
-use Rattle.aia_world.specs.Found.{IsFound}
-use Rattle.aia_moving.specs.PlanState.{PlanState, moving_of}
-use Rattle.aia_moving.specs.Targets.{next_aim}
+use Rattle.aia_fabric_values.specs.Found.{IsFound}
+use Rattle.aia_move_values.specs.PlanState.{PlanState, moving_of}
+use Rattle.aia_move_values.specs.Targets.{next_aim}
 use Rattle.aia_model.specs.Event.{greatest_identity_of}
 use Rattle.aia_model.specs.Vms.{has_vcpu}
-use Rattle.aia_standing.specs.declared.vcpu.Stay.TheVariants as stays
-use Rattle.aia_standing.specs.Core.{CoreState, no_record, record_of, home_in}
-use Rattle.aia_standing.specs.Moves.{MoveInPlace}
+use Rattle.aia_hyp_values.specs.declared.vcpu.Stay.TheVariants as stays
+use Rattle.aia_hyp_values.specs.Core.{CoreState, no_record, record_of, home_in}
+use Rattle.aia_hyp_values.specs.Moves.{MoveInPlace}
 use Rattle.aia_file.proofs.SizeLemmas.{few_identities}
-use Rattle.aia_standing.proofs.OwnPasses.{are_passes, aims_so}
-use Rattle.aia_standing.proofs.MoveCalls.{plan_known, who_low, told_harts}
-use Rattle.aia_standing.proofs.StepsInPlace.{plan_of, made_in_place, in_place_stands, in_place_who, in_place_harts}
+use Rattle.aia_hyp_values.proofs.OwnPasses.{are_passes, aims_so}
+use Rattle.aia_hyp_values.proofs.MoveCalls.{plan_known, who_low, told_harts}
+use Rattle.aia_hyp_values.proofs.StepsInPlace.{plan_of, made_in_place, in_place_stands, in_place_who, in_place_harts}
 use Rattle.aia_hyp.proofs.hypervisor_core.Core.step_in_place.Given.{Over}
 use Rattle.aia_hyp.proofs.hypervisor_core.Core.step_in_place.Goals.{After-words-whole-2}
 use Rattle.aia_hyp.proofs.hypervisor_core.Core.step_in_place.Goals as goal

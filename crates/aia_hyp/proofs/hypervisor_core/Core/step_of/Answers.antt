@@ -1,8 +1,8 @@
 use Rattle.std.proofs.Common.{◌≡◌, true, sym, subst}
-use Rattle.aia_home.specs.Vms.{vcpu}
-use Rattle.aia_home.specs.Home.{is_moving}
-use Rattle.aia_standing.specs.Core.{CoreState, record_of, home_in}
-use Rattle.aia_standing.specs.Moves.{MoveGoes, MoveInPlace, IsAtItsLast}
+use Rattle.aia_vcpu.specs.Vms.{vcpu}
+use Rattle.aia_vcpu.specs.Home.{is_moving}
+use Rattle.aia_hyp_values.specs.Core.{CoreState, record_of, home_in}
+use Rattle.aia_hyp_values.specs.Moves.{MoveGoes, MoveInPlace, IsAtItsLast}
 use Rattle.aia_hyp.proofs.hypervisor_core.Core.step_of.Goals as goal
 
 pub returns-then-step_in_place-clause-goes : goal.returns-then-step_in_place-clause-goes

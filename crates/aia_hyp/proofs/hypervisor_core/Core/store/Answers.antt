@@ -6,11 +6,11 @@ use Rattle.aia_model.specs.declared.answer.Answer.TheVariants.{Okay}
 use Rattle.aia_model.specs.declared.line.Line.TheVariants.{Store}
 use Rattle.aia_model.specs.declared.refusal.Refusal.{Refusal}
 use Rattle.aia_model.specs.declared.refusal.Refusal.TheVariants.{Fault}
-use Rattle.aia_standing.specs.Core.{CoreState}
-use Rattle.aia_standing.specs.Stands.{CoreTakes, core_refusal}
-use Rattle.aia_standing.proofs.EventLemmas.{still}
-use Rattle.aia_standing.proofs.PageLemmas.{in_a_region, is_outside}
-use Rattle.aia_standing.proofs.StoreLemmas.{store_refused, stored}
+use Rattle.aia_hyp_values.specs.Core.{CoreState}
+use Rattle.aia_hyp_values.specs.Stands.{CoreTakes, core_refusal}
+use Rattle.aia_hyp_values.proofs.EventLemmas.{still}
+use Rattle.aia_hyp_values.proofs.PageLemmas.{in_a_region, is_outside}
+use Rattle.aia_hyp_values.proofs.StoreLemmas.{store_refused, stored}
 use Rattle.aia_hyp.proofs.hypervisor_core.Core.store.Goals.{After-host_store}
 use Rattle.aia_hyp.proofs.hypervisor_core.Core.store.Goals as goal
 use Rattle.aia_regs.specs.declared.limits.TheConstants.{HARTS}

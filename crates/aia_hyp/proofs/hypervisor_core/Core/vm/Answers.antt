@@ -2,12 +2,12 @@ use Rattle.std.proofs.Common.{◌≡◌, true, false, nat_lt, sym, refl, subst, 
 use Rattle.std.proofs.lemmas.Bool.{and_parts, ltb-true}
 use Rattle.aia_model.specs.declared.answer.Answer.TheVariants.{Okay}
 use Rattle.aia_model.specs.declared.line.Line.TheVariants as lines
-use Rattle.aia_world.specs.Whole.{IsWhole}
+use Rattle.aia_fabric_values.specs.Whole.{IsWhole}
 use Rattle.aia_model.specs.Refusal.{is_vm_size, lacks_room}
-use Rattle.aia_standing.specs.Core.{CoreState}
-use Rattle.aia_standing.specs.Stands.{CoreTakes}
-use Rattle.aia_standing.proofs.EventLemmas.{still}
-use Rattle.aia_standing.proofs.VmLines.{vm_made, vm_refused, vm_has_no_room, room_left}
+use Rattle.aia_hyp_values.specs.Core.{CoreState}
+use Rattle.aia_hyp_values.specs.Stands.{CoreTakes}
+use Rattle.aia_hyp_values.proofs.EventLemmas.{still}
+use Rattle.aia_hyp_values.proofs.VmLines.{vm_made, vm_refused, vm_has_no_room, room_left}
 use Rattle.aia_hyp.proofs.hypervisor_core.Core.vm.Goals.{After-add_records}
 use Rattle.aia_hyp.proofs.hypervisor_core.Core.vm.Goals as goal
 

@@ -1,16 +1,16 @@
 use Rattle.std.proofs.Common.{◌≡◌, Err, sym, ap, ◌∙◌, subst, rules}
-use Rattle.aia_world.specs.World.{World}
+use Rattle.aia_fabric_values.specs.World.{World}
 use Rattle.aia_model.specs.declared.line.Line.TheVariants as lines
 use Rattle.aia_model.specs.declared.answer.Answer.TheVariants.{Okay, Refused}
 use Rattle.aia_model.specs.declared.refusal.Refusal.TheVariants as words
 use Rattle.aia_model.specs.Event.{History}
 use Rattle.aia_model.specs.Refusal.{refusal}
-use Rattle.aia_standing.specs.Core.{CoreState}
-use Rattle.aia_world.specs.Found.{IsFound}
-use Rattle.aia_standing.specs.Moves.{UnlessRefused, WholeAims}
-use Rattle.aia_standing.specs.Stands.{StandsForSome, CoreStands, CoreTakes}
-use Rattle.aia_standing.proofs.BeginCore.{no_move}
-use Rattle.aia_standing.proofs.MoveWhole.{first_step, next_step, all_steps, all_aims, none_aims, refused_whole}
+use Rattle.aia_hyp_values.specs.Core.{CoreState}
+use Rattle.aia_fabric_values.specs.Found.{IsFound}
+use Rattle.aia_hyp_values.specs.Moves.{UnlessRefused, WholeAims}
+use Rattle.aia_hyp_values.specs.Stands.{StandsForSome, CoreStands, CoreTakes}
+use Rattle.aia_hyp_values.proofs.BeginCore.{no_move}
+use Rattle.aia_hyp_values.proofs.MoveWhole.{first_step, next_step, all_steps, all_aims, none_aims, refused_whole}
 use Rattle.aia_hyp.proofs.hypervisor_core.Core.whole.Goals as goal
 
 pub returns-in_default-clause-takes : goal.returns-in_default-clause-takes

@@ -1,7 +1,7 @@
-use Rattle.aia_home.specs.Vms.{vcpu}
+use Rattle.aia_vcpu.specs.Vms.{vcpu}
 use Rattle.std.specs.Prelude.{◌≡◌}
-use Rattle.aia_standing.specs.Moves.{left_in}
-use Rattle.aia_standing.proofs.MoveWhole.{SoFar}
+use Rattle.aia_hyp_values.specs.Moves.{left_in}
+use Rattle.aia_hyp_values.proofs.MoveWhole.{SoFar}
 use Rattle.aia_hyp.proofs.hypervisor_core.Core.whole.Given as goal
 
 abbrev pub invariant-loop-found : goal.invariant-loop-found

@@ -1,6 +1,6 @@
 use Rattle.std.proofs.Common.{sym, ap, ◌∙◌, arith}
 use Rattle.aia_model.specs.Passes.{Pass}
-use Rattle.aia_standing.proofs.PassLemmas.{first_of_source, none_of_source}
+use Rattle.aia_hyp_values.proofs.PassLemmas.{first_of_source, none_of_source}
 use Rattle.aia_hyp.proofs.passes.Passes.number_of.Goals as goal
 
 pub returns-then-at-source : goal.returns-then-at-source

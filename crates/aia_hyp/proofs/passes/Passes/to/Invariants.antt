@@ -1,5 +1,5 @@
-use Rattle.aia_home.specs.Vms.{vcpu}
-use Rattle.aia_standing.proofs.PassLemmas.{HasGathered}
+use Rattle.aia_vcpu.specs.Vms.{vcpu}
+use Rattle.aia_hyp_values.proofs.PassLemmas.{HasGathered}
 use Rattle.aia_hyp.proofs.passes.Passes.to.Given as goal
 
 abbrev pub invariant-loop-k : goal.invariant-loop-k

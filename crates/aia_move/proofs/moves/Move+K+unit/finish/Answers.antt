@@ -1,10 +1,10 @@
 use Rattle.std.proofs.Common.{ap, ◌∙◌, subst, arith}
-use Rattle.aia_home.specs.Home.{Home}
-use Rattle.aia_places.specs.Holds.{Hand}
-use Rattle.aia_moving.specs.Move.{Moving, width}
-use Rattle.aia_moving.specs.Turns.{GivesBack}
-use Rattle.aia_moving.proofs.StepLemmas.{executed_last}
-use Rattle.aia_moving.proofs.PhaseLemmas.{last_step}
+use Rattle.aia_vcpu.specs.Home.{Home}
+use Rattle.aia_vcpu_places.specs.Holds.{Hand}
+use Rattle.aia_move_values.specs.Move.{Moving, width}
+use Rattle.aia_move_values.specs.Turns.{GivesBack}
+use Rattle.aia_move_values.proofs.StepLemmas.{executed_last}
+use Rattle.aia_move_values.proofs.PhaseLemmas.{last_step}
 use Rattle.aia_move.proofs.moves.Move+K+unit.finish.Goals as goal
 
 pub access-requires-clause-more : goal.access-requires-clause-more

@@ -1,16 +1,16 @@
 use Rattle.std.proofs.Common.{◌≡◌, ◌+◌, ◌<◌, ◌≤◌, true, false, sym, ap, ◌∙◌, subst, arith}
 use Rattle.std.proofs.lemmas.Bool.{ltb-true, ltb-false}
-use Rattle.aia_home.specs.Home.{one_more}
-use Rattle.aia_home.specs.Plans.{steps_done}
-use Rattle.aia_home.specs.Phases.{begins}
-use Rattle.aia_home.specs.Phases.Phase.{AllDone}
-use Rattle.aia_moving.specs.Move.{Moving, width}
-use Rattle.aia_moving.specs.Turns.{IsAtAims}
-use Rattle.aia_moving.proofs.StepLemmas.{executed_on}
+use Rattle.aia_vcpu.specs.Home.{one_more}
+use Rattle.aia_vcpu.specs.Plans.{steps_done}
+use Rattle.aia_vcpu.specs.Phases.{begins}
+use Rattle.aia_vcpu.specs.Phases.Phase.{AllDone}
+use Rattle.aia_move_values.specs.Move.{Moving, width}
+use Rattle.aia_move_values.specs.Turns.{IsAtAims}
+use Rattle.aia_move_values.proofs.StepLemmas.{executed_on}
 use Rattle.aia_move.specs.Stages.{phase_at}
-use Rattle.aia_moving.specs.Plan.{past_phase}
-use Rattle.aia_moving.specs.Plan.{NextStepIsOf, next_phase}
-use Rattle.aia_moving.proofs.PhaseLemmas.{in_plan, phase_none, aims_to, not_last, then_in, goes_access}
+use Rattle.aia_move_values.specs.Plan.{past_phase}
+use Rattle.aia_move_values.specs.Plan.{NextStepIsOf, next_phase}
+use Rattle.aia_move_values.proofs.PhaseLemmas.{in_plan, phase_none, aims_to, not_last, then_in, goes_access}
 use Rattle.aia_move.proofs.moves.Move+K+unit.go_on.Given.{Over}
 use Rattle.aia_move.proofs.moves.Move+K+unit.go_on.Goals.{After-next-2}
 use Rattle.aia_move.proofs.moves.Move+K+unit.go_on.Goals as goal

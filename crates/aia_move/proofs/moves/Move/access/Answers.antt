@@ -1,7 +1,7 @@
 use Rattle.std.proofs.Common.{sym, ap, ◌∙◌, subst}
-use Rattle.aia_home.specs.Home.{Progress, end_at}
-use Rattle.aia_moving.specs.Move.{Moving, width}
-use Rattle.aia_moving.specs.Accesses.{WordFits, Executes}
+use Rattle.aia_vcpu.specs.Home.{Progress, end_at}
+use Rattle.aia_move_values.specs.Move.{Moving, width}
+use Rattle.aia_move_values.specs.Accesses.{WordFits, Executes}
 use Rattle.aia_move.proofs.AccessLemmas.{word_fits, at_is_next}
 use Rattle.aia_move.proofs.moves.Move.access.Goals as goal
 

@@ -1,9 +1,9 @@
 use Rattle.std.proofs.Common.{sym, ap, ◌∙◌, subst}
-use Rattle.aia_home.specs.Home.{Progress, is_moving}
-use Rattle.aia_home.specs.Phases.{after_shared}
-use Rattle.aia_moving.specs.Move.{Moving}
-use Rattle.aia_moving.specs.Turns.{IsIn}
-use Rattle.aia_moving.proofs.PhaseLemmas.{is_after}
+use Rattle.aia_vcpu.specs.Home.{Progress, is_moving}
+use Rattle.aia_vcpu.specs.Phases.{after_shared}
+use Rattle.aia_move_values.specs.Move.{Moving}
+use Rattle.aia_move_values.specs.Turns.{IsIn}
+use Rattle.aia_move_values.proofs.PhaseLemmas.{is_after}
 use Rattle.aia_move.proofs.moves.Move.into_phase.Goals as goal
 
 pub returns-clause-after : goal.returns-clause-after

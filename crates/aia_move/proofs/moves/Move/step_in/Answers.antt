@@ -1,9 +1,9 @@
 use Rattle.std.proofs.Common.{ap, arith}
-use Rattle.aia_home.specs.Home.{one_more}
-use Rattle.aia_moving.specs.Move.{Moving}
-use Rattle.aia_moving.proofs.StepLemmas.{executed_on}
+use Rattle.aia_vcpu.specs.Home.{one_more}
+use Rattle.aia_move_values.specs.Move.{Moving}
+use Rattle.aia_move_values.proofs.StepLemmas.{executed_on}
 use Rattle.aia_move.specs.Stages.{phase_at}
-use Rattle.aia_moving.proofs.PhaseLemmas.{in_phase}
+use Rattle.aia_move_values.proofs.PhaseLemmas.{in_phase}
 use Rattle.aia_move.proofs.moves.Move.step_in.Goals as goal
 
 pub stays-stays-requires : goal.stays-stays-requires

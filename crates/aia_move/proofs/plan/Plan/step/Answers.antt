@@ -1,8 +1,8 @@
 use Rattle.std.proofs.Common.{subst}
-use Rattle.aia_places.specs.Stores.{AreApart}
-use Rattle.aia_world.specs.World.{World}
-use Rattle.aia_moving.specs.Turns.{LeavesEmpty}
-use Rattle.aia_moving.specs.PlanState.{PlanState, moving_of}
+use Rattle.aia_vcpu_places.specs.Stores.{AreApart}
+use Rattle.aia_fabric_values.specs.World.{World}
+use Rattle.aia_move_values.specs.Turns.{LeavesEmpty}
+use Rattle.aia_move_values.specs.PlanState.{PlanState, moving_of}
 use Rattle.aia_move.proofs.plan.Plan.step.Goals as goal
 
 pub returns-else-step_in_place-clause-empty : goal.returns-else-step_in_place-clause-empty

@@ -1,7 +1,7 @@
 use Rattle.std.proofs.Common.{sym, ◌∙◌, subst}
-use Rattle.aia_places.specs.Holds.{Hand}
-use Rattle.aia_moving.specs.Move.{width}
-use Rattle.aia_moving.specs.Accesses.{WordFits}
+use Rattle.aia_vcpu_places.specs.Holds.{Hand}
+use Rattle.aia_move_values.specs.Move.{width}
+use Rattle.aia_move_values.specs.Accesses.{WordFits}
 use Rattle.aia_rehearsal.proofs.StepMade.{word_fits, step_made}
 use Rattle.aia_rehearsal.proofs.rehearsal.Rehearsal.make.Goals as goal
 

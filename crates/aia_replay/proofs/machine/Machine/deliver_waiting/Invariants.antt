@@ -1,4 +1,4 @@
-use Rattle.aia_wiring.specs.Sending.{waiting}
+use Rattle.aia_aplic_values.specs.Sending.{waiting}
 use Rattle.aia_replay.proofs.DeliveryLemmas.{SoFar}
 use Rattle.aia_replay.proofs.machine.Machine.deliver_waiting.Given as goal
 

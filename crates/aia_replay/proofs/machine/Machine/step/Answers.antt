@@ -1,6 +1,6 @@
 use Rattle.std.proofs.Common.{Bool, subst}
 use Rattle.aia_model.specs.declared.line.Line.TheVariants.{Step}
-use Rattle.aia_standing.specs.Moves.{step_answer}
+use Rattle.aia_hyp_values.specs.Moves.{step_answer}
 use Rattle.aia_replay.specs.Stands.{MachineTakes}
 use Rattle.aia_replay.proofs.AimLemmas.{step_taken_by, same_harts_there}
 use Rattle.aia_replay.proofs.machine.Machine.step.Goals as goal

@@ -1,6 +1,6 @@
 use Rattle.std.proofs.Common.{◌∙◌, sym, ap, length}
 use Rattle.std.specs.Prelude.{List}
-use Rattle.plans_machine.specs.Setting.{all_below}
+use Rattle.plans_rules.specs.Setting.{all_below}
 use Rattle.plans_judge.specs.declared.word.Word.{Word}
 use Rattle.plans_judge.specs.Table.{is_taken_at}
 use Rattle.plans_judge.proofs.StandsLemmas.{taken_is, all_of_two}

@@ -1,0 +1,192 @@
+-- A store on a fabric keeps what a plan knows.
+use Rattle.std.proofs.Common.{◌≡◌, ◌≢◌, ℕ, ◌+◌, ◌/◌, Bool, true, Option, Some, None, inl, inr, refl, sym, ap, ◌∙◌, subst}
+use Rattle.std.proofs.lemmas.Bool.{cond-true}
+use Rattle.aia_regs.specs.declared.limits.TheConstants.{IDENTITIES}
+use Rattle.aia_regs.specs.AddressMap.{supervisor_page}
+use Rattle.aia_regs.specs.Request.{requested}
+use Rattle.aia_file.specs.InterruptFile.{InterruptFile, landed}
+use Rattle.aia_file.specs.FileState.{shown}
+use Rattle.aia_file.specs.declared.spot.Spot.{Spot}
+use Rattle.aia_file.specs.declared.spot.Spot.TheVariants.{SupervisorFile}
+use Rattle.aia_file.specs.Imsic.{ImsicState, IsThere, file_at}
+use Rattle.aia_file.proofs.PlaceLemmas.{kept_elsewhere}
+use Rattle.aia_file.specs.declared.stored.Stored.{Stored}
+use Rattle.aia_file.specs.declared.stored.Stored.TheVariants.{Discarded, Quiet, Notice}
+use Rattle.aia_file.specs.Mrif.{mrif_in, stored}
+use Rattle.aia_entry.specs.declared.table.Route.{Route}
+use Rattle.aia_entry.specs.Tables.{table_of, entry_in_force, leads_by, route_of}
+use Rattle.aia_entry.specs.Translation.{is_msi_address, file_number}
+use Rattle.aia_vcpu.specs.declared.place.Place.{Place}
+use Rattle.aia_vcpu.specs.Vms.{Vcpu, is_vcpu_in, slot_of, notice_identity, notice_hart}
+use Rattle.aia_vcpu.specs.Home.{holds}
+use Rattle.aia_vcpu.specs.BySteps.{own_file, next_file}
+use Rattle.aia_vcpu.specs.Routes.{peers_reach, MayReach, MayLand}
+use Rattle.aia_vcpu.proofs.RouteLemmas.{reach_lands, peers_may}
+use Rattle.aia_vcpu_places.specs.Places.{Places, leads_to}
+use Rattle.aia_vcpu_places.specs.Holds.{Holds, IsWithin}
+use Rattle.aia_vcpu_places.specs.Stores.{places_landed, AreApart}
+use Rattle.aia_vcpu_places.proofs.StoreLemmas.{lands}
+use Rattle.aia_fabric_values.specs.World.{World, stage_of}
+use Rattle.aia_fabric_values.specs.Whole.{IsWhole}
+use Rattle.aia_fabric_values.specs.Stores.{StoresIn, StoresInGuestFile, NoticedBy, StoresInSlot, Reaches, ReachesBy, ReachesByRecord, with_store, page_spot}
+use Rattle.aia_fabric_values.specs.Changes.{spot_of, file_in}
+use Rattle.aia_move_values.specs.Views.{places_of}
+use Rattle.aia_move_values.specs.Own.{TouchesOwn}
+use Rattle.aia_vcpu.proofs.HomeLemmas.{either_file, landing_is_held}
+use Rattle.aia_move_values.proofs.OwnLemmas.{by_entry, guest_spot, touches_file, touches_slot, others_stay}
+use Rattle.aia_fabric_values.proofs.PlaceLemmas.{slot_found, host_page, named_guest}
+use Rattle.aia_move_values.proofs.StoreViews.{file_store-places, slot_store-places}
+use Rattle.aia_move_values.proofs.ViewLemmas.{posts-places, slot_low}
+use Rattle.aia_fabric_values.proofs.WholeLemmas.{notice_hart_there}
+use Rattle.aia_move_values.specs.Move.{Moving, mover, width, MoveFits}
+use Rattle.aia_move_values.specs.PlanState.{PlanState, moving_of}
+use Rattle.aia_move_values.specs.Touches.{SameMachine}
+use Rattle.aia_move_values.specs.Knows.{Knows}
+use Rattle.aia_move_values.proofs.StepLemmas.{fits_still}
+use Rattle.aia_move_values.proofs.MachineLemmas.{phase_still}
+use Rattle.aia_move_values.proofs.MadeView.{few_words}
+use Rattle.aia_move_values.proofs.MoveKept.{file_in-size}
+use Rattle.aia_regs.specs.declared.address_map.TheConstants.{PAGE}
+
+-- ---- in a world of the same machine with other places
+
+own_machine : (w u : World) (g : Vcpu) (place : Option Place) → TouchesOwn w u g place → SameMachine w u
+own_machine w u g place t = record {
+  n = ap (λ (x : World). x.n) t.rest;
+  vms = ap (λ (x : World). x.vms) t.rest;
+  harts = ap (λ (x : World). x.imsic.harts) t.rest;
+  guests = ap (λ (x : World). x.imsic.guests) t.rest;
+}
+
+module _ (w u : World) (plan : PlanState) (reach : Option Place) (saw : Bool) (same : SameMachine w u) where
+  abbrev m : Moving
+  m = moving_of plan
+
+  knows_by : (file after : InterruptFile) → Knows w plan reach file saw → (v : Places) → places_of u (mover m) m.home ≡ v
+      → Holds (width w) m.who.found.slot m.who.found.notice reach v m.home m.hand after saw → Knows u plan reach after saw
+  knows_by file after knows v seen held = record {
+    fits = fits_still w u m same knows.fits;
+    phase = phase_still w u plan same knows.phase;
+    holds = subst (λ n. Holds ((n + 1) / 64) m.who.found.slot m.who.found.notice reach (places_of u (mover m) m.home) m.home m.hand after saw) (sym same.n)
+        (subst (λ (z : Places). Holds (width w) m.who.found.slot m.who.found.notice reach z m.home m.hand after saw) (sym seen) held);
+  }
+
+-- ---- a store for the virtual hart that is moved
+
+-- where it lands: in a guest file, or in the slot
+abbrev Lands : World → World → Vcpu → Option Place → ℕ → ℕ → Type 0
+Lands w u g (Some p) offset value = StoresIn w u (spot_of p) offset value
+Lands w u g None offset value = StoresInSlot w u (Some (slot_of w.vms g)) (SupervisorFile (notice_hart w.vms g)) (notice_identity w.vms g) offset value
+
+held_there : (w : World) (m : Moving) → MoveFits w m → (p : Place) → holds p m.home ≡ true → IsThere w.imsic (spot_of p)
+held_there w m fits p held = elim (either_file p m.home held) [ inl own ↦ fits.own p own | inr next ↦ fits.next p next ]
+
+module _ (w u : World) (plan : PlanState) (reach : Option Place) (file : InterruptFile) (saw : Bool) (offset value : ℕ) (whole : IsWhole w) (apart : AreApart (moving_of plan).home) (within : IsWithin w.n (width w) file) (knows : Knows w plan reach file saw) where
+  abbrev mv : Moving
+  mv = moving_of plan
+
+  -- it shows in its places
+  by_outcome : (became : Stored) → NoticedBy became (with_store w (slot_of w.vms (mover mv)) offset value) u (SupervisorFile (notice_hart w.vms (mover mv))) (notice_identity w.vms (mover mv))
+      → places_of u (mover mv) mv.home ≡ places_of (with_store w (slot_of w.vms (mover mv)) offset value) (mover mv) mv.home
+  by_outcome Notice posts = posts-places (with_store w (slot_of w.vms (mover mv)) offset value) u (mover mv) mv.home (notice_hart w.vms (mover mv)) (notice_identity w.vms (mover mv))
+      (notice_hart_there w (mover mv) whole knows.fits.there) knows.fits.own knows.fits.next posts
+  by_outcome Quiet same = ap (λ (x : World). places_of x (mover mv) mv.home) same
+  by_outcome Discarded same = ap (λ (x : World). places_of x (mover mv) mv.home) same
+
+  shows : (place : Option Place) → MayLand (width w) mv.home place → Lands w u (mover mv) place offset value
+      → (places_of u (mover mv) mv.home ≡ places_landed place mv.home offset value (places_of w (mover mv) mv.home)) × SameMachine w u
+  shows (Some p) may stores =
+      let held = landing_is_held (width w) mv.home (Some p) p may refl in
+      let here = held_there w mv knows.fits p held in (
+        file_store-places w u (mover mv) p offset value whole here stores mv.home held apart knows.fits.own knows.fits.next,
+        own_machine w u (mover mv) (Some p) (touches_file w u (mover mv) p offset value whole knows.fits.there here stores),
+      )
+  shows None may stores = (
+    by_outcome (stored (mrif_in w.memory (slot_of w.vms (mover mv))) (requested IDENTITIES offset value)) stores
+        ∙ slot_store-places w (mover mv) mv.home (slot_of w.vms (mover mv)) offset value whole (slot_low w (mover mv) whole knows.fits.there) refl,
+    own_machine w u (mover mv) None (touches_slot w u (mover mv) offset value whole knows.fits.there stores),
+  )
+
+  lands_knows : (place : Option Place) → MayLand (width w) mv.home place → Lands w u (mover mv) place offset value → Knows u plan reach (landed offset value file) saw
+  lands_knows place may stores =
+      let both = shows place may stores in
+      knows_by w u plan reach saw both.1 file (landed offset value file) knows (places_landed place mv.home offset value (places_of w (mover mv) mv.home)) both.0
+      (lands w.n (width w) mv.who.found.slot mv.who.found.notice offset value reach (places_of w (mover mv) mv.home) mv.hand file saw within (few_words w.n whole.greatest) mv.home
+      (file_in-size w (own_file mv.home) whole knows.fits.own) (file_in-size w (next_file mv.home) whole knows.fits.next) apart place may knows.holds)
+
+  -- a device's, where its entry in force leads
+  entry_lands : (place : Option Place) → MayLand (width w) mv.home place → Reaches (leads_by (leads_to (slot_of w.vms (mover mv)) (notice_hart w.vms (mover mv)) place)) w u offset value
+      → Lands w u (mover mv) place offset value
+  entry_lands (Some p) may reaches = subst (λ (s : Spot). StoresInGuestFile w u s offset value) (guest_spot w.imsic p whole.harts whole.guests (held_there w mv knows.fits p (landing_is_held (width w) mv.home (Some p) p may refl))) reaches
+  entry_lands None may reaches =
+      let hart = notice_hart_there w (mover mv) whole knows.fits.there in
+      subst (λ (s : Spot). StoresInSlot w u (Some (slot_of w.vms (mover mv))) s (slot_of w.vms (mover mv) + 1) offset value) (host_page w.imsic (notice_hart w.vms (mover mv)) hart whole.harts)
+      (subst (λ (o : Option ℕ). StoresInSlot w u o (page_spot w.imsic (supervisor_page (notice_hart w.vms (mover mv)) / PAGE)) (slot_of w.vms (mover mv) + 1) offset value) (slot_found (slot_of w.vms (mover mv)) (slot_low w (mover mv) whole knows.fits.there)) reaches)
+
+  entry_is : entry_in_force (table_of w.tables mv.who.found.vm) mv.who.found.number ≡ leads_to (slot_of w.vms (mover mv)) (notice_hart w.vms (mover mv)) reach
+  entry_is = knows.holds.routes.in_force ∙ ap (λ q. leads_to q mv.who.found.notice reach) knows.fits.slot ∙ ap (λ hart. leads_to (slot_of w.vms (mover mv)) hart reach) knows.fits.notice
+
+  pub device_knows : (addr : ℕ) → is_msi_address (table_of w.tables mv.who.found.vm).mask addr ≡ true → file_number (table_of w.tables mv.who.found.vm).mask addr ≡ mv.who.found.number
+      → Reaches (route_of (table_of w.tables mv.who.found.vm) addr) w u offset value → Knows u plan reach (landed offset value file) saw
+  device_knows addr is names reaches =
+      let may = reach_lands (width w) mv.home reach knows.holds.routes.may in
+      let route : route_of (table_of w.tables mv.who.found.vm) addr ≡ leads_by (leads_to (slot_of w.vms (mover mv)) (notice_hart w.vms (mover mv)) reach) =
+      cond-true _ _ _ is ∙ ap (λ k. leads_by (entry_in_force (table_of w.tables mv.who.found.vm) k)) names ∙ ap leads_by entry_is in
+      lands_knows reach may (entry_lands reach may (subst (λ (r : Route). Reaches r w u offset value) route reaches))
+
+-- one that was in flight, where the entry led as it was sent
+pub flight_knows : (w u : World) (plan : PlanState) (reach place : Option Place) (file : InterruptFile) (saw : Bool) (offset value : ℕ) → IsWhole w → AreApart (moving_of plan).home → IsWithin w.n (width w) file → Knows w plan reach file saw
+    → MayReach (moving_of plan).home place → ReachesBy (leads_to (moving_of plan).who.found.slot (moving_of plan).who.found.notice place) w u offset value → Knows u plan reach (landed offset value file) saw
+flight_knows w u plan reach place file saw offset value whole apart within knows may reaches =
+    let m = moving_of plan in
+    let land = reach_lands (width w) m.home place may in
+    let own : ReachesBy (leads_to (slot_of w.vms (mover m)) (notice_hart w.vms (mover m)) place) w u offset value =
+    subst (λ q. ReachesBy (leads_to q (notice_hart w.vms (mover m)) place) w u offset value) knows.fits.slot (subst (λ hart. ReachesBy (leads_to m.who.found.slot hart place) w u offset value) knows.fits.notice reaches) in
+    lands_knows w u plan reach file saw offset value whole apart within knows place land
+    (entry_lands w u plan reach file saw offset value whole apart within knows place land (by_entry place (slot_of w.vms (mover m)) (notice_hart w.vms (mover m)) w u offset value own))
+
+-- a peer's, where its G-stage record in force leads
+pub peer_knows : (w u : World) (plan : PlanState) (reach : Option Place) (file : InterruptFile) (saw : Bool) (value : ℕ) → IsWhole w → AreApart (moving_of plan).home → IsWithin w.n (width w) file → Knows w plan reach file saw
+    → ReachesByRecord (stage_of w (mover (moving_of plan))).in_force w u (mover (moving_of plan)) value → Knows u plan reach (landed 0 value file) saw
+peer_knows w u plan reach file saw value whole apart within knows relays =
+    let m = moving_of plan in
+    let may = peers_may (width w) m.home in
+    lands_knows w u plan reach file saw 0 value whole apart within knows (peers_reach m.home) may
+    (relayed (peers_reach m.home) may (subst (λ (o : Option Place). ReachesByRecord o w u (mover m) value) knows.holds.routes.stage_in_force relays))
+  where
+    relayed : (place : Option Place) → MayLand (width w) (moving_of plan).home place → ReachesByRecord place w u (mover (moving_of plan)) value → Lands w u (mover (moving_of plan)) place 0 value
+    relayed (Some p) may relays = subst (λ (s : Spot). StoresInGuestFile w u s 0 value) (named_guest w.imsic p (held_there w (moving_of plan) knows.fits p (landing_is_held (width w) (moving_of plan).home (Some p) p may refl))) relays
+    relayed None may relays = relays
+
+-- ---- a store for another virtual hart, and one of the host
+
+pub others_know : (w u : World) (plan : PlanState) (reach : Option Place) (file : InterruptFile) (saw : Bool) (g : Vcpu) (place : Option Place) → Knows w plan reach file saw
+    → is_vcpu_in w.vms g ≡ true → g ≢ mover (moving_of plan) → TouchesOwn w u g place → ((p : Place) → holds p (moving_of plan).home ≡ true → place ≢ Some p) → Knows u plan reach file saw
+others_know w u plan reach file saw g place knows there other t elsewhere =
+    let m = moving_of plan in
+    knows_by w u plan reach saw (own_machine w u g place t) file file knows (places_of w (mover m) m.home)
+    (others_stay w u g (mover m) place m.home there knows.fits.there (λ e. other (sym e)) t (λ p held. (held_there w m knows.fits p held, elsewhere p held))) knows.holds
+
+pub host_knows : (w u : World) (plan : PlanState) (reach : Option Place) (file : InterruptFile) (saw : Bool) (spot : Spot) (offset value : ℕ) → Knows w plan reach file saw
+    → IsThere w.imsic spot → ((p : Place) → spot ≢ spot_of p) → StoresIn w u spot offset value → Knows u plan reach file saw
+host_knows w u plan reach file saw spot offset value knows here no_guest s =
+    knows_by w u plan reach saw machine file file knows (places_of w (mover (moving_of plan)) (moving_of plan).home) seen knows.holds
+  where
+    machine : SameMachine w u
+    machine = record {
+      n = ap (λ (x : World). x.n) s.rest;
+      vms = ap (λ (x : World). x.vms) s.rest;
+      harts = ap (λ (i : ImsicState). i.harts) s.lands.others;
+      guests = ap (λ (i : ImsicState). i.guests) s.lands.others;
+    }
+
+    kept : (o : Option Place) → ((p : Place) → o ≡ Some p → IsThere w.imsic (spot_of p)) → file_in u o ≡ file_in w o
+    kept None inside = ap (λ (x : World). file_in x None) s.rest
+    kept (Some p) inside = ap (λ (i : ImsicState). file_in (record w { imsic = i }) (Some p)) s.lands.others ∙ ap shown (kept_elsewhere w.imsic spot (spot_of p) (file_at u.imsic spot) here (inside p refl) (λ e. no_guest p (sym e)))
+
+    seen : places_of u (mover (moving_of plan)) (moving_of plan).home ≡ places_of w (mover (moving_of plan)) (moving_of plan).home
+    seen =
+        let own = kept (own_file (moving_of plan).home) knows.fits.own in
+        let next = kept (next_file (moving_of plan).home) knows.fits.next in
+        (λ k. record (places_of (s.rest k) (mover (moving_of plan)) (moving_of plan).home) { own = file_in u (own_file (moving_of plan).home); next = file_in u (next_file (moving_of plan).home) })
+        ∙ (λ k. record (places_of w (mover (moving_of plan)) (moving_of plan).home) { own = own k; next = next k })

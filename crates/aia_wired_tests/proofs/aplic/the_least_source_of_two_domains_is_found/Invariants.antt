@@ -1,4 +1,0 @@
-use Rattle.aia_wired_tests.proofs.aplic.the_least_source_of_two_domains_is_found.Given as goal
-
-abbrev pub ghosts-searches : goal.ghosts-searches
-ghosts-searches g a = record { name = a.blank.name; parts = a.blank.parts }

@@ -1,8 +1,0 @@
-use Rattle.aia_wiring.proofs.TopLaw.{on_top, none_on_top}
-use Rattle.aia_wiring.proofs.laws.the_source_on_top_is_the_least_of_the_harts.Goals as goal
-
-pub returns-clause-found : goal.returns-clause-found
-returns-clause-found c = on_top
-
-pub returns-clause-none : goal.returns-clause-none
-returns-clause-none c = none_on_top

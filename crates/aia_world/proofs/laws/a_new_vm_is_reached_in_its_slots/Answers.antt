@@ -1,5 +1,0 @@
-use Rattle.aia_world.proofs.LawLemmas.{made_reaches}
-use Rattle.aia_world.proofs.laws.a_new_vm_is_reached_in_its_slots.Goals as goal
-
-pub returns : goal.returns
-returns c = made_reaches

@@ -1,5 +1,0 @@
-use Rattle.aia_world.proofs.PlaceLemmas.{other_slot_stays}
-use Rattle.aia_world.proofs.laws.a_store_reaches_one_slot.Goals as goal
-
-pub returns-clause-others : goal.returns-clause-others
-returns-clause-others c = other_slot_stays

@@ -1,5 +1,0 @@
-use Rattle.aia_world.proofs.PlaceLemmas.{slot_begins, slot_by_number}
-use Rattle.aia_world.proofs.laws.an_address_names_one_slot.Goals as goal
-
-pub returns : goal.returns
-returns c = λ addr q. (λ found. slot_begins addr q found, λ is. slot_by_number addr q is.0 is.1)

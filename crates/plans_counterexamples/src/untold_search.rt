@@ -1,0 +1,185 @@
+//! A run that leaves the host untold is looked for, among those with one store at most.
+
+ghost use Rattle.std.specs.Prelude.{◌≡◌, IfSome, length};
+ghost use Rattle.plans_rules.specs.Setting.{setting_of};
+ghost use Rattle.plans_counterexamples.specs.Search.{first_of};
+ghost use Rattle.plans_counterexamples.specs.Untold.{LeavesUntold};
+ghost use Rattle.plans_counterexamples.specs.UntoldSearch.{stored_before, stored_by, untold_of, untold_run_of, untold_word, with_delivery, untold_with_numbers};
+
+use crate::trace::Route;
+use crate::untold::{Store, UntoldRun};
+use plans_rules::{Kind, Spot, Step, Terms};
+
+/// Makes a run of the second identity of a word.
+fn untold_of(word: u32, store: Option<Store>, delivery: Spot, threshold: Option<Spot>) -> UntoldRun
+    ensures { result ≡ untold_of word store delivery threshold }
+{
+    UntoldRun {
+        identity: 64 * word as u64 + 1,
+        store,
+        delivery,
+        threshold,
+    }
+}
+
+/// Looks for an untold run with delivery in a spot, and the threshold that lets through in one, or
+/// in none. `None`: there is none.
+#[tactic(auto, unfolding(crate::specs::UntoldSearch::with_delivery))]
+fn with_delivery(
+    producers: &[Kind],
+    terms: Terms,
+    plan: &[Step],
+    word: u32,
+    store: Option<Store>,
+    delivery: Spot,
+) -> Option<UntoldRun>
+    ensures exact { result ≡ with_delivery producers.now terms plan.now word store delivery }
+    ensures untold { IfSome result
+        (λ run. LeavesUntold (setting_of producers.now terms) plan.now run) }
+{
+    let in_old = untold_of(word, store, delivery, Some(Spot::InOld));
+    if let Some(run) = in_old.tried(producers, terms, plan) {
+        return Some(run);
+    }
+    let in_hand = untold_of(word, store, delivery, Some(Spot::InHand));
+    if let Some(run) = in_hand.tried(producers, terms, plan) {
+        return Some(run);
+    }
+    let in_new = untold_of(word, store, delivery, Some(Spot::InNew));
+    if let Some(run) = in_new.tried(producers, terms, plan) {
+        return Some(run);
+    }
+    untold_of(word, store, delivery, None).tried(producers, terms, plan)
+}
+
+/// Looks for an untold run with each start of the numbers, where they are heeded, and else with
+/// one. `None`: there is none.
+#[tactic(auto, unfolding(crate::specs::UntoldSearch::untold_with_numbers))]
+fn untold_with_numbers(
+    producers: &[Kind],
+    terms: Terms,
+    plan: &[Step],
+    word: u32,
+    store: Option<Store>,
+) -> Option<UntoldRun>
+    ensures exact { result ≡ untold_with_numbers producers.now terms plan.now word store }
+    ensures untold { IfSome result
+        (λ run. LeavesUntold (setting_of producers.now terms) plan.now run) }
+{
+    if !terms.heeds {
+        let run = untold_of(word, store, Spot::InOld, Some(Spot::InOld));
+        return run.tried(producers, terms, plan);
+    }
+    if let Some(run) = with_delivery(producers, terms, plan, word, store, Spot::InOld) {
+        return Some(run);
+    }
+    if let Some(run) = with_delivery(producers, terms, plan, word, store, Spot::InHand) {
+        return Some(run);
+    }
+    with_delivery(producers, terms, plan, word, store, Spot::InNew)
+}
+
+/// Looks for an untold run with a store that comes with so many steps before it. `None`: there is
+/// none.
+#[tactic(auto, unfolding(crate::specs::UntoldSearch::stored_before))]
+fn stored_before(
+    producers: &[Kind],
+    terms: Terms,
+    plan: &[Step],
+    word: u32,
+    producer: usize,
+    before: usize,
+) -> Option<UntoldRun>
+    ensures exact { result ≡ stored_before producers.now terms plan.now word producer before }
+    ensures untold { IfSome result
+        (λ run. LeavesUntold (setting_of producers.now terms) plan.now run) }
+{
+    let by_force = Store {
+        producer,
+        before,
+        route: Route::InForce,
+    };
+    if let Some(run) = untold_with_numbers(producers, terms, plan, word, Some(by_force)) {
+        return Some(run);
+    }
+    let by_written = Store {
+        producer,
+        before,
+        route: Route::Written,
+    };
+    untold_with_numbers(producers, terms, plan, word, Some(by_written))
+}
+
+/// Looks for an untold run with a store of a producer before any of the steps, or behind the last
+/// one. `None`: there is none.
+#[tactic(auto, unfolding(crate::specs::UntoldSearch::stored_by))]
+fn stored_by(
+    producers: &[Kind],
+    terms: Terms,
+    plan: &[Step],
+    word: u32,
+    producer: usize,
+) -> Option<UntoldRun>
+    ensures exact { result ≡ stored_by producers.now terms plan.now word producer }
+    ensures untold { IfSome result
+        (λ run. LeavesUntold (setting_of producers.now terms) plan.now run) }
+{
+    for before in 0..plan.len() + 1 {
+        match stored_before(producers, terms, plan, word, producer, before) {
+            Some(run) => return Some(run),
+            None => {}
+        }
+    }
+    None
+}
+
+/// Looks for an untold run with a store into a word. `None`: there is none.
+fn stored_any(producers: &[Kind], terms: Terms, plan: &[Step], word: u32) -> Option<UntoldRun>
+    ensures exact { result
+        ≡ first_of (stored_by producers.now terms plan.now word) 0 (length producers.now) }
+    ensures untold { IfSome result
+        (λ run. LeavesUntold (setting_of producers.now terms) plan.now run) }
+{
+    for producer in 0..producers.len() {
+        match stored_by(producers, terms, plan, word, producer) {
+            Some(run) => return Some(run),
+            None => {}
+        }
+    }
+    None
+}
+
+/// Looks for an untold run of a word. `None`: there is none.
+#[tactic(auto, unfolding(crate::specs::UntoldSearch::untold_word))]
+fn untold_word(producers: &[Kind], terms: Terms, plan: &[Step], word: u32) -> Option<UntoldRun>
+    ensures exact { result ≡ untold_word producers.now terms plan.now word }
+    ensures untold { IfSome result
+        (λ run. LeavesUntold (setting_of producers.now terms) plan.now run) }
+{
+    if let Some(run) = untold_with_numbers(producers, terms, plan, word, None) {
+        return Some(run);
+    }
+    stored_any(producers, terms, plan, word)
+}
+
+/// Looks for a run of a plan after which an identity stands out in the new place, and the host was
+/// not told. `None`: none was found.
+///
+/// The runs are those with one store at most that lands at once, of the second identity of a word,
+/// which is enabled in the old place at the start. Nothing is allocated. It takes time of the order
+/// of two times the words, the producers and the square of the steps; where the numbers are heeded,
+/// twelve times that.
+#[tactic(auto, unfolding(crate::specs::UntoldSearch::untold_run_of))]
+pub fn untold_run(producers: &[Kind], terms: Terms, plan: &[Step]) -> Option<UntoldRun>
+    ensures exact { result ≡ untold_run_of producers.now terms plan.now }
+    ensures untold { IfSome result
+        (λ run. LeavesUntold (setting_of producers.now terms) plan.now run) }
+{
+    for word in 0..terms.words {
+        match untold_word(producers, terms, plan, word) {
+            Some(run) => return Some(run),
+            None => {}
+        }
+    }
+    None
+}

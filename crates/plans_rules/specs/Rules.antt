@@ -1,0 +1,321 @@
+-- The rules of plans: what each says of a step that stands after the steps `done`, the newest
+-- first, and of an end after these. A word *may hold something* in the old place until it was taken
+-- while nobody stored there; in the hand from a take of such a word until it is joined or put; in
+-- the new place once such a word was joined or put, or, of the pending set, once somebody may store
+-- there. Profile.
+use Rattle.std.specs.Prelude.{ℕ, length, Bool, true, false, not, ◌&&◌, ◌||◌, nat_eq, List, [], ◌∷◌, Option, Some, None, slice_get}
+use Rattle.std.specs.List.{list_any}
+use Rattle.plans_rules.specs.declared.step.Place.TheVariants.{Old, New}
+use Rattle.plans_rules.specs.declared.step.Bank.{Bank}
+use Rattle.plans_rules.specs.declared.step.Bank.TheVariants.{Pending, Enabled}
+use Rattle.plans_rules.specs.declared.step.Number.{Number}
+use Rattle.plans_rules.specs.declared.step.Number.TheVariants.{Threshold, Delivery}
+use Rattle.plans_rules.specs.declared.setting.Spot.{Spot}
+use Rattle.plans_rules.specs.declared.setting.Spot.TheVariants.{InOld, InHand, InNew}
+use Rattle.plans_rules.specs.declared.setting.Kind.{Kind}
+use Rattle.plans_rules.specs.declared.setting.Kind.TheVariants.{Routed, Switched}
+use Rattle.plans_rules.specs.declared.rule.Rule.{Rule}
+use Rattle.plans_rules.specs.declared.rule.Rule.TheVariants.{Routes, Blank, Words, Numbers, Freeing, Notice}
+use Rattle.plans_rules.specs.declared.step.Step.{Step}
+use Rattle.plans_rules.specs.declared.step.Step.TheVariants.{Route, Fence, Switch, Zero, Take, Join, Put, ZeroNumber, TakeNumber, PutNumber, Look, Post, Tell, WriteNotice, Free}
+use Rattle.plans_rules.specs.Setting.{Setting, same_number, same_spot, names, all_below, any_below}
+
+-- ---- what a step does
+
+-- Whether a step writes a producer's route.
+abbrev pub turns : ℕ → Step → Bool
+turns p (Route q) = nat_eq q p
+turns p (Switch q) = nat_eq q p
+turns p x = false
+
+-- Whether it is the fence of the route.
+abbrev pub fences : ℕ → Step → Bool
+fences p (Fence q) = nat_eq q p
+fences p x = false
+
+-- Whether it writes the route and puts it in force at once, with no fence.
+abbrev pub switches : ℕ → Step → Bool
+switches p (Switch q) = nat_eq q p
+switches p x = false
+
+-- Whether a step takes a word.
+abbrev pub takes : Bank → ℕ → Step → Bool
+takes t v (Take s w) = names s w t v
+takes t v x = false
+
+-- Whether it moves the word from the hand to the new place.
+abbrev pub fills : Bank → ℕ → Step → Bool
+fills t v (Join s w) = names s w t v
+fills t v (Put s w) = names s w t v
+fills t v x = false
+
+-- Whether it leaves nothing in the new place of what stood there before.
+abbrev pub blanks : Bank → ℕ → Step → Bool
+blanks t v (Zero New s w) = names s w t v
+blanks t v (Put s w) = names s w t v
+blanks t v x = false
+
+-- Whether it gives the old place back.
+abbrev pub frees : Step → Bool
+frees Free = true
+frees x = false
+
+-- Whether it looks at a word.
+abbrev pub looks : ℕ → Step → Bool
+looks v (Look w) = nat_eq w v
+looks v x = false
+
+-- Whether it posts what looks saw.
+abbrev pub posts : Step → Bool
+posts Post = true
+posts x = false
+
+-- Whether it tells the host what stands out.
+abbrev pub tells : Step → Bool
+tells Tell = true
+tells x = false
+
+-- Whether it writes where notices go.
+abbrev pub writes_notice : Step → Bool
+writes_notice WriteNotice = true
+writes_notice x = false
+
+-- ---- what is reached after steps that are done
+
+-- The steps that are done, the newest first.
+abbrev pub Done : Type 0
+Done = List Step
+
+-- A producer's route leads to the new place, as it is written.
+abbrev pub is_turned : ℕ → Done → Bool
+is_turned p done = list_any (turns p) done
+
+-- A fence stood behind a step that writes that route: so it is in force, and no store of the
+-- producer is in flight to the old place.
+abbrev pub is_fenced : ℕ → Done → Bool
+is_fenced p [] = false
+is_fenced p (x ∷ done) = elim (fences p x) [
+  | true ↦ is_turned p done || is_fenced p done
+  | false ↦ is_fenced p done
+]
+
+-- All that a producer of a kind stores from now on goes to the new place.
+abbrev pub is_led_as : Option Kind → ℕ → Done → Bool
+is_led_as kind p done = elim kind [
+  | None ↦ false
+  | Some Routed ↦ is_fenced p done
+  | Some Switched ↦ is_fenced p done || list_any (switches p) done
+]
+
+-- The same of a producer of the setting.
+abbrev pub is_led : Setting → ℕ → Done → Bool
+is_led d p done = is_led_as (slice_get d.producers p) p done
+
+-- The same of all producers.
+abbrev pub all_led : Setting → Done → Bool
+all_led d done = all_below (λ p. is_led d p done) (length d.producers)
+
+-- Somebody may store into a set of the new place. Nobody ever stores into the enables.
+abbrev pub is_reached : Setting → Bank → Done → Bool
+is_reached d s done = elim s [
+  | Pending ↦ any_below (λ p. is_turned p done) (length d.producers)
+  | Enabled ↦ false
+]
+
+-- Nobody stores into a set of the old place.
+abbrev pub is_still : Setting → Bank → Done → Bool
+is_still d s done = elim s [ Pending ↦ all_led d done | Enabled ↦ true ]
+
+-- A word may hold something in the old place.
+abbrev pub old_holds : Setting → Bank → ℕ → Done → Bool
+old_holds d s w [] = true
+old_holds d s w (x ∷ done) = elim (takes s w x) [
+  | true ↦ old_holds d s w done && not (is_still d s done)
+  | false ↦ old_holds d s w done
+]
+
+-- A word may hold something in the hand.
+abbrev pub hand_holds : Setting → Bank → ℕ → Done → Bool
+hand_holds d s w [] = false
+hand_holds d s w (x ∷ done) = elim (takes s w x) [
+  | true ↦ old_holds d s w done
+  | false ↦ elim (fills s w x) [ true ↦ false | false ↦ hand_holds d s w done ]
+]
+
+-- A word that might hold something was joined or put.
+abbrev pub is_filled : Setting → Bank → ℕ → Done → Bool
+is_filled d s w [] = false
+is_filled d s w (x ∷ done) = elim (fills s w x) [
+  | true ↦ hand_holds d s w done || is_filled d s w done
+  | false ↦ is_filled d s w done
+]
+
+-- A word may hold something in the new place that is due there.
+abbrev pub new_holds : Setting → Bank → ℕ → Done → Bool
+new_holds d s w done = is_reached d s done || is_filled d s w done
+
+-- Nothing of a word stands in the new place but what is due: it was fresh, zeroed or put over.
+abbrev pub is_blank : Setting → Bank → ℕ → Done → Bool
+is_blank d s w [] = d.is_fresh
+is_blank d s w (x ∷ done) = blanks s w x || is_blank d s w done
+
+-- A number stands in a spot as it was at the start.
+abbrev pub has_number : Setting → Number → Spot → Done → Bool
+has_number d n spot [] = same_spot d.number_from spot
+has_number d n spot (TakeNumber m ∷ done) = elim (same_number m n) [
+  | true ↦ elim spot [
+    | InOld ↦ false
+    | InHand ↦ has_number d n InOld done
+    | InNew ↦ has_number d n InNew done
+  ]
+  | false ↦ has_number d n spot done
+]
+has_number d n spot (PutNumber m ∷ done) = elim (same_number m n) [
+  | true ↦ elim spot [
+    | InOld ↦ has_number d n InOld done
+    | InHand ↦ has_number d n InHand done
+    | InNew ↦ has_number d n InHand done
+  ]
+  | false ↦ has_number d n spot done
+]
+has_number d n spot (ZeroNumber Old m ∷ done) = elim (same_number m n) [
+  | true ↦ elim spot [
+    | InOld ↦ false
+    | InHand ↦ has_number d n InHand done
+    | InNew ↦ has_number d n InNew done
+  ]
+  | false ↦ has_number d n spot done
+]
+has_number d n spot (ZeroNumber New m ∷ done) = elim (same_number m n) [
+  | true ↦ elim spot [
+    | InOld ↦ has_number d n InOld done
+    | InHand ↦ has_number d n InHand done
+    | InNew ↦ false
+  ]
+  | false ↦ has_number d n spot done
+]
+has_number d n spot (x ∷ done) = has_number d n spot done
+
+-- A word is moved for good: neither the old place nor the hand may hold anything of it.
+abbrev pub is_moved : Setting → Bank → ℕ → Done → Bool
+is_moved d s w done = not (old_holds d s w done) && not (hand_holds d s w done)
+
+-- Both numbers are in the new place, if they are heeded.
+abbrev pub are_heeded : Setting → Done → Bool
+are_heeded d done = elim d.heeds [
+  | true ↦ has_number d Threshold InNew done && has_number d Delivery InNew done
+  | false ↦ true
+]
+
+-- Notices go to the host: from the start on, or since it was written where they go.
+abbrev pub is_noticed : Setting → Done → Bool
+is_noticed d [] = d.notices_go
+is_noticed d (x ∷ done) = writes_notice x || is_noticed d done
+
+-- A word of both sets is moved for good, what is heeded is there, and notices go to the host.
+abbrev pub is_settled : Setting → ℕ → Done → Bool
+is_settled d w done =
+    is_moved d Pending w done
+    && (is_moved d Enabled w done && (are_heeded d done && is_noticed d done))
+
+-- A word was looked at once it was settled.
+abbrev pub is_looked : Setting → ℕ → Done → Bool
+is_looked d w [] = false
+is_looked d w (x ∷ done) = elim (looks w x) [
+  | true ↦ is_settled d w done || is_looked d w done
+  | false ↦ is_looked d w done
+]
+
+-- A word was told of once it was settled, or posted after such a look.
+abbrev pub is_reported : Setting → ℕ → Done → Bool
+is_reported d w [] = false
+is_reported d w (x ∷ done) = elim (posts x) [
+  | true ↦ is_looked d w done || is_reported d w done
+  | false ↦ elim (tells x) [
+    | true ↦ is_settled d w done || is_reported d w done
+    | false ↦ is_reported d w done
+  ]
+]
+
+-- ---- the rules
+
+-- A notice heeds the numbers. Where the new place is no memory, nobody is told of anything.
+abbrev pub heeds_there : Setting → Bool
+heeds_there d = d.in_memory && d.heeds
+
+-- Whether a rule lets a step stand.
+abbrev pub lets : Rule → Setting → Step → Done → Bool
+-- What may hold something is not overwritten: a word in the hand by a take, one of the new place by
+-- a put, one of either place by zeros.
+lets Words d (Take s w) done = not (hand_holds d s w done)
+lets Words d (Put s w) done = not (new_holds d s w done)
+lets Words d (Zero Old s w) done = not (old_holds d s w done)
+lets Words d (Zero New s w) done = not (new_holds d s w done)
+-- What may hold something is joined to a blank word alone.
+lets Blank d (Join s w) done = not (hand_holds d s w done) || is_blank d s w done
+-- The old place is given back once nobody stores there, and not accessed after that.
+lets Freeing d Free done = all_led d done
+lets Freeing d (Take s w) done = not (list_any frees done)
+lets Freeing d (Zero Old s w) done = not (list_any frees done)
+lets Freeing d (TakeNumber n) done = not (list_any frees done)
+lets Freeing d (ZeroNumber Old n) done = not (list_any frees done)
+-- Where a notice heeds the numbers, one that stands in the new place as it was at the start is not
+-- zeroed there, and only the same number, from the hand, is put over it. A put of another one
+-- breaks the rule on numbers too, since the number then stands nowhere.
+lets Notice d (ZeroNumber New n) done = not (heeds_there d && has_number d n InNew done)
+lets Notice d (PutNumber n) done =
+    not (heeds_there d && has_number d n InNew done) || has_number d n InHand done
+lets rule d x done = true
+
+-- Whether a rule lets a plan end.
+abbrev pub lets_end : Rule → Setting → Done → Bool
+-- All producers are led to the new place, and each pending word was taken after that.
+lets_end Routes d done =
+    all_led d done && all_below (λ w. not (old_holds d Pending w done)) d.words
+-- The enables were taken, and nothing is left in the hand.
+lets_end Words d done =
+    all_below (λ w. not (hand_holds d Pending w done) && is_moved d Enabled w done) d.words
+-- Threshold and delivery are where they have to be.
+lets_end Numbers d done =
+    has_number d Threshold d.number_to done && has_number d Delivery d.number_to done
+-- In memory each word was reported.
+lets_end Notice d done = elim d.in_memory [
+  | true ↦ all_below (λ w. is_reported d w done) d.words
+  | false ↦ true
+]
+lets_end rule d done = true
+
+-- Whether a rule lets the rest of a plan stand, and the plan end.
+abbrev pub lets_rest : Rule → Setting → Done → List Step → Bool
+lets_rest rule d done [] = lets_end rule d done
+lets_rest rule d done (x ∷ rest) = lets rule d x done && lets_rest rule d (x ∷ done) rest
+
+-- Whether a plan keeps a rule.
+abbrev pub keeps : Rule → Setting → List Step → Bool
+keeps rule d plan = lets_rest rule d [] plan
+
+-- All rules, in their order.
+abbrev pub rules : List Rule
+rules = Routes ∷ Words ∷ Blank ∷ Numbers ∷ Freeing ∷ Notice ∷ []
+
+-- Those of some rules that a plan breaks.
+abbrev pub broken_of : List Rule → Setting → List Step → List Rule
+broken_of [] d plan = []
+broken_of (rule ∷ others) d plan = elim (keeps rule d plan) [
+  | true ↦ broken_of others d plan
+  | false ↦ rule ∷ broken_of others d plan
+]
+
+-- All rules that it breaks.
+abbrev pub broken : Setting → List Step → List Rule
+broken d plan = broken_of rules d plan
+
+-- Whether a plan keeps the five rules of safety.
+abbrev pub moves : Setting → List Step → Bool
+moves d plan =
+    keeps Routes d plan && (keeps Words d plan
+    && (keeps Blank d plan && (keeps Numbers d plan && keeps Freeing d plan)))
+
+-- Whether it keeps all six.
+abbrev pub accepts : Setting → List Step → Bool
+accepts d plan = moves d plan && keeps Notice d plan
