@@ -11,7 +11,7 @@ use Rattle.aia_vcpu.specs.Vms.{Vcpu, vcpu}
 use Rattle.aia_vcpu.specs.declared.rest.Rest.TheVariants.{Parked}
 use Rattle.aia_vcpu.specs.Home.Home.{InMemory}
 use Rattle.aia_vcpu.proofs.VmLemmas.{slot_below, same_vcpu}
-use Rattle.aia_model.specs.declared.line.Line.TheVariants.{Machine, Ipi, Send, Exit, LoadPart}
+use Rattle.aia_model.specs.declared.line.Line.TheVariants.{Machine, Ipi, Exit, LoadPart}
 use Rattle.aia_model.specs.declared.part.Part.TheVariants as parts
 use Rattle.aia_model.specs.declared.line.Line.TheVariants as lines
 use Rattle.aia_model.specs.Event.{Event, History}

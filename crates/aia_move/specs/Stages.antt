@@ -1,6 +1,6 @@
 -- The phase that a plan is in, as its code has it, and as the type of a state tells it.
-use Rattle.std.specs.Prelude.{Bool, true, false, Option, Some, None}
-use Rattle.aia_vcpu.specs.Phases.{Phase, following}
+use Rattle.std.specs.Prelude.{Option, Some, None}
+use Rattle.aia_vcpu.specs.Phases.{Phase}
 use Rattle.aia_vcpu.specs.Phases.Phase.{FirstPhase, ClosingPhase, DrainPhase, EnablePhase, LookPhase, LastPhase}
 use Rattle.aia_move_values.specs.Move.{Moving}
 use Rattle.aia_move.specs.declared.phase.Stage.{Stage}

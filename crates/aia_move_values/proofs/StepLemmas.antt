@@ -14,7 +14,7 @@ use Rattle.aia_vcpu.specs.Home.{Home, new_end, one_more}
 use Rattle.aia_vcpu.specs.Plans.{is_at_last, is_last_made, steps_done, has_access, step_of, IsNext, first_take, pending_step, enables_step}
 use Rattle.aia_vcpu.specs.declared.access.Access.{Access}
 use Rattle.aia_vcpu.specs.Home.Home.{OnWay}
-use Rattle.aia_vcpu.specs.declared.access.Access.TheVariants.{TakeDelivery, PutDelivery, WriteNotice, WriteEntry, Fence, Map, GFence, TakePending, PutPending, TakeEnables, PutEnables, Look, TakeThreshold, PutThreshold, Post}
+use Rattle.aia_vcpu.specs.declared.access.Access.TheVariants.{TakeDelivery, PutDelivery, Fence, TakePending, PutPending, TakeEnables, PutEnables, TakeThreshold, PutThreshold, Post}
 use Rattle.aia_vcpu.specs.Phases.{begins}
 use Rattle.aia_vcpu.specs.Phases.Phase.{AllDone}
 use Rattle.aia_vcpu.specs.BySteps.{own_file, next_file}

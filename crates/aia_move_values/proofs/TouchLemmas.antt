@@ -20,7 +20,7 @@ use Rattle.aia_vcpu.specs.Home.Home.{OnWay}
 use Rattle.aia_vcpu.specs.BySteps.{own_file, next_file}
 use Rattle.aia_vcpu.specs.Plans.{IsNext}
 use Rattle.aia_vcpu.specs.declared.access.Access.{Access}
-use Rattle.aia_vcpu.specs.declared.access.Access.TheVariants.{TakeDelivery, PutDelivery, WriteNotice, WriteEntry, Fence, Map, GFence, TakePending, PutPending, TakeEnables, PutEnables, Look, TakeThreshold, PutThreshold, Post}
+use Rattle.aia_vcpu.specs.declared.access.Access.TheVariants.{TakeDelivery, PutDelivery, WriteNotice, WriteEntry, Fence, TakePending, PutPending, TakeEnables, PutEnables, Look, TakeThreshold, PutThreshold, Post}
 use Rattle.aia_vcpu.proofs.HomeLemmas.{left_is_own, led_to_is_held, own_is_held, next_is_held, origin_is_held, new_is_held}
 use Rattle.aia_vcpu.proofs.VmLemmas.{same_slot}
 use Rattle.aia_vcpu_places.specs.Places.{entry_word, second_word}

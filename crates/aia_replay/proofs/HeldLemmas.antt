@@ -18,7 +18,7 @@ use Rattle.aia_replay.specs.Buffered.{Gathers}
 use Rattle.aia_replay.specs.Stands.{EngineState, StandsFor, ReadsAsMachine}
 use Rattle.aia_io.specs.Lines.{NoEnd}
 use Rattle.aia_replay.specs.Runs.{AsksMachine, CutsLines}
-use Rattle.aia_replay.specs.Streams.{WritesOut, WritesOutFront, HasAnswered, HasStopped, Begins, AnswersText, AnswersRead, LacksMemory}
+use Rattle.aia_replay.specs.Streams.{WritesOut, WritesOutFront, HasAnswered, HasStopped, Begins, AnswersText, LacksMemory}
 use Rattle.aia_replay.proofs.CutLemmas.{texts_front, texts_last, take_again}
 
 -- ---- what waits in the buffer

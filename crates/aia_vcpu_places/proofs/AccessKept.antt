@@ -7,7 +7,7 @@ use Rattle.aia_vcpu.specs.Plans.{is_at_last, IsNext}
 use Rattle.aia_vcpu.specs.declared.access.Access.{Access}
 use Rattle.aia_vcpu.specs.Home.Home.{OnWay}
 use Rattle.aia_vcpu.specs.Home.Way.{Outward, Across}
-use Rattle.aia_vcpu.specs.declared.access.Access.TheVariants.{TakeDelivery, PutDelivery, WriteNotice, WriteEntry, Fence, Map, GFence, TakePending, PutPending, TakeEnables, PutEnables, Look, TakeThreshold, PutThreshold, Post}
+use Rattle.aia_vcpu.specs.declared.access.Access.TheVariants.{PutDelivery, TakePending, PutPending, TakeEnables, PutEnables, PutThreshold}
 use Rattle.aia_vcpu.specs.Routes.{reach_stepped}
 use Rattle.aia_vcpu.proofs.RouteLemmas.{reach_after, reach_next}
 use Rattle.aia_vcpu_places.specs.Places.{Places, TwoSets, FilesFit}

@@ -12,9 +12,9 @@ use Rattle.aia_vcpu.specs.declared.rest.Rest.TheVariants.{Parked}
 use Rattle.aia_vcpu.specs.Home.Home.{InMemory, Resident, OnWay}
 use Rattle.aia_vcpu.specs.declared.end.End.TheVariants.{File, Memory}
 use Rattle.aia_vcpu.specs.Home.Way.{Outward, Inward, Across}
-use Rattle.aia_vcpu.specs.Plans.{IsNext, plan_step, plan_steps, plan_has, steps_done, is_at_last, is_made, is_early_made}
+use Rattle.aia_vcpu.specs.Plans.{IsNext, plan_step, plan_steps, steps_done, is_at_last, is_made, is_early_made}
 use Rattle.aia_vcpu.specs.declared.access.Access.{Access}
-use Rattle.aia_vcpu.specs.declared.access.Access.TheVariants.{PutDelivery, Post, TakePending, TakeEnables, TakeThreshold, WriteEntry, Map, GFence}
+use Rattle.aia_vcpu.specs.declared.access.Access.TheVariants.{TakePending, TakeEnables, TakeThreshold, WriteEntry, Map, GFence}
 use Rattle.aia_vcpu.specs.Phases.{has_come}
 use Rattle.aia_vcpu.specs.Phases.Phase.{LastPhase}
 use Rattle.aia_vcpu.specs.BySteps.{old_file, new_file, delivery_in_own, threshold_in_own, threshold_in_next, is_leaving}

@@ -6,7 +6,7 @@ use Rattle.plans_rules.specs.declared.step.Number.TheVariants.{Threshold, Delive
 use Rattle.plans_rules.specs.declared.step.Place.{Place}
 use Rattle.plans_rules.specs.declared.step.Place.TheVariants.{Old, New}
 use Rattle.plans_rules.specs.declared.step.Step.{Step}
-use Rattle.plans_rules.specs.declared.step.Step.TheVariants.{Route, Fence, Switch, Zero, Take, Join, Put, ZeroNumber, TakeNumber, PutNumber, Look, Post, Tell, WriteNotice, Free}
+use Rattle.plans_rules.specs.declared.step.Step.TheVariants.{Route, Fence, Switch, Zero, Take, Join, Put, ZeroNumber, TakeNumber, PutNumber, Free}
 use Rattle.plans_rules.specs.Setting.{Setting, is_old, is_pending, same_number}
 use Rattle.plans_rules.specs.Machine.{Flight, Machine, landed, all_landed, flights_of, flights_beside, led_to, with_number, stepped}
 use Rattle.plans_counterexamples.specs.declared.trace.Case.{Case}
