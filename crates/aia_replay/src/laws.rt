@@ -4,7 +4,7 @@
 ghost use Rattle.std.specs.Prelude.{◌≡◌};
 
 use crate::limits::BUFFER_BYTES;
-use aia_io::{PIECE_BYTES, SOURCE_BYTES};
+use aia_io::limits::{PIECE_BYTES, SOURCE_BYTES};
 use aia_model::limits::ANSWER_BYTES;
 
 /// A script may have up to 16,777,216 bytes. A read asks for at most 4,096 of them, and at most

@@ -20,7 +20,7 @@ mod wires;
 // What `gen` runs, for callers that run it line by line through an engine of their own.
 pub use aia_generate::{generate, lcg};
 // The most bytes of a script or a plan.
-pub use aia_io::SOURCE_BYTES as SCRIPT_BYTES;
+pub use aia_io::limits::SOURCE_BYTES as SCRIPT_BYTES;
 pub use engine::Engine;
 pub use program::{Status, run};
 pub use starting::{command, start};

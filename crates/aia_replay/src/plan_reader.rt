@@ -12,7 +12,8 @@ use crate::plan_so_far::PlanSoFar;
 use crate::program::Status;
 use aia_audit::Kind;
 use aia_command::Subcommand;
-use aia_io::{PIECE_BYTES, Read, SOURCE_BYTES, Sink, Source, read_front, write_all};
+use aia_io::limits::{PIECE_BYTES, SOURCE_BYTES};
+use aia_io::{Read, Sink, Source, read_front, write_all};
 use arrayvec::ArrayVec;
 
 /// Reads a plan that comes in pieces: the plan so far, and the line that is being read.

@@ -11,7 +11,8 @@ use crate::replayer::Replayer;
 use crate::stop::Stop;
 use aia_audit::Kind;
 use aia_command::{Subcommand, read_words};
-use aia_io::{SOURCE_BYTES, Sink, Source};
+use aia_io::limits::SOURCE_BYTES;
+use aia_io::{Sink, Source};
 use std::alloc::Global;
 
 /// How a run ended.

@@ -11,7 +11,8 @@ ghost use Rattle.aia_io.specs.Words.{AreNoText, AreRefused, asked_by, words_of};
 ghost use Rattle.aia_replay.specs.Command.{exit_number, exit_numbers};
 
 use crate::program::{Status, run};
-use aia_io::{SOURCE_BYTES, Sink, Source, StdSink, StdSource, arguments, refusal, words};
+use aia_io::limits::SOURCE_BYTES;
+use aia_io::{Sink, Source, StdSink, StdSource, arguments, refusal, words};
 use std::alloc::Global;
 use std::io;
 use std::process::ExitCode;

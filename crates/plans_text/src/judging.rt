@@ -10,7 +10,8 @@ ghost use Rattle.plans_text.specs.Runs.{EndsJudge, IsFront, Judged, WhateverWasJ
 use crate::outcome::{Answered, Outcome};
 use crate::plan_reader::PlanReader;
 use crate::program::Status;
-use aia_io::{PIECE_BYTES, Read, SOURCE_BYTES, Sink, Source, read_front, write_all};
+use aia_io::limits::{PIECE_BYTES, SOURCE_BYTES};
+use aia_io::{Read, Sink, Source, read_front, write_all};
 use std::alloc::Global;
 
 /// Why a run stops before its source ends, where the source does not fail.

@@ -21,7 +21,7 @@ mod untold;
 mod words;
 
 // The most bytes of a file of plans.
-pub use aia_io::SOURCE_BYTES as FILE_BYTES;
+pub use aia_io::limits::SOURCE_BYTES as FILE_BYTES;
 pub use command_line::Subcommand;
 pub use line::{Line, Reading};
 pub use outcome::{Answered, Outcome};
