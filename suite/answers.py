@@ -238,6 +238,8 @@ class Verdict:
         self.place, spare = shift(self.script, self.model, self.mine, known)
         self.missing = max(0, -spare)
         self.spare = self.mine[self.place:self.place + max(0, spare)]
+        # Who shows nothing at all says of no line that it is wrong.
+        self.is_blank = not spare and set(self.mine) == {NOT_SHOWN}
         for at, want, got in self.pairs():
             self.look(at, self.script[at], want, got, known, is_strict)
 
@@ -264,7 +266,7 @@ class Verdict:
 
     def look(self, at, line, want, got, known, is_strict):
         """Looks at one answer of each."""
-        if got == NOT_SHOWN and want not in MISTAKES:
+        if got == NOT_SHOWN and (want not in MISTAKES or self.is_blank):
             self.not_shown += 1
             self.refused += is_refused(line.text, want)
         elif want == got and not (is_strict and want == "bad"):
@@ -344,9 +346,14 @@ def hint(difference):
         return " (--strict)"
     if model == "bad" or mine == NOT_SHOWN:
         return " (the script is no trace of a machine here)"
-    if model == mine.strip().lower():
-        return " (its spelling alone differs: capitals, CR, or spaces)"
+    if bare(model) == bare(mine):
+        return " (its spelling alone differs: capitals, CR, spaces, or leading zeros)"
     return ""
+
+
+def bare(answer):
+    """Gives an answer without what may differ in its spelling alone."""
+    return [re.sub(r"^0x0+(?=[0-9a-f])", "0x", word) for word in answer.lower().split()]
 
 
 def first_difference(script, model, mine, known):

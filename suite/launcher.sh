@@ -36,9 +36,16 @@ refuse() { # WHAT
   exit 2
 }
 
-# Refuses a word; where it names a file, that file's text was meant.
+# Refuses a word; where it names a file, that file's text was meant, and its ending may say what
+# reads it.
 refuse_word() { # WHAT WORD COMMAND
-  [ ! -f "$2" ] || refuse "'$2' is a file: have it read from standard input, as $at$3 < $2"
+  local command=$3 file=''
+  case "$3 $2" in
+    'aia replay '*.plan) command='aia audit KIND W' file=' of a plan by its name' ;;
+    'plans judge '*.script) command='aia replay' file=' of a script by its name' ;;
+  esac
+  [ ! -f "$2" ] ||
+    refuse "'$2' is a file$file: have it read from standard input, as $at$command < $2"
   refuse "$1"
 }
 

@@ -307,6 +307,7 @@ def model_command(workers):
         return [str(TOP / program) if is_ours else program, "replay"]
     built = workers.submit(run, [str(TOP / "aia"), "replay"], b"", BUILDING, 1 << 20, True).result()
     if built.fault():
-        fail(f"./aia can't be built: {built.fault()}; with PROGRAM=peers/apart/model.py an"
-             " independent model answers in its place, in Python, not proved")
+        fail(f"PROGRAM is not set, and ./aia can't be built: {built.fault()}; with"
+             " PROGRAM=peers/apart/model.py an independent model answers in its place, in Python,"
+             " not proved")
     return [str(TOP / "crates/aia/out/aia"), "replay"]

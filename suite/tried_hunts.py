@@ -202,8 +202,8 @@ def hunts_words(trial):
     ran = trial.run(HUNT, "bash", "-c", "echo ok; kill -SEGV $$")
     trial.sees(ran.status == 2 and not ran.output and "over an empty script" in ran.errors
                and "SIGSEGV" in ran.errors, f"hunt over a command that crashes: {ran}")
-    for jobs in (1, 2):
-        ran = trial.run(HUNT, "--scripts", 2, "--refused", 0, "--only", "st,h", "--jobs", jobs,
+    for jobs, forms in ((1, ("--refused", 0, "--only", "st,h")), (2, ())):
+        ran = trial.run(HUNT, "--scripts", 2, *forms, "--jobs", jobs,
                         command(trial, "dash", '{ print "-" }'))
         trial.sees(ran.status == 2 and not ran.output and ran.errors.startswith(
             "hunt: nothing was compared: the command answered - to every line"),

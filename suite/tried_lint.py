@@ -516,6 +516,17 @@ def lints_much(trial):
         trial.sees(ran.output == b"2\n" and not ran.errors, f"{tool} | nobody: {ran}")
 
 
+def lints_machines(trial):
+    """A script whose first line that is read makes no machine, which is no error of its text."""
+    for text, said in (("# so\nbad\npins 0\nwire 1 1\n", ":3:1: warning: no machine stands before"),
+                       ("machine 1 0 64 1\npins 0\n", ":1:1: warning: no machine has these sizes")):
+        script = trial.file("machines.script", text)
+        shown = trial.prints(int("bad" in text), [f"{script}{said}"], LINT, script)
+        trial.sees(shown.count("warning") == 1, f"lint of no machine prints {shown}")
+    shown = trial.prints(0, ["0 bad"], LINT, trial.file("machines.script", "machine 1 0 63 1\n"))
+    trial.sees("warning" not in shown, f"lint warns of a machine: {shown}")
+
+
 def lints_declarations(trial):
     """What plans for `judge` do not declare, as docs/ANY-PLAN.md has it: no plan at all, which is
     an error, and of a plan no producer and no memory, which is none."""
@@ -551,4 +562,4 @@ def lints_documented(trial):
 
 
 PARTS = (lints_by_reasons, lints_as_documents, lints_documented, lints_files, lints_much,
-         lints_declarations, lints_with_the_program)
+         lints_machines, lints_declarations, lints_with_the_program)

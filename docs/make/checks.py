@@ -485,18 +485,16 @@ def newest(paths):
     return tuple(found) if found else ("", "")
 
 
-def dated():
-    """Compares the days of figures with the day on which what they measure last changed."""
+def aged():
+    """Compares the days of figures with the day on which what they measure last changed. The figures
+    say of which day they are, so that an older one is no drift."""
     code = [f"crates/{crate}/src" for crate in sorted(below("aia"))]
-    measured = section("docs/PERFORMANCE.md", "What was measured")
-    kinds = [("docs/PERFORMANCE.md, What was measured,", measured, code)]
-    for where, text, paths in kinds:
-        days = re.findall(r"\d{4}-\d\d-\d\d", text)
-        day, commit = newest(paths)
-        if not days:
-            yield f"{where} has no day"
-        elif max(days) < day:
-            yield f"{where} is of {max(days)}, and what it measures changed on {day} ({commit})"
+    where = "docs/PERFORMANCE.md, What was measured,"
+    days = re.findall(r"\d{4}-\d\d-\d\d", section("docs/PERFORMANCE.md", "What was measured"))
+    day, commit = newest(code)
+    if max(days, default="") < day:
+        yield (f"{where} is of {max(days, default='no day')}, and what it measures changed on"
+               f" {day} ({commit})")
 
 
 def linked():
@@ -537,5 +535,5 @@ def alone():
 def drifts():
     """Says each place where a document is not in step."""
     for check in (lines, answers, statuses, places, plans, told_plans, crates, promised, shown,
-                  tried, dated, linked, patient, alone):
+                  tried, linked, patient, alone):
         yield from check()

@@ -16,6 +16,8 @@ def main():
         return 0
     parts = (definitions, pictures, strength, checks)
     found = list(dict.fromkeys(line for part in parts for line in part.drifts()))
+    for line in checks.aged():
+        print(f"note: {line}")
     print("\n".join(found) if found else "in step")
     return 1 if found else 0
 
