@@ -60,9 +60,10 @@ def printable(text):
 
 
 def cut(answer):
-    """Cuts an answer that is longer than any of the model's, for a terminal."""
+    """Cuts an answer that is longer than any of the model's, for a terminal; says of an empty one
+    that it is."""
     if len(answer) <= ANSWER_BYTES:
-        return answer
+        return answer or "(an empty line)"
     return f"{answer[:ANSWER_BYTES]}.. ({len(answer)} characters)"
 
 
@@ -287,6 +288,10 @@ class Verdict:
     def is_of_no_script(self):
         """Says whether no line is one of a script: there is none, or the model takes none."""
         return all(answer == "bad" for answer in self.model[:len(self.script)])
+
+    def has_no_machine(self):
+        """Says whether the model has no machine at any line."""
+        return set(self.model) <= {"bad", "nomachine", "range"}
 
     def count(self):
         """Gives how many differences there are: answers that are missing, or spare, are one."""

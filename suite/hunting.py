@@ -129,7 +129,8 @@ class Hunt:
     def told(self, script, found):
         """Says each line with its answers, as a run had them."""
         verdict = answers.Verdict(self.whole(script), found.wanted, found.ran.output, self.known)
-        differing = {one.at: answers.cut(one.mine) for one in verdict.differences}
+        differing = {one.at: answers.cut(one.mine) + answers.hint(one)
+                     for one in verdict.differences}
         missing = range(verdict.place, verdict.place + verdict.missing)
         width = max((len(line.text) for line in verdict.script), default=0)
         for at, (line, model) in enumerate(zip(verdict.script, verdict.model)):

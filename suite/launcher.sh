@@ -36,17 +36,18 @@ refuse() { # WHAT
   exit 2
 }
 
-# Refuses a word; where it names a file, that file's text was meant, and its ending may say what
-# reads it.
+# Refuses a word; where it names a file, that file's text was meant, of which its ending and its
+# first line may say what reads it.
 refuse_word() { # WHAT WORD COMMAND
-  local command=$3 file=''
-  case "$3 $2" in
-    'aia replay '*.plan) command='aia audit KIND W' file=' of a plan by its name' ;;
-    'plans judge '*.script) command='aia replay' file=' of a script by its name' ;;
+  local command=$3 first=''
+  [ -f "$2" ] || refuse "$1"
+  read -r first 2> /dev/null < "$2"
+  case "$2 $first" in
+    *.script\ *) command='aia replay' ;;
+    *.plan\ '# audit '*) [ "${3% *}" != 'aia audit' ] && command='aia audit KIND W' ;;
+    *.plan\ *) command='plans judge' ;;
   esac
-  [ ! -f "$2" ] ||
-    refuse "'$2' is a file$file: have it read from standard input, as $at$command < $2"
-  refuse "$1"
+  refuse "'$2' is a file: have it read from standard input, as $at$command < $2"
 }
 
 # Puts the words behind a command into `rest`, but for the first `--`, which divides and says
@@ -149,7 +150,7 @@ build() { # CRATE INPUT COMMAND..
   # It stays in this group, so that it ends where that is ended; rt ends what it has started.
   env -C "$top/crates/$crate" "$@" < "$input" > "$log" 2>&1 &
   worker=$!
-  trap 'kill -TERM "$worker"; rm -f "$list"; leave_line; say "$ended_early"; exit 130' INT TERM HUP
+  trap 'kill -TERM "$worker" 2> /dev/null; rm -f "$list"; leave_line; say "$ended_early"; exit 130' INT TERM HUP
   watch_build "$worker" "$log" "$list"
   wait "$worker"
   status=$?

@@ -14,9 +14,10 @@ from running import TOP
 from tried_hunts import is_alive
 
 PLAN, SCRIPT = "examples/hypervisors/core-leave.plan", "examples/claim.script"
+AUDITED = "examples/plans/leave.plan"
 # What the launchers need of a tree, and of a path without the toolchain.
 FILES = ("aia", "plans", "library", "VERSION", "crates.txt", "include/aia.h", "suite/launcher.sh",
-         "suite/stale", PLAN, SCRIPT)
+         "suite/stale", PLAN, SCRIPT, AUDITED)
 COMMANDS = ("bash", "sh", "env", "dirname", "readlink", "find", "mktemp", "awk", "tail",
             "nproc", "mkdir", "rm", "touch", "sleep", "cat", "chmod", "ar", "cc")
 # Of each launcher the crate that it builds, what that makes, and its status where it can't.
@@ -33,10 +34,13 @@ WRONG = (
     ("aia", ("--verison",), "there is no option '--verison': there are --help and --version"),
     ("aia", ("VERSION",), "'VERSION' is a file: have it read from standard input"),
     ("aia", ("replay", "VERSION"), "'VERSION' is a file: have it read from standard input"),
-    ("aia", (PLAN,), f"'{PLAN}' is a file of a plan by its name: have it read from standard"
-     f" input, as ./aia audit KIND W < {PLAN}"),
-    ("plans", (SCRIPT,), f"'{SCRIPT}' is a file of a script by its name: have it read from standard"
-     f" input, as ./aia replay < {SCRIPT}"),
+    *((name, words, f"'{file}' is a file: have it read from standard input, as ./{read} < {file}")
+      for name, words, file, read in (
+          ("aia", (PLAN,), PLAN, "plans judge"), ("plans", ("judge", PLAN), PLAN, "plans judge"),
+          ("aia", ("audit", "leave", PLAN), PLAN, "plans judge"),
+          ("aia", (AUDITED,), AUDITED, "aia audit KIND W"),
+          ("plans", (AUDITED,), AUDITED, "aia audit KIND W"),
+          ("plans", (SCRIPT,), SCRIPT, "aia replay"))),
     ("aia", ("replay", "x"), "replay has no word behind it, and not 'x'"),
     ("aia", ("gen",), "two numbers are wanted behind gen, COUNT and SEED, and 0 given"),
     ("aia", ("gen", "1"), "two numbers are wanted behind gen, COUNT and SEED, and 1 given"),
