@@ -25,6 +25,9 @@ ANSWERING = {NOT_SHOWN, "ok", "moving", "done", "pins", "basic", "mrif", "custom
              "image", "majors", "prio", "word"}
 # From here on a number is spelled in hexadecimal.
 GREAT = 1 << 16
+# What a machine may have.
+SIZES = ("1 to 4 harts, 0 to 31 guest files, 63, 127, 255, 511, 1023 or 2047 identities, 1 to 1023"
+         " sources")
 # The most bytes that an answer has, with its LF.
 ANSWER_BYTES = 128
 FORMS = sorted({name.split("_")[0] for name, _ in reading.BY_KEYWORDS.values()}
@@ -127,8 +130,7 @@ def sizes_of(text):
     found = text.split()
     if not (len(found) == 4 and all(re.fullmatch("[0-9]{1,4}", word) for word in found)
             and is_machine_size(*map(int, found))):
-        fail(f"no machine has the numbers {text!r}: they are 1 to 4 harts, 0 to 31 guest files, 63,"
-             " 127, 255, 511, 1023 or 2047 identities, 1 to 1023 sources")
+        fail(f"no machine has the numbers {text!r}: they are {SIZES}")
     return tuple(map(int, found))
 
 

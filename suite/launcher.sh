@@ -36,16 +36,25 @@ refuse() { # WHAT
   exit 2
 }
 
-# Refuses a word; where it names a file, that file's text was meant, of which its ending and its
-# first line may say what reads it.
+# Gives what reads a file of a plan: a line with a word of plans for `judge` says so; else `audit`
+# does, with the words of its first line, or of the command that was given.
+reader_of_plan() { # FILE COMMAND
+  awk '
+    NR == 1 && /^# audit [a-z]+ [0-9]+$/ { audit = "aia" substr($0, 2) }
+    /^(producer|memory|notices|numbers|heeds|take|put|route|switch|free) / { judge = 1; exit }
+    NR > 1000 { exit }
+    END { print judge ? "plans judge" : given ~ /^aia audit/ ? given : audit ? audit : \
+      "aia audit KIND W" }' given="$2" "$1"
+}
+
+# Refuses a word; where it names a file, that file's text was meant, and its ending may say what
+# reads it.
 refuse_word() { # WHAT WORD COMMAND
-  local command=$3 first=''
+  local command=$3
   [ -f "$2" ] || refuse "$1"
-  read -r first 2> /dev/null < "$2"
-  case "$2 $first" in
-    *.script\ *) command='aia replay' ;;
-    *.plan\ '# audit '*) [ "${3% *}" != 'aia audit' ] && command='aia audit KIND W' ;;
-    *.plan\ *) command='plans judge' ;;
+  case "$2" in
+    *.script) command='aia replay' ;;
+    *.plan) command=$(reader_of_plan "$2" "$3") ;;
   esac
   refuse "'$2' is a file: have it read from standard input, as $at$command < $2"
 }

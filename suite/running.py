@@ -284,7 +284,9 @@ def run(command, text, seconds, most, are_errors_shown=False):
 def check_started(ran, command):
     """Ends the tool where a command could not be started."""
     if ran.status in NOT_STARTED and not ran.stopped:
-        why = ran.errors.splitlines()
+        why = ran.errors.splitlines()[:1]
+        if "/" not in str(command[0]) and os.path.isfile(command[0]):
+            why = [f"it is not on the path; the file here is ./{command[0]}"]
         fail(f"{command[0]} can't be started (status {ran.status})"
              + (f": {why[0]}" if why else ""))
 

@@ -199,7 +199,10 @@ def could_not_look(trial):
     own += [here / "check", here / "plans/check"]
     own.append(TOP / "suite/tools")
     cases = [["env", f"PROGRAM={no}", tool] for tool in own for no in (NO_PROGRAM, TOP / "VERSION")]
-    cases += [["env", f"PROGRAM={shutil.which('false')}", TOP / "suite/isolation", "1"]]
+    unseen = program(trial, "unseen", "grep -v -e '^#' -e '^$' | sed 's/.*/-/'")
+    cases += [["env", f"PROGRAM={one}", TOP / "suite" / tool, "1"]
+              for one in (shutil.which("false"), shutil.which("true"), unseen)
+              for tool in ("isolation", "from-memory", "migrations")]
     cases += [[here / "hypervisors/check", NO_PROGRAM], [APART / "run", NO_PROGRAM],
               [TOP / "peers/qemu/run", NO_PROGRAM], [TOP / "peers/kvm/run", NO_PROGRAM],
               [TOP / "suite/want-of-memory", NO_PROGRAM],

@@ -38,8 +38,9 @@ WRONG = (
       for name, words, file, read in (
           ("aia", (PLAN,), PLAN, "plans judge"), ("plans", ("judge", PLAN), PLAN, "plans judge"),
           ("aia", ("audit", "leave", PLAN), PLAN, "plans judge"),
-          ("aia", (AUDITED,), AUDITED, "aia audit KIND W"),
-          ("plans", (AUDITED,), AUDITED, "aia audit KIND W"),
+          ("aia", (AUDITED,), AUDITED, "aia audit leave 1"),
+          ("aia", ("audit", "shift", "2", AUDITED), AUDITED, "aia audit shift 2"),
+          ("plans", (AUDITED,), AUDITED, "aia audit leave 1"),
           ("plans", (SCRIPT,), SCRIPT, "aia replay"))),
     ("aia", ("replay", "x"), "replay has no word behind it, and not 'x'"),
     ("aia", ("gen",), "two numbers are wanted behind gen, COUNT and SEED, and 0 given"),
