@@ -7,16 +7,19 @@
  * each of them read, of one that claims the wrong identity; yours calls `ask` for each access as it
  * makes it. Ends with status 1 and a message at the first answer that differs, else with 0; and
  * with 2 where the words are wrong, or the model can't be run, ends before its time or with another
- * status than 0. With -h it says how it is run. */
+ * status than 0, or takes more than a minute over an answer. With -h it says how it is run. */
 
 #define _POSIX_C_SOURCE 200809L
 
+#include <errno.h>
 #include <signal.h>
 #include <stdio.h>
 #include <stdlib.h>
 #include <string.h>
 #include <sys/wait.h>
 #include <unistd.h>
+
+#define SECONDS 60 /* how long the model may take over an answer */
 
 static FILE *lines, *answers; /* to the model, and from it */
 static pid_t model;
@@ -31,11 +34,18 @@ static void end(int status, const char *line, const char *what, const char *mine
     exit(status);
 }
 
+/* Interrupts a read that takes too long. */
+static void too_long(int number)
+{
+    (void)number;
+}
+
 /* Runs the model between two pipes. */
 static void start(const char *program)
 {
     int to[2], from[2];
 
+    sigaction(SIGALRM, &(struct sigaction){.sa_handler = too_long}, NULL);
     signal(SIGPIPE, SIG_IGN); /* where the model has ended the read says so */
     if (pipe(to) || pipe(from))
         end(2, program, "there are no pipes", NULL);
@@ -64,11 +74,17 @@ static int is_mistake(const char *answer)
 /* Hands the model a line, and compares its answer with mine; any is right where mine is "-". */
 static void ask(const char *line, const char *mine)
 {
-    char answer[256], said[300];
+    char answer[256], said[300], *got;
 
     fprintf(lines, "%s\n", line);
     fflush(lines);
-    if (!fgets(answer, sizeof answer, answers) || !strchr(answer, '\n'))
+    errno = 0;
+    alarm(SECONDS);
+    got = fgets(answer, sizeof answer, answers);
+    alarm(0);
+    if (!got && errno == EINTR)
+        end(2, line, "the model takes too long over its answer", NULL);
+    if (!got || !strchr(answer, '\n'))
         end(2, line, "the model has ended", NULL);
     answer[strcspn(answer, "\n")] = 0;
     if (!is_mistake(answer) && (!strcmp(mine, "-") || !strcmp(mine, answer)))

@@ -6,7 +6,7 @@ The model is PROGRAM with the word `replay`, else ../aia. Here the machine is a 
 of what each of them read, of one that claims the wrong identity; yours calls `ask` for each access
 as it makes it. Ends with status 1 and a message at the first answer that differs, else with 0, and
 says how many were the same; and with 2 where the words are wrong, or the model can't be run, ends
-before its time or with another status than 0.
+before its time or with another status than 0. A PROGRAM has a minute for each answer.
 """
 
 import signal
@@ -14,6 +14,7 @@ import subprocess
 import sys
 from pathlib import Path
 
+SECONDS = 60  # how long a model that is named may take over an answer
 PATIENCE = 3  # how long a model has to end once it answers no more, in seconds
 MISTAKES = ("bad", "nomachine", "again", "range")  # of the script, whatever the machine does
 MACHINE = (
@@ -33,14 +34,26 @@ def end(status, message):
     sys.exit(status)
 
 
-def ask(model, line, mine="-"):
-    """Hands the model a line, and compares its answer with mine; any is right where mine is `-`."""
+def too_long(*_):
+    """Ends a read that takes too long."""
+    raise TimeoutError
+
+
+def ask(model, line, mine="-", seconds=0):
+    """Hands the model a line, and compares its answer with mine; any is right where mine is `-`. It
+    may take so many seconds, where any are told."""
     try:
         model.stdin.write(line + "\n")
         model.stdin.flush()
     except BrokenPipeError:
         pass  # it has ended: the read says so
-    answer, whole, _ = model.stdout.readline().partition("\n")
+    signal.alarm(seconds)
+    try:
+        answer, whole, _ = model.stdout.readline().partition("\n")
+    except TimeoutError:
+        model.kill()
+        end(2, f"{line}: the model does not answer within {seconds} seconds")
+    signal.alarm(0)
     if not whole:
         end(2, f"{line}: the model {ending(leave(model))}")
     if answer in MISTAKES or mine not in ("-", answer):
@@ -86,6 +99,7 @@ def main():
     if words and words[0].startswith("-"):
         end(2, f"lockstep.py: there is no option {words[0]!r}\nlockstep.py -h says more")
     program = program_of(words)
+    signal.signal(signal.SIGALRM, too_long)
     try:
         model = subprocess.Popen([program, "replay"], text=True, stdin=subprocess.PIPE,
                                  stdout=subprocess.PIPE)
@@ -93,7 +107,7 @@ def main():
         end(2, f"{program} can't be run: {wrong.strerror}")
     try:
         for line, mine in MACHINE:
-            ask(model, line, mine)
+            ask(model, line, mine, SECONDS if words else 0)
     finally:
         status = leave(model)
         if status and not words:

@@ -257,14 +257,30 @@ def same_and_different(trial):
     trial.prints(0, ["no number of a step stands outside the plans\n"], suite / "step-numbers")
 
 
+def short_of_time(trial, name, seconds):
+    """Writes an example anew, with a second for each answer."""
+    text = (TOP / "examples" / name).read_text(encoding="utf-8")
+    trial.sees(f"SECONDS{seconds}" in text, f"{name} has no SECONDS")
+    return trial.file(f"hasty-{name}",
+                      text.replace(f"SECONDS{seconds}", f"SECONDS{seconds.replace('60', '1')}"))
+
+
 def locksteps(trial):
     """examples/lockstep.py, and lockstep.c where there is a compiler, with programs that end before
     their time, or close their output: status 2 and a message, and never a traceback."""
-    tools = [[TOP / "examples/lockstep.py"]]
+    tools, hasty = [[TOP / "examples/lockstep.py"]], [short_of_time(trial, "lockstep.py", " = 60")]
+    hasty[0].chmod(0o755)
     if shutil.which("cc"):
         made = trial.folder / "lockstep"
         trial.run("cc", "-std=c11", "-o", made, TOP / "examples/lockstep.c")
         tools.append([made])
+        hasty.append(trial.folder / "hasty")
+        trial.run("cc", "-std=c11", "-o", hasty[1], short_of_time(trial, "lockstep.c", " 60"))
+    hangs = program(trial, "hangs", "exec sleep 100")
+    for tool in hasty:
+        ran = trial.run(tool, hangs, seconds=20)
+        trial.sees(ran.status == 2 and "machine 1 0 63 1: the model " in ran.errors,
+                   f"{tool.name} over a model that hangs: {ran}")
     for name, (lines, status) in ENDING.items():
         ends = program(trial, f"ends-{name}", lines)
         for tool in tools:
