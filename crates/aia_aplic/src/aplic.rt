@@ -270,7 +270,7 @@ impl Aplic {
         ensures next { (past : Past) → AplicStands self.old past → Next self.new result past }
         ensures fewer { IfSome result (λ msi. waiting self.new < waiting self.old) }
         ensures no_less { steps.old ≤ steps.new }
-        ensures few { steps.new ≤ steps.old + 32 }
+        ensures few { steps.new ≤ steps.old + 2 * SOURCE_WORDS }
         ensures idle { IfNone result (steps.new ≡ steps.old) }
         ensures looks { asks_by_genmsi self.old ≡ false
             → IfSome result (λ msi. steps.old + 2 ≤ steps.new) }
@@ -295,7 +295,7 @@ impl Aplic {
         ensures first { (past : Past) → AplicStands self.now past → IsFirst result past }
         ensures waits { IfSome result (λ sender. does_wait self.now sender ≡ true) }
         ensures no_less { steps.old ≤ steps.new }
-        ensures few { steps.new ≤ steps.old + 32 }
+        ensures few { steps.new ≤ steps.old + 2 * SOURCE_WORDS }
         ensures idle { IfNone result (steps.new ≡ steps.old) }
         ensures looks { IfSome result
             (λ sender. IsBySource sender → steps.old + 2 ≤ steps.new) }
@@ -315,7 +315,7 @@ impl Aplic {
         ensures first { IsFirstSource (is_ready self.now.root.domain)
             (is_ready self.now.child.domain) result }
         ensures no_less { steps.old ≤ steps.new }
-        ensures few { steps.new ≤ steps.old + 32 }
+        ensures few { steps.new ≤ steps.old + 2 * SOURCE_WORDS }
         ensures idle { IfNone result (steps.new ≡ steps.old) }
         ensures looks { IfSome result (λ source. steps.old + 2 ≤ steps.new) }
     {
@@ -338,7 +338,7 @@ impl Aplic {
         ensures first { IsFirstSource (is_ready self.now.root.domain)
             (is_ready self.now.child.domain) result }
         ensures two_at_least { steps.old + 2 ≤ steps.new }
-        ensures few { steps.new ≤ steps.old + 32 }
+        ensures few { steps.new ≤ steps.old + 2 * SOURCE_WORDS }
     {
         let mut bits = ReadyView { aplic: self, steps };
         bits_search(&mut bits)

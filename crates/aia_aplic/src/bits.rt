@@ -6,10 +6,8 @@ ghost use Rattle.aia_aplic_values.specs.Bits.{IsFirstSource, AreSources};
 ghost use Rattle.aia_regs.specs.declared.limits.TheConstants.{SOURCE_WORDS};
 
 use aia_model::DomainName;
+use aia_regs::limits::SOURCE_WORDS;
 use aia_word::least_one;
-
-/// How many words of 64 sources a set has.
-const WORDS: u32 = 16;
 
 /// The sources that the root domain and its child are to forward, which can be read by counted
 /// looks at words of 64 sources alone.
@@ -36,15 +34,16 @@ pub trait Bits {
 }
 
 /// Gives the domain and the number of the least source of the two sets, at the same number the root
-/// domain's; `None` exactly where both are empty. It takes 2 to 32 looks.
+/// domain's; `None` exactly where both are empty. It takes at least 2 looks, and at most as many as
+/// both sets have words.
 pub fn bits_search<T: Bits>(bits: &mut T) -> Option<(DomainName, u32)>
     ensures first { IsFirstSource (T.members bits.old Root) (T.members bits.old Child) result }
     ensures members { T.members bits.new ≡ T.members bits.old }
     ensures two_at_least { T.count bits.old + 2 ≤ T.count bits.new }
-    ensures few { T.count bits.new ≤ T.count bits.old + 32 }
+    ensures few { T.count bits.new ≤ T.count bits.old + 2 * SOURCE_WORDS }
     ensures same_place { T.IsSamePlace bits.old bits.new }
 {
-    for k in 0..WORDS {
+    for k in 0..SOURCE_WORDS as u32 {
         let (first, second) = both_words(bits, k);
         if let Some((name, bit)) = first_of_words(first, second) {
             return Some((name, 64 * k + bit));

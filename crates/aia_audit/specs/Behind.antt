@@ -2,6 +2,7 @@
 -- Vocabulary.
 use Rattle.std.specs.Prelude.{ℕ, Bool, true, false, not, ◌&&◌, List, [], ◌∷◌, Option, Some, None}
 use Rattle.std.specs.List.{list_any, list_all}
+use Rattle.aia_regs.specs.declared.limits.TheConstants.{FILE_WORDS}
 use Rattle.aia_word.specs.Sets.{word_of}
 use Rattle.aia_plan.specs.Plan.{Plan, is_step}
 use Rattle.aia_plan.specs.Rule.{is_record, names, stands, other_records, is_same, takes_pending, puts_pending, takes_enables, puts_enables}
@@ -87,7 +88,7 @@ are_paired_behind takes puts (x ∷ later) =
 -- What is kept of the steps that take and put words of a set.
 abbrev pub takes_behind : (Step → Option ℕ) → (Step → Option ℕ) → (Plan → Bool) → Plan → Takes
 takes_behind takes puts may plan = record {
-  taken = word_of (λ w. is_taken takes w plan) 0 32;
+  taken = word_of (λ w. is_taken takes w plan) 0 FILE_WORDS;
   in_order = all_may_take takes may plan;
   put = first_put puts plan;
   is_paired = are_paired_behind takes puts plan;

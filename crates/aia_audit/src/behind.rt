@@ -7,6 +7,7 @@ ghost use Rattle.aia_plan.specs.Plan.{Plan, IsInside};
 ghost use Rattle.aia_plan.specs.Rule.{takes_pending, puts_pending, takes_enables, puts_enables, first_failing};
 ghost use Rattle.aia_audit.specs.Behind.{behind};
 ghost use Rattle.aia_audit.specs.Verdicts.{verdict_by, verdict_on};
+ghost use Rattle.aia_regs.specs.declared.limits.TheConstants.{FILE_WORDS};
 
 use crate::routes::Routes;
 use crate::takes::Takes;
@@ -93,7 +94,7 @@ impl Behind {
 
     /// Gives what stands behind the step before `step`, in the plan of a move of a kind.
     pub fn with(self, kind: Kind, step: Step) -> Behind
-        requires { IsInside 32 step }
+        requires { IsInside FILE_WORDS step }
         ensures { (later : Plan) → self ≡ behind kind later
             → result ≡ behind kind (step ∷ later) }
     {
@@ -111,7 +112,7 @@ impl Behind {
 
     /// Gives the verdict on a plan, of which this is all that stands in it.
     pub fn verdict(self, kind: Kind, words: u32) -> Verdict
-        requires { words ≤ 32 }
+        requires { words ≤ FILE_WORDS }
         ensures { (plan : Plan) → All (IsInside words) plan → self ≡ behind kind plan
             → result ≡ verdict_on kind words plan }
     {

@@ -6,6 +6,7 @@ ghost use Rattle.arrayvec.specs.ArrayVec.{array_vec_len};
 ghost use Rattle.aia_plan.specs.Plan.{IsWidth, IsInside, each_word, all_words, core_plan};
 ghost use Rattle.aia_plan.specs.declared.step.Step.TheVariants.{TakeP, PutP, TakeE, PutE, Look};
 ghost use Rattle.aia_audit.specs.declared.limits.TheConstants.{PLAN_STEPS};
+ghost use Rattle.aia_regs.specs.declared.limits.TheConstants.{FILE_WORDS};
 
 use crate::limits::PLAN_STEPS;
 use aia_plan::{Kind, Step};
@@ -67,7 +68,7 @@ fn push_words(out: &mut ArrayVec<Step, PLAN_STEPS>, words: u32)
 
 /// Appends the plan of a leave to `out`, which is empty.
 fn push_leave(out: &mut ArrayVec<Step, PLAN_STEPS>, words: u32)
-    requires few { words ≤ 32 }
+    requires few { words ≤ FILE_WORDS }
     requires empty { out.old.items ≡ [] }
     ensures { out.new.items ≡ core_plan Kind.Leave words }
 {
@@ -80,7 +81,7 @@ fn push_leave(out: &mut ArrayVec<Step, PLAN_STEPS>, words: u32)
 
 /// Appends the plan of an arrival to `out`, which is empty.
 fn push_arrive(out: &mut ArrayVec<Step, PLAN_STEPS>, words: u32)
-    requires few { words ≤ 32 }
+    requires few { words ≤ FILE_WORDS }
     requires empty { out.old.items ≡ [] }
     ensures { out.new.items ≡ core_plan Kind.Arrive words }
 {
@@ -91,7 +92,7 @@ fn push_arrive(out: &mut ArrayVec<Step, PLAN_STEPS>, words: u32)
 
 /// Appends the plan of a shift to `out`, which is empty.
 fn push_shift(out: &mut ArrayVec<Step, PLAN_STEPS>, words: u32)
-    requires few { words ≤ 32 }
+    requires few { words ≤ FILE_WORDS }
     requires empty { out.old.items ≡ [] }
     ensures { out.new.items ≡ core_plan Kind.Shift words }
 {
@@ -103,7 +104,7 @@ fn push_shift(out: &mut ArrayVec<Step, PLAN_STEPS>, words: u32)
 
 /// Appends the plan of a move of a kind to `out`, which is empty.
 fn push_plan(kind: Kind, words: u32, out: &mut ArrayVec<Step, PLAN_STEPS>)
-    requires few { words ≤ 32 }
+    requires few { words ≤ FILE_WORDS }
     requires empty { out.old.items ≡ [] }
     ensures { out.new.items ≡ core_plan kind words }
 {

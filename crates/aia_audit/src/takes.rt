@@ -5,6 +5,7 @@ ghost use Rattle.aia_word.specs.Sets.{has_bit, word_of};
 ghost use Rattle.aia_plan.specs.Plan.{Plan};
 ghost use Rattle.aia_plan.specs.Rule.{names, is_same, are_paired, all_below};
 ghost use Rattle.aia_audit.specs.Behind.{may_take, is_taken, all_may_take, takes_behind};
+ghost use Rattle.aia_regs.specs.declared.limits.TheConstants.{FILE_WORDS};
 
 use aia_plan::Step;
 
@@ -23,7 +24,7 @@ pub struct Takes {
 
 /// Tells whether bit `word` of a mask is a one.
 fn has(mask: u32, word: u32) -> bool
-    requires { word < 32 }
+    requires { word < FILE_WORDS }
     ensures { result ≡ has_bit mask word }
 {
     mask >> word & 1 == 1
@@ -58,9 +59,9 @@ impl Takes {
     /// Gives the words that are taken where one more is, or none.
     #[tactic(auto, using(crate::proofs::TakesLemmas::word_set))]
     fn taken_with(self, taken: Option<u32>) -> u32
-        requires { IfSome taken (λ w. w < 32) }
-        ensures { (members : ℕ → Bool) → self.taken ≡ word_of members 0 32
-            → result ≡ word_of (λ w. names taken w || members w) 0 32 }
+        requires { IfSome taken (λ w. w < FILE_WORDS) }
+        ensures { (members : ℕ → Bool) → self.taken ≡ word_of members 0 FILE_WORDS
+            → result ≡ word_of (λ w. names taken w || members w) 0 FILE_WORDS }
     {
         match taken {
             None => self.taken,
@@ -71,7 +72,7 @@ impl Takes {
     /// Tells whether a word, if one is taken, may be taken before the steps behind it: they let one
     /// be taken, and do not take it too.
     fn lets_take(self, taken: Option<u32>, may: bool) -> bool
-        requires { IfSome taken (λ w. w < 32) }
+        requires { IfSome taken (λ w. w < FILE_WORDS) }
         ensures { result ≡ may_take taken may (has_bit self.taken) }
     {
         match taken {
@@ -84,7 +85,7 @@ impl Takes {
     /// where it takes one, `may` tells whether a word may be taken before the steps behind it.
     #[tactic(auto, using(crate::proofs::TakesLemmas::may_take_bits))]
     pub fn with(self, taken: Option<u32>, put: Option<u32>, may: bool) -> Takes
-        requires { IfSome taken (λ w. w < 32) }
+        requires { IfSome taken (λ w. w < FILE_WORDS) }
         ensures { (takes puts : Step → Option ℕ) (may_be : Plan → Bool) (x : Step) (later : Plan)
             → taken ≡ takes x → put ≡ puts x → may ≡ may_be later
             → self ≡ takes_behind takes puts may_be later
@@ -101,7 +102,7 @@ impl Takes {
     /// Tells whether each of `words` words is taken.
     #[tactic(auto, using(crate::proofs::TakesLemmas::below_fails))]
     fn are_all_taken(self, words: u32) -> bool
-        requires { words ≤ 32 }
+        requires { words ≤ FILE_WORDS }
         ensures { result ≡ all_below (has_bit self.taken) words }
     {
         for word in 0..words {
@@ -116,7 +117,7 @@ impl Takes {
     /// that stands in it.
     #[tactic(auto, using(crate::proofs::TakesLemmas::taken_bits))]
     pub fn are_taken(self, words: u32) -> bool
-        requires { words ≤ 32 }
+        requires { words ≤ FILE_WORDS }
         ensures { (takes puts : Step → Option ℕ) (may : Plan → Bool) (plan : Plan)
             → self ≡ takes_behind takes puts may plan
             → result ≡ (all_below (λ w. is_taken takes w plan) words

@@ -136,7 +136,7 @@ impl Fabric {
         ensures { Fences self.old self.new found.vm found.number }
     {
         self.land_all(found.vm);
-        let _whole = self.words();
+        self.recall();
         self.refetch(found);
     }
 

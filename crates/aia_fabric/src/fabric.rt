@@ -122,6 +122,16 @@ impl Fabric {
         (self.n + 1) / 64
     }
 
+    /// Recalls what is true of it at all times, for the proof of a caller, which can't name its
+    /// fields. It does nothing.
+    pub fn recall(&self)
+        ensures all { 64 * ((self.now.n + 1) / 64) ≡ self.now.n + 1 }
+        ensures some { 1 ≤ (self.now.n + 1) / 64 }
+        ensures few { (self.now.n + 1) / 64 ≤ FILE_WORDS }
+        ensures whole { IsWhole self.now }
+    {
+    }
+
     /// Tells how many harts there are, 1 to `HARTS`.
     pub fn harts(&self) -> u32
         ensures value { result ≡ self.now.imsic.harts }

@@ -76,9 +76,9 @@ impl Fabric {
         requires { vm < length self.old.vms }
         ensures { LandsAll self.old self.new vm }
     {
-        let _whole = self.words();
+        self.recall();
         for _ in 0..self.flying(vm) {
-            let _whole = self.words();
+            self.recall();
             self.land(vm, 0);
         }
     }

@@ -48,7 +48,7 @@ impl Fabric {
             self.old self.new (vcpu to.vm to.number) value }
         ensures rest { OnlyStores self.old self.new }
     {
-        let _whole = self.words();
+        self.recall();
         match self.stage(to.slot).in_force {
             Some(place) => {
                 let spot = self.named_spot(place);
@@ -75,7 +75,7 @@ impl Fabric {
             → ReachesByRecord None self.old self.new g value }
         ensures rest { OnlyStores self.old self.new }
     {
-        let _whole = self.words();
+        self.recall();
         let hart = self.vms.notice_hart_at(q);
         self.store_in(q, Spot::SupervisorFile(hart), q + 1, 0, value);
     }

@@ -1,6 +1,6 @@
 -- What one access of a move's plan changes: one word, register, record or entry; all else stays.
 use Rattle.std.specs.Prelude.{◌≡◌, ℕ, ◌+◌, ◌/◌, ◌<◌, length, slice_index, slice_set, Option, Some, None}
-use Rattle.aia_regs.specs.declared.limits.TheConstants.{VCPUS}
+use Rattle.aia_regs.specs.declared.limits.TheConstants.{FILE_WORDS, VCPUS}
 use Rattle.aia_regs.specs.declared.access.Op.TheVariants as ops
 use Rattle.aia_regs.specs.declared.file_registers.FileReg.{FileReg}
 use Rattle.aia_file.specs.FileState.{FileState, shown}
@@ -27,16 +27,16 @@ IsPlaceThere w (Slot q) = q < VCPUS
 
 abbrev pub words_at : World → At → ℕ
 words_at w (File spot) = (w.n + 1) / 64
-words_at w (Slot q) = 32
+words_at w (Slot q) = FILE_WORDS
 
 -- How many words a place keeps of each set: that many, where its world is whole.
 abbrev pub pending_words : World → At → ℕ
 pending_words w (File spot) = length (file_at w.imsic spot).pending
-pending_words w (Slot q) = 32
+pending_words w (Slot q) = FILE_WORDS
 
 abbrev pub enable_words : World → At → ℕ
 enable_words w (File spot) = length (file_at w.imsic spot).enabled
-enable_words w (Slot q) = 32
+enable_words w (Slot q) = FILE_WORDS
 
 -- A word of memory is written.
 abbrev pub with_word : World → ℕ → ℕ → World

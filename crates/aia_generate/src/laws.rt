@@ -9,13 +9,14 @@ ghost use Rattle.aia_model.specs.Notice.{notices_sent};
 ghost use Rattle.aia_generate.specs.Generated.{next_number, line_drawn, line_at, generated};
 ghost use Rattle.aia_generate.specs.Sequence.{drawing_number};
 ghost use Rattle.aia_generate.specs.Summary.{summary};
+ghost use Rattle.aia_generate.specs.declared.head.TheConstants.{HEAD_LINES};
 
-/// A generated script has 31 lines and those of its body, which are each drawn by a number of its
-/// own.
+/// A generated script has the lines of its head and those of its body, which are each drawn by a
+/// number of its own.
 pub fn the_generator_draws_its_lines()
-    ensures line { (count seed k : ℕ) → k < 31 + count → slice_get (generated count seed) k
+    ensures line { (count seed k : ℕ) → k < HEAD_LINES + count → slice_get (generated count seed) k
         ≡ Some (line_at (drawing_number seed (k + 1)) (k + 1)) }
-    ensures length { (count seed : ℕ) → length (generated count seed) ≡ 31 + count }
+    ensures length { (count seed : ℕ) → length (generated count seed) ≡ HEAD_LINES + count }
 {}
 
 /// The first numbers after two seeds, as what lines are drawn by, and the first lines of the body

@@ -4,6 +4,7 @@
 mod body;
 mod head;
 pub mod laws;
+pub mod limits;
 mod lines;
 mod print;
 mod tally;

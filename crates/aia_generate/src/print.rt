@@ -5,16 +5,18 @@ ghost use Rattle.arrayvec.specs.ArrayVec.{array_vec_len};
 ghost use Rattle.aia_model.specs.declared.line.Line.{Line};
 ghost use Rattle.aia_model.specs.Answer.{after_lines};
 ghost use Rattle.aia_model.specs.Notice.{notices_sent};
+ghost use Rattle.aia_generate.specs.declared.limits.TheConstants.{SUMMARY_BYTES};
 ghost use Rattle.aia_generate.specs.Summary.{summary_line, summary_text, summary_of};
 ghost use Rattle.aia_generate.specs.Tally.{Tallies};
 
+use crate::limits::SUMMARY_BYTES;
 use crate::tally::Tally;
 use arrayvec::ArrayVec;
 use itoa::Buffer;
 
 /// Appends a text, for which there is room.
-fn push_text(out: &mut ArrayVec<u8, 128>, text: &[u8])
-    requires { array_vec_len out.old + length text.now ≤ 128 }
+fn push_text(out: &mut ArrayVec<u8, SUMMARY_BYTES>, text: &[u8])
+    requires { array_vec_len out.old + length text.now ≤ SUMMARY_BYTES }
     ensures text { out.new.items ≡ out.old.items ++ text.now }
     ensures length { array_vec_len out.new ≡ array_vec_len out.old + length text.now }
 {
@@ -23,8 +25,8 @@ fn push_text(out: &mut ArrayVec<u8, 128>, text: &[u8])
 }
 
 /// Appends a line of the summary: a word, a space, a number in decimal, and LF.
-fn push_line(out: &mut ArrayVec<u8, 128>, word: &[u8], number: u64)
-    requires { array_vec_len out.old + length word.now + 22 ≤ 128 }
+fn push_line(out: &mut ArrayVec<u8, SUMMARY_BYTES>, word: &[u8], number: u64)
+    requires { array_vec_len out.old + length word.now + 22 ≤ SUMMARY_BYTES }
     ensures text { out.new.items ≡ out.old.items ++ summary_line word.now number }
     ensures length { array_vec_len out.new ≤ array_vec_len out.old + length word.now + 22 }
 {
@@ -36,14 +38,14 @@ fn push_line(out: &mut ArrayVec<u8, 128>, word: &[u8], number: u64)
 }
 
 /// Prints the summary of a script's run into `out`, which is empty, given how many notices were
-/// sent: four lines, at most 128 bytes in all.
-pub fn summary(tally: &Tally, notices: u64, out: &mut ArrayVec<u8, 128>)
+/// sent: four lines, at most [`SUMMARY_BYTES`] bytes in all.
+pub fn summary(tally: &Tally, notices: u64, out: &mut ArrayVec<u8, SUMMARY_BYTES>)
     requires { out.old.items ≡ [] }
     ensures text { out.new.items
         ≡ summary_text tally.now.lines tally.now.claims notices tally.now.sum }
     ensures of_lines { (lines : List Line) → Tallies tally.now lines → length lines < 2 ^ 64
         → notices ≡ notices_sent (after_lines [] lines) → out.new.items ≡ summary_of lines }
-    ensures short { array_vec_len out.new ≤ 128 }
+    ensures short { array_vec_len out.new ≤ SUMMARY_BYTES }
 {
     push_line(out, b"lines", tally.lines());
     push_line(out, b"claims", tally.claims());

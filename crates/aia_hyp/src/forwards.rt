@@ -81,7 +81,7 @@ impl Core {
         ensures named { IfOk result (λ found. (found.vm ≡ vm) × (found.number ≡ number)) }
         ensures identity { IfOk result (λ _. identity ≤ IDENTITIES) }
     {
-        let _whole = self.fabric.words();
+        self.fabric.recall();
         let Some(found) = self.fabric.find(vm, number) else {
             return Err(Refusal::Range);
         };
@@ -119,7 +119,7 @@ impl Core {
             (aimed_by h (Accepted (lines.Pass source found.vm found.number identity)))
             targets.old targets.new }
     {
-        let _whole = self.fabric.words();
+        self.fabric.recall();
         let stay = &self.vcpus[found.slot as usize].stay;
         let number = self.passes.count() as u32;
         aim_first(source, stay, found.notice, number, identity, targets);
@@ -162,7 +162,7 @@ impl Core {
         requires { MayGo self.old (Delivered msi) }
         ensures { CoreHears self.old self.new msi }
     {
-        let _whole = self.fabric.words();
+        self.fabric.recall();
         let spot = self.fabric.locate(msi.address);
         match self.pass_of(msi.source) {
             None => self.hear(spot, msi),
@@ -191,7 +191,7 @@ impl Core {
         requires none { number_of_pass self.old.passes msi.source ≡ None }
         ensures { CoreHears self.old self.new msi }
     {
-        let _few = self.fabric.harts();
+        self.fabric.recall();
         if is_host(spot) {
             self.fabric
                 .host_store(spot, (msi.address % PAGE) as u32, msi.value);
@@ -207,8 +207,7 @@ impl Core {
         requires pass { number_of_pass self.old.passes msi.source ≡ Some number }
         ensures { CoreGoes self.old self.new (Delivered msi) }
     {
-        let _whole = self.fabric.words();
-        let _few = self.fabric.harts();
+        self.fabric.recall();
         self.fabric
             .host_store(spot, (msi.address % PAGE) as u32, msi.value);
     }
@@ -218,7 +217,8 @@ impl Core {
         requires { MayGo self.old (Relayed number) }
         ensures { CoreGoes self.old self.new (Relayed number) }
     {
-        let (_whole, _few) = (self.fabric.words(), self.passes.count());
+        self.fabric.recall();
+        self.passes.recall();
         let pass = self.passes.at(number);
         let notice = self.fabric.notice_hart(pass.vm);
         let slot = self.fabric.slot_of(pass.vm, pass.number);

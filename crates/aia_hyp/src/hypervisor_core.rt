@@ -188,7 +188,7 @@ impl Core {
             (answer_by Narrow result) }
         ensures refused { domain_at addr ≢ None → result ≡ Err Refusal.Fault }
     {
-        let _spot = self.reach(addr)?;
+        self.reach(addr)?;
         Ok(0)
     }
 

@@ -85,7 +85,7 @@ impl Core {
                 hviprio: record.majors.hviprio(),
                 hvictl: record.majors.hvictl(),
             },
-            k => save_word(&self.fabric, slot, k - 3),
+            k => save_word(&self.fabric, slot, k - FIRST_WORD as u32),
         }
     }
 

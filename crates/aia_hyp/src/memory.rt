@@ -68,7 +68,7 @@ impl Core {
             ≡ Stay.InMemory Rest.Entered kept }
         ensures { CoreTakes self.old self.new (Exit found.vm found.number) Okay }
     {
-        let _whole = self.fabric.words();
+        self.fabric.recall();
         put_stay(
             &mut self.vcpus,
             found.slot,

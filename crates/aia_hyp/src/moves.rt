@@ -158,10 +158,10 @@ impl Core {
         ensures found { IsFound self.new.world found }
         ensures harts { self.new.world.imsic.harts ≡ (T.map targets.new).harts }
     {
-        let _whole = self.fabric.words();
-        let _few = self.passes.count();
+        self.fabric.recall();
+        self.passes.recall();
         let made = carry_on(&mut self.vcpus, found.slot, &mut self.fabric, targets);
-        let _whole = self.fabric.words();
+        self.fabric.recall();
         made
     }
 
@@ -175,12 +175,12 @@ impl Core {
         ensures found { IsFound self.new.world found }
         ensures harts { self.new.world.imsic.harts ≡ self.old.world.imsic.harts }
     {
-        let _whole = self.fabric.words();
+        self.fabric.recall();
         let Stay::Moving(plan) = swap_stay(&mut self.vcpus, found.slot, nowhere()) else {
             unreachable!()
         };
         let outcome = plan.finish(&mut self.fabric);
-        let _whole = self.fabric.words();
+        self.fabric.recall();
         let new = stay_at_end(outcome, &mut self.pool);
         swap_stay(&mut self.vcpus, found.slot, new);
     }

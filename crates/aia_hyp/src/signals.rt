@@ -13,7 +13,7 @@ impl Core {
     pub fn hgeip(&self, hart: u64) -> Result<u64, Refusal>
         ensures { CoreTakes self.now self.now (Hgeip hart) (answer_by Wide result) }
     {
-        let _words = self.fabric.words();
+        self.fabric.recall();
         if u64::from(self.fabric.harts()) <= hart {
             return Err(Refusal::Range);
         }

@@ -19,7 +19,7 @@ pub(crate) fn save_word(fabric: &Fabric, slot: u32, w: u32) -> Part
     ensures { result ≡ parts.Word w (word_of (file_of_slot fabric.now slot 0).pending (64 * w) 64)
         (word_of (file_of_slot fabric.now slot 0).enabled (64 * w) 64) }
 {
-    let _words = fabric.words();
+    fabric.recall();
     let (pending, enable) = fabric.look(slot, w as usize);
     Part::Word {
         w: u64::from(w),
@@ -48,7 +48,7 @@ pub(crate) fn is_live(fabric: &Fabric, slot: u32, w: u32) -> bool
     requires word { w < (fabric.now.n + 1) / 64 }
     ensures { result ≡ is_live (file_of_slot fabric.now slot 0) w }
 {
-    let _words = fabric.words();
+    fabric.recall();
     let (pending, enabled) = fabric.look(slot, w as usize);
     pending & enabled != 0
 }

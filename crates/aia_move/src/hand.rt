@@ -93,7 +93,7 @@ impl Hand {
             → led_to way ≡ option_map (λ (lease : Bor Place). lease.now) new.entry
             → Executes access (moved who.now way at self.old) fabric.old fabric.new self.new }
     {
-        let _words = fabric.words();
+        fabric.recall();
         let slot = who.found.slot;
         match access {
             Access::TakeDelivery => self.delivery = take(fabric, old, FileReg::Delivery),
@@ -174,7 +174,7 @@ fn write_notice(fabric: &mut Fabric, who: &Who)
     ensures { fabric.new ≡ with_entry_word fabric.old who.now.found.vm who.now.found.number 1
         (second_word who.now.found.slot who.now.found.notice) }
 {
-    let _words = fabric.words();
+    fabric.recall();
     let slot = who.found.slot;
     let page = supervisor_page(who.found.notice) / PAGE;
     fabric.put_word(who.found, 1, mrif(slot_address(slot), page, slot + 1).1);
@@ -191,7 +191,7 @@ fn write_entry(fabric: &mut Fabric, who: &Who, to: Option<&FileLease>)
         (entry_word who.now.found.slot
         (option_map (λ (lease : Bor Place). lease.now) to.entry)) }
 {
-    let _words = fabric.words();
+    fabric.recall();
     let word = match to {
         Some(file) => basic(guest_page(file.hart(), file.file()) / PAGE),
         None => mrif(slot_address(who.found.slot), 0, 0).0,

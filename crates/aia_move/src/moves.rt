@@ -87,7 +87,7 @@ impl<K: Kind> Move<K, Closing> {
         ensures phase { MatchTurn result (IsIn ClosingPhase (width fabric.new))
             (λ next. MatchClosed next IsAtAims (IsInDrain (width fabric.new))) }
     {
-        let _words = fabric.words();
+        fabric.recall();
         if self.step_in(Stage::Closing, fabric) {
             Turn::Stay(self)
         } else {
@@ -114,7 +114,7 @@ impl<K: Kind> Move<K, Aim> {
         ensures goes { MatchTurn result (AimsOn fabric.now self) (AimsOn fabric.now self) }
         ensures phase { MatchTurn result IsAtAims (IsInDrain (width fabric.now)) }
     {
-        let _words = fabric.words();
+        fabric.recall();
         self.aim(fabric, targets);
         match self.closed() {
             Closed::Aim(state) => Turn::Stay(state),
@@ -154,7 +154,7 @@ impl<K: Kind> Move<K, Enable> {
         ensures phase { MatchTurn result (IsIn EnablePhase (width fabric.new))
             (IsIn K.after (width fabric.new)) }
     {
-        let _words = fabric.words();
+        fabric.recall();
         if self.step_in(Stage::Enable, fabric) {
             Turn::Stay(self)
         } else {
@@ -195,7 +195,7 @@ impl<K: Kind> Move<K, Last> {
         ensures phase { MatchTurn result
             (IsIn LastPhase (width fabric.new)) (λ o. ⊤) }
     {
-        let _words = fabric.words();
+        fabric.recall();
         if self.stays(fabric, Stage::Last) {
             self.step_in(Stage::Last, fabric);
             Turn::Stay(self)
@@ -232,7 +232,7 @@ impl<K: Kind, P> Move<K, P> {
             < begins (width fabric.old) self.old.home AllDone }
         ensures { GoesInPhase (phase_at stage) result fabric.old self.old fabric.new self.new }
     {
-        let _words = fabric.words();
+        fabric.recall();
         let stays = self.stays(fabric, stage);
         self.access(fabric);
         self.done += 1;
@@ -274,7 +274,7 @@ impl<K: Kind, P> Move<K, P> {
             targets.new }
         ensures goes { AimsOn fabric.now self.old self.new }
     {
-        let _words = fabric.words();
+        fabric.recall();
         let pass = self.who.passes[self.aims];
         match self.kind.new_file() {
             Some(file) => targets.aim(pass.source, file.hart(), file.file(), pass.identity),
@@ -343,7 +343,7 @@ impl<K: Kind> Move<K, ()> {
         ensures phase { NextStepIsOf (phase_at stage.new) (width fabric.new) self.new }
         ensures still { result ≡ false → stage.new ≡ stage.old }
     {
-        let _words = fabric.words();
+        fabric.recall();
         if stage.aims() {
             self.aim(fabric, targets);
             *stage = self.next(*stage, false);
@@ -381,7 +381,7 @@ impl<K: Kind> Move<K, ()> {
         requires last { is_at_last (width fabric.old) self.home ≡ true }
         ensures { EndsAs fabric.old self fabric.new result }
     {
-        let _words = fabric.words();
+        fabric.recall();
         self.access(fabric);
         self.kind.end(self.hand)
     }

@@ -48,14 +48,14 @@ pub enum Stage {
 
 impl Stage {
     /// Tells whether its steps aim passed sources.
-    pub fn aims(self) -> bool
+    pub(crate) fn aims(self) -> bool
         ensures { result ≡ is_none (phase_at self) }
     {
         matches!(self, Stage::Aim)
     }
 
     /// Tells whether the next step is a plan's last one, by whether its phase goes on after it.
-    pub fn ends(self, stays: bool) -> bool
+    pub(crate) fn ends(self, stays: bool) -> bool
         ensures { result ≡ (not stays && is_last (phase_at self)) }
     {
         !stays && matches!(self, Stage::Last)
@@ -63,7 +63,7 @@ impl Stage {
 
     /// Tells how many steps come before the phase that follows, in files of `words` words. The
     /// phase of aims has none of its own.
-    pub fn end(self, from: End, to: End, words: u32) -> u32
+    pub(crate) fn end(self, from: End, to: End, words: u32) -> u32
         requires { words ≤ FILE_WORDS }
         ensures { result ≡ phase_begins from to words (past_phase (phase_at self)) }
     {

@@ -5,8 +5,8 @@ ghost use Rattle.aia_vcpu_places.specs.Stores.{AreApart};
 ghost use Rattle.aia_move_values.specs.Move.{MoveFits, width};
 ghost use Rattle.aia_move_values.specs.Targets.{ArePasses, AimsAs, next_aim};
 ghost use Rattle.aia_move_values.specs.Turns.{EndsAs, LeavesEmpty};
-ghost use Rattle.aia_move_values.specs.PlanState.{moving_of};
-ghost use Rattle.aia_move.specs.Stages.{move_of, plan_of};
+ghost use Rattle.aia_move_values.specs.PlanState.{moving_of, phase_of};
+ghost use Rattle.aia_move.specs.Stages.{move_of, phase_at, plan_of};
 ghost use Rattle.aia_move_values.specs.Plan.{IsInPhase, MatchNext, StepsTo, StepsInPlace};
 
 use crate::kind::{ToFile, ToMemory, ToOtherFile};
@@ -119,12 +119,19 @@ impl Plan {
         ensures empty { AreApart (moving_of self).home
             → LeavesEmpty fabric.old (moving_of self) fabric.new }
     {
-        let _words = fabric.words();
+        fabric.recall();
         match self.course {
             Course::Leave(course) => course.finish(fabric),
             Course::Arrive(course) => course.finish(fabric),
             Course::Shift(course) => course.finish(fabric),
         }
+    }
+
+    /// Tells the phase that the plan is in, and leaves it where it is.
+    pub fn phase(&self) -> Stage
+        ensures { phase_at result ≡ phase_of self.now }
+    {
+        self.stage
     }
 
     /// Gives the move as the state of the phase that it is in. An arrival and a shift have no looks,

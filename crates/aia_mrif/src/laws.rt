@@ -2,13 +2,14 @@
 //! are what was proved.
 
 ghost use Rattle.std.specs.Prelude.{◌≡◌, ℕ, ◌+◌, ◌*◌, ◌<◌, ◌≤◌, ◌⊎◌, List, false, slice_set};
+ghost use Rattle.aia_regs.specs.declared.address_map.TheConstants.{SLOT};
 ghost use Rattle.aia_regs.specs.declared.limits.TheConstants.{IDENTITIES};
 ghost use Rattle.aia_file.specs.Mrif.{mrif_in, pending_place, enable_place};
 
 /// Where the words of slot `q` begin, counted in bytes of memory.
 pub fn slot_layout()
-    ensures pending { (q k : ℕ) → 8 * pending_place q k ≡ 512 * q + 16 * k }
-    ensures enable { (q k : ℕ) → 8 * enable_place q k ≡ 512 * q + 16 * k + 8 }
+    ensures pending { (q k : ℕ) → 8 * pending_place q k ≡ SLOT * q + 16 * k }
+    ensures enable { (q k : ℕ) → 8 * enable_place q k ≡ SLOT * q + 16 * k + 8 }
 {}
 
 /// The MRIF in a slot is made of the slot's own 64 words: a word that is written elsewhere leaves

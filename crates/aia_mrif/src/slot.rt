@@ -7,6 +7,7 @@ ghost use Rattle.aia_file.specs.Words.{HasSlot, SameMrif, words_after_store};
 
 use aia_file::Stored;
 use aia_ram::Ram;
+use aia_regs::address_map::SLOT;
 use aia_regs::limits::{FILE_WORDS, IDENTITIES};
 use aia_regs::requested;
 use aia_word::Bank;
@@ -172,7 +173,7 @@ pub(crate) fn pair_at(q: u32, k: usize) -> usize
     requires { k < FILE_WORDS }
     ensures { result ≡ 8 * pending_place q k }
 {
-    512 * q as usize + 16 * k
+    SLOT as usize * q as usize + 16 * k
 }
 
 /// Gives the word that has the identity's bit alone.

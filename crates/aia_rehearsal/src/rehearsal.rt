@@ -98,7 +98,7 @@ impl Rehearsal {
         ensures machine { SameMachine fabric.old fabric.new }
         ensures of { IsOf fabric.new self.new.passage }
     {
-        let _whole = fabric.words();
+        fabric.recall();
         self.make(fabric, step);
     }
 
@@ -109,7 +109,7 @@ impl Rehearsal {
         ensures makes { Makes step self.old fabric.old fabric.new }
         ensures after { self.new ≡ after step self.old fabric.old }
     {
-        let _words = fabric.words();
+        fabric.recall();
         if let Some(access) = self.access_made(step) {
             let mut hand = self.hand_for(access);
             let old = self.from.file();

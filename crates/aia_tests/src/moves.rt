@@ -315,7 +315,7 @@ fn leaves(fabric: &mut Fabric, who: Who, from: FileLease) -> bool
         return false;
     }
     let plan = Plan::leave(from, who);
-    let _words = fabric.words();
+    fabric.recall();
     let Some(plan) = steps(plan, fabric) else {
         return false;
     };
@@ -358,7 +358,7 @@ fn shifts(fabric: &mut Fabric, who: Who, old: Option<FileLease>, new: Option<Fil
         return false;
     }
     let plan = Plan::shift(old, new, who);
-    let _words = fabric.words();
+    fabric.recall();
     let Some(plan) = steps(plan, fabric) else {
         return false;
     };
@@ -379,6 +379,6 @@ fn arrives(fabric: &mut Fabric, who: Who, to: FileLease) -> bool
         threshold: 9,
     };
     let plan = Plan::arrive(to, who, kept);
-    let _words = fabric.words();
+    fabric.recall();
     goes_on(plan, fabric)
 }

@@ -70,7 +70,7 @@ fn leaves_in_place(rt: &impl Abort, fabric: &mut Fabric, who: Who, from: FileLea
         return None;
     }
     let mut plan = Plan::leave(from, who);
-    let _words = fabric.words();
+    fabric.recall();
     same!(*rt; is_made_in_place(&mut plan, fabric), true);
     same!(*rt; delivery(fabric), Some(0));
     same!(*rt; is_made_in_place(&mut plan, fabric), true);
@@ -83,7 +83,7 @@ fn by_its_state(plan: Plan, fabric: &Fabric) -> Plan
     requires { IsInPhase (width fabric.now) plan }
     ensures { result ≡ plan }
 {
-    let _words = fabric.words();
+    fabric.recall();
     plan.into_state().into_plan()
 }
 
@@ -146,7 +146,7 @@ fn arrives_by_phases(fabric: &mut Fabric, who: Who, to: FileLease) -> Option<Fil
     let State::ArriveFirst(state) = Plan::arrive(to, who, kept).into_state() else {
         return None;
     };
-    let _words = fabric.words();
+    fabric.recall();
     let Turn::Stay(state) = state.step(fabric) else {
         return None;
     };

@@ -143,7 +143,7 @@ fn fences(fabric: &mut Fabric, who: Who, to: FileLease) -> bool
         threshold: 9,
     };
     let plan = Plan::arrive(to, who, kept);
-    let _words = fabric.words();
+    fabric.recall();
     let Some(plan) = steps(plan, fabric) else {
         return false;
     };

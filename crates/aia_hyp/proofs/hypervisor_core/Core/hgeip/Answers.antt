@@ -10,4 +10,4 @@ returns-then-from-hart c =
 pub returns : goal.returns
 returns c =
     let inside : c.args.hart < c.self.inside.fabric.imsic.harts = omega (arith, c.harts.ensures.value, c.from.ensures, c.if-from-hart.false) in
-    rw (← c.self.view_is) (hgeip_taken _ c.args.hart c.hgeip.result c.words-words.ensures.whole inside c.hgeip.ensures)
+    rw (← c.self.view_is) (hgeip_taken _ c.args.hart c.hgeip.result c.recall.ensures.whole inside c.hgeip.ensures)

@@ -20,7 +20,7 @@ returns-then-aims-clause-phase g c =
     let s = c.args.self.now in
     let none = phase_none (phase_at c.args.stage.now) (sym c.aims.ensures ∙ c.if-aims.true) in
     let aiming : IsAtAims s = subst (λ p. NextStepIsOf p (width c.args.fabric.now) s) none c.requires.phase in
-    subst (λ p. NextStepIsOf p (width c.args.fabric.now) c.aim.new.self) (sym (c.next.ensures ∙ ap (next_phase c.aim.new.self) none)) (aims_to c.args.fabric.now s c.aim.new.self (omega (arith, c.words-words.ensures.value, c.words-words.ensures.some)) aiming c.aim.ensures.goes)
+    subst (λ p. NextStepIsOf p (width c.args.fabric.now) c.aim.new.self) (sym (c.next.ensures ∙ ap (next_phase c.aim.new.self) none)) (aims_to c.args.fabric.now s c.aim.new.self (omega (arith, c.recall.ensures.all, c.recall.ensures.some)) aiming c.aim.ensures.goes)
 
 pub stays-stays-requires : goal.stays-stays-requires
 stays-stays-requires g c = in_plan (phase_at c.args.stage.now) (width c.args.fabric.now) c.args.self.now (sym c.aims.ensures ∙ c.if-aims.false) c.requires.phase
@@ -36,7 +36,7 @@ module _ (g : Over) (c : After-next-2 g) where
   more = not_last (phase_at c.args.stage.now) _ (width c.args.fabric.now) c.args.self.now (sym c.aims.ensures ∙ c.if-aims.false) c.requires.phase low (sym c.ends.ensures ∙ c.if-ends.false)
 
   some : 1 ≤ width c.args.fabric.now
-  some = omega (arith, c.words-words.ensures.value, c.words-words.ensures.some)
+  some = omega (arith, c.recall.ensures.all, c.recall.ensures.some)
 
 pub returns-clause-goes : goal.returns-clause-goes
 returns-clause-goes g c =
