@@ -2,7 +2,7 @@
 
 use crate::looks::holds;
 use crate::same;
-use aia_candidates::{Candidates, ReadyBits};
+use aia_domain::{Candidates, ReadyBits};
 use std::test::Fail;
 
 #[test]

@@ -6,9 +6,9 @@ use Rattle.std.proofs.lemmas.Option.{none-some, same_Some}
 use Rattle.aia_regs.specs.Top.{Pair, ComesFirst, NamesItself, lesser, least_pair}
 use Rattle.aia_regs.proofs.TopLemmas.{lesser-none, least_pair-none, least_pair-suc}
 use Rattle.aia_word.specs.Top.{lets_through}
-use Rattle.aia_candidates.specs.Order.{comes_before, IsRising, put_in, put_if, ordered}
-use Rattle.aia_candidates.proofs.OrderLemmas.{is_before, not_before, rising_tail}
-use Rattle.aia_candidates.proofs.OrderedLemmas.{ordered_all, ordered_rising}
+use Rattle.aia_domain.specs.Order.{comes_before, IsRising, put_in, put_if, ordered}
+use Rattle.aia_domain.proofs.OrderLemmas.{is_before, not_before, rising_tail}
+use Rattle.aia_domain.proofs.OrderedLemmas.{ordered_all, ordered_rising}
 use Rattle.aia_direct.specs.Front.{if_through, through, first_through}
 
 -- ---- the first pair of a rising list

@@ -9,7 +9,7 @@ use Rattle.aia_regs.specs.Top.{Pair, least_pair, topi_value}
 use Rattle.aia_source.specs.Wired.SourceDeed.{Claimed}
 use Rattle.aia_regs.proofs.TopLemmas.{least_found}
 use Rattle.aia_word.specs.Top.{lets_through}
-use Rattle.aia_candidates.specs.Order.{ordered}
+use Rattle.aia_domain.specs.Order.{ordered}
 use Rattle.aia_domain.specs.InterruptSource.{InterruptSourceState, waiting_pair_at, EachSource, changed_at, with_deed}
 use Rattle.aia_domain.specs.Domain.{DomainState, candidates, IsPairOfSource}
 use Rattle.aia_domain.proofs.CandidateLemmas.{own_number}

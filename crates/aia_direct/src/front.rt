@@ -1,7 +1,7 @@
 ghost use Rattle.std.specs.Prelude.{◌≡◌, ℕ, ◌+◌, ◌^◌, ◌<◌, ◌≤◌, List, All, slice_get, Option, Some, IfSome};
 ghost use Rattle.aia_regs.specs.declared.limits.TheConstants.{SOURCES};
 ghost use Rattle.aia_regs.specs.Top.{Pair, topi_value};
-ghost use Rattle.aia_candidates.specs.Order.{IsRising};
+ghost use Rattle.aia_domain.specs.Order.{IsRising};
 ghost use Rattle.aia_word.specs.Top.{lets_through};
 ghost use Rattle.aia_domain.specs.Domain.{IsPairOfSource};
 ghost use Rattle.aia_direct.specs.Front.{if_through, first_through};

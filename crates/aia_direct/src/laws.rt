@@ -3,7 +3,7 @@
 
 ghost use Rattle.std.specs.Prelude.{◌≡◌, ℕ, Option};
 ghost use Rattle.aia_regs.specs.Top.{Pair, NamesItself, least_pair};
-ghost use Rattle.aia_candidates.specs.Order.{ordered};
+ghost use Rattle.aia_domain.specs.Order.{ordered};
 ghost use Rattle.aia_domain.specs.Domain.{DomainState, candidates};
 ghost use Rattle.aia_direct.specs.Front.{through, first_through};
 ghost use Rattle.aia_direct.specs.Idc.{IdcState, top_shown};

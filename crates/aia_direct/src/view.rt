@@ -1,5 +1,5 @@
 ghost use Rattle.std.specs.Prelude.{◌≡◌, ◌+◌, All, slice_get};
-ghost use Rattle.aia_candidates.specs.Order.{IsRising};
+ghost use Rattle.aia_domain.specs.Order.{IsRising};
 ghost use Rattle.aia_domain.specs.Domain.{candidates, IsPairOfSource};
 
 use crate::front::Front;

@@ -5,8 +5,8 @@ use Rattle.std.proofs.lemmas.Bool.{cond-false, lt-leb, leb-false}
 use Rattle.std.proofs.lemmas.Option.{none-some, same_Some}
 use Rattle.aia_regs.specs.Top.{Pair, NamesItself, pair_if}
 use Rattle.aia_regs.proofs.ListLemmas.{nowhere}
-use Rattle.aia_candidates.specs.Order.{comes_before, ordered}
-use Rattle.aia_candidates.proofs.OrderedLemmas.{ordered_from, ordered_has, ordered_strict}
+use Rattle.aia_domain.specs.Order.{comes_before, ordered}
+use Rattle.aia_domain.proofs.OrderedLemmas.{ordered_from, ordered_has, ordered_strict}
 use Rattle.aia_domain.specs.InterruptSource.{InterruptSourceState, waiting_pair_at, source_at}
 use Rattle.aia_domain.specs.Domain.{DomainState, candidates}
 

@@ -1,3 +1,7 @@
+pub mod OrderLemmas
+pub mod OrderedLemmas
+pub mod FallingLemmas
+pub mod ReadyBitsLemmas
 pub mod EachLemmas
 pub mod WordLemmas
 pub mod ReadyLemmas

@@ -6,8 +6,8 @@ use Rattle.std.proofs.lemmas.Option.{unwrap_or-slice_get, slice_get_past, none-s
 use Rattle.aia_word.specs.Sets.{is_in}
 use Rattle.aia_regs.specs.Top.{Pair, hart_of, priority_of, pair_if}
 use Rattle.aia_regs.specs.declared.limits.TheConstants.{SOURCES}
-use Rattle.aia_candidates.specs.Order.{CandidatesState, IsRising, ordered, put_if, out_if}
-use Rattle.aia_candidates.proofs.OrderedLemmas.{ordered-none, ordered-suc, ordered_same, ordered_changed, ordered_length, ordered_room, ordered_rising, ordered_all}
+use Rattle.aia_domain.specs.Order.{CandidatesState, IsRising, ordered, put_if, out_if}
+use Rattle.aia_domain.proofs.OrderedLemmas.{ordered-none, ordered-suc, ordered_same, ordered_changed, ordered_length, ordered_room, ordered_rising, ordered_all}
 use Rattle.aia_domain.specs.declared.interrupt_source.Aim.{Aim}
 use Rattle.aia_domain.specs.InterruptSource.{InterruptSourceState, new_source, EachAt, EachSource, changed_at, wired, source_at, waits, waits_at, waiting_pair, waiting_pair_at, candidates_of}
 use Rattle.aia_domain.specs.Waiting.{SourcesState, WaitingState, IsWhatWaits, HasRoom, aim_of, aim_at, pair_of_aim, renewed, with_pair, AllHave, HaveRoom}

@@ -11,7 +11,7 @@ use Rattle.aia_source.specs.Registers.{root_sourcecfg, child_sourcecfg, delegate
 use Rattle.aia_source.specs.declared.touch.Touch.{Touch}
 use Rattle.aia_source.specs.declared.touch.Touch.TheVariants.{SetPending, ClearPending, SetEnable, ClearEnable}
 use Rattle.aia_regs.specs.Top.{Pair, hart_of, pair_if}
-use Rattle.aia_candidates.specs.Order.{ordered}
+use Rattle.aia_domain.specs.Order.{ordered}
 use Rattle.aia_domain.specs.declared.interrupt_source.Change.{Change}
 use Rattle.aia_domain.specs.declared.interrupt_source.Change.TheVariants as changes
 use Rattle.aia_domain.specs.declared.interrupt_source.SourceBit.{SourceBit}

@@ -1,3 +1,4 @@
+pub mod Order
 pub mod InterruptSource
 pub mod Domain
 pub mod Waiting

@@ -3,7 +3,7 @@ use Rattle.std.specs.Prelude.{◌≡◌, ℕ, suc, ◌-◌, ◌<◌, Bool, true,
 use Rattle.std.specs.Option.{option_map_or}
 use Rattle.aia_word.specs.Sets.{is_in}
 use Rattle.aia_regs.specs.Top.{Pair, hart_of, priority_of}
-use Rattle.aia_candidates.specs.Order.{CandidatesState, put_if, out_if}
+use Rattle.aia_domain.specs.Order.{CandidatesState, put_if, out_if}
 use Rattle.aia_domain.specs.declared.interrupt_source.Aim.{Aim}
 use Rattle.aia_domain.specs.InterruptSource.{InterruptSourceState, new_source, waits, waits_at, pairs_for}
 

@@ -1,7 +1,7 @@
 ghost use Rattle.std.specs.Prelude.{◌≡◌, ℕ, suc, ◌*◌, ◌≤◌, ◌<◌, ◌↔◌, Bool, false, length, slice_get, All, Some, None, IfOk, IsFalse, if◌then◌else◌};
 ghost use Rattle.aia_word.specs.Sets.{word_of};
 ghost use Rattle.aia_regs.specs.declared.limits.TheConstants.{HARTS, SOURCES, SOURCE_WORDS};
-ghost use Rattle.aia_candidates.specs.Order.{IsRising};
+ghost use Rattle.aia_domain.specs.Order.{IsRising};
 ghost use Rattle.aia_source.specs.Registers.{enables, is_by_msi, same_bool};
 ghost use Rattle.aia_source.specs.Wired.SourceDeed.{Claimed, Forwarded};
 ghost use Rattle.aia_domain.specs.InterruptSource.{EachSource, changed_at, changed_if_named, granted, wired, with_deed, with_target, source_at, bit_at_source, is_active_at, target_at};

@@ -1,9 +1,9 @@
 //! What the definitions of this crate mean, as laws: each function does nothing, and its clauses
 //! are what was proved.
 
-ghost use Rattle.std.specs.Prelude.{◌≡◌, ℕ, ◌<◌, ◌≤◌, ◌↔◌, true, false, length, Some, Contains, AllPairs};
-ghost use Rattle.aia_regs.specs.Top.{Pair};
-ghost use Rattle.aia_candidates.specs.Order.{comes_before};
+ghost use Rattle.std.specs.Prelude.{◌≡◌, ℕ, ◌+◌, ◌<◌, ◌≤◌, ◌↔◌, true, false, length, Option, Some, Contains, AllPairs};
+ghost use Rattle.aia_regs.specs.Top.{Pair, NamesItself};
+ghost use Rattle.aia_domain.specs.Order.{comes_before, ordered};
 ghost use Rattle.aia_domain.specs.InterruptSource.{waiting_pair_at};
 ghost use Rattle.aia_domain.specs.Domain.{DomainState, is_ready, ready_from, candidates};
 
@@ -28,4 +28,14 @@ pub fn candidates_are_the_sources_that_wait_for_a_hart()
         × (waiting_pair_at d.sources hart p.1 ≡ Some p)) }
     ensures rising { (d : DomainState) (hart : ℕ)
         → AllPairs (λ p q. comes_before p q ≡ true) (candidates d hart) }
+{}
+
+/// The pairs of some numbers in order are just their pairs; and where each pair has its own number,
+/// each comes before all that follow it.
+pub fn pairs_in_order_are_those_of_the_numbers()
+    ensures members { (c : ℕ → Option Pair) (from count : ℕ) (p : Pair)
+        → Contains (ordered c from count) p
+        ↔ ((s : ℕ) × (from ≤ s) × (s < from + count) × (c s ≡ Some p)) }
+    ensures rising { (c : ℕ → Option Pair) (from count : ℕ) → NamesItself c
+        → AllPairs (λ p q. comes_before p q ≡ true) (ordered c from count) }
 {}

@@ -8,7 +8,7 @@ ghost use Rattle.aia_source.specs.Registers.{in_word, touch_where};
 ghost use Rattle.aia_domain.specs.InterruptSource.{EachSource, changed_at, changed_if_named, changed_by, wired, touched, all_switched, source_at, waits_at, candidates_of};
 ghost use Rattle.aia_domain.specs.Waiting.{IsNewSources, IsWhatWaits};
 ghost use Rattle.aia_domain.specs.Domain.{IsPairOfSource};
-ghost use Rattle.aia_candidates.specs.Order.{IsRising};
+ghost use Rattle.aia_domain.specs.Order.{IsRising};
 
 use crate::by_number::{aim_at, change_one, enabled_at, new_sources, switch_all};
 use crate::interrupt_source::{Aim, Change, InterruptSource};

@@ -4,13 +4,13 @@
 ghost use Rattle.std.specs.Prelude.{◌≡◌, ℕ, suc, ◌-◌, ◌*◌, ◌<◌, ◌≤◌, ◌↔◌, ◌&&◌, nat_eq, length, slice_get, All, Some, [], IfOk, IsFalse, is_some, true, false, if◌then◌else◌};
 ghost use Rattle.aia_word.specs.Sets.{is_in, word_of};
 ghost use Rattle.aia_regs.specs.declared.limits.TheConstants.{SOURCES, SOURCE_WORDS};
-ghost use Rattle.aia_candidates.specs.Order.{CandidatesState, ordered};
+ghost use Rattle.aia_domain.specs.Order.{CandidatesState, ordered};
 ghost use Rattle.aia_domain.specs.InterruptSource.{EachAt, waits_at, waiting_pair_at, pairs_for};
 ghost use Rattle.aia_domain.specs.Waiting.{IsWhatWaits, AllHave, HaveRoom, HasRoom, pairs_at, pair_of_aim, with_pair, without_pair, renewed};
 
 use crate::by_number::{aim_at, waits_at};
 use crate::interrupt_source::{Aim, InterruptSource};
-use aia_candidates::{Candidates, ReadyBits};
+use crate::{Candidates, ReadyBits};
 use std::alloc::{AllocError, Global};
 use std::marker::Model;
 

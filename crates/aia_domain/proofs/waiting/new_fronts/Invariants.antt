@@ -1,5 +1,5 @@
 use Rattle.std.proofs.Common.{◌≡◌, [], length, All}
-use Rattle.aia_candidates.specs.Order.{CandidatesState}
+use Rattle.aia_domain.specs.Order.{CandidatesState}
 use Rattle.aia_domain.proofs.waiting.new_fronts.Given as goal
 
 abbrev pub invariant-loop-hart : goal.invariant-loop-hart

@@ -1,5 +1,5 @@
 use Rattle.std.proofs.Common.{◌≡◌, ◌-◌, length, subst, refl, arith}
-use Rattle.aia_candidates.specs.Order.{ordered}
+use Rattle.aia_domain.specs.Order.{ordered}
 use Rattle.aia_domain.specs.InterruptSource.{EachAt, waiting_pair_at}
 use Rattle.aia_domain.specs.Waiting.{AllHave, pair_of_aim, with_pair}
 use Rattle.aia_domain.proofs.WaitingLemmas.{put_first, none_put, room_left}

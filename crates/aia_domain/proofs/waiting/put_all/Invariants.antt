@@ -1,5 +1,5 @@
 use Rattle.std.proofs.Common.{◌-◌, ◌<◌, length}
-use Rattle.aia_candidates.specs.Order.{ordered}
+use Rattle.aia_domain.specs.Order.{ordered}
 use Rattle.aia_domain.specs.InterruptSource.{waiting_pair_at}
 use Rattle.aia_domain.specs.Waiting.{AllHave}
 use Rattle.aia_domain.proofs.waiting.put_all.Given as goal

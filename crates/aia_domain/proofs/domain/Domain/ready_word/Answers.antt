@@ -1,6 +1,6 @@
 use Rattle.std.proofs.Common.{◌≡◌, ◌*◌, subst}
 use Rattle.aia_word.specs.Sets.{word_of}
-use Rattle.aia_candidates.proofs.WordLemmas.{none_word}
+use Rattle.aia_domain.proofs.ReadyBitsLemmas.{none_word}
 use Rattle.aia_domain.specs.InterruptSource.{waits_at}
 use Rattle.aia_domain.specs.Domain.{DomainState, is_ready}
 use Rattle.aia_domain.proofs.WaitingLemmas.{when_off}

@@ -1,4 +1,0 @@
-pub mod OrderLemmas
-pub mod OrderedLemmas
-pub mod FallingLemmas
-pub mod WordLemmas
