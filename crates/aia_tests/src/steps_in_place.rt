@@ -13,6 +13,7 @@ use crate::same;
 use crate::stores_in_flight::{IN_FILE, IN_MEMORY, flying, sends};
 use aia_fabric::Fabric;
 use aia_file::Spot;
+use aia_move::phase::PlanPhase;
 use aia_move::{Closed, KeptNumbers, Outcome, Plan, State, Turn, Who};
 use aia_pool::{FileLease, Pool};
 use aia_regs::{FileReg, Op};
@@ -104,7 +105,7 @@ fn four_are_made(rt: &impl Abort, plan: &mut Plan, fabric: &mut Fabric)
 
 /// The first three steps of a leave take eidelivery and write both words of the entry; until the
 /// fourth, the fence, is made, a store is in flight still. In files of one word eight more are made
-/// in place, and the last one, the notice, is not.
+/// in place, and the last one, the notice, is not. The plan tells its phase on the way.
 #[test]
 fn a_leave_is_made_in_place_up_to_its_last_step(rt: HostRuntime) -> Result<(), Fail> {
     let mut pool = Pool::new(rt.alloc(), 2, 1)?;
@@ -116,12 +117,16 @@ fn a_leave_is_made_in_place_up_to_its_last_step(rt: HostRuntime) -> Result<(), F
     let from = pool.take(1).expect(&rt, "a file of hart 1 is free");
     let mut plan = leaves_in_place(&rt, &mut fabric, who, from).expect(&rt, "the file is there");
     same!(rt; flying(&fabric, 0), Some(1));
+    same!(rt; plan.phase(), PlanPhase::First);
     same!(rt; is_made_in_place(&mut plan, &mut fabric), true);
+    same!(rt; plan.phase(), PlanPhase::Closing);
     same!(rt; flying(&fabric, 0), Some(0));
     same!(rt; fabric.look(1, 0), (0, 0));
     four_are_made(&rt, &mut plan, &mut fabric);
     same!(rt; fabric.look(1, 0), (0x20, 0));
+    same!(rt; plan.phase(), PlanPhase::Enable);
     four_are_made(&rt, &mut plan, &mut fabric);
+    same!(rt; plan.phase(), PlanPhase::Last);
     same!(rt; is_made_in_place(&mut plan, &mut fabric), false);
     holds(&rt, !goes_on(plan, &mut fabric));
     same!(rt; pending(&mut fabric, 0x2802_1000, Op::Read), Some(0));
