@@ -100,15 +100,17 @@ module _ (x y : CoreState) (who : Who) (given : Answer) (h : History) (stands : 
   -- its plan is kept
   planned : (plan : PlanState) → Put x y who (stays.Moving plan) → ((words : ℕ) → IsInPhase words plan) → Given x y h (vcpu who.found.vm who.found.number) who plan (at_stay (record_of x (vcpu who.found.vm who.found.number)) (stays.Moving plan))
   planned plan p phase = record {
-    stands = stands;
-    there = is_there (stays.Moving plan) p;
-    world = p.world;
-    selects = p.selects;
-    passes = p.passes;
-    vcpus = p.vcpus;
-    stay = refl;
-    select = refl;
-    majors = refl;
+    planned = record {
+      stands = stands;
+      there = is_there (stays.Moving plan) p;
+      world = p.world;
+      selects = p.selects;
+      passes = p.passes;
+      vcpus = p.vcpus;
+      stay = refl;
+      select = refl;
+      majors = refl;
+    };
     is_who = p.is_who;
     its_passes = p.its;
     same = refl;

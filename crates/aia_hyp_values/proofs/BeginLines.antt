@@ -45,22 +45,14 @@ use Rattle.aia_vcpu.proofs.HomeLemmas.{same_place, is_itself_place}
 use Rattle.aia_hyp_values.proofs.VcpuLemmas.{IsHeld, Wanted}
 use Rattle.aia_hyp_values.specs.Passes.{own_passes}
 use Rattle.aia_hyp_values.proofs.LeaseLemmas.{IsFreeAt}
-use Rattle.aia_hyp_values.proofs.MoveBegins.{with_taken, is_taken, IsFreeIn, begun_stands}
+use Rattle.aia_hyp_values.proofs.MoveBegins.{Planned, with_taken, is_taken, IsFreeIn, begun_stands}
 
 -- ---- what is true of each beginning
 
--- A core whose virtual hart has begun a move, of which the plan is kept now; nothing else is
--- changed, but for the leases.
+-- A core whose virtual hart has begun a move: the plan is of who is moved, with the passes to it, and
+-- in its phase.
 pub record Given (x y : CoreState) (h : History) (g : Vcpu) (who : Who) (plan : PlanState) (r : VcpuRecord) : Type 0 where
-  pub stands : CoreStands x h
-  pub there : has_vcpu h g ≡ true
-  pub world : y.world ≡ x.world
-  pub selects : y.selects ≡ x.selects
-  pub passes : y.passes ≡ x.passes
-  pub vcpus : y.vcpus ≡ set x.vcpus (slot_of x.world.vms g) r
-  pub stay : r.stay ≡ stays.Moving plan
-  pub select : r.select ≡ (record_of x g).select
-  pub majors : r.majors ≡ (record_of x g).majors
+  pub planned : Planned x y h g plan r
   pub is_who : IsWho x.world who
   pub its_passes : who.passes.items ≡ own_passes 0 g x.passes
   pub same : vcpu who.found.vm who.found.number ≡ g
@@ -101,17 +93,9 @@ begun_at : (x y : CoreState) (h : History) (move : Move) (who : Who) (plan : Pla
     → Holds (file_words h) (slot_of (vms_of h) (mover move)) (notice_hart (vms_of h) (mover move)) (in_force_of h (mover move)) (places_of x.world (mover move) (OnWay way at_first)) (OnWay way at_first) hand (guest_file h (mover move)) (a_look_saw (Began move ∷ h) (mover move))
     → CoreStands y (Began move ∷ h)
 begun_at x y h move who plan r way hand taken b leases free begins after holding apart held = begun_stands x y h move plan r taken (record {
-  stands = b.stands;
-  there = b.there;
-  world = b.world;
-  selects = b.selects;
-  passes = b.passes;
-  vcpus = b.vcpus;
+  planned = b.planned;
   leases = leases;
   is_free = free;
-  stay = b.stay;
-  select = b.select;
-  majors = b.majors;
   who = subst (IsWho x.world) (ap (λ (m : Moving). m.who) (sym begins)) b.is_who;
   its_passes = ap (λ (m : Moving). m.who.passes.items) begins ∙ b.its_passes;
   same = ap (λ (m : Moving). vcpu m.who.found.vm m.who.found.number) begins ∙ b.same;
@@ -140,11 +124,11 @@ pub leave_begun : (x y : CoreState) (h : History) (g : Vcpu) (who : Who) (plan :
     → moving_of plan ≡ record { who = who; home = OnWay (Outward from) at_first; hand = record { word = 0; delivery = 0; threshold = 0; seen = false } } → CoreStands y (Began (Leaves g) ∷ h)
 leave_begun x y h g who plan r from b leases was begins =
     let hand : Hand = record { word = 0; delivery = 0; threshold = 0; seen = false } in
-    let before : home h g ≡ Resident from = home_at x h g (stays.Resident from) b.stands b.there was in
+    let before : home h g ≡ Resident from = home_at x h g (stays.Resident from) b.planned.stands b.planned.there was in
     let after : home (Began (Leaves g) ∷ h) g ≡ OnWay (Outward from) at_first = home_step (Began (Leaves g)) h g ∙ cond-true _ _ _ (is_itself g) ∙ ap leaving before in
     let held : Holds (file_words h) (slot_of (vms_of h) g) (notice_hart (vms_of h) g) (in_force_of h g) (places_of x.world g (OnWay (Outward from) at_first)) (OnWay (Outward from) at_first) hand (guest_file h g) false =
     leave_begins (greatest_identity_of h) (file_words h) (slot_of (vms_of h) g) (notice_hart (vms_of h) g) (in_force_of h g) (places_of x.world g (Resident from)) (hand_in (record_of x g).stay) hand (guest_file h g) (a_look_saw h g) from refl
-    (held_at x h g (Resident from) b.stands b.there before) in
+    (held_at x h g (Resident from) b.planned.stands b.planned.there before) in
     begun_at x y h (Leaves g) who plan r (Outward from) hand None b leases tt begins after (λ q. ap (holds q) (sym before) ∙ or_nothing (holds q (home h g))) tt
     (subst (λ saw. Holds (file_words h) (slot_of (vms_of h) g) (notice_hart (vms_of h) g) (in_force_of h g) (places_of x.world g (OnWay (Outward from) at_first)) (OnWay (Outward from) at_first) hand (guest_file h g) saw) (sym (seen_begun h g)) held)
 
@@ -154,13 +138,13 @@ pub arrive_begun : (x y : CoreState) (h : History) (g : Vcpu) (hart : ℕ) (who 
     → (record_of x g).stay ≡ stays.InMemory Parked kept → moving_of plan ≡ record { who = who; home = OnWay (Inward to) at_first; hand = record { word = 0; delivery = kept.delivery; threshold = kept.threshold; seen = false } } → CoreStands y (Began (Arrives g hart) ∷ h)
 arrive_begun x y h g hart who plan r to kept b free leases was begins =
     let hand : Hand = record { word = 0; delivery = kept.delivery; threshold = kept.threshold; seen = false } in
-    let before : home h g ≡ InMemory Parked = home_at x h g (stays.InMemory Parked kept) b.stands b.there was in
+    let before : home h g ≡ InMemory Parked = home_at x h g (stays.InMemory Parked kept) b.planned.stands b.planned.there was in
     let after : home (Began (Arrives g hart) ∷ h) g ≡ OnWay (Inward to) at_first =
     home_step (Began (Arrives g hart)) h g ∙ cond-true _ _ _ (is_itself g) ∙ ap (λ o. option_map_or (λ file. arriving (guest_place hart file) (home h g)) o (home h g)) free.found
     ∙ ap (arriving (guest_place hart to.file)) before ∙ ap (λ t. OnWay (Inward (guest_place t to.file)) at_first) (sym free.hart_of) in
     let held : Holds (file_words h) (slot_of (vms_of h) g) (notice_hart (vms_of h) g) (in_force_of h g) (places_of x.world g (OnWay (Inward to) at_first)) (OnWay (Inward to) at_first) hand (guest_file h g) false =
     arrive_begins (greatest_identity_of h) (file_words h) (slot_of (vms_of h) g) (notice_hart (vms_of h) g) (in_force_of h g) (places_of x.world g (InMemory Parked)) (hand_in (record_of x g).stay) hand (guest_file h g) (a_look_saw h g) to (places_of x.world g (OnWay (Inward to) at_first)) refl
-    (free_is_empty x h hart to b.stands free) (ap (λ s. (hand_in s).delivery) (sym was)) (ap (λ s. (hand_in s).threshold) (sym was)) (held_at x h g (InMemory Parked) b.stands b.there before) in
+    (free_is_empty x h hart to b.planned.stands free) (ap (λ s. (hand_in s).delivery) (sym was)) (ap (λ s. (hand_in s).threshold) (sym was)) (held_at x h g (InMemory Parked) b.planned.stands b.planned.there before) in
     begun_at x y h (Arrives g hart) who plan r (Inward to) hand (Some to) b leases (free.inside, free.none) begins after (λ q. sym (ap (λ t. holds q t || is_place q to) before)) tt
     (saw_any _ (a_look_saw (Began (Arrives g hart) ∷ h) g) refl held)
 
@@ -170,19 +154,19 @@ pub shift_begun : (x y : CoreState) (h : History) (g : Vcpu) (hart : ℕ) (who :
     → (record_of x g).stay ≡ stays.Resident from → moving_of plan ≡ record { who = who; home = OnWay (Across from to) at_first; hand = record { word = 0; delivery = 0; threshold = 0; seen = false } } → CoreStands y (Began (Shifts g hart) ∷ h)
 shift_begun x y h g hart who plan r from to b free leases was begins =
     let hand : Hand = record { word = 0; delivery = 0; threshold = 0; seen = false } in
-    let before : home h g ≡ Resident from = home_at x h g (stays.Resident from) b.stands b.there was in
+    let before : home h g ≡ Resident from = home_at x h g (stays.Resident from) b.planned.stands b.planned.there was in
     let after : home (Began (Shifts g hart) ∷ h) g ≡ OnWay (Across from to) at_first =
     home_step (Began (Shifts g hart)) h g ∙ cond-true _ _ _ (is_itself g) ∙ ap (λ o. option_map_or (λ file. shifting (guest_place hart file) (home h g)) o (home h g)) free.found
     ∙ ap (shifting (guest_place hart to.file)) before ∙ ap (λ t. OnWay (Across from (guest_place t to.file)) at_first) (sym free.hart_of) in
     let held : Holds (file_words h) (slot_of (vms_of h) g) (notice_hart (vms_of h) g) (in_force_of h g) (places_of x.world g (OnWay (Across from to) at_first)) (OnWay (Across from to) at_first) hand (guest_file h g) false =
     shift_begins (greatest_identity_of h) (file_words h) (slot_of (vms_of h) g) (notice_hart (vms_of h) g) (in_force_of h g) (places_of x.world g (Resident from)) (hand_in (record_of x g).stay) hand (guest_file h g) (a_look_saw h g) from to (places_of x.world g (OnWay (Across from to) at_first)) refl
-    (free_is_empty x h hart to b.stands free) (held_at x h g (Resident from) b.stands b.there before) in
+    (free_is_empty x h hart to b.planned.stands free) (held_at x h g (Resident from) b.planned.stands b.planned.there before) in
     begun_at x y h (Shifts g hart) who plan r (Across from to) hand (Some to) b leases (free.inside, free.none) begins after (λ q. sym (ap (λ t. holds q t || is_place q to) before)) (apart before)
     (saw_any _ (a_look_saw (Began (Shifts g hart) ∷ h) g) refl held)
   where
     -- its own file is held, the other one is not
     apart : home h g ≡ Resident from → is_place from to ≡ false
     apart before = elim (cases_Bool (is_place from to)) [
-      | inl e ↦ absurd (false≢true (sym (of_none (vms_of h) (λ z. holds to (home h z)) g free.none b.there) ∙ ap (holds to) before ∙ ap (λ (p : Place). is_place p from) (sym (same_place from to e)) ∙ is_itself_place from))
+      | inl e ↦ absurd (false≢true (sym (of_none (vms_of h) (λ z. holds to (home h z)) g free.none b.planned.there) ∙ ap (holds to) before ∙ ap (λ (p : Place). is_place p from) (sym (same_place from to e)) ∙ is_itself_place from))
       | inr ne ↦ ne
     ]

@@ -91,18 +91,25 @@ IsFreeIn x h (Some p) = IsThere x.world.imsic (spot_of p) × (is_held h p ≡ fa
 
 -- ---- what a beginning is
 
-pub record Begins (x y : CoreState) (h : History) (move : Move) (plan : PlanState) (r : VcpuRecord) (taken : Option Place) : Type 0 where
+-- A core whose virtual hart has begun a move, of which its record keeps the plan now; nothing else is
+-- changed, but for the leases.
+pub record Planned (x y : CoreState) (h : History) (g : Vcpu) (plan : PlanState) (r : VcpuRecord) : Type 0 where
   pub stands : CoreStands x h
-  pub there : has_vcpu h (moves.mover move) ≡ true
+  pub there : has_vcpu h g ≡ true
   pub world : y.world ≡ x.world
   pub selects : y.selects ≡ x.selects
   pub passes : y.passes ≡ x.passes
-  pub vcpus : y.vcpus ≡ set x.vcpus (slot_of x.world.vms (moves.mover move)) r
+  pub vcpus : y.vcpus ≡ set x.vcpus (slot_of x.world.vms g) r
+  pub stay : r.stay ≡ stays.Moving plan
+  pub select : r.select ≡ (record_of x g).select
+  pub majors : r.majors ≡ (record_of x g).majors
+
+-- The same of a move of one, with what it takes: the plan is new and leads where the move goes, and its
+-- places hold the interrupt file still.
+pub record Begins (x y : CoreState) (h : History) (move : Move) (plan : PlanState) (r : VcpuRecord) (taken : Option Place) : Type 0 where
+  pub planned : Planned x y h (moves.mover move) plan r
   pub leases : y.leases ≡ with_taken taken x.leases
   pub is_free : IsFreeIn x h taken
-  pub stay : r.stay ≡ stays.Moving plan
-  pub select : r.select ≡ (record_of x (moves.mover move)).select
-  pub majors : r.majors ≡ (record_of x (moves.mover move)).majors
   pub who : IsWho x.world (moving_of plan).who
   pub its_passes : (moving_of plan).who.passes.items ≡ own_passes 0 (moves.mover move) x.passes
   pub same : mover (moving_of plan) ≡ moves.mover move
@@ -132,9 +139,9 @@ module _ (x y : CoreState) (h : History) (move : Move) (plan : PlanState) (r : V
 
   -- what it holds then is there
   held_there : (taken : Option Place) → Begins x y h move plan r taken → (q : Place) → holds q (home (Began move ∷ h) (moves.mover move)) ≡ true → IsThere x.world.imsic (spot_of q)
-  held_there None b q holding = b.stands.held g q b.there (sym (or_none (holds q (home h g)) false refl) ∙ sym (b.holds q) ∙ holding)
+  held_there None b q holding = b.planned.stands.held g q b.planned.there (sym (or_none (holds q (home h g)) false refl) ∙ sym (b.holds q) ∙ holding)
   held_there (Some p) b q holding = elim (either (holds q (home h g)) (is_place q p) (sym (b.holds q) ∙ holding)) [
-    | inl e ↦ b.stands.held g q b.there e
+    | inl e ↦ b.planned.stands.held g q b.planned.there e
     | inr e ↦ subst (λ (z : Place). IsThere x.world.imsic (spot_of z)) (sym (same_place q p e)) b.is_free.0
   ]
 
@@ -143,40 +150,40 @@ module _ (x y : CoreState) (h : History) (move : Move) (plan : PlanState) (r : V
   held_apart taken b other q inside ne holding = by_case taken b (holds q (home h other)) refl
     where
       stood : Begins x y h move plan r taken → holds q (home h g) ≡ true → holds q (home h other) ≡ true → ⊥
-      stood b mine its = false≢true (sym ne ∙ ap (λ z. is_vcpu z g) (b.stands.apart other g q inside b.there its mine) ∙ is_itself g)
+      stood b mine its = false≢true (sym ne ∙ ap (λ z. is_vcpu z g) (b.planned.stands.apart other g q inside b.planned.there its mine) ∙ is_itself g)
 
       by_case : (taken : Option Place) → Begins x y h move plan r taken → (its : Bool) → holds q (home h other) ≡ its → its ≡ false
       by_case taken b false e = refl
-      by_case None b true e = absurd (false≢true (sym ne ∙ ap (λ z. is_vcpu z g) (b.stands.apart other g q inside b.there e (sym (or_none (holds q (home h g)) false refl) ∙ sym (b.holds q) ∙ holding)) ∙ is_itself g))
+      by_case None b true e = absurd (false≢true (sym ne ∙ ap (λ z. is_vcpu z g) (b.planned.stands.apart other g q inside b.planned.there e (sym (or_none (holds q (home h g)) false refl) ∙ sym (b.holds q) ∙ holding)) ∙ is_itself g))
       by_case (Some p) b true e = elim (either (holds q (home h g)) (is_place q p) (sym (b.holds q) ∙ holding)) [
-        | inl mine ↦ absurd (false≢true (sym ne ∙ ap (λ z. is_vcpu z g) (b.stands.apart other g q inside b.there e mine) ∙ is_itself g))
+        | inl mine ↦ absurd (false≢true (sym ne ∙ ap (λ z. is_vcpu z g) (b.planned.stands.apart other g q inside b.planned.there e mine) ∙ is_itself g))
         | inr new ↦ absurd (false≢true (sym (of_none (vms_of h) (λ z. holds p (home h z)) other b.is_free.1 inside) ∙ ap (λ (z : Place). holds z (home h other)) (sym (same_place q p new)) ∙ e))
       ]
 
   -- what is handed out is what is held
   out_held : (taken : Option Place) → Begins x y h move plan r taken → (q : Place) → IsThere x.world.imsic (spot_of q) → is_out y.leases q ≡ is_held (Began move ∷ h) q
   out_held None b q inside =
-      ap (λ l. is_out l q) b.leases ∙ b.stands.leases q inside ∙ sym (held_as h event g q (began_move h move) (b.holds q ∙ or_none (holds q (home h g)) false refl))
+      ap (λ l. is_out l q) b.leases ∙ b.planned.stands.leases q inside ∙ sym (held_as h event g q (began_move h move) (b.holds q ∙ or_none (holds q (home h g)) false refl))
   out_held (Some p) b q inside = elim (cases_Bool (is_place q p)) [
     | inl e ↦
         let same = same_place q p e in
         ap (λ l. is_out l q) b.leases ∙ ap (is_out (with_out x.leases p true)) same
-        ∙ out_here x.leases p true (in_pool x h p b.stands b.is_free.0) long
-        ∙ sym (any_vcpu (vms_of h) (λ z. holds q (home (Began move ∷ h) z)) g b.there (b.holds q ∙ or_right (holds q (home h g)) (is_place q p) e))
+        ∙ out_here x.leases p true (in_pool x h p b.planned.stands b.is_free.0) long
+        ∙ sym (any_vcpu (vms_of h) (λ z. holds q (home (Began move ∷ h) z)) g b.planned.there (b.holds q ∙ or_right (holds q (home h g)) (is_place q p) e))
     | inr ne ↦
-        ap (λ l. is_out l q) b.leases ∙ out_elsewhere x.leases p q true (in_pool x h p b.stands b.is_free.0) (in_pool x h q b.stands inside) ne
-        ∙ b.stands.leases q inside ∙ sym (held_as h event g q (began_move h move) (b.holds q ∙ or_none (holds q (home h g)) (is_place q p) ne))
+        ap (λ l. is_out l q) b.leases ∙ out_elsewhere x.leases p q true (in_pool x h p b.planned.stands b.is_free.0) (in_pool x h q b.planned.stands inside) ne
+        ∙ b.planned.stands.leases q inside ∙ sym (held_as h event g q (began_move h move) (b.holds q ∙ or_none (holds q (home h g)) (is_place q p) ne))
   ]
     where
       long : length x.leases.out ≡ x.leases.harts * x.leases.guests
-      long = b.stands.lease_count ∙ (λ k. (sym b.stands.lease_harts k) * (sym b.stands.lease_guests k))
+      long = b.planned.stands.lease_count ∙ (λ k. (sym b.planned.stands.lease_harts k) * (sym b.planned.stands.lease_guests k))
 
   -- what nobody holds then was held by nobody
   unheld : (taken : Option Place) → Begins x y h move plan r taken → (q : Place) → is_held (Began move ∷ h) q ≡ false → is_held h q ≡ false
   unheld taken b q none = sym (held_as h event g q (began_move h move) (b.holds q ∙ or_none (holds q (home h g)) (is_taken q taken) (unnamed taken (b.holds q)))) ∙ none
     where
       mine : holds q (home (Began move ∷ h) g) ≡ false
-      mine = of_none (vms_of h) (λ z. holds q (home (Began move ∷ h) z)) g none b.there
+      mine = of_none (vms_of h) (λ z. holds q (home (Began move ∷ h) z)) g none b.planned.there
 
       part : (a c : Bool) → (a || c) ≡ false → c ≡ false
       part true c e = absurd (false≢true (sym e))
@@ -202,23 +209,23 @@ module _ (x y : CoreState) (h : History) (move : Move) (plan : PlanState) (r : V
 
   begun_own : (taken : Option Place) → Begins x y h move plan r taken → VcpuStands y (Began move ∷ h) (moves.mover move)
   begun_own taken b =
-      let kept = own_record x y h g r b.stands b.there (ap (λ (w : World). w.vms) b.world) b.vcpus in
-      let stay : (record_of y g).stay ≡ stays.Moving plan = ap (λ (r : VcpuRecord). r.stay) kept ∙ b.stay in
+      let kept = own_record x y h g r b.planned.stands b.planned.there (ap (λ (w : World). w.vms) b.planned.world) b.planned.vcpus in
+      let stay : (record_of y g).stay ≡ stays.Moving plan = ap (λ (r : VcpuRecord). r.stay) kept ∙ b.planned.stay in
       let moved = began_move h move in
       let file = file_rests h event g (moved.rests g) in
       record {
         same_home = ap home_in stay ∙ b.goes;
-        select = ap (λ (r : VcpuRecord). r.select) kept ∙ b.select ∙ (b.stands.vcpus g b.there).select ∙ sym (select_rests h event g (moved.rests g));
-        majors = ap (λ (r : VcpuRecord). majors_shown r.majors) kept ∙ ap majors_shown b.majors ∙ (b.stands.vcpus g b.there).majors ∙ sym (majors_rest h event g (moved.majors g));
+        select = ap (λ (r : VcpuRecord). r.select) kept ∙ b.planned.select ∙ (b.planned.stands.vcpus g b.planned.there).select ∙ sym (select_rests h event g (moved.rests g));
+        majors = ap (λ (r : VcpuRecord). majors_shown r.majors) kept ∙ ap majors_shown b.planned.majors ∙ (b.planned.stands.vcpus g b.planned.there).majors ∙ sym (majors_rest h event g (moved.majors g));
         two_files = b.two_files;
-        plan = subst (PlanStands y.world g) (sym stay) (subst (λ (w : World). PlanStands w g (stays.Moving plan)) (sym b.world) (begun_fits taken b, b.phase, b.same, b.moving));
-        passes = subst (HasItsPasses (passes_of (Began move ∷ h)) g) (sym stay) (b.its_passes ∙ ap (own_passes 0 g) (b.stands.passes.same ∙ sym moved.passes));
+        plan = subst (PlanStands y.world g) (sym stay) (subst (λ (w : World). PlanStands w g (stays.Moving plan)) (sym b.planned.world) (begun_fits taken b, b.phase, b.same, b.moving));
+        passes = subst (HasItsPasses (passes_of (Began move ∷ h)) g) (sym stay) (b.its_passes ∙ ap (own_passes 0 g) (b.planned.stands.passes.same ∙ sym moved.passes));
         holds = subst IsHeld (λ k. record {
           words = file_words h;
           slot = slot_of (vms_of h) g;
           hart = notice_hart (vms_of h) g;
           reach = sym (begun_same_reach h move g) k;
-          shows = places_of (sym b.world k) g (home (Began move ∷ h) g);
+          shows = places_of (sym b.planned.world k) g (home (Began move ∷ h) g);
           there = home (Began move ∷ h) g;
           hand = hand_in (sym stay k);
           file = sym file k;
@@ -230,17 +237,17 @@ module _ (x y : CoreState) (h : History) (move : Move) (plan : PlanState) (r : V
   begun_changes taken b = record {
     moves = began_move h move;
     still = still_move h move;
-    there = b.there;
-    rest = no_accesses x.world y.world b.world;
-    passes = b.passes;
-    count = ap (λ (w : World). w.notices) b.world;
+    there = b.planned.there;
+    rest = no_accesses x.world y.world b.planned.world;
+    passes = b.planned.passes;
+    count = ap (λ (w : World). w.notices) b.planned.world;
     host = λ f inside. record {
-      file = subst (λ (w : World). SameFile (shown (file_at w.imsic (host_spot f))) (shown (file_at x.world.imsic (host_spot f)))) (sym b.world) (as_it_was (shown (file_at x.world.imsic (host_spot f))));
-      select = ap (λ xs. get_or xs (select_place f) 0) b.selects;
+      file = subst (λ (w : World). SameFile (shown (file_at w.imsic (host_spot f))) (shown (file_at x.world.imsic (host_spot f)))) (sym b.planned.world) (as_it_was (shown (file_at x.world.imsic (host_spot f))));
+      select = ap (λ xs. get_or xs (select_place f) 0) b.planned.selects;
     };
-    records = ap (λ (rs : List VcpuRecord). length rs) b.vcpus ∙ length-set x.vcpus (slot_of x.world.vms g) r;
-    other_records = λ other inside ne. other_record x y h g other r b.stands b.there inside ne (ap (λ (w : World). w.vms) b.world) b.vcpus;
-    other_views = λ other inside ne. ap (λ (w : World). places_of w other (home h other)) b.world;
+    records = ap (λ (rs : List VcpuRecord). length rs) b.planned.vcpus ∙ length-set x.vcpus (slot_of x.world.vms g) r;
+    other_records = λ other inside ne. other_record x y h g other r b.planned.stands b.planned.there inside ne (ap (λ (w : World). w.vms) b.planned.world) b.planned.vcpus;
+    other_views = λ other inside ne. ap (λ (w : World). places_of w other (home h other)) b.planned.world;
     own = begun_own taken b;
     lease_harts = ap (λ (l : Leases). l.harts) b.leases ∙ harts_with taken;
     lease_guests = ap (λ (l : Leases). l.guests) b.leases ∙ guests_with taken;
@@ -248,10 +255,10 @@ module _ (x y : CoreState) (h : History) (move : Move) (plan : PlanState) (r : V
     leases = out_held taken b;
     held = held_there taken b;
     apart = held_apart taken b;
-    free = λ q inside none. ap (λ (w : World). shown (file_at w.imsic (spot_of q))) b.world ∙ b.stands.free q inside (unheld taken b q none);
-    entries = λ other ne. ap (λ (w : World). entry_in_force (table_of w.tables other.vm) other.number) b.world;
-    slots = λ q few apart. ap (λ (w : World). mrif_in w.memory q) b.world;
-    stages = λ q apart. ap (λ (w : World). get_or w.stages q no_stage) b.world;
+    free = λ q inside none. ap (λ (w : World). shown (file_at w.imsic (spot_of q))) b.planned.world ∙ b.planned.stands.free q inside (unheld taken b q none);
+    entries = λ other ne. ap (λ (w : World). entry_in_force (table_of w.tables other.vm) other.number) b.planned.world;
+    slots = λ q few apart. ap (λ (w : World). mrif_in w.memory q) b.planned.world;
+    stages = λ q apart. ap (λ (w : World). get_or w.stages q no_stage) b.planned.world;
   }
     where
       harts_with : (taken : Option Place) → (with_taken taken x.leases).harts ≡ x.leases.harts
@@ -268,4 +275,4 @@ module _ (x y : CoreState) (h : History) (move : Move) (plan : PlanState) (r : V
 
 -- the core then stands for the history with the beginning
 pub begun_stands : (x y : CoreState) (h : History) (move : Move) (plan : PlanState) (r : VcpuRecord) (taken : Option Place) → Begins x y h move plan r taken → CoreStands y (Began move ∷ h)
-begun_stands x y h move plan r taken b = moved_on x y h (Began move) (moves.mover move) (begun_changes x y h move plan r taken b) b.stands
+begun_stands x y h move plan r taken b = moved_on x y h (Began move) (moves.mover move) (begun_changes x y h move plan r taken b) b.planned.stands
