@@ -16,7 +16,8 @@ basic_back page w1 low =
     let p : field (page * 1024 + 7) 53 10 ≡ page = omega arith in
     rw (v, c, m, r, s, p) refl
 
-mrif_slot_back : (slot page identity : ℕ) → slot < 2 ^ 47 → page < 2 ^ 44 → identity < 2048 → decoded (mrif_word (slot * 512)) (notice_word page identity) ≡ Mrif (slot * 512) page identity
+mrif_slot_back : (slot page identity : ℕ) → slot < 2 ^ 47 → page < 2 ^ 44 → identity < 2048
+    → decoded (mrif_word (slot * 512)) (notice_word page identity) ≡ Mrif (slot * 512) page identity
 mrif_slot_back slot page identity low lowp lowi =
     let w0 = slot * 512 / 4 + 3 in
     let w1 = page * 1024 + identity % 1024 + identity / 1024 * 2 ^ 60 in
@@ -32,7 +33,8 @@ mrif_slot_back slot page identity low lowp lowi =
     let n : field w1 9 0 + 1024 * field w1 60 60 ≡ identity = omega arith in
     rw (v, c, m, r, s, t, u, a, p, n) refl
 
-pub mrif_back : (addr page identity : ℕ) → addr % 512 ≡ 0 → addr < 2 ^ 56 → page < 2 ^ 44 → identity < 2048 → decoded (mrif_word addr) (notice_word page identity) ≡ Mrif addr page identity
+pub mrif_back : (addr page identity : ℕ) → addr % 512 ≡ 0 → addr < 2 ^ 56 → page < 2 ^ 44 → identity < 2048
+    → decoded (mrif_word addr) (notice_word page identity) ≡ Mrif addr page identity
 mrif_back addr page identity aligned low lowp lowi =
     let e : addr / 512 * 512 ≡ addr = omega (arith, aligned) in
     rw (e) at (mrif_slot_back (addr / 512) page identity (omega arith) lowp lowi)

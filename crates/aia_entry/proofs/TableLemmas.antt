@@ -62,7 +62,8 @@ has_entry mask file few low =
 pub named_has_entry : (x mask : ℕ) → ones 64 mask ≤ MASK_ONES → extract x mask < ENTRIES
 named_has_entry x mask few = has_entry mask (extract x mask) few (packed-lt 64 x mask)
 
-pub entry_read : (in_force : List Entry) (file x mask : ℕ) → ones 64 mask ≤ MASK_ONES → length in_force ≡ ENTRIES → file ≡ extract x mask → get_or in_force file (Basic 0) ≡ get_or in_force (extract x mask) NotValid
+pub entry_read : (in_force : List Entry) (file x mask : ℕ) → ones 64 mask ≤ MASK_ONES → length in_force ≡ ENTRIES → file ≡ extract x mask
+    → get_or in_force file (Basic 0) ≡ get_or in_force (extract x mask) NotValid
 entry_read in_force file x mask few long is =
     let low = named_has_entry x mask few in
     rw (is) (get_or_default in_force (extract x mask) (Basic 0) NotValid (omega (arith, low, long)))
@@ -75,18 +76,21 @@ fenced_here tables vm file words there low =
     let t = table_of tables vm in
     rw (get_or-set_same tables vm (fenced words file t) no_table there) (get_or-set_same t.in_force file (written_entry words t file) NotValid low)
 
-pub table_elsewhere : (tables : List TableState) (vm file : ℕ) (words : List ℕ) (v : ℕ) → v ≢ vm → table_of (fenced_at tables vm file words) v ≡ table_of tables v
+pub table_elsewhere : (tables : List TableState) (vm file : ℕ) (words : List ℕ) (v : ℕ) → v ≢ vm
+    → table_of (fenced_at tables vm file words) v ≡ table_of tables v
 table_elsewhere tables vm file words v h = get_or-set_other tables vm v (fenced words file (table_of tables vm)) no_table h
 
 -- the table of the VM: there is none, or it is the fenced one
-at_the_table : (P : TableState → Type 0) (tables : List TableState) (vm file : ℕ) (words : List ℕ) → P (table_of tables vm) → P (fenced words file (table_of tables vm)) → P (table_of (fenced_at tables vm file words) vm)
+at_the_table : (P : TableState → Type 0) (tables : List TableState) (vm file : ℕ) (words : List ℕ) → P (table_of tables vm)
+    → P (fenced words file (table_of tables vm)) → P (table_of (fenced_at tables vm file words) vm)
 at_the_table P tables vm file words old new = by_place (cases_lt vm (length tables))
   where
     by_place : (vm < length tables) ⊎ (length tables ≤ vm) → P (table_of (fenced_at tables vm file words) vm)
     by_place (inl there) = rw (get_or-set_same tables vm (fenced words file (table_of tables vm)) no_table there) new
     by_place (inr past) = rw (set_past tables vm (fenced words file (table_of tables vm)) past) old
 
-at_each_table : (P : TableState → Type 0) (tables : List TableState) (vm file : ℕ) (words : List ℕ) (v : ℕ) → P (table_of tables v) → (v ≡ vm → P (fenced words file (table_of tables v))) → P (table_of (fenced_at tables vm file words) v)
+at_each_table : (P : TableState → Type 0) (tables : List TableState) (vm file : ℕ) (words : List ℕ) (v : ℕ) → P (table_of tables v)
+    → (v ≡ vm → P (fenced words file (table_of tables v))) → P (table_of (fenced_at tables vm file words) v)
 at_each_table P tables vm file words v old new = by_vm (cases_eq v vm)
   where
     by_vm : (v ≡ vm) ⊎ (v ≢ vm) → P (table_of (fenced_at tables vm file words) v)
@@ -100,10 +104,12 @@ fenced_elsewhere tables vm file words v f (inr other) =
     at_each_table (λ t. entry_in_force t f ≡ entry_in_force (table_of tables v) f) tables vm file words v refl
     (λ same. get_or-set_other (table_of tables v).in_force file f (written_entry words (table_of tables v) file) NotValid other)
 
-pub fenced_mask : (tables : List TableState) (vm file : ℕ) (words : List ℕ) (v : ℕ) → (table_of (fenced_at tables vm file words) v).mask ≡ (table_of tables v).mask
+pub fenced_mask : (tables : List TableState) (vm file : ℕ) (words : List ℕ) (v : ℕ)
+    → (table_of (fenced_at tables vm file words) v).mask ≡ (table_of tables v).mask
 fenced_mask tables vm file words v = at_each_table (λ t. t.mask ≡ (table_of tables v).mask) tables vm file words v refl (λ same. refl)
 
-pub fenced_start : (tables : List TableState) (vm file : ℕ) (words : List ℕ) (v : ℕ) → (table_of (fenced_at tables vm file words) v).start ≡ (table_of tables v).start
+pub fenced_start : (tables : List TableState) (vm file : ℕ) (words : List ℕ) (v : ℕ)
+    → (table_of (fenced_at tables vm file words) v).start ≡ (table_of tables v).start
 fenced_start tables vm file words v = at_each_table (λ t. t.start ≡ (table_of tables v).start) tables vm file words v refl (λ same. refl)
 
 pub fenced_count : (tables : List TableState) (vm file : ℕ) (words : List ℕ) → length (fenced_at tables vm file words) ≡ length tables
@@ -127,7 +133,8 @@ agree true false false h = h refl
 agree false true true h = refl
 agree false true false h = h refl
 
-pub agrees : (mask addr : ℕ) → (is_msi_address mask addr ≡ true) ↔ ((i : ℕ) → has_bit mask i ≡ false → has_bit (page_number addr) i ≡ has_bit PATTERN i)
+pub agrees : (mask addr : ℕ) → (is_msi_address mask addr ≡ true) ↔
+    ((i : ℕ) → has_bit mask i ≡ false → has_bit (page_number addr) i ≡ has_bit PATTERN i)
 agrees mask addr = (there, back)
   where
     there : is_msi_address mask addr ≡ true → (i : ℕ) → has_bit mask i ≡ false → has_bit (page_number addr) i ≡ has_bit PATTERN i

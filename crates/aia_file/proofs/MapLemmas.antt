@@ -31,15 +31,18 @@ to_page page addr here = grind (arith, nat_tests)
 -- ---- which harts and guest files
 
 no_machine : (harts addr : ℕ) → harts ≤ HARTS → MACHINE_FILES + harts * PAGE ≤ addr → machine_file_at harts addr ≡ None
-no_machine harts addr few high = least_of-none (λ hart. is_in_page (machine_page hart) addr) 0 harts (λ j a b. after_page (machine_page j) addr (omega arith))
+no_machine harts addr few high = least_of-none (λ hart. is_in_page (machine_page hart) addr) 0 harts
+    (λ j a b. after_page (machine_page j) addr (omega arith))
 
 no_machine_below : (harts addr : ℕ) → addr < MACHINE_FILES → machine_file_at harts addr ≡ None
-no_machine_below harts addr low = least_of-none (λ hart. is_in_page (machine_page hart) addr) 0 harts (λ j a b. before_page (machine_page j) addr (omega arith))
+no_machine_below harts addr low = least_of-none (λ hart. is_in_page (machine_page hart) addr) 0 harts
+    (λ j a b. before_page (machine_page j) addr (omega arith))
 
 the_machine : (harts addr hart : ℕ) → hart < harts → is_in_page (machine_page hart) addr ≡ true → machine_file_at harts addr ≡ Some hart
 the_machine harts addr hart there here =
     let low = from_page (machine_page hart) addr here in
-    least_of-found (λ x. is_in_page (machine_page x) addr) 0 harts hart (omega arith) (omega arith) here (λ j a b. after_page (machine_page j) addr (omega arith))
+    least_of-found (λ x. is_in_page (machine_page x) addr) 0 harts hart (omega arith) (omega arith) here
+        (λ j a b. after_page (machine_page j) addr (omega arith))
 
 no_supervisor : (harts addr : ℕ) → ((hart : ℕ) → hart < harts → is_in_page (supervisor_page hart) addr ≡ false) → supervisor_file_at harts addr ≡ None
 no_supervisor harts addr none = least_of-none (λ hart. is_in_page (supervisor_page hart) addr) 0 harts (λ j a b. none j (omega arith))
@@ -47,28 +50,37 @@ no_supervisor harts addr none = least_of-none (λ hart. is_in_page (supervisor_p
 the_supervisor : (harts addr hart : ℕ) → hart < harts → is_in_page (supervisor_page hart) addr ≡ true → supervisor_file_at harts addr ≡ Some hart
 the_supervisor harts addr hart there here =
     let low = from_page (supervisor_page hart) addr here in
-    least_of-found (λ x. is_in_page (supervisor_page x) addr) 0 harts hart (omega arith) (omega arith) here (λ j a b. after_page (supervisor_page j) addr (omega arith))
+    least_of-found (λ x. is_in_page (supervisor_page x) addr) 0 harts hart (omega arith) (omega arith) here
+        (λ j a b. after_page (supervisor_page j) addr (omega arith))
 
-no_guest_file : (guests hart addr : ℕ) → ((file : ℕ) → 1 ≤ file → file ≤ guests → is_in_page (guest_page hart file) addr ≡ false) → guest_file_at guests hart addr ≡ None
+no_guest_file : (guests hart addr : ℕ) → ((file : ℕ) → 1 ≤ file → file ≤ guests → is_in_page (guest_page hart file) addr ≡ false)
+    → guest_file_at guests hart addr ≡ None
 no_guest_file guests hart addr none = least_of-none (λ file. is_in_page (guest_page hart file) addr) 1 guests (λ j a b. none j a (omega arith))
 
-the_guest_file : (guests hart addr file : ℕ) → 1 ≤ file → file ≤ guests → is_in_page (guest_page hart file) addr ≡ true → guest_file_at guests hart addr ≡ Some file
+the_guest_file : (guests hart addr file : ℕ) → 1 ≤ file → file ≤ guests → is_in_page (guest_page hart file) addr ≡ true
+    → guest_file_at guests hart addr ≡ Some file
 the_guest_file guests hart addr file some few here =
     let low = from_page (guest_page hart file) addr here in
-    least_of-found (λ x. is_in_page (guest_page hart x) addr) 1 guests file some (omega arith) here (λ j a b. after_page (guest_page hart j) addr (omega arith))
+    least_of-found (λ x. is_in_page (guest_page hart x) addr) 1 guests file some (omega arith) here
+        (λ j a b. after_page (guest_page hart j) addr (omega arith))
 
-no_guest_hart : (harts guests addr : ℕ) → ((hart file : ℕ) → hart < harts → 1 ≤ file → file ≤ guests → is_in_page (guest_page hart file) addr ≡ false) → guest_hart_at harts guests addr ≡ None
-no_guest_hart harts guests addr none = least_of-none (λ hart. is_some (guest_file_at guests hart addr)) 0 harts (λ j a b. ap is_some (no_guest_file guests j addr (λ file c d. none j file (omega arith) c d)))
+no_guest_hart : (harts guests addr : ℕ) → ((hart file : ℕ) → hart < harts → 1 ≤ file → file ≤ guests
+    → is_in_page (guest_page hart file) addr ≡ false) → guest_hart_at harts guests addr ≡ None
+no_guest_hart harts guests addr none = least_of-none (λ hart. is_some (guest_file_at guests hart addr)) 0 harts
+    (λ j a b. ap is_some (no_guest_file guests j addr (λ file c d. none j file (omega arith) c d)))
 
-the_guest_hart : (harts guests addr hart file : ℕ) → guests ≤ GUEST_FILES → hart < harts → 1 ≤ file → file ≤ guests → is_in_page (guest_page hart file) addr ≡ true → guest_hart_at harts guests addr ≡ Some hart
+the_guest_hart : (harts guests addr hart file : ℕ) → guests ≤ GUEST_FILES → hart < harts → 1 ≤ file → file ≤ guests
+    → is_in_page (guest_page hart file) addr ≡ true → guest_hart_at harts guests addr ≡ Some hart
 the_guest_hart harts guests addr hart file fewer there some few here =
     let low = from_page (guest_page hart file) addr here in
-    least_of-found (λ x. is_some (guest_file_at guests x addr)) 0 harts hart (omega arith) (omega arith) (ap is_some (the_guest_file guests hart addr file some few here))
+    least_of-found (λ x. is_some (guest_file_at guests x addr)) 0 harts hart (omega arith) (omega arith)
+        (ap is_some (the_guest_file guests hart addr file some few here))
     (λ j a b. ap is_some (no_guest_file guests j addr (λ x c d. after_page (guest_page j x) addr (omega arith))))
 
 -- ---- which file
 
-guest_is_not_host : (hart file x addr : ℕ) → 1 ≤ file → file ≤ GUEST_FILES → is_in_page (guest_page hart file) addr ≡ true → is_in_page (supervisor_page x) addr ≡ false
+guest_is_not_host : (hart file x addr : ℕ) → 1 ≤ file → file ≤ GUEST_FILES → is_in_page (guest_page hart file) addr ≡ true
+    → is_in_page (supervisor_page x) addr ≡ false
 guest_is_not_host hart file x addr some few here =
     let low = from_page (guest_page hart file) addr here in
     let high = to_page (guest_page hart file) addr here in
@@ -82,28 +94,36 @@ abbrev chosen : ℕ → ℕ → Option ℕ → Option ℕ → Option ℕ → Spo
 chosen guests addr machine host guest_hart =
     option_map_or MachineFile machine (option_map_or SupervisorFile host (option_map_or (guest_spot_of guests addr) guest_hart Nowhere))
 
-by_parts : (harts guests addr : ℕ) (machine host guest_hart : Option ℕ) → machine_file_at harts addr ≡ machine → supervisor_file_at harts addr ≡ host → guest_hart_at harts guests addr ≡ guest_hart
+by_parts : (harts guests addr : ℕ) (machine host guest_hart : Option ℕ) → machine_file_at harts addr ≡ machine
+    → supervisor_file_at harts addr ≡ host → guest_hart_at harts guests addr ≡ guest_hart
     → spot_at harts guests addr ≡ chosen guests addr machine host guest_hart
 by_parts harts guests addr machine host guest_hart m s g = rw (m, s, g)
 
-pub spot_of_machine : (harts guests addr hart : ℕ) → hart < harts → is_in_page (machine_page hart) addr ≡ true → spot_at harts guests addr ≡ MachineFile hart
+pub spot_of_machine : (harts guests addr hart : ℕ) → hart < harts → is_in_page (machine_page hart) addr ≡ true
+    → spot_at harts guests addr ≡ MachineFile hart
 spot_of_machine harts guests addr hart there here = by_parts harts guests addr (Some hart) _ _ (the_machine harts addr hart there here) refl refl
 
-pub spot_of_host : (harts guests addr hart : ℕ) → harts ≤ HARTS → hart < harts → is_in_page (supervisor_page hart) addr ≡ true → spot_at harts guests addr ≡ SupervisorFile hart
+pub spot_of_host : (harts guests addr hart : ℕ) → harts ≤ HARTS → hart < harts → is_in_page (supervisor_page hart) addr ≡ true
+    → spot_at harts guests addr ≡ SupervisorFile hart
 spot_of_host harts guests addr hart few there here =
     let low = from_page (supervisor_page hart) addr here in
     by_parts harts guests addr None (Some hart) _ (no_machine harts addr few (omega arith)) (the_supervisor harts addr hart there here) refl
 
-pub spot_of_guest : (harts guests addr hart file : ℕ) → harts ≤ HARTS → guests ≤ GUEST_FILES → hart < harts → 1 ≤ file → file ≤ guests → is_in_page (guest_page hart file) addr ≡ true → spot_at harts guests addr ≡ GuestFile hart file
+pub spot_of_guest : (harts guests addr hart file : ℕ) → harts ≤ HARTS → guests ≤ GUEST_FILES → hart < harts → 1 ≤ file → file ≤ guests
+    → is_in_page (guest_page hart file) addr ≡ true → spot_at harts guests addr ≡ GuestFile hart file
 spot_of_guest harts guests addr hart file few fewer there some below here =
     let low = from_page (guest_page hart file) addr here in
     by_parts harts guests addr None None (Some hart) (no_machine harts addr few (omega arith))
-    (no_supervisor harts addr (λ x c. guest_is_not_host hart file x addr some (omega arith) here)) (the_guest_hart harts guests addr hart file fewer there some below here)
+    (no_supervisor harts addr (λ x c. guest_is_not_host hart file x addr some (omega arith) here))
+        (the_guest_hart harts guests addr hart file fewer there some below here)
     ∙ ap (λ file. option_map_or (GuestFile hart) file Nowhere) (the_guest_file guests hart addr file some below here)
 
-pub spot_of_none : (harts guests addr : ℕ) → machine_file_at harts addr ≡ None → ((hart : ℕ) → hart < harts → is_in_page (supervisor_page hart) addr ≡ false)
-    → ((hart file : ℕ) → hart < harts → 1 ≤ file → file ≤ guests → is_in_page (guest_page hart file) addr ≡ false) → spot_at harts guests addr ≡ Nowhere
-spot_of_none harts guests addr machine host guest = by_parts harts guests addr None None None machine (no_supervisor harts addr host) (no_guest_hart harts guests addr guest)
+pub spot_of_none : (harts guests addr : ℕ) → machine_file_at harts addr ≡ None
+    → ((hart : ℕ) → hart < harts → is_in_page (supervisor_page hart) addr ≡ false)
+    → ((hart file : ℕ) → hart < harts → 1 ≤ file → file ≤ guests → is_in_page (guest_page hart file) addr ≡ false)
+        → spot_at harts guests addr ≡ Nowhere
+spot_of_none harts guests addr machine host guest =
+    by_parts harts guests addr None None None machine (no_supervisor harts addr host) (no_guest_hart harts guests addr guest)
 
 -- ---- the other way round: the page of the file that an address names
 
@@ -115,40 +135,50 @@ guest_is_no_host : (x hart : ℕ) (file : Option ℕ) → option_map_or (GuestFi
 guest_is_no_host x hart None e = cc
 guest_is_no_host x hart (Some y) e = cc
 
-guest_parts : (x hart file : ℕ) (found : Option ℕ) → option_map_or (GuestFile x) found Nowhere ≡ GuestFile hart file → (x ≡ hart) × (found ≡ Some file)
+guest_parts : (x hart file : ℕ) (found : Option ℕ) → option_map_or (GuestFile x) found Nowhere ≡ GuestFile hart file → (x ≡ hart)
+    × (found ≡ Some file)
 guest_parts x hart file None e = absurd (cc)
 guest_parts x hart file (Some y) e = (cc, cc)
 
-is_machine : (guests addr hart : ℕ) (machine host guest_hart : Option ℕ) → chosen guests addr machine host guest_hart ≡ MachineFile hart → machine ≡ Some hart
+is_machine : (guests addr hart : ℕ) (machine host guest_hart : Option ℕ) → chosen guests addr machine host guest_hart ≡ MachineFile hart
+    → machine ≡ Some hart
 is_machine guests addr hart (Some x) host guest_hart e = cc
 is_machine guests addr hart None (Some y) guest_hart e = absurd (cc)
 is_machine guests addr hart None None (Some x) e = absurd (guest_is_no_machine x hart (guest_file_at guests x addr) e)
 is_machine guests addr hart None None None e = absurd (cc)
 
-is_host : (guests addr hart : ℕ) (machine host guest_hart : Option ℕ) → chosen guests addr machine host guest_hart ≡ SupervisorFile hart → host ≡ Some hart
+is_host : (guests addr hart : ℕ) (machine host guest_hart : Option ℕ) → chosen guests addr machine host guest_hart ≡ SupervisorFile hart
+    → host ≡ Some hart
 is_host guests addr hart (Some x) host guest_hart e = absurd (cc)
 is_host guests addr hart None (Some y) guest_hart e = cc
 is_host guests addr hart None None (Some x) e = absurd (guest_is_no_host x hart (guest_file_at guests x addr) e)
 is_host guests addr hart None None None e = absurd (cc)
 
-is_guest : (guests addr hart file : ℕ) (machine host guest_hart : Option ℕ) → chosen guests addr machine host guest_hart ≡ GuestFile hart file → (guest_hart ≡ Some hart) × (guest_file_at guests hart addr ≡ Some file)
+is_guest : (guests addr hart file : ℕ) (machine host guest_hart : Option ℕ) → chosen guests addr machine host guest_hart ≡ GuestFile hart file
+    → (guest_hart ≡ Some hart) × (guest_file_at guests hart addr ≡ Some file)
 is_guest guests addr hart file (Some x) host guest_hart e = absurd (cc)
 is_guest guests addr hart file None (Some y) guest_hart e = absurd (cc)
 is_guest guests addr hart file None None None e = absurd (cc)
 is_guest guests addr hart file None None (Some x) e =
-    let parts = guest_parts x hart file (guest_file_at guests x addr) e in (ap Some parts.0, ap (λ y. guest_file_at guests y addr) (sym parts.0) ∙ parts.1)
+    let parts = guest_parts x hart file (guest_file_at guests x addr) e in
+        (ap Some parts.0, ap (λ y. guest_file_at guests y addr) (sym parts.0) ∙ parts.1)
 
-pub machine_of_spot : (harts guests addr hart : ℕ) → spot_at harts guests addr ≡ MachineFile hart → (hart < harts) × (is_in_page (machine_page hart) addr ≡ true)
+pub machine_of_spot : (harts guests addr hart : ℕ) → spot_at harts guests addr ≡ MachineFile hart → (hart < harts)
+    × (is_in_page (machine_page hart) addr ≡ true)
 machine_of_spot harts guests addr hart e =
-    let least = least_of_is (λ x. is_in_page (machine_page x) addr) 0 harts hart (is_machine guests addr hart (machine_file_at harts addr) (supervisor_file_at harts addr) (guest_hart_at harts guests addr) e) in
+    let least = least_of_is (λ x. is_in_page (machine_page x) addr) 0 harts hart
+        (is_machine guests addr hart (machine_file_at harts addr) (supervisor_file_at harts addr) (guest_hart_at harts guests addr) e) in
     (omega (arith, least.1), least.2)
 
-pub host_of_spot : (harts guests addr hart : ℕ) → spot_at harts guests addr ≡ SupervisorFile hart → (hart < harts) × (is_in_page (supervisor_page hart) addr ≡ true)
+pub host_of_spot : (harts guests addr hart : ℕ) → spot_at harts guests addr ≡ SupervisorFile hart → (hart < harts)
+    × (is_in_page (supervisor_page hart) addr ≡ true)
 host_of_spot harts guests addr hart e =
-    let least = least_of_is (λ x. is_in_page (supervisor_page x) addr) 0 harts hart (is_host guests addr hart (machine_file_at harts addr) (supervisor_file_at harts addr) (guest_hart_at harts guests addr) e) in
+    let least = least_of_is (λ x. is_in_page (supervisor_page x) addr) 0 harts hart
+        (is_host guests addr hart (machine_file_at harts addr) (supervisor_file_at harts addr) (guest_hart_at harts guests addr) e) in
     (omega (arith, least.1), least.2)
 
-pub guest_of_spot : (harts guests addr hart file : ℕ) → spot_at harts guests addr ≡ GuestFile hart file → (hart < harts) × (1 ≤ file) × (file ≤ guests) × (is_in_page (guest_page hart file) addr ≡ true)
+pub guest_of_spot : (harts guests addr hart file : ℕ) → spot_at harts guests addr ≡ GuestFile hart file → (hart < harts) × (1 ≤ file)
+    × (file ≤ guests) × (is_in_page (guest_page hart file) addr ≡ true)
 guest_of_spot harts guests addr hart file e =
     let found = is_guest guests addr hart file (machine_file_at harts addr) (supervisor_file_at harts addr) (guest_hart_at harts guests addr) e in
     let least_hart = least_of_is (λ x. is_some (guest_file_at guests x addr)) 0 harts hart found.0 in
@@ -161,26 +191,36 @@ pub below_all : (harts guests addr : ℕ) → addr < MACHINE_FILES → spot_at h
 below_all harts guests addr low = spot_of_none harts guests addr (no_machine_below harts addr low)
     (λ hart a. before_page (supervisor_page hart) addr (omega arith)) (λ hart file a b c. before_page (guest_page hart file) addr (omega arith))
 
-pub past_machines : (harts guests addr hart : ℕ) → hart ≡ (addr - MACHINE_FILES) / PAGE → MACHINE_FILES ≤ addr → addr < SUPERVISOR_FILES → harts ≤ hart → spot_at harts guests addr ≡ Nowhere
+pub past_machines : (harts guests addr hart : ℕ) → hart ≡ (addr - MACHINE_FILES) / PAGE → MACHINE_FILES ≤ addr → addr < SUPERVISOR_FILES
+    → harts ≤ hart → spot_at harts guests addr ≡ Nowhere
 past_machines harts guests addr hart e low high past = spot_of_none harts guests addr
     (least_of-none (λ x. is_in_page (machine_page x) addr) 0 harts (λ j a b. after_page (machine_page j) addr (omega arith)))
     (λ x a. before_page (supervisor_page x) addr (omega arith)) (λ x file a b c. before_page (guest_page x file) addr (omega arith))
 
-pub at_machine : (harts guests addr hart : ℕ) → hart ≡ (addr - MACHINE_FILES) / PAGE → MACHINE_FILES ≤ addr → hart < harts → spot_at harts guests addr ≡ MachineFile hart
-at_machine harts guests addr hart e low there = spot_of_machine harts guests addr hart there (in_page (machine_page hart) addr (omega arith) (omega arith))
+pub at_machine : (harts guests addr hart : ℕ) → hart ≡ (addr - MACHINE_FILES) / PAGE → MACHINE_FILES ≤ addr → hart < harts
+    → spot_at harts guests addr ≡ MachineFile hart
+at_machine harts guests addr hart e low there =
+    spot_of_machine harts guests addr hart there (in_page (machine_page hart) addr (omega arith) (omega arith))
 
-pub past_hosts : (harts guests addr hart : ℕ) → harts ≤ HARTS → guests ≤ GUEST_FILES → hart ≡ (addr - SUPERVISOR_FILES) / HART_STRIDE → SUPERVISOR_FILES ≤ addr → harts ≤ hart → spot_at harts guests addr ≡ Nowhere
+pub past_hosts : (harts guests addr hart : ℕ) → harts ≤ HARTS → guests ≤ GUEST_FILES → hart ≡ (addr - SUPERVISOR_FILES) / HART_STRIDE
+    → SUPERVISOR_FILES ≤ addr → harts ≤ hart → spot_at harts guests addr ≡ Nowhere
 past_hosts harts guests addr hart few fewer e low past = spot_of_none harts guests addr (no_machine harts addr few (omega arith))
     (λ x a. after_page (supervisor_page x) addr (omega arith)) (λ x file a b c. after_page (guest_page x file) addr (omega arith))
 
-pub at_host : (harts guests addr hart file : ℕ) → harts ≤ HARTS → hart ≡ (addr - SUPERVISOR_FILES) / HART_STRIDE → file ≡ (addr - SUPERVISOR_FILES) % HART_STRIDE / PAGE → SUPERVISOR_FILES ≤ addr → hart < harts → file ≡ 0 → spot_at harts guests addr ≡ SupervisorFile hart
-at_host harts guests addr hart file few e f low there none = spot_of_host harts guests addr hart few there (in_page (supervisor_page hart) addr (omega arith) (omega arith))
+pub at_host : (harts guests addr hart file : ℕ) → harts ≤ HARTS → hart ≡ (addr - SUPERVISOR_FILES) / HART_STRIDE
+    → file ≡ (addr - SUPERVISOR_FILES) % HART_STRIDE / PAGE → SUPERVISOR_FILES ≤ addr → hart < harts → file ≡ 0
+    → spot_at harts guests addr ≡ SupervisorFile hart
+at_host harts guests addr hart file few e f low there none =
+    spot_of_host harts guests addr hart few there (in_page (supervisor_page hart) addr (omega arith) (omega arith))
 
-pub at_guest : (harts guests addr hart file : ℕ) → harts ≤ HARTS → guests ≤ GUEST_FILES → hart ≡ (addr - SUPERVISOR_FILES) / HART_STRIDE → file ≡ (addr - SUPERVISOR_FILES) % HART_STRIDE / PAGE → SUPERVISOR_FILES ≤ addr → hart < harts → file ≢ 0 → file ≤ guests → spot_at harts guests addr ≡ GuestFile hart file
+pub at_guest : (harts guests addr hart file : ℕ) → harts ≤ HARTS → guests ≤ GUEST_FILES → hart ≡ (addr - SUPERVISOR_FILES) / HART_STRIDE
+    → file ≡ (addr - SUPERVISOR_FILES) % HART_STRIDE / PAGE → SUPERVISOR_FILES ≤ addr → hart < harts → file ≢ 0 → file ≤ guests
+    → spot_at harts guests addr ≡ GuestFile hart file
 at_guest harts guests addr hart file few fewer e f low there some below =
     spot_of_guest harts guests addr hart file few fewer there (omega arith) below (in_page (guest_page hart file) addr (omega arith) (omega arith))
 
-pub past_guests : (harts guests addr hart file : ℕ) → harts ≤ HARTS → guests ≤ GUEST_FILES → hart ≡ (addr - SUPERVISOR_FILES) / HART_STRIDE → file ≡ (addr - SUPERVISOR_FILES) % HART_STRIDE / PAGE → SUPERVISOR_FILES ≤ addr → file ≢ 0 → guests < file → spot_at harts guests addr ≡ Nowhere
+pub past_guests : (harts guests addr hart file : ℕ) → harts ≤ HARTS → guests ≤ GUEST_FILES → hart ≡ (addr - SUPERVISOR_FILES) / HART_STRIDE
+    → file ≡ (addr - SUPERVISOR_FILES) % HART_STRIDE / PAGE → SUPERVISOR_FILES ≤ addr → file ≢ 0 → guests < file → spot_at harts guests addr ≡ Nowhere
 past_guests harts guests addr hart file few fewer e f low some past = spot_of_none harts guests addr (no_machine harts addr few (omega arith))
     (λ x a. other_host x)
     (λ x y a b c. other_guest x y c)
@@ -195,7 +235,8 @@ past_guests harts guests addr hart file few fewer e f low some past = spot_of_no
     numbered = omega arith
 
     other_host : (x : ℕ) → is_in_page (supervisor_page x) addr ≡ false
-    other_host x = guest_is_not_host hart file x addr (omega arith) numbered (in_page (guest_page hart file) addr (omega (arith, lower)) (omega (arith, upper)))
+    other_host x = guest_is_not_host hart file x addr (omega arith) numbered
+        (in_page (guest_page hart file) addr (omega (arith, lower)) (omega (arith, upper)))
 
     other_guest : (x y : ℕ) → y ≤ guests → is_in_page (guest_page x y) addr ≡ false
     other_guest x y c = elim (cases_lt hart x) [

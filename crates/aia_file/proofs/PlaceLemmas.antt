@@ -56,7 +56,8 @@ same_spot h a Nowhere p q r c = absurd q
 -- ---- what callers know
 
 pub place_within : (h : ImsicState) (spot : Spot) → IsThere h spot → place_of h spot < h.harts * (h.guests + 2)
-place_within h spot there = rw (placed h spot) (omega (arith, mul-add-lt (row_of spot) (h.guests + 2) (column_of spot) h.harts (row_there h spot there) (column_there h spot there)))
+place_within h spot there = rw (placed h spot)
+    (omega (arith, mul-add-lt (row_of spot) (h.guests + 2) (column_of spot) h.harts (row_there h spot there) (column_there h spot there)))
 
 pub same_place : (h : ImsicState) (a b : Spot) → IsThere h a → IsThere h b → place_of h a ≡ place_of h b → a ≡ b
 same_place h a b p q e =
@@ -68,5 +69,7 @@ same_place h a b p q e =
 pub replaced_here : (h : ImsicState) (spot : Spot) (file : FileState) → place_of h spot < length h.files → file_at (with_file h spot file) spot ≡ file
 replaced_here h spot file within = get_or-set_at h.files (place_of h spot) (place_of h spot) file no_file refl within
 
-pub kept_elsewhere : (h : ImsicState) (spot other : Spot) (file : FileState) → IsThere h spot → IsThere h other → other ≢ spot → file_at (with_file h spot file) other ≡ file_at h other
-kept_elsewhere h spot other file there here apart = get_or-set_other h.files (place_of h spot) (place_of h other) file no_file (λ e. apart (same_place h other spot here there e))
+pub kept_elsewhere : (h : ImsicState) (spot other : Spot) (file : FileState) → IsThere h spot → IsThere h other → other ≢ spot
+    → file_at (with_file h spot file) other ≡ file_at h other
+kept_elsewhere h spot other file there here apart =
+    get_or-set_other h.files (place_of h spot) (place_of h other) file no_file (λ e. apart (same_place h other spot here there e))

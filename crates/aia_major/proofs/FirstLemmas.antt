@@ -17,7 +17,8 @@ first_listed None = refl
 first_listed (Some c) = refl
 
 -- one more before the first of some
-first_put : (c o : Option kept.Candidate) (rest : List Candidate) → option_map seen o ≡ first_of rest → first_of (listed c ++ listed o) ≡ first_of (listed c ++ rest)
+first_put : (c o : Option kept.Candidate) (rest : List Candidate) → option_map seen o ≡ first_of rest
+    → first_of (listed c ++ listed o) ≡ first_of (listed c ++ rest)
 first_put None o rest e = first_listed o ∙ e
 first_put (Some c) o rest e = ap (λ f. Some (option_map_or (λ b. cond (comes_first (seen c) b) (seen c) b) f (seen c))) (first_listed o ∙ e)
 
@@ -108,7 +109,8 @@ first_of-found (x ∷ xs) c e = at (first_of xs) refl e (first_of-found xs)
     tested y true t e is_y = before y (test_says x.number y.number x.rank y.rank t) is_y cc
     tested y false t e is_y = after_it y (test_denies x.number y.number x.rank y.rank t) is_y cc
 
-    at : (o : Option Candidate) → first_of xs ≡ o → Some (option_map_or (λ b. cond (comes_first x b) x b) o x) ≡ Some c → ((y : Candidate) → first_of xs ≡ Some y → IsFirst xs y) → IsFirst (x ∷ xs) c
+    at : (o : Option Candidate) → first_of xs ≡ o → Some (option_map_or (λ b. cond (comes_first x b) x b) o x) ≡ Some c
+        → ((y : Candidate) → first_of xs ≡ Some y → IsFirst xs y) → IsFirst (x ∷ xs) c
     at None is e found = alone (first_of-none xs is) cc
     at (Some y) is e found = tested y (comes_first x y) refl e (found y is)
 

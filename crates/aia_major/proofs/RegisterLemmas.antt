@@ -20,7 +20,8 @@ use Rattle.aia_major.specs.Kept.{sip_written, sie_written}
 abbrev four : Bool → Bool → Bool → Bool → ℕ
 four a b c d = bit_number a * 2 ^ 1 + bit_number b * 2 ^ 5 + bit_number c * 2 ^ 9 + bit_number d * 2 ^ 13
 
-at_majors : (a b c d : Bool) → (has_bit (four a b c d) 1 ≡ a) × (has_bit (four a b c d) 5 ≡ b) × (has_bit (four a b c d) 9 ≡ c) × (has_bit (four a b c d) 13 ≡ d)
+at_majors : (a b c d : Bool) → (has_bit (four a b c d) 1 ≡ a) × (has_bit (four a b c d) 5 ≡ b) × (has_bit (four a b c d) 9 ≡ c)
+    × (has_bit (four a b c d) 13 ≡ d)
 at_majors true true true true = (refl, refl, refl, refl)
 at_majors true true true false = (refl, refl, refl, refl)
 at_majors true true false true = (refl, refl, refl, refl)
@@ -49,13 +50,17 @@ past x a j low ne above = elim (cases_lt j 4) [
   | inr more ↦ bit_at_cat_high x 4 a j (omega arith) more ∙ above more
 ]
 
-elsewhere : (a b c d j : ℕ) → a < 2 ^ 1 → b < 2 ^ 1 → c < 2 ^ 1 → d < 2 ^ 1 → j ≢ 1 → j ≢ 5 → j ≢ 9 → j ≢ 13 → bit_at (a * 2 ^ 1 + b * 2 ^ 5 + c * 2 ^ 9 + d * 2 ^ 13) j ≡ 0
+elsewhere : (a b c d j : ℕ) → a < 2 ^ 1 → b < 2 ^ 1 → c < 2 ^ 1 → d < 2 ^ 1 → j ≢ 1 → j ≢ 5 → j ≢ 9 → j ≢ 13
+    → bit_at (a * 2 ^ 1 + b * 2 ^ 5 + c * 2 ^ 9 + d * 2 ^ 13) j ≡ 0
 elsewhere a b c d j la lb lc ld n1 n5 n9 n13 =
     let e : a * 2 ^ 1 + b * 2 ^ 5 + c * 2 ^ 9 + d * 2 ^ 13 ≡ (((d * 2 ^ 4 + c) * 2 ^ 4 + b) * 2 ^ 4 + a) * 2 ^ 1 + 0 = omega arith in
     ap (λ n. bit_at n j) e ∙ elim (cases_lt j 1) [
       | inl less ↦ bit_at_cat_low (((d * 2 ^ 4 + c) * 2 ^ 4 + b) * 2 ^ 4 + a) 1 0 j less ∙ bit_at-zero j
       | inr more ↦ bit_at_cat_high (((d * 2 ^ 4 + c) * 2 ^ 4 + b) * 2 ^ 4 + a) 1 0 j (lit< tt) more
-          ∙ past ((d * 2 ^ 4 + c) * 2 ^ 4 + b) a (j - 1) la (λ z. n1 (omega arith)) (λ h. past (d * 2 ^ 4 + c) b (j - 1 - 4) lb (λ z. n5 (omega arith)) (λ i. past d c (j - 1 - 4 - 4) lc (λ z. n9 (omega arith)) (λ k. bit_at_above d 1 (j - 1 - 4 - 4 - 4) ld (omega (arith, λ (z : j ≡ 13). n13 z)))))
+          ∙ past ((d * 2 ^ 4 + c) * 2 ^ 4 + b) a (j - 1) la (λ z. n1 (omega arith))
+              (λ h. past (d * 2 ^ 4 + c) b (j - 1 - 4) lb (λ z. n5 (omega arith))
+              (λ i. past d c (j - 1 - 4 - 4) lc (λ z. n9 (omega arith))
+              (λ k. bit_at_above d 1 (j - 1 - 4 - 4 - 4) ld (omega (arith, λ (z : j ≡ 13). n13 z)))))
     ]
 
 none_of : (j : ℕ) (p : Bool) → j ≢ 1 → j ≢ 5 → j ≢ 9 → j ≢ 13 → (is_major j && p) ≡ false
@@ -72,7 +77,8 @@ majors_word-bit members j =
           | inl e ↦ at 9 e four_are.2
           | inr n9 ↦ elim (cases_eq j 13) [
             | inl e ↦ at 13 e four_are.3
-            | inr n13 ↦ ap (λ x. nat_eq x 1) (elsewhere _ _ _ _ j (bit_number-lt (members 1)) (bit_number-lt (members 5)) (bit_number-lt (members 9)) (bit_number-lt (members 13)) n1 n5 n9 n13) ∙ sym (none_of j (members j) n1 n5 n9 n13)
+            | inr n13 ↦ ap (λ x. nat_eq x 1) (elsewhere _ _ _ _ j (bit_number-lt (members 1)) (bit_number-lt (members 5))
+                  (bit_number-lt (members 9)) (bit_number-lt (members 13)) n1 n5 n9 n13) ∙ sym (none_of j (members j) n1 n5 n9 n13)
           ]
         ]
       ]
@@ -97,7 +103,8 @@ has_bit-written (ops.Set v) old b fits low = has_bit-or old v b ∙ joined (has_
     joined true false = refl
     joined false true = refl
     joined false false = refl
-has_bit-written (ops.Clear v) old b fits low = has_bit-and old (bit_not w64 v) b ∙ ap (λ x. has_bit old b && x) (has_bit-not v b fits low) ∙ cleared (has_bit v b) (has_bit old b)
+has_bit-written (ops.Clear v) old b fits low = has_bit-and old (bit_not w64 v) b ∙ ap (λ x. has_bit old b && x) (has_bit-not v b fits low)
+    ∙ cleared (has_bit v b) (has_bit old b)
   where
     cleared : (one was : Bool) → (was && not one) ≡ settle (cond one Clear Nothing) was
     cleared true true = refl
@@ -108,7 +115,8 @@ has_bit-written (ops.Clear v) old b fits low = has_bit-and old (bit_not w64 v) b
 -- ---- a set after a guest's instruction
 
 -- the number is heard at some of the places that the register shows
-heard : (op : Op) (old j : ℕ) (own was : Bool) → FitsOp op → (own ≡ true → j < 64) → (own ≡ true → has_bit old j ≡ was) → cond own (has_bit (written op old) j) was ≡ settle (cond own (bit_said op j) Nothing) was
+heard : (op : Op) (old j : ℕ) (own was : Bool) → FitsOp op → (own ≡ true → j < 64) → (own ≡ true → has_bit old j ≡ was)
+    → cond own (has_bit (written op old) j) was ≡ settle (cond own (bit_said op j) Nothing) was
 heard op old j false was fits low shows = refl
 heard op old j true was fits low shows = has_bit-written op old j fits (low refl) ∙ ap (settle (bit_said op j)) (shows refl)
 
@@ -136,10 +144,14 @@ own_is_pending m signal j own = elim (cases_eq j 1) [
     at k e is = subst (λ i. (is_major i && is_pending m signal i) ≡ m.injected i) (sym e) is
 
 pub sip_access : (op : Op) (m : VsMajorState) (signal : Bool) → FitsOp op → sip_written (written op (sip_value m signal)) m ≡ with_sip op m
-sip_access op m signal fits = ap (λ f. record m { injected = f }) (λ i j. heard op (sip_value m signal) j (is_guests_own j) (m.injected j) fits (own_is_low j) (λ own. majors_word-bit (is_pending m signal) j ∙ own_is_pending m signal j own) i)
+sip_access op m signal fits = ap (λ f. record m { injected = f })
+    (λ i j. heard op (sip_value m signal) j (is_guests_own j) (m.injected j) fits (own_is_low j)
+    (λ own. majors_word-bit (is_pending m signal) j ∙ own_is_pending m signal j own) i)
 
 pub sie_access : (op : Op) (m : VsMajorState) → FitsOp op → sie_written (written op (sie_value m)) m ≡ with_sie op m
-sie_access op m fits = ap (λ f. record m { enabled = f }) (λ i j. heard op (sie_value m) j (is_major j) (m.enabled j) fits (major_is_low j) (λ is. majors_word-bit m.enabled j ∙ ap (λ b. b && m.enabled j) is) i)
+sie_access op m fits = ap (λ f. record m { enabled = f })
+    (λ i j. heard op (sie_value m) j (is_major j) (m.enabled j) fits (major_is_low j)
+    (λ is. majors_word-bit m.enabled j ∙ ap (λ b. b && m.enabled j) is) i)
 
 -- ---- what hvip and sie may hold
 

@@ -21,7 +21,8 @@ use Rattle.aia_file.proofs.SizeLemmas.{few_identities}
 use Rattle.aia_mrif.proofs.AccessLemmas.{set_apart, one_word_kept}
 
 -- the identity on top is one of the file's
-pub top_here : (words : List ℕ) (q n threshold top : ℕ) → is_greatest_identity n ≡ true → top ≡ top_value (top_of (slot_file n threshold (mrif_in words q))) → top ≢ 0
+pub top_here : (words : List ℕ) (q n threshold top : ℕ) → is_greatest_identity n ≡ true
+    → top ≡ top_value (top_of (slot_file n threshold (mrif_in words q))) → top ≢ 0
     → (top_of (slot_file n threshold (mrif_in words q)) ≡ Some (top % 65536)) × (is_in_range 1 n (top % 65536) ≡ true) × (top % 65536 ≤ IDENTITIES)
 top_here words q n threshold top greatest is some =
     let file = slot_file n threshold (mrif_in words q) in
@@ -40,16 +41,21 @@ module _ (words : List ℕ) (q i : ℕ) (there : HasSlot words q) (small : i ≤
       let low : i / 64 < FILE_WORDS = omega arith in
       slots.written (pending_place q) words (i / 64) _ j (λ k e. omega (arith, e)) (omega (arith, there)) low ∙ elim (cases_eq (j / 64) (i / 64)) [
         | inl e ↦
-            cond-true _ _ _ (eq-eqb _ _ e) ∙ ap (λ x. has_bit (bit_and word (bit_not w64 x)) (j % 64)) (sym (slots.one_bit (i % 64) (omega arith))) ∙ has_bit-clear word (i % 64) (j % 64) (omega arith) (omega arith)
-            ∙ ap (λ b. not b && has_bit word (j % 64)) (same_places i j e) ∙ ap (λ b. not (nat_eq i j) && b) (place_shows (pending_place q) words (i / 64) j low e)
-        | inr ne ↦ cond-false _ _ _ (ne_eqb _ _ ne) ∙ sym (ap (λ b. not b && set_at (pending_place q) words j) (ne_eqb i j (λ p. ne (ap (λ x. x / 64) (sym p)))))
+            cond-true _ _ _ (eq-eqb _ _ e) ∙ ap (λ x. has_bit (bit_and word (bit_not w64 x)) (j % 64))
+                (sym (slots.one_bit (i % 64) (omega arith))) ∙ has_bit-clear word (i % 64) (j % 64) (omega arith) (omega arith)
+            ∙ ap (λ b. not b && has_bit word (j % 64)) (same_places i j e)
+                ∙ ap (λ b. not (nat_eq i j) && b) (place_shows (pending_place q) words (i / 64) j low e)
+        | inr ne ↦ cond-false _ _ _ (ne_eqb _ _ ne) ∙ sym
+              (ap (λ b. not b && set_at (pending_place q) words j) (ne_eqb i j (λ p. ne (ap (λ x. x / 64) (sym p)))))
       ]
 
   pub claim_done : (n threshold : ℕ) → top_of (slot_file n threshold (mrif_in words q)) ≡ Some i
       → SameFile (slot_file n threshold (mrif_in (words_after_claim words q (Some i)) q)) (claimed (slot_file n threshold (mrif_in words q)))
   claim_done n threshold top = record {
     n = refl;
-    pending = λ j. ap (λ b. is_in_range 1 n j && b) (pending_out j) ∙ inward (is_in_range 1 n j) (not (nat_eq i j)) (set_at (pending_place q) words j) ∙ sym (pending_claimed _ i j (is_in_range 1 n j && set_at (pending_place q) words j) top);
+    pending = λ j. ap (λ b. is_in_range 1 n j && b) (pending_out j)
+        ∙ inward (is_in_range 1 n j) (not (nat_eq i j)) (set_at (pending_place q) words j)
+        ∙ sym (pending_claimed _ i j (is_in_range 1 n j && set_at (pending_place q) words j) top);
     enabled = λ j. set_apart (enable_place q) words (pending_place q (i / 64)) _ n j (λ k low e. omega (arith, e));
     threshold = refl;
     delivery = refl;
@@ -62,7 +68,8 @@ module _ (words : List ℕ) (q i : ℕ) (there : HasSlot words q) (small : i ≤
 
   pub claim_keeps : (n : ℕ) → is_in_range 1 n i ≡ true → KeepsAllElse words (words_after_claim words q (Some i)) q n
   claim_keeps n inside = one_word_kept words q n (pending_place q (i / 64)) _ (omega (arith, small)) (omega (arith, small)) (λ j outside. (
-    pending_out j ∙ ap (λ b. not b && set_at (pending_place q) words j) (ne_eqb i j (λ e. apart (is_in_range 1 n j) (ap (is_in_range 1 n) (sym e) ∙ inside) outside)),
+    pending_out j ∙ ap (λ b. not b && set_at (pending_place q) words j)
+        (ne_eqb i j (λ e. apart (is_in_range 1 n j) (ap (is_in_range 1 n) (sym e) ∙ inside) outside)),
     slots.kept (enable_place q) words (pending_place q (i / 64)) _ j (λ k low e. omega (arith, e)),
   ))
     where

@@ -21,11 +21,13 @@ none_summarized p e w low = has_bit-zero w ∙ ap (λ b. b && is_shared p e w) n
     none : false ≡ nat_lt w 0
     none = grind (arith, nat_tests)
 
-live_word : (p e : ℕ → Bool) (k summary : ℕ) → k < 64 → both_words p e k ≢ 0 → SummarizesFirst k summary p e → SummarizesFirst (k + 1) (bit_or summary (1 * 2 ^ k % 2 ^ 64)) p e
+live_word : (p e : ℕ → Bool) (k summary : ℕ) → k < 64 → both_words p e k ≢ 0 → SummarizesFirst k summary p e
+    → SummarizesFirst (k + 1) (bit_or summary (1 * 2 ^ k % 2 ^ 64)) p e
 live_word p e k summary small some before w low = has_bit-set summary k w small ∙ elim (cases_eq w k) [
   | inl at ↦
       let below : true ≡ nat_lt w (k + 1) = grind (arith, nat_tests) in
-      ap (λ b. b || has_bit summary w) (eq-eqb w k at) ∙ sym (ap (λ b. b && is_shared p e w) (sym below) ∙ ap (is_shared p e) at ∙ some_shared p e k some)
+      ap (λ b. b || has_bit summary w) (eq-eqb w k at)
+          ∙ sym (ap (λ b. b && is_shared p e w) (sym below) ∙ ap (is_shared p e) at ∙ some_shared p e k some)
   | inr ne ↦ ap (λ b. b || has_bit summary w) (ne_eqb w k ne) ∙ before w low ∙ ap (λ b. b && is_shared p e w) (below_next w k ne)
 ]
 
@@ -42,12 +44,14 @@ dead_word p e k summary none before w low = before w low ∙ elim (cases_eq w k)
     neither false false b is = refl
 
 -- as the code tells them apart
-module _ (p e : ℕ → Bool) (k summary next pending enabled : ℕ) (shows_pending : pending ≡ word_of p (64 * k) 64) (shows_enabled : enabled ≡ word_of e (64 * k) 64) (before : SummarizesFirst k summary p e) where
+module _ (p e : ℕ → Bool) (k summary next pending enabled : ℕ) (shows_pending : pending ≡ word_of p (64 * k) 64)
+    (shows_enabled : enabled ≡ word_of e (64 * k) 64) (before : SummarizesFirst k summary p e) where
   both_shown : bit_and pending enabled ≡ both_words p e k
   both_shown = ap (λ x. bit_and x enabled) shows_pending ∙ ap (bit_and (word_of p (64 * k) 64)) shows_enabled
 
   pub live_added : k < 64 → bit_and pending enabled ≢ 0 → next ≡ bit_or summary (1 * 2 ^ k % 2 ^ 64) → SummarizesFirst (k + 1) next p e
-  live_added small some is = subst (λ x. SummarizesFirst (k + 1) x p e) (sym is) (live_word p e k summary small (λ none. some (both_shown ∙ none)) before)
+  live_added small some is = subst (λ x. SummarizesFirst (k + 1) x p e) (sym is)
+      (live_word p e k summary small (λ none. some (both_shown ∙ none)) before)
 
   pub dead_added : bit_and pending enabled ≡ 0 → next ≡ summary → SummarizesFirst (k + 1) next p e
   dead_added none is = subst (λ x. SummarizesFirst (k + 1) x p e) (sym is) (dead_word p e k summary (sym both_shown ∙ none) before)
@@ -67,7 +71,8 @@ all_summarized p e words summary range before w low = before w low ∙ elim (cas
     both false b is = sym is
 
 -- the identities of a slot as a file
-pub file_identities : (n : ℕ) (members : ℕ → Bool) → is_greatest_identity n ≡ true → AreIdentities ((n + 1) / 64) (λ i. is_in_range 1 n i && members i)
+pub file_identities : (n : ℕ) (members : ℕ → Bool) → is_greatest_identity n ≡ true
+    → AreIdentities ((n + 1) / 64) (λ i. is_in_range 1 n i && members i)
 file_identities n members greatest i here = bounds (and_parts _ _ here).0
   where
     bounds : is_in_range 1 n i ≡ true → (1 ≤ i) × (i < 64 * ((n + 1) / 64))

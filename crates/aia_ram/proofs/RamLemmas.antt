@@ -88,16 +88,20 @@ words_of-put (suc n) (suc k) v bytes h l small =
     let len : length (drop 8 bytes) ≡ length bytes - 8 = length-drop 8 bytes in
     let first : word_in (take (8 * suc k) bytes ++ written) ≡ word_in bytes = first_kept (8 * suc k) bytes written (omega arith) (omega arith) in
     let later : words_of n (drop 8 (take (8 * suc k) bytes ++ written)) ≡ set (words_of n (drop 8 bytes)) k v =
-    ap (words_of n) (dropped ∙ ap (λ r. take (8 * k) (drop 8 bytes) ++ (bytes_in v ++ r)) rest) ∙ words_of-put n k v (drop 8 bytes) (omega arith) (omega (arith, len)) small in
+    ap (words_of n) (dropped ∙ ap (λ r. take (8 * k) (drop 8 bytes) ++ (bytes_in v ++ r)) rest)
+        ∙ words_of-put n k v (drop 8 bytes) (omega arith) (omega (arith, len)) small in
     rw (first, later) refl
 
 -- ---- a word among bytes
 
-pub word_read : (at : ℕ) (bytes : List ℕ) → at + 8 ≤ length bytes → little_number 8 (take (length bytes - at) (drop at bytes)) ≡ word_in (drop at bytes)
+pub word_read : (at : ℕ) (bytes : List ℕ) → at + 8 ≤ length bytes
+    → little_number 8 (take (length bytes - at) (drop at bytes)) ≡ word_in (drop at bytes)
 unfolding word_in
 word_read at bytes h = little_from-take 0 8 (length bytes - at) (drop at bytes) (omega arith)
 
-pub word_written : (at v : ℕ) (bytes new : List ℕ) → at + 8 ≤ length bytes → new ≡ little_bytes 8 v ++ drop 8 (take (length bytes - at) (drop at bytes)) → take at bytes ++ (new ++ drop (length bytes - at) (drop at bytes)) ≡ take at bytes ++ (bytes_in v ++ drop (at + 8) bytes)
+pub word_written : (at v : ℕ) (bytes new : List ℕ) → at + 8 ≤ length bytes
+    → new ≡ little_bytes 8 v ++ drop 8 (take (length bytes - at) (drop at bytes))
+    → take at bytes ++ (new ++ drop (length bytes - at) (drop at bytes)) ≡ take at bytes ++ (bytes_in v ++ drop (at + 8) bytes)
 unfolding bytes_in
 word_written at v bytes new h e =
     let n = length bytes - at in
@@ -127,13 +131,15 @@ words_there bytes words e = ap length e ∙ length-words_of (length bytes / 8) b
 pub zeros_are_words : (len : ℕ) (bytes : List ℕ) → bytes ≡ replicate len 0 → words_of (length bytes / 8) bytes ≡ replicate (len / 8) 0
 zeros_are_words len bytes e = rw (e, length-replicate len) (words_of_zeros (len / 8) len)
 
-pub word_loaded : (at w : ℕ) (bytes words : List ℕ) → words ≡ words_of (length bytes / 8) bytes → HasWordAt words at → w ≡ word_in (drop at bytes) → w ≡ get_or words (at / 8) 0
+pub word_loaded : (at w : ℕ) (bytes words : List ℕ) → words ≡ words_of (length bytes / 8) bytes → HasWordAt words at → w ≡ word_in (drop at bytes)
+    → w ≡ get_or words (at / 8) 0
 word_loaded at w bytes words e fits is =
     let l = words_there bytes words e in
     let g : 8 * (at / 8) ≡ at = omega (arith, fits.0) in
     rw e (is ∙ ap (λ k. word_in (drop k bytes)) (sym g) ∙ sym (word_at (length bytes / 8) (at / 8) bytes (omega (arith, fits.1, l))))
 
-pub word_stored : (at v : ℕ) (bytes new words : List ℕ) → words ≡ words_of (length bytes / 8) bytes → HasWordAt words at → v < 2 ^ 64 → new ≡ take at bytes ++ (bytes_in v ++ drop (at + 8) bytes) → length new ≡ length bytes → words_of (length new / 8) new ≡ set words (at / 8) v
+pub word_stored : (at v : ℕ) (bytes new words : List ℕ) → words ≡ words_of (length bytes / 8) bytes → HasWordAt words at → v < 2 ^ 64
+    → new ≡ take at bytes ++ (bytes_in v ++ drop (at + 8) bytes) → length new ≡ length bytes → words_of (length new / 8) new ≡ set words (at / 8) v
 word_stored at v bytes new words e fits small is same =
     let n = length bytes / 8 in
     let l = words_there bytes words e in

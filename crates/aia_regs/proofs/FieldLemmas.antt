@@ -56,14 +56,16 @@ powers hi lo w order within =
 -- a number of w bits with a field put in has w bits
 pub put_fits : (x hi lo v w : ℕ) → lo ≤ hi → hi < w → v < 2 ^ (hi - lo + 1) → x < 2 ^ w → with_field x hi lo v < 2 ^ w
 put_fits x hi lo v w order within small fits =
-    parts_fit (above x hi lo) (2 ^ (hi - lo + 1)) (2 ^ lo) (field x hi lo) v (x % 2 ^ lo) (2 ^ (w - suc hi)) (2 ^ w) (powers hi lo w order within) (subst (λ (y : ℕ). y < 2 ^ w) (sym (put_back x hi lo)) fits) small (mod-lt x (pow_pos lo))
+    parts_fit (above x hi lo) (2 ^ (hi - lo + 1)) (2 ^ lo) (field x hi lo) v (x % 2 ^ lo) (2 ^ (w - suc hi)) (2 ^ w) (powers hi lo w order within)
+        (subst (λ (y : ℕ). y < 2 ^ w) (sym (put_back x hi lo)) fits) small (mod-lt x (pow_pos lo))
 
 -- the shift loses nothing
 old_shifted : (x hi lo : ℕ) → x < 2 ^ 64 → field x hi lo * 2 ^ lo % 2 ^ 64 ≡ field x hi lo * 2 ^ lo
 old_shifted x hi lo fits = let below : field x hi lo * 2 ^ lo < 2 ^ 64 = omega (arith, field_within x hi lo) in mod-eq_of_lt below
 
 -- what `put_bits` computes
-pub exchange_shifted : (x hi lo v old : ℕ) → lo ≤ hi → hi < 64 → v < 2 ^ (hi - lo + 1) → x < 2 ^ 64 → old ≡ field x hi lo → x - old * 2 ^ lo % 2 ^ 64 + v * 2 ^ lo % 2 ^ 64 ≡ with_field x hi lo v
+pub exchange_shifted : (x hi lo v old : ℕ) → lo ≤ hi → hi < 64 → v < 2 ^ (hi - lo + 1) → x < 2 ^ 64 → old ≡ field x hi lo
+    → x - old * 2 ^ lo % 2 ^ 64 + v * 2 ^ lo % 2 ^ 64 ≡ with_field x hi lo v
 exchange_shifted x hi lo v old order within small fits e =
     ap (λ y. x - y * 2 ^ lo % 2 ^ 64 + v * 2 ^ lo % 2 ^ 64) e
     ∙ ap (λ y. x - y + v * 2 ^ lo % 2 ^ 64) (old_shifted x hi lo fits)
@@ -81,26 +83,32 @@ bit_above a w v p l i small low high =
 pub others_stay : (x hi lo v i : ℕ) → lo ≤ hi → v < 2 ^ (hi - lo + 1) → IsOutside hi lo i → bit_at (with_field x hi lo v) i ≡ bit_at x i
 others_stay x hi lo v i order small out =
     elim out [
-      | inl below ↦ bit_at_cat_low (above x hi lo * 2 ^ (hi - lo + 1) + v) lo (x % 2 ^ lo) i below ∙ sym (bit_at_cat_low (above x hi lo * 2 ^ (hi - lo + 1) + field x hi lo) lo (x % 2 ^ lo) i below) ∙ ap (λ y. bit_at y i) (put_back x hi lo)
+      | inl below ↦ bit_at_cat_low (above x hi lo * 2 ^ (hi - lo + 1) + v) lo (x % 2 ^ lo) i below
+            ∙ sym (bit_at_cat_low (above x hi lo * 2 ^ (hi - lo + 1) + field x hi lo) lo (x % 2 ^ lo) i below)
+            ∙ ap (λ y. bit_at y i) (put_back x hi lo)
       | inr beyond ↦ bit_above (above x hi lo) (hi - lo + 1) v lo (x % 2 ^ lo) i small (mod-lt x (pow_pos lo)) (omega arith)
-          ∙ sym (bit_above (above x hi lo) (hi - lo + 1) (field x hi lo) lo (x % 2 ^ lo) i (mod-lt (x / 2 ^ lo) (pow_pos (hi - lo + 1))) (mod-lt x (pow_pos lo)) (omega arith))
+          ∙ sym (bit_above (above x hi lo) (hi - lo + 1) (field x hi lo) lo (x % 2 ^ lo) i (mod-lt (x / 2 ^ lo) (pow_pos (hi - lo + 1)))
+              (mod-lt x (pow_pos lo)) (omega arith))
           ∙ ap (λ y. bit_at y i) (put_back x hi lo)
     ]
 
 -- bit i of a field is bit lo + i of the number, and none above it is 1
 pub bit_of_field : (x hi lo i : ℕ) → lo + i ≤ hi → bit_at (field x hi lo) i ≡ bit_at x (lo + i)
 bit_of_field x hi lo i within =
-    sym (bit_at_cat_low (above x hi lo) (hi - lo + 1) (field x hi lo) i (omega arith)) ∙ ap (λ y. bit_at y i) (div-add-mod' (x / 2 ^ lo) (2 ^ (hi - lo + 1))) ∙ ap (λ y. y % 2) (shr-shr x lo i)
+    sym (bit_at_cat_low (above x hi lo) (hi - lo + 1) (field x hi lo) i (omega arith))
+        ∙ ap (λ y. bit_at y i) (div-add-mod' (x / 2 ^ lo) (2 ^ (hi - lo + 1))) ∙ ap (λ y. y % 2) (shr-shr x lo i)
 
 pub bit_past_field : (x hi lo i : ℕ) → lo ≤ hi → hi < lo + i → bit_at (field x hi lo) i ≡ 0
 bit_past_field x hi lo i order past = bit_at_above (field x hi lo) (hi - lo + 1) i (mod-lt (x / 2 ^ lo) (pow_pos (hi - lo + 1))) (omega arith)
 
 -- a field that has no bit in common with the one put in stays
-pub other_field : (x hi lo v top bottom : ℕ) → lo ≤ hi → bottom ≤ top → v < 2 ^ (hi - lo + 1) → (top < lo) ⊎ (hi < bottom) → field (with_field x hi lo v) top bottom ≡ field x top bottom
+pub other_field : (x hi lo v top bottom : ℕ) → lo ≤ hi → bottom ≤ top → v < 2 ^ (hi - lo + 1) → (top < lo) ⊎ (hi < bottom)
+    → field (with_field x hi lo v) top bottom ≡ field x top bottom
 other_field x hi lo v top bottom order other small apart =
     same_from_bits (field (with_field x hi lo v) top bottom) (field x top bottom) (λ i. elim (cases_lt top (bottom + i)) [
       | inl past ↦ bit_past_field (with_field x hi lo v) top bottom i other past ∙ sym (bit_past_field x top bottom i other past)
-      | inr within ↦ bit_of_field (with_field x hi lo v) top bottom i within ∙ others_stay x hi lo v (bottom + i) order small (outside i within) ∙ sym (bit_of_field x top bottom i within)
+      | inr within ↦ bit_of_field (with_field x hi lo v) top bottom i within ∙ others_stay x hi lo v (bottom + i) order small (outside i within)
+            ∙ sym (bit_of_field x top bottom i within)
     ])
   where
     outside : (i : ℕ) → bottom + i ≤ top → IsOutside hi lo (bottom + i)

@@ -36,11 +36,13 @@ in_filter {X} p (x ∷ xs) y m = at (p x) refl m (in_filter p xs y)
     rest : Contains xs y × (p y ≡ true) → Contains (x ∷ xs) y × (p y ≡ true)
     rest r = (later x y xs r.0, r.1)
 
-    first : p x ≡ true → (x ≡ y) ⊎ Contains (filter p xs) y → (Contains (filter p xs) y → Contains xs y × (p y ≡ true)) → Contains (x ∷ xs) y × (p y ≡ true)
+    first : p x ≡ true → (x ≡ y) ⊎ Contains (filter p xs) y → (Contains (filter p xs) y → Contains xs y × (p y ≡ true)) → Contains (x ∷ xs) y
+        × (p y ≡ true)
     first is (inl e) next = (subst (Contains (x ∷ xs)) e (here x xs), sym (ap p e) ∙ is)
     first is (inr n) next = rest (next n)
 
-    at : (b : Bool) → p x ≡ b → Contains (cond b (x ∷ filter p xs) (filter p xs)) y → (Contains (filter p xs) y → Contains xs y × (p y ≡ true)) → Contains (x ∷ xs) y × (p y ≡ true)
+    at : (b : Bool) → p x ≡ b → Contains (cond b (x ∷ filter p xs) (filter p xs)) y → (Contains (filter p xs) y → Contains xs y × (p y ≡ true))
+        → Contains (x ∷ xs) y × (p y ≡ true)
     at true is n next = first is (here_or_later x y (filter p xs) n) next
     at false is n next = rest (next n)
 
@@ -53,44 +55,55 @@ filter_has {X} p (x ∷ xs) y m is = at (here_or_later x y xs m) (λ n. filter_h
     put false n = n
 
     at : (x ≡ y) ⊎ Contains xs y → (Contains xs y → Contains (filter p xs) y) → Contains (filter p (x ∷ xs)) y
-    at (inl e) next = subst (λ (b : Bool). Contains (cond b (x ∷ filter p xs) (filter p xs)) y) (sym (ap p e ∙ is)) (subst (Contains (x ∷ filter p xs)) e (here x (filter p xs)))
+    at (inl e) next = subst (λ (b : Bool). Contains (cond b (x ∷ filter p xs) (filter p xs)) y) (sym (ap p e ∙ is))
+        (subst (Contains (x ∷ filter p xs)) e (here x (filter p xs)))
     at (inr n) next = put (p x) (next n)
 
 pub filter_same : {X : Type 0} (p q : X → Bool) (xs : List X) → ((y : X) → Contains xs y → p y ≡ q y) → filter p xs ≡ filter q xs
 filter_same p q [] same = refl
 filter_same p q (x ∷ xs) same =
-    ap (λ (b : Bool). cond b (x ∷ filter p xs) (filter p xs)) (same x (here x xs)) ∙ ap (λ ys. cond (q x) (x ∷ ys) ys) (filter_same p q xs (λ y m. same y (later x y xs m)))
+    ap (λ (b : Bool). cond b (x ∷ filter p xs) (filter p xs)) (same x (here x xs))
+        ∙ ap (λ ys. cond (q x) (x ∷ ys) ys) (filter_same p q xs (λ y m. same y (later x y xs m)))
 
 pub filter_none : {X : Type 0} (p : X → Bool) (xs : List X) → ((y : X) → Contains xs y → p y ≡ false) → filter p xs ≡ []
 filter_none p [] none = refl
-filter_none p (x ∷ xs) none = ap (λ (b : Bool). cond b (x ∷ filter p xs) (filter p xs)) (none x (here x xs)) ∙ filter_none p xs (λ y m. none y (later x y xs m))
+filter_none p (x ∷ xs) none = ap (λ (b : Bool). cond b (x ∷ filter p xs) (filter p xs)) (none x (here x xs))
+    ∙ filter_none p xs (λ y m. none y (later x y xs m))
 
 -- it begins with a member that passes, before which none does
-pub filter_first : {X : Type 0} (R : X → X → Type 0) (p : X → Bool) (xs : List X) (y : X) → AllPairs R xs → Contains xs y → p y ≡ true → ((x : X) → Contains xs x → R x y → p x ≡ false) → (rest : List X) × (filter p xs ≡ y ∷ rest)
+pub filter_first : {X : Type 0} (R : X → X → Type 0) (p : X → Bool) (xs : List X) (y : X) → AllPairs R xs → Contains xs y → p y ≡ true
+    → ((x : X) → Contains xs x → R x y → p x ≡ false) → (rest : List X) × (filter p xs ≡ y ∷ rest)
 filter_first R p [] y pairs m is none = nowhere y m
-filter_first {X} R p (x ∷ xs) y pairs m is none = at (here_or_later x y xs m) (λ n. filter_first R p xs y (pairs_tail R x xs pairs) n is (λ z o. none z (later x z xs o)))
+filter_first {X} R p (x ∷ xs) y pairs m is none =
+    at (here_or_later x y xs m) (λ n. filter_first R p xs y (pairs_tail R x xs pairs) n is (λ z o. none z (later x z xs o)))
   where
     at : (x ≡ y) ⊎ Contains xs y → (Contains xs y → (rest : List X) × (filter p xs ≡ y ∷ rest)) → (rest : List X) × (filter p (x ∷ xs) ≡ y ∷ rest)
     at (inl e) next = (filter p xs, ap (λ (b : Bool). cond b (x ∷ filter p xs) (filter p xs)) (ap p e ∙ is) ∙ ap (λ z. z ∷ filter p xs) e)
-    at (inr n) next = let found = next n in (found.0, ap (λ (b : Bool). cond b (x ∷ filter p xs) (filter p xs)) (none x (here x xs) (pairs_head R x y xs pairs n)) ∙ found.1)
+    at (inr n) next = let found = next n in (found.0,
+        ap (λ (b : Bool). cond b (x ∷ filter p xs) (filter p xs)) (none x (here x xs) (pairs_head R x y xs pairs n)) ∙ found.1)
 
 same_head : {X : Type 0} (x y : X) (xs ys : List X) → (x ∷ xs) ≡ (y ∷ ys) → (x ≡ y) × (xs ≡ ys)
 same_head x y xs ys e = (cc, cc)
 
 -- what it begins with passes, and comes before each member that does
-pub filter_begins : {X : Type 0} (R : X → X → Type 0) (p : X → Bool) (xs rest : List X) (y : X) → AllPairs R xs → filter p xs ≡ y ∷ rest → (p y ≡ true) × ((z : X) → Contains xs z → p z ≡ true → (y ≡ z) ⊎ R y z)
-filter_begins {X} R p xs rest y pairs is = ((in_filter p xs y (subst (λ zs. Contains zs y) (sym is) (here y rest))).1, λ z m passes. at z (here_or_later y z rest (subst (λ zs. Contains zs z) is (filter_has p xs z m passes))))
+pub filter_begins : {X : Type 0} (R : X → X → Type 0) (p : X → Bool) (xs rest : List X) (y : X) → AllPairs R xs → filter p xs ≡ y ∷ rest
+    → (p y ≡ true) × ((z : X) → Contains xs z → p z ≡ true → (y ≡ z) ⊎ R y z)
+filter_begins {X} R p xs rest y pairs is = ((in_filter p xs y (subst (λ zs. Contains zs y) (sym is) (here y rest))).1,
+    λ z m passes. at z (here_or_later y z rest (subst (λ zs. Contains zs z) is (filter_has p xs z m passes))))
   where
     at : (z : X) → (y ≡ z) ⊎ Contains rest z → (y ≡ z) ⊎ R y z
     at z (inl e) = inl e
     at z (inr n) = inr (pairs_head R y z rest (subst (AllPairs R) is (AllPairs-filter R p xs pairs)) n)
 
 -- by a test that the first fails, and that is else the same, it is the rest
-pub filter_rest : {X : Type 0} (R : X → X → Type 0) (p q : X → Bool) (xs rest : List X) (y : X) → AllPairs R xs → filter p xs ≡ y ∷ rest → q y ≡ false → ((x : X) → p x ≡ false → q x ≡ false) → ((x : X) → R y x → q x ≡ p x) → filter q xs ≡ rest
+pub filter_rest : {X : Type 0} (R : X → X → Type 0) (p q : X → Bool) (xs rest : List X) (y : X) → AllPairs R xs → filter p xs ≡ y ∷ rest
+    → q y ≡ false → ((x : X) → p x ≡ false → q x ≡ false) → ((x : X) → R y x → q x ≡ p x) → filter q xs ≡ rest
 filter_rest {X} R p q [] rest y pairs is falls none same = let bad : ◌≡◌ {A = List X} [] (y ∷ rest) = is in absurd (cc)
-filter_rest {X} R p q (x ∷ xs) rest y pairs is falls none same = at (p x) refl is (λ e. filter_rest R p q xs rest y (pairs_tail R x xs pairs) e falls none same)
+filter_rest {X} R p q (x ∷ xs) rest y pairs is falls none same =
+    at (p x) refl is (λ e. filter_rest R p q xs rest y (pairs_tail R x xs pairs) e falls none same)
   where
-    at : (b : Bool) → p x ≡ b → cond b (x ∷ filter p xs) (filter p xs) ≡ y ∷ rest → (filter p xs ≡ y ∷ rest → filter q xs ≡ rest) → filter q (x ∷ xs) ≡ rest
+    at : (b : Bool) → p x ≡ b → cond b (x ∷ filter p xs) (filter p xs) ≡ y ∷ rest → (filter p xs ≡ y ∷ rest → filter q xs ≡ rest)
+        → filter q (x ∷ xs) ≡ rest
     at true passes e next =
         let same_x = same_head x y (filter p xs) rest e in
         ap (λ (b : Bool). cond b (x ∷ filter q xs) (filter q xs)) (ap q same_x.0 ∙ falls)

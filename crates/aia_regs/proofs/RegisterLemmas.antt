@@ -18,7 +18,8 @@ IsSelectOf Reserved select = (select ≡ 0x71) ⊎ ((0x73 ≤ select) × (select
 IsSelectOf Odd select = (0x80 ≤ select) × (select ≤ 0xff) × (select % 2 ≡ 1)
 IsSelectOf Outside select = (select < 0x70) ⊎ (0xff < select)
 
-row : (select : ℕ) (test : Bool) (here there : FileReg) → (test ≡ true → IsSelectOf here select) → (test ≡ false → IsSelectOf there select) → IsSelectOf (cond test here there) select
+row : (select : ℕ) (test : Bool) (here there : FileReg) → (test ≡ true → IsSelectOf here select) → (test ≡ false → IsSelectOf there select)
+    → IsSelectOf (cond test here there) select
 row select true here there p q = p refl
 row select false here there p q = q refl
 
@@ -32,13 +33,16 @@ reserved_row select b c =
 odd_row : (select : ℕ) → (is_in_range 0x80 0xff select && nat_eq (select % 2) 1) ≡ true → (0x80 ≤ select) × (select ≤ 0xff) × (select % 2 ≡ 1)
 odd_row select d = (grind (arith, nat_tests), grind (arith, nat_tests), grind (arith, nat_tests))
 
-pending_row : (select : ℕ) → (is_in_range 0x80 0xff select && nat_eq (select % 2) 1) ≡ false → is_in_range 0x80 0xbf select ≡ true → ((select - 0x80) % 2 ≡ 0) × (select - 0x80 < 64) × (select ≡ 0x80 + (select - 0x80))
+pending_row : (select : ℕ) → (is_in_range 0x80 0xff select && nat_eq (select % 2) 1) ≡ false → is_in_range 0x80 0xbf select ≡ true
+    → ((select - 0x80) % 2 ≡ 0) × (select - 0x80 < 64) × (select ≡ 0x80 + (select - 0x80))
 pending_row select d e = (grind (arith, nat_tests), grind (arith, nat_tests), grind (arith, nat_tests))
 
-enable_row : (select : ℕ) → (is_in_range 0x80 0xff select && nat_eq (select % 2) 1) ≡ false → is_in_range 0xc0 0xff select ≡ true → ((select - 0xc0) % 2 ≡ 0) × (select - 0xc0 < 64) × (select ≡ 0xc0 + (select - 0xc0))
+enable_row : (select : ℕ) → (is_in_range 0x80 0xff select && nat_eq (select % 2) 1) ≡ false → is_in_range 0xc0 0xff select ≡ true
+    → ((select - 0xc0) % 2 ≡ 0) × (select - 0xc0 < 64) × (select ≡ 0xc0 + (select - 0xc0))
 enable_row select d f = (grind (arith, nat_tests), grind (arith, nat_tests), grind (arith, nat_tests))
 
-outside_row : (select : ℕ) → nat_eq select 0x70 ≡ false → nat_eq select 0x72 ≡ false → is_in_range 0x71 0x7f select ≡ false → is_in_range 0x80 0xbf select ≡ false → is_in_range 0xc0 0xff select ≡ false → (select < 0x70) ⊎ (0xff < select)
+outside_row : (select : ℕ) → nat_eq select 0x70 ≡ false → nat_eq select 0x72 ≡ false → is_in_range 0x71 0x7f select ≡ false
+    → is_in_range 0x80 0xbf select ≡ false → is_in_range 0xc0 0xff select ≡ false → (select < 0x70) ⊎ (0xff < select)
 outside_row select a b c e f =
     elim (cases_lt select 0x70) [
       | inl p ↦ inl p

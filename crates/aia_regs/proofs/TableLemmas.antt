@@ -29,10 +29,12 @@ rest_of_place base stride i offset positive e =
     let d : offset - base ≡ i * stride + 0 = grind arith in
     ap (λ x. x % stride) d ∙ mod-mul-add i stride 0 positive
 
-passes : (base offset rest first last i : ℕ) → base ≤ offset → rest ≡ 0 → first ≤ i → i ≤ last → (nat_le base offset && nat_eq rest 0 && is_in_range first last i) ≡ true
+passes : (base offset rest first last i : ℕ) → base ≤ offset → rest ≡ 0 → first ≤ i → i ≤ last
+    → (nat_le base offset && nat_eq rest 0 && is_in_range first last i) ≡ true
 passes base offset rest first last i a b c d = grind (arith, nat_tests)
 
-passed : (base offset rest first last i : ℕ) → (nat_le base offset && nat_eq rest 0 && is_in_range first last i) ≡ true → (base ≤ offset) × (rest ≡ 0) × (first ≤ i) × (i ≤ last)
+passed : (base offset rest first last i : ℕ) → (nat_le base offset && nat_eq rest 0 && is_in_range first last i) ≡ true → (base ≤ offset)
+    × (rest ≡ 0) × (first ≤ i) × (i ≤ last)
 passed base offset rest first last i h = (grind (arith, nat_tests), grind (arith, nat_tests), grind (arith, nat_tests), grind (arith, nat_tests))
 
 index_here : (row : Row) (i offset : ℕ) → 0 < row.stride → IsAt row i offset → index_at row offset ≡ i
@@ -67,9 +69,12 @@ last_offset row = row.base + row.stride * row.last
 
 -- no offset is in both rows: one ends before the other begins, or they lie interleaved
 abbrev are_apart : Row → Row → Bool
-are_apart a b = nat_lt (last_offset a) (first_offset b) || nat_lt (last_offset b) (first_offset a) || nat_eq a.stride b.stride && not (nat_eq (a.base % a.stride) (b.base % b.stride))
+are_apart a b = nat_lt (last_offset a) (first_offset b) || nat_lt (last_offset b) (first_offset a) || nat_eq a.stride b.stride && not
+    (nat_eq (a.base % a.stride) (b.base % b.stride))
 
-apart_in_numbers : (first_a last_a first_b last_b rest_a rest_b stride_a stride_b offset : ℕ) → (nat_lt last_a first_b || nat_lt last_b first_a || nat_eq stride_a stride_b && not (nat_eq rest_a rest_b)) ≡ true → first_a ≤ offset → offset ≤ last_a → first_b ≤ offset → offset ≤ last_b → (stride_a ≡ stride_b → rest_a ≡ rest_b) → ⊥
+apart_in_numbers : (first_a last_a first_b last_b rest_a rest_b stride_a stride_b offset : ℕ)
+    → (nat_lt last_a first_b || nat_lt last_b first_a || nat_eq stride_a stride_b && not (nat_eq rest_a rest_b)) ≡ true → first_a ≤ offset
+    → offset ≤ last_a → first_b ≤ offset → offset ≤ last_b → (stride_a ≡ stride_b → rest_a ≡ rest_b) → ⊥
 apart_in_numbers first_a last_a first_b last_b rest_a rest_b stride_a stride_b offset test a b c d same =
     elim (cases_eq stride_a stride_b) [
       | inl e ↦ let r : rest_a ≡ rest_b = same e in grind (arith, nat_tests)
@@ -87,7 +92,8 @@ rest_here row i offset at = ap (λ x. x % row.stride) at.place ∙ add-mul-mod_s
 
 not_in_both : (a b : Row) (i j offset : ℕ) → are_apart a b ≡ true → IsAt a i offset → IsAt b j offset → ⊥
 not_in_both a b i j offset test in_a in_b =
-    apart_in_numbers (first_offset a) (last_offset a) (first_offset b) (last_offset b) (a.base % a.stride) (b.base % b.stride) a.stride b.stride offset test
+    apart_in_numbers (first_offset a) (last_offset a) (first_offset b) (last_offset b) (a.base % a.stride) (b.base % b.stride) a.stride
+        b.stride offset test
     (from_first a i offset in_a) (to_last a i offset in_a) (from_first b j offset in_b) (to_last b j offset in_b)
     (λ e. sym (rest_here a i offset in_a) ∙ ap (λ s. offset % s) e ∙ rest_here b j offset in_b)
 
@@ -111,32 +117,38 @@ in_each test (a ∷ rows) (suc k) row h e = in_each test rows k row (and_parts (
 positive : (n : ℕ) → nat_lt 0 n ≡ true → 0 < n
 positive n h = grind (arith, nat_tests)
 
-parts_of_rows : (row : Row) (rows : List Row) → are_rows (row ∷ rows) ≡ true → (nat_lt 0 row.stride ≡ true) × (each (are_apart row) rows ≡ true) × (are_rows rows ≡ true)
+parts_of_rows : (row : Row) (rows : List Row) → are_rows (row ∷ rows) ≡ true → (nat_lt 0 row.stride ≡ true) × (each (are_apart row) rows ≡ true)
+    × (are_rows rows ≡ true)
 parts_of_rows row rows h =
     let p = and_parts (nat_lt 0 row.stride && each (are_apart row) rows) (are_rows rows) h in
     let q = and_parts (nat_lt 0 row.stride) (each (are_apart row) rows) p.0 in
     (q.0, q.1, p.1)
 
 -- the register of a row at an offset is the one that the rows name there
-named_by_rows : (rows : List Row) (k : ℕ) (row : Row) (i offset : ℕ) → are_rows rows ≡ true → slice_get rows k ≡ Some row → IsAt row i offset → register_by rows offset ≡ row.register i
+named_by_rows : (rows : List Row) (k : ℕ) (row : Row) (i offset : ℕ) → are_rows rows ≡ true → slice_get rows k ≡ Some row → IsAt row i offset
+    → register_by rows offset ≡ row.register i
 named_by_rows [] k row i offset h e at = absurd (cc)
 named_by_rows (a ∷ rows) zero row i offset h e at =
     let same : row ≡ a = cc in
     let here : IsAt a i offset = subst (λ (x : Row). IsAt x i offset) same at in
     let p : 0 < a.stride = positive a.stride (parts_of_rows a rows h).0 in
-    cond-true (has_offset a offset) (a.register (index_at a offset)) (register_by rows offset) (has_here a i offset p here) ∙ ap a.register (index_here a i offset p here) ∙ ap (λ (x : Row). x.register i) (sym same)
+    cond-true (has_offset a offset) (a.register (index_at a offset)) (register_by rows offset) (has_here a i offset p here)
+        ∙ ap a.register (index_here a i offset p here) ∙ ap (λ (x : Row). x.register i) (sym same)
 named_by_rows (a ∷ rows) (suc k) row i offset h e at =
     let p = parts_of_rows a rows h in
     let apart : are_apart a row ≡ true = in_each (are_apart a) rows k row p.1 e in
-    let not_here : has_offset a offset ≡ false = false_from_ne_true (has_offset a offset) (λ t. not_in_both a row (index_at a offset) i offset apart (is_at a offset t) at) in
+    let not_here : has_offset a offset ≡ false = false_from_ne_true (has_offset a offset)
+        (λ t. not_in_both a row (index_at a offset) i offset apart (is_at a offset t) at) in
     cond-false (has_offset a offset) (a.register (index_at a offset)) (register_by rows offset) not_here ∙ named_by_rows rows k row i offset p.2 e at
 
 -- where no row has the offset, the rows name nothing there
-nothing_by_rows : (test : Row → Bool) (rows : List Row) (offset : ℕ) → each test rows ≡ true → ((row : Row) → test row ≡ true → has_offset row offset ≡ false) → register_by rows offset ≡ Nothing
+nothing_by_rows : (test : Row → Bool) (rows : List Row) (offset : ℕ) → each test rows ≡ true
+    → ((row : Row) → test row ≡ true → has_offset row offset ≡ false) → register_by rows offset ≡ Nothing
 nothing_by_rows test [] offset h none = refl
 nothing_by_rows test (row ∷ rows) offset h none =
     let p = and_parts (test row) (each test rows) h in
-    cond-false (has_offset row offset) (row.register (index_at row offset)) (register_by rows offset) (none row p.0) ∙ nothing_by_rows test rows offset p.1 none
+    cond-false (has_offset row offset) (row.register (index_at row offset)) (register_by rows offset) (none row p.0)
+        ∙ nothing_by_rows test rows offset p.1 none
 
 -- ---- the table
 
@@ -144,13 +156,15 @@ table_has_rows : are_rows table ≡ true
 table_has_rows = refl
 
 -- a register with an index that has an offset: the index is in its row
-pub in_range : (base stride first last i offset : ℕ) → offset_of_index base stride first last i ≡ Some offset → (first ≤ i) × (i ≤ last) × (offset ≡ base + stride * i)
+pub in_range : (base stride first last i offset : ℕ) → offset_of_index base stride first last i ≡ Some offset → (first ≤ i) × (i ≤ last)
+    × (offset ≡ base + stride * i)
 in_range base stride first last i offset e =
     let h = cond_some (is_in_range first last i) (base + stride * i) offset e in
     let inside : is_in_range first last i ≡ true = h.0 in
     (grind (arith, nat_tests, inside), grind (arith, nat_tests, inside), sym h.1)
 
-in_table : (k : ℕ) (row : Row) → slice_get table k ≡ Some row → (i offset : ℕ) → offset_of_index row.base row.stride row.first row.last i ≡ Some offset → domain_register_of offset ≡ row.register i
+in_table : (k : ℕ) (row : Row) → slice_get table k ≡ Some row → (i offset : ℕ)
+    → offset_of_index row.base row.stride row.first row.last i ≡ Some offset → domain_register_of offset ≡ row.register i
 unfolding domain_register_of
 in_table k row e i offset h =
     let p = in_range row.base row.stride row.first row.last i offset h in
@@ -186,13 +200,15 @@ named_by_offset Nothing o e = absurd (cc)
 -- the offsets of rows are those of their registers
 abbrev HaveOffsets : List Row → Type 0
 HaveOffsets [] = Unit {0}
-HaveOffsets (row ∷ rows) = ((i : ℕ) → row.first ≤ i → i ≤ row.last → domain_offset_of (row.register i) ≡ Some (row.base + row.stride * i)) × HaveOffsets rows
+HaveOffsets (row ∷ rows) = ((i : ℕ) → row.first ≤ i → i ≤ row.last → domain_offset_of (row.register i) ≡ Some (row.base + row.stride * i))
+    × HaveOffsets rows
 
 alone : (base i : ℕ) → 0 ≤ i → i ≤ 0 → ◌≡◌ {A = Option ℕ} (Some base) (Some (base + 4 * i))
 alone base i from to = let e : base ≡ base + 4 * i = omega arith in ap (λ (x : ℕ). Some x) e
 
 inside : (base stride first last i : ℕ) → first ≤ i → i ≤ last → offset_of_index base stride first last i ≡ Some (base + stride * i)
-inside base stride first last i from to = let e : is_in_range first last i ≡ true = grind (arith, nat_tests) in cond-true (is_in_range first last i) (Some (base + stride * i)) None e
+inside base stride first last i from to = let e : is_in_range first last i ≡ true = grind (arith, nat_tests) in
+    cond-true (is_in_range first last i) (Some (base + stride * i)) None e
 
 table_has_offsets : HaveOffsets table
 table_has_offsets = (
@@ -231,7 +247,8 @@ table_has_offsets = (
                                   alone 0x3000,
                                   (
                                     inside 0x3000 4 1 1023,
-                                    (inside 0x4000 32 0 511, (inside 0x4004 32 0 511, (inside 0x4008 32 0 511, (inside 0x4018 32 0 511, (inside 0x401c 32 0 511, tt))))),
+                                    (inside 0x4000 32 0 511, (inside 0x4004 32 0 511,
+                                        (inside 0x4008 32 0 511, (inside 0x4018 32 0 511, (inside 0x401c 32 0 511, tt))))),
                                   ),
                                 ),
                               ),
@@ -251,12 +268,17 @@ table_has_offsets = (
   ),
 )
 
-offset_by_rows : (rows : List Row) → HaveOffsets rows → (offset : ℕ) → (register_by rows offset ≡ Nothing) ⊎ (domain_offset_of (register_by rows offset) ≡ Some offset)
+offset_by_rows : (rows : List Row) → HaveOffsets rows → (offset : ℕ) → (register_by rows offset ≡ Nothing)
+    ⊎ (domain_offset_of (register_by rows offset) ≡ Some offset)
 offset_by_rows [] h offset = inl refl
 offset_by_rows (row ∷ rows) h offset = chosen (has_offset row offset) refl (offset_by_rows rows h.1 offset)
   where
-    chosen : (t : Bool) → has_offset row offset ≡ t → (register_by rows offset ≡ Nothing) ⊎ (domain_offset_of (register_by rows offset) ≡ Some offset) → (cond t (row.register (index_at row offset)) (register_by rows offset) ≡ Nothing) ⊎ (domain_offset_of (cond t (row.register (index_at row offset)) (register_by rows offset)) ≡ Some offset)
-    chosen true e later = let at : IsAt row (index_at row offset) offset = is_at row offset e in inr (h.0 (index_at row offset) at.from at.to ∙ ap (λ (x : ℕ). Some x) (sym at.place))
+    chosen : (t : Bool) → has_offset row offset ≡ t → (register_by rows offset ≡ Nothing)
+        ⊎ (domain_offset_of (register_by rows offset) ≡ Some offset)
+        → (cond t (row.register (index_at row offset)) (register_by rows offset) ≡ Nothing)
+        ⊎ (domain_offset_of (cond t (row.register (index_at row offset)) (register_by rows offset)) ≡ Some offset)
+    chosen true e later = let at : IsAt row (index_at row offset) offset = is_at row offset e in
+        inr (h.0 (index_at row offset) at.from at.to ∙ ap (λ (x : ℕ). Some x) (sym at.place))
     chosen false e later = later
 
 -- an offset that names a register is the register's
@@ -279,7 +301,8 @@ aligned_offset base stride i offset h e =
     omega arith
 
 unaligned_row : (offset : ℕ) → offset % 4 ≢ 0 → (row : Row) → is_aligned row ≡ true → has_offset row offset ≡ false
-unaligned_row offset ne row h = false_from_ne_true (has_offset row offset) (λ t. ne (aligned_offset row.base row.stride (index_at row offset) offset h (is_at row offset t).place))
+unaligned_row offset ne row h = false_from_ne_true (has_offset row offset)
+    (λ t. ne (aligned_offset row.base row.stride (index_at row offset) offset h (is_at row offset t).place))
 
 pub unaligned : (offset : ℕ) → offset % 4 ≢ 0 → domain_register_of offset ≡ Nothing
 unfolding domain_register_of
@@ -290,7 +313,8 @@ abbrev is_inside : Row → Bool
 is_inside row = nat_lt (last_offset row) 0x8000
 
 beyond_row : (offset : ℕ) → 0x8000 ≤ offset → (row : Row) → is_inside row ≡ true → has_offset row offset ≡ false
-beyond_row offset past row h = false_from_ne_true (has_offset row offset) (λ t. outside (last_offset row) h (to_last row (index_at row offset) offset (is_at row offset t)))
+beyond_row offset past row h = false_from_ne_true (has_offset row offset)
+    (λ t. outside (last_offset row) h (to_last row (index_at row offset) offset (is_at row offset t)))
   where
     outside : (last : ℕ) → nat_lt last 0x8000 ≡ true → offset ≤ last → ⊥
     outside last small low = grind (arith, nat_tests)
@@ -303,11 +327,14 @@ beyond offset past = nothing_by_rows is_inside table offset refl (beyond_row off
 abbrev is_elsewhere : ℕ → Row → Bool
 is_elsewhere place row = nat_lt (last_offset row) 0x4000 || nat_eq row.stride 32 && not (nat_eq (row.base % 32) place)
 
-elsewhere_row : (hart place offset : ℕ) → place < 32 → offset ≡ 0x4000 + 32 * hart + place → (row : Row) → is_elsewhere place row ≡ true → has_offset row offset ≡ false
+elsewhere_row : (hart place offset : ℕ) → place < 32 → offset ≡ 0x4000 + 32 * hart + place → (row : Row) → is_elsewhere place row ≡ true
+    → has_offset row offset ≡ false
 elsewhere_row hart place offset small e row h =
-    false_from_ne_true (has_offset row offset) (λ t. outside (last_offset row) row.stride row.base h (to_last row (index_at row offset) offset (is_at row offset t)) (rest_here row (index_at row offset) offset (is_at row offset t)))
+    false_from_ne_true (has_offset row offset) (λ t. outside (last_offset row) row.stride row.base h
+        (to_last row (index_at row offset) offset (is_at row offset t)) (rest_here row (index_at row offset) offset (is_at row offset t)))
   where
-    outside : (last stride base : ℕ) → (nat_lt last 0x4000 || nat_eq stride 32 && not (nat_eq (base % 32) place)) ≡ true → offset ≤ last → offset % stride ≡ base % stride → ⊥
+    outside : (last stride base : ℕ) → (nat_lt last 0x4000 || nat_eq stride 32 && not (nat_eq (base % 32) place)) ≡ true → offset ≤ last
+        → offset % stride ≡ base % stride → ⊥
     outside last stride base test low rest =
         elim (cases_eq stride 32) [
           | inl same ↦ let r : offset % 32 ≡ base % 32 = subst (λ (x : ℕ). offset % x ≡ base % x) same rest in grind (arith, nat_tests)
@@ -316,7 +343,8 @@ elsewhere_row hart place offset small e row h =
 
 pub no_control : (hart place : ℕ) → place < 32 → each (is_elsewhere place) table ≡ true → domain_register_of (0x4000 + 32 * hart + place) ≡ Nothing
 unfolding domain_register_of
-no_control hart place small h = nothing_by_rows (is_elsewhere place) table (0x4000 + 32 * hart + place) h (elsewhere_row hart place (0x4000 + 32 * hart + place) small refl)
+no_control hart place small h = nothing_by_rows (is_elsewhere place) table (0x4000 + 32 * hart + place) h
+    (elsewhere_row hart place (0x4000 + 32 * hart + place) small refl)
 
 -- ---- a hart's delivery control
 
@@ -324,7 +352,8 @@ pub control : (first hart offset : ℕ) → hart < 512 → offset ≡ first + 32
 control first hart offset few e = inside first 32 0 511 hart (omega arith) (omega arith) ∙ ap (λ (x : ℕ). Some x) (sym e)
 
 -- the reserved places
-pub reserved_control : (hart place : ℕ) → place % 4 ≡ 0 → place < 32 → place ≢ 0x00 → place ≢ 0x04 → place ≢ 0x08 → place ≢ 0x18 → place ≢ 0x1c → domain_register_of (0x4000 + 32 * hart + place) ≡ Nothing
+pub reserved_control : (hart place : ℕ) → place % 4 ≡ 0 → place < 32 → place ≢ 0x00 → place ≢ 0x04 → place ≢ 0x08 → place ≢ 0x18 → place ≢ 0x1c
+    → domain_register_of (0x4000 + 32 * hart + place) ≡ Nothing
 reserved_control hart place aligned small a b c d e =
     elim (cases_eq place 0x0c) [
       | inl p ↦ at 0x0c p refl

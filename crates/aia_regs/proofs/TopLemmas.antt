@@ -28,16 +28,20 @@ pub least_pair-none : (candidate : ℕ → Option Pair) (from : ℕ) → least_p
 unfolding least_pair
 least_pair-none candidate from = refl
 
-pub least_pair-suc : (candidate : ℕ → Option Pair) (from count : ℕ) → least_pair candidate from (suc count) ≡ lesser (candidate from) (least_pair candidate (suc from) count)
+pub least_pair-suc : (candidate : ℕ → Option Pair) (from count : ℕ)
+    → least_pair candidate from (suc count) ≡ lesser (candidate from) (least_pair candidate (suc from) count)
 unfolding least_pair
 least_pair-suc candidate from count = refl
 
 -- a loop's next step, up to n
-pub least_pair-step : (candidate : ℕ → Option Pair) (so_far : Option Pair) (s n : ℕ) → s < n → lesser (lesser so_far (candidate s)) (least_pair candidate (s + 1) (n - (s + 1))) ≡ lesser so_far (least_pair candidate s (n - s))
+pub least_pair-step : (candidate : ℕ → Option Pair) (so_far : Option Pair) (s n : ℕ) → s < n
+    → lesser (lesser so_far (candidate s)) (least_pair candidate (s + 1) (n - (s + 1))) ≡ lesser so_far (least_pair candidate s (n - s))
 least_pair-step candidate so_far s n within =
     let e : n - s ≡ suc (n - (s + 1)) = omega arith in
     let f : suc s ≡ s + 1 = omega arith in
-    lesser-assoc so_far (candidate s) _ ∙ ap (lesser so_far) (sym (ap (least_pair candidate s) e ∙ least_pair-suc candidate s (n - (s + 1)) ∙ ap (λ k. lesser (candidate s) (least_pair candidate k (n - (s + 1)))) f))
+    lesser-assoc so_far (candidate s) _ ∙ ap (lesser so_far)
+        (sym (ap (least_pair candidate s) e ∙ least_pair-suc candidate s (n - (s + 1))
+        ∙ ap (λ k. lesser (candidate s) (least_pair candidate k (n - (s + 1)))) f))
 
 pub least_pair-end : (candidate : ℕ → Option Pair) (so_far : Option Pair) (s n : ℕ) → n ≤ s → lesser so_far (least_pair candidate s (n - s)) ≡ so_far
 least_pair-end candidate so_far s n past =
@@ -53,7 +57,8 @@ first_is : (p q : Pair) → q ≡ p → ComesFirst p q
 first_is p q e = subst (ComesFirst p) (sym e) (inr (refl, omega arith))
 
 -- the first candidate and the least of those after it
-one_more : (candidate : ℕ → Option Pair) (from count : ℕ) (o r : Option Pair) → NamesItself candidate → candidate from ≡ o → IsLeastOf candidate (suc from) count r → IsLeastOf candidate from (suc count) (lesser o r)
+one_more : (candidate : ℕ → Option Pair) (from count : ℕ) (o r : Option Pair) → NamesItself candidate → candidate from ≡ o
+    → IsLeastOf candidate (suc from) count r → IsLeastOf candidate from (suc count) (lesser o r)
 one_more candidate from count None None own here rest = λ s low high. elim (cases_eq s from) [
   | inl e ↦ ap candidate e ∙ here
   | inr ne ↦ rest s (omega arith) (omega arith)
@@ -88,7 +93,8 @@ one_more candidate from count (Some p) (Some r) own here rest = elim (cases_lt r
       | inr ne ↦ rest.least s q (omega arith) (omega arith) found
     ];
   })
-  | inr more ↦ let at : p.1 ≡ from = own from p here in subst (IsLeastOf candidate from (suc count)) (sym (cond-false _ _ _ (le-ltb r.0 p.0 more))) (record {
+  | inr more ↦ let at : p.1 ≡ from = own from p here in
+        subst (IsLeastOf candidate from (suc count)) (sym (cond-false _ _ _ (le-ltb r.0 p.0 more))) (record {
     low = omega arith;
     high = omega arith;
     is = ap candidate at ∙ here;
@@ -109,10 +115,13 @@ one_more candidate from count (Some p) (Some r) own here rest = elim (cases_lt r
 is_least : (candidate : ℕ → Option Pair) (from count : ℕ) → NamesItself candidate → IsLeastOf candidate from count (least_pair candidate from count)
 unfolding least_pair
 is_least candidate from zero own = λ s low high. absurd (omega arith)
-is_least candidate from (suc count) own = one_more candidate from count (candidate from) (least_pair candidate (suc from) count) own refl (is_least candidate (suc from) count own)
+is_least candidate from (suc count) own = one_more candidate from count (candidate from) (least_pair candidate (suc from) count) own refl
+    (is_least candidate (suc from) count own)
 
-pub least_none : (candidate : ℕ → Option Pair) (from count : ℕ) → NamesItself candidate → least_pair candidate from count ≡ None → (s : ℕ) → from ≤ s → s < from + count → candidate s ≡ None
+pub least_none : (candidate : ℕ → Option Pair) (from count : ℕ) → NamesItself candidate → least_pair candidate from count ≡ None → (s : ℕ)
+    → from ≤ s → s < from + count → candidate s ≡ None
 least_none candidate from count own e = subst (IsLeastOf candidate from count) e (is_least candidate from count own)
 
-pub least_found : (candidate : ℕ → Option Pair) (from count : ℕ) (p : Pair) → NamesItself candidate → least_pair candidate from count ≡ Some p → IsLeast candidate from count p
+pub least_found : (candidate : ℕ → Option Pair) (from count : ℕ) (p : Pair) → NamesItself candidate → least_pair candidate from count ≡ Some p
+    → IsLeast candidate from count p
 least_found candidate from count p own e = subst (IsLeastOf candidate from count) e (is_least candidate from count own)

@@ -19,7 +19,8 @@ unheard_level r was (Some SetEnable) same = same
 unheard_level r was (Some ClearEnable) same = same
 
 -- a register: it is not heard, and nor is what touches nothing
-pub unheard : (m : Mode) (msi r was : Bool) (t : Option Touch) → is_level m ≡ true → msi ≡ false → was ≡ r → settle (says m msi r r (deed_of_touch t)) was ≡ r
+pub unheard : (m : Mode) (msi r was : Bool) (t : Option Touch) → is_level m ≡ true → msi ≡ false → was ≡ r
+    → settle (says m msi r r (deed_of_touch t)) was ≡ r
 unheard Inactive msi r was t l e same = cc
 unheard Detached msi r was t l e same = cc
 unheard RisingEdge msi r was t l e same = cc
@@ -79,13 +80,18 @@ claimed LevelLow msi r was false l e same = same
 
 -- ---- each deed but the sending of an MSI leaves the law
 
-pub level_follows : (mode : Mode) (was wire pending : Bool) → (is_level mode ≡ true → pending ≡ rectified mode was) → is_level mode ≡ true → settle (says mode false (rectified mode was) (rectified mode wire) LevelGiven) pending ≡ rectified mode wire
+pub level_follows : (mode : Mode) (was wire pending : Bool) → (is_level mode ≡ true → pending ≡ rectified mode was) → is_level mode ≡ true
+    → settle (says mode false (rectified mode was) (rectified mode wire) LevelGiven) pending ≡ rectified mode wire
 level_follows mode was wire pending lawful level = followed mode false (rectified mode was) (rectified mode wire) pending level (lawful level)
 
-pub level_stays : (mode : Mode) (wire pending : Bool) (deed : SourceDeed) → deed ≢ Forwarded → (is_level mode ≡ true → pending ≡ rectified mode wire) → is_level mode ≡ true → settle (says mode false (rectified mode wire) (rectified mode wire) deed) pending ≡ rectified mode wire
-level_stays mode wire pending LevelGiven other lawful level = followed mode false (rectified mode wire) (rectified mode wire) pending level (lawful level)
+pub level_stays : (mode : Mode) (wire pending : Bool) (deed : SourceDeed) → deed ≢ Forwarded
+    → (is_level mode ≡ true → pending ≡ rectified mode wire) → is_level mode ≡ true
+    → settle (says mode false (rectified mode wire) (rectified mode wire) deed) pending ≡ rectified mode wire
+level_stays mode wire pending LevelGiven other lawful level =
+    followed mode false (rectified mode wire) (rectified mode wire) pending level (lawful level)
 level_stays mode wire pending Set other lawful level = unheard mode false (rectified mode wire) pending (Some SetPending) level refl (lawful level)
-level_stays mode wire pending Cleared other lawful level = unheard mode false (rectified mode wire) pending (Some ClearPending) level refl (lawful level)
+level_stays mode wire pending Cleared other lawful level =
+    unheard mode false (rectified mode wire) pending (Some ClearPending) level refl (lawful level)
 level_stays mode wire pending Claimed other lawful level = claimed mode false (rectified mode wire) pending true level refl (lawful level)
 level_stays mode wire pending Forwarded other lawful level = absurd (other refl)
 level_stays mode wire pending Configured other lawful level = begun mode false (rectified mode wire) (rectified mode wire) pending level

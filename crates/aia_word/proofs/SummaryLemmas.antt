@@ -31,7 +31,8 @@ other_has_some x w members small shows some =
     let more : 0 < x = omega (arith, some) in
     let low = bit_at-trailing_zeros w64 x more small in
     let t = trailing_zeros w64 x in
-    ap is_some (least_of-found members (64 * w) 64 (64 * w + t) (omega arith) (omega (arith, low.0)) (sym (shows t low.0) ∙ ap (λ b. nat_eq b 1) low.1)
+    ap is_some (least_of-found members (64 * w) 64 (64 * w + t) (omega arith) (omega (arith, low.0))
+        (sym (shows t low.0) ∙ ap (λ b. nat_eq b 1) low.1)
     (λ i from below. shown_by x w i members shows from (omega (arith, low.0)) ∙ ap (λ y. nat_eq y 1) (low.2 (i - 64 * w) (omega arith))))
 
 none_found : (found : Option ℕ) → is_some found ≡ false → found ≡ None
@@ -51,7 +52,8 @@ pub none_summarized : (members : ℕ → Bool) → ((i : ℕ) → members i ≡ 
 unfolding Summarizes
 none_summarized members none w low = has_bit-zero w ∙ sym (none_some members w (λ i a b. none i))
 
-pub word_emptied : (summary k x : ℕ) (members : ℕ → Bool) → k < 64 → ShowsWord x members k → x ≡ 0 → SummarizesAllBut k summary members → Summarizes (bit_and summary (2 ^ 64 - 1 - 1 * 2 ^ k % 2 ^ 64)) members
+pub word_emptied : (summary k x : ℕ) (members : ℕ → Bool) → k < 64 → ShowsWord x members k → x ≡ 0 → SummarizesAllBut k summary members
+    → Summarizes (bit_and summary (2 ^ 64 - 1 - 1 * 2 ^ k % 2 ^ 64)) members
 unfolding Summarizes
 word_emptied summary k x members small shows none others w low =
     has_bit-clear summary k w small low ∙ elim (cases_eq w k) [
@@ -59,7 +61,8 @@ word_emptied summary k x members small shows none others w low =
       | inr ne ↦ ap (λ b. not b && has_bit summary w) (ne_eqb w k ne) ∙ others w low ne
     ]
 
-pub word_filled : (summary k x : ℕ) (members : ℕ → Bool) → k < 64 → x < 2 ^ 64 → ShowsWord x members k → (x ≡ 0 → ⊥) → SummarizesAllBut k summary members → Summarizes (bit_or summary (1 * 2 ^ k % 2 ^ 64)) members
+pub word_filled : (summary k x : ℕ) (members : ℕ → Bool) → k < 64 → x < 2 ^ 64 → ShowsWord x members k → (x ≡ 0 → ⊥)
+    → SummarizesAllBut k summary members → Summarizes (bit_or summary (1 * 2 ^ k % 2 ^ 64)) members
 unfolding Summarizes
 word_filled summary k x members small fits shows some others w low =
     has_bit-set summary k w small ∙ elim (cases_eq w k) [
@@ -68,6 +71,7 @@ word_filled summary k x members small fits shows some others w low =
     ]
 
 -- where a set changes in word k alone, the other bits still tell of it
-pub other_words : (summary k : ℕ) (old new : ℕ → Bool) → Summarizes summary old → ((i : ℕ) → (i / 64 ≡ k → ⊥) → new i ≡ old i) → SummarizesAllBut k summary new
+pub other_words : (summary k : ℕ) (old new : ℕ → Bool) → Summarizes summary old → ((i : ℕ) → (i / 64 ≡ k → ⊥) → new i ≡ old i)
+    → SummarizesAllBut k summary new
 other_words summary k old new told same w low other =
     summarizes summary old told w low ∙ sym (same_some new old w (λ i a b. same i (λ at. other (omega arith))))

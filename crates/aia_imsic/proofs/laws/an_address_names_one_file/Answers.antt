@@ -8,4 +8,5 @@ pub returns-clause-host : goal.returns-clause-host
 returns-clause-host c = λ harts guests addr hart few. (host_of_spot harts guests addr hart, λ is. spot_of_host harts guests addr hart few is.0 is.1)
 
 pub returns-clause-guest : goal.returns-clause-guest
-returns-clause-guest c = λ harts guests addr hart file few eight. (guest_of_spot harts guests addr hart file, λ is. spot_of_guest harts guests addr hart file few eight is.0 is.1 is.2 is.3)
+returns-clause-guest c = λ harts guests addr hart file few
+    eight. (guest_of_spot harts guests addr hart file, λ is. spot_of_guest harts guests addr hart file few eight is.0 is.1 is.2 is.3)

@@ -20,4 +20,5 @@ pub returns-in-28 : goal.returns-in-28
 returns-in-28 c = sym (named_by_offset (ClaimI c.args.hart) _ (control 0x401c c.args.hart _ c.requires.few (omega arith)))
 
 pub returns-in_default : goal.returns-in_default
-returns-in_default c = sym (reserved_control c.args.hart c.args.place c.requires.aligned c.requires.inside (omega arith) (omega arith) (omega arith) (omega arith) (omega arith))
+returns-in_default c = sym (reserved_control c.args.hart c.args.place c.requires.aligned c.requires.inside (omega arith) (omega arith)
+    (omega arith) (omega arith) (omega arith))

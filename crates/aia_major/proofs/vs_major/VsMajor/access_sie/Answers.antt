@@ -8,4 +8,5 @@ use Rattle.aia_major.proofs.vs_major.VsMajor.access_sie.Goals as goal
 pub returns-clause-after : goal.returns-clause-after
 returns-clause-after c =
     let fits : FitsOp c.args.op = search rules in
-    c.write_sie.ensures ∙ ap (λ v. sie_written v (majors_shown c.args.self.now)) (c.written.ensures ∙ ap (written c.args.op) c.sie-before.ensures) ∙ sie_access c.args.op (majors_shown c.args.self.now) fits
+    c.write_sie.ensures ∙ ap (λ v. sie_written v (majors_shown c.args.self.now)) (c.written.ensures ∙ ap (written c.args.op) c.sie-before.ensures)
+        ∙ sie_access c.args.op (majors_shown c.args.self.now) fits
