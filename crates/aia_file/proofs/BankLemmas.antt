@@ -12,7 +12,7 @@ pub members_joined : (words : List ℕ) (k v i : ℕ) → k < length words
 members_joined words k v i h =
     is_in-set words k _ i h ∙ elim (cases_eq (i / 64) k) [
       | inl e ↦ cond-true _ _ _ (eq-eqb _ _ e) ∙ has_bit-or (get_or words k 0) v (i % 64)
-            ∙ ap (λ x. has_bit (get_or words x 0) (i % 64) || has_bit v (i % 64)) (sym e) ∙ sym (cond-true _ _ _ (eq-eqb _ _ e))
+          ∙ ap (λ x. has_bit (get_or words x 0) (i % 64) || has_bit v (i % 64)) (sym e) ∙ sym (cond-true _ _ _ (eq-eqb _ _ e))
       | inr ne ↦ cond-false _ _ _ (ne_eqb _ _ ne) ∙ sym (cond-false _ _ _ (ne_eqb _ _ ne))
     ]
 

@@ -19,7 +19,7 @@ pub first_found : (k live threshold bit : ℕ) → bit < 64 → has_bit live bit
 first_found k live threshold bit small here below passed =
     let at : 64 * k + bit - 64 * k ≡ bit = omega arith in
     sym (least_of-found (λ i. has_bit live (i - 64 * k) && lets_through threshold i) (64 * k) 64 (64 * k + bit) (omega arith) (omega arith)
-        (and_from _ _ (ap (has_bit live) at ∙ here) passed) (λ i low high. and_left _ (lets_through threshold i) (below (i - 64 * k) (omega arith))))
+    (and_from _ _ (ap (has_bit live) at ∙ here) passed) (λ i low high. and_left _ (lets_through threshold i) (below (i - 64 * k) (omega arith))))
 
 pub first_held_back : (k live threshold bit : ℕ) → bit < 64 → ((b : ℕ) → b < bit → has_bit live b ≡ false)
     → lets_through threshold (64 * k + bit) ≡ false → ◌≡◌ {A = Option ℕ} None (first_through k live threshold)
@@ -32,7 +32,7 @@ first_held_back k live threshold bit small below held =
 pub first_none : (k live threshold : ℕ) → ((b : ℕ) → has_bit live b ≡ false) → ◌≡◌ {A = Option ℕ} None (first_through k live threshold)
 first_none k live threshold none =
     sym (least_of-none (λ i. has_bit live (i - 64 * k) && lets_through threshold i) (64 * k) 64
-        (λ i low high. and_left _ (lets_through threshold i) (none (i - 64 * k))))
+    (λ i low high. and_left _ (lets_through threshold i) (none (i - 64 * k))))
 
 -- ---- it is the identity on top, where word k is the first that has one in both sets
 
@@ -62,7 +62,7 @@ first_is_top p e words k threshold range shared none =
         → first_through k (both_words p e k) threshold ≡ top_identity (64 * words - 1) p e threshold
     by_threshold true t passes small bit below here before some inside =
         sym (first_found k (both_words p e k) threshold t small bit below passes)
-            ∙ top_found (64 * words - 1) p e threshold (64 * k + t) some (omega arith) here before passes
+        ∙ top_found (64 * words - 1) p e threshold (64 * k + t) some (omega arith) here before passes
     by_threshold false t passes small bit below here before some inside =
         sym (first_held_back k (both_words p e k) threshold t small below passes)
-            ∙ top_held_back (64 * words - 1) p e threshold (64 * k + t) before passes
+        ∙ top_held_back (64 * words - 1) p e threshold (64 * k + t) before passes

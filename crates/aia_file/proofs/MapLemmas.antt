@@ -42,7 +42,7 @@ the_machine : (harts addr hart : ℕ) → hart < harts → is_in_page (machine_p
 the_machine harts addr hart there here =
     let low = from_page (machine_page hart) addr here in
     least_of-found (λ x. is_in_page (machine_page x) addr) 0 harts hart (omega arith) (omega arith) here
-        (λ j a b. after_page (machine_page j) addr (omega arith))
+    (λ j a b. after_page (machine_page j) addr (omega arith))
 
 no_supervisor : (harts addr : ℕ) → ((hart : ℕ) → hart < harts → is_in_page (supervisor_page hart) addr ≡ false) → supervisor_file_at harts addr ≡ None
 no_supervisor harts addr none = least_of-none (λ hart. is_in_page (supervisor_page hart) addr) 0 harts (λ j a b. none j (omega arith))
@@ -51,7 +51,7 @@ the_supervisor : (harts addr hart : ℕ) → hart < harts → is_in_page (superv
 the_supervisor harts addr hart there here =
     let low = from_page (supervisor_page hart) addr here in
     least_of-found (λ x. is_in_page (supervisor_page x) addr) 0 harts hart (omega arith) (omega arith) here
-        (λ j a b. after_page (supervisor_page j) addr (omega arith))
+    (λ j a b. after_page (supervisor_page j) addr (omega arith))
 
 no_guest_file : (guests hart addr : ℕ) → ((file : ℕ) → 1 ≤ file → file ≤ guests → is_in_page (guest_page hart file) addr ≡ false)
     → guest_file_at guests hart addr ≡ None
@@ -62,7 +62,7 @@ the_guest_file : (guests hart addr file : ℕ) → 1 ≤ file → file ≤ guest
 the_guest_file guests hart addr file some few here =
     let low = from_page (guest_page hart file) addr here in
     least_of-found (λ x. is_in_page (guest_page hart x) addr) 1 guests file some (omega arith) here
-        (λ j a b. after_page (guest_page hart j) addr (omega arith))
+    (λ j a b. after_page (guest_page hart j) addr (omega arith))
 
 no_guest_hart : (harts guests addr : ℕ) → ((hart file : ℕ) → hart < harts → 1 ≤ file → file ≤ guests
     → is_in_page (guest_page hart file) addr ≡ false) → guest_hart_at harts guests addr ≡ None
@@ -74,7 +74,7 @@ the_guest_hart : (harts guests addr hart file : ℕ) → guests ≤ GUEST_FILES 
 the_guest_hart harts guests addr hart file fewer there some few here =
     let low = from_page (guest_page hart file) addr here in
     least_of-found (λ x. is_some (guest_file_at guests x addr)) 0 harts hart (omega arith) (omega arith)
-        (ap is_some (the_guest_file guests hart addr file some few here))
+    (ap is_some (the_guest_file guests hart addr file some few here))
     (λ j a b. ap is_some (no_guest_file guests j addr (λ x c d. after_page (guest_page j x) addr (omega arith))))
 
 -- ---- which file
@@ -115,13 +115,13 @@ spot_of_guest harts guests addr hart file few fewer there some below here =
     let low = from_page (guest_page hart file) addr here in
     by_parts harts guests addr None None (Some hart) (no_machine harts addr few (omega arith))
     (no_supervisor harts addr (λ x c. guest_is_not_host hart file x addr some (omega arith) here))
-        (the_guest_hart harts guests addr hart file fewer there some below here)
+    (the_guest_hart harts guests addr hart file fewer there some below here)
     ∙ ap (λ file. option_map_or (GuestFile hart) file Nowhere) (the_guest_file guests hart addr file some below here)
 
 pub spot_of_none : (harts guests addr : ℕ) → machine_file_at harts addr ≡ None
     → ((hart : ℕ) → hart < harts → is_in_page (supervisor_page hart) addr ≡ false)
     → ((hart file : ℕ) → hart < harts → 1 ≤ file → file ≤ guests → is_in_page (guest_page hart file) addr ≡ false)
-        → spot_at harts guests addr ≡ Nowhere
+    → spot_at harts guests addr ≡ Nowhere
 spot_of_none harts guests addr machine host guest =
     by_parts harts guests addr None None None machine (no_supervisor harts addr host) (no_guest_hart harts guests addr guest)
 
@@ -161,20 +161,20 @@ is_guest guests addr hart file None (Some y) guest_hart e = absurd (cc)
 is_guest guests addr hart file None None None e = absurd (cc)
 is_guest guests addr hart file None None (Some x) e =
     let parts = guest_parts x hart file (guest_file_at guests x addr) e in
-        (ap Some parts.0, ap (λ y. guest_file_at guests y addr) (sym parts.0) ∙ parts.1)
+    (ap Some parts.0, ap (λ y. guest_file_at guests y addr) (sym parts.0) ∙ parts.1)
 
 pub machine_of_spot : (harts guests addr hart : ℕ) → spot_at harts guests addr ≡ MachineFile hart → (hart < harts)
     × (is_in_page (machine_page hart) addr ≡ true)
 machine_of_spot harts guests addr hart e =
     let least = least_of_is (λ x. is_in_page (machine_page x) addr) 0 harts hart
-        (is_machine guests addr hart (machine_file_at harts addr) (supervisor_file_at harts addr) (guest_hart_at harts guests addr) e) in
+    (is_machine guests addr hart (machine_file_at harts addr) (supervisor_file_at harts addr) (guest_hart_at harts guests addr) e) in
     (omega (arith, least.1), least.2)
 
 pub host_of_spot : (harts guests addr hart : ℕ) → spot_at harts guests addr ≡ SupervisorFile hart → (hart < harts)
     × (is_in_page (supervisor_page hart) addr ≡ true)
 host_of_spot harts guests addr hart e =
     let least = least_of_is (λ x. is_in_page (supervisor_page x) addr) 0 harts hart
-        (is_host guests addr hart (machine_file_at harts addr) (supervisor_file_at harts addr) (guest_hart_at harts guests addr) e) in
+    (is_host guests addr hart (machine_file_at harts addr) (supervisor_file_at harts addr) (guest_hart_at harts guests addr) e) in
     (omega (arith, least.1), least.2)
 
 pub guest_of_spot : (harts guests addr hart file : ℕ) → spot_at harts guests addr ≡ GuestFile hart file → (hart < harts) × (1 ≤ file)

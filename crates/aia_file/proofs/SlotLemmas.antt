@@ -52,9 +52,9 @@ written place words k v i apart there low =
       | inl e ↦
           let is : nat_le i IDENTITIES ≡ true = grind (arith, nat_tests) in
           rw is (ap (λ w. has_bit w (i % 64)) (ap (λ x. get_or (set words (place k) v) (place x) 0) e
-              ∙ get_or-set_at words (place k) (place k) v 0 refl there)) ∙ sym (cond-true _ _ _ (eq-eqb _ _ e))
+          ∙ get_or-set_at words (place k) (place k) v 0 refl there)) ∙ sym (cond-true _ _ _ (eq-eqb _ _ e))
       | inr ne ↦ ap (λ w. nat_le i IDENTITIES && has_bit w (i % 64))
-            (get_or-set_other words (place k) (place (i / 64)) v 0 (λ e. ne (apart (i / 64) e))) ∙ sym (cond-false _ _ _ (ne_eqb _ _ ne))
+          (get_or-set_other words (place k) (place (i / 64)) v 0 (λ e. ne (apart (i / 64) e))) ∙ sym (cond-false _ _ _ (ne_eqb _ _ ne))
     ]
 
 -- a word that is none of its own is written
@@ -73,9 +73,9 @@ pending_joined words q k v i there low =
       | inl e ↦
           let is : nat_le i IDENTITIES ≡ true = grind (arith, nat_tests) in
           cond-true _ _ _ (eq-eqb _ _ e) ∙ has_bit-or (get_or words (pending_place q k) 0) v (i % 64)
-              ∙ ap (λ x. has_bit (get_or words (pending_place q x) 0) (i % 64) || has_bit v (i % 64)) (sym e)
-              ∙ ap (λ b. b && has_bit (get_or words (pending_place q (i / 64)) 0) (i % 64) || has_bit v (i % 64)) (sym is)
-              ∙ sym (cond-true _ _ _ (eq-eqb _ _ e))
+          ∙ ap (λ x. has_bit (get_or words (pending_place q x) 0) (i % 64) || has_bit v (i % 64)) (sym e)
+          ∙ ap (λ b. b && has_bit (get_or words (pending_place q (i / 64)) 0) (i % 64) || has_bit v (i % 64)) (sym is)
+          ∙ sym (cond-true _ _ _ (eq-eqb _ _ e))
       | inr ne ↦ cond-false _ _ _ (ne_eqb _ _ ne) ∙ sym (cond-false _ _ _ (ne_eqb _ _ ne))
     ]
 
@@ -99,9 +99,9 @@ asked words q i j there small =
     let low : i / 64 < FILE_WORDS = omega arith in
     pending_joined words q (i / 64) (2 ^ (i % 64)) j (omega (arith, there)) low ∙ elim (cases_eq (j / 64) (i / 64)) [
       | inl e ↦ cond-true _ _ _ (eq-eqb _ _ e) ∙ ap (λ b. set_at (pending_place q) words j || b)
-            (bit_alone (i % 64) (j % 64) (omega arith) ∙ same_places i j e) ∙ settled (nat_eq i j) (set_at (pending_place q) words j)
+          (bit_alone (i % 64) (j % 64) (omega arith) ∙ same_places i j e) ∙ settled (nat_eq i j) (set_at (pending_place q) words j)
       | inr ne ↦ cond-false _ _ _ (ne_eqb _ _ ne) ∙ ap (λ b. settle (cond b Ask Nothing) (set_at (pending_place q) words j))
-            (sym (ne_eqb i j (λ p. ne (ap (λ x. x / 64) (sym p)))))
+          (sym (ne_eqb i j (λ p. ne (ap (λ x. x / 64) (sym p)))))
     ]
   where
     settled : (a b : Bool) → (b || a) ≡ settle (cond a Ask Nothing) b

@@ -23,7 +23,7 @@ both_words pending enabled w = bit_and (word_of pending (64 * w) 64) (word_of en
 pub bit_of_both : (p e : ℕ → Bool) (w b : ℕ) → b < 64 → has_bit (both_words p e w) b ≡ (p (64 * w + b) && e (64 * w + b))
 bit_of_both p e w b low =
     has_bit-and _ _ b ∙ ap (λ x. x && has_bit (word_of e (64 * w) 64) b) (has_bit-word_of p (64 * w) 64 b low)
-        ∙ ap (λ x. p (64 * w + b) && x) (has_bit-word_of e (64 * w) 64 b low)
+    ∙ ap (λ x. p (64 * w + b) && x) (has_bit-word_of e (64 * w) 64 b low)
 
 both_small : (p e : ℕ → Bool) (w : ℕ) → both_words p e w < 2 ^ 64
 both_small p e w =
@@ -59,7 +59,7 @@ shared_below p e words w range shared =
     elim (cases_lt w words) [
       | inl below ↦ below
       | inr past ↦ absurd (false≢true (sym (ap is_some
-            (least_of-none (λ i. p i && e i) (64 * w) 64 (λ i low high. outside i (p i) past refl low))) ∙ shared))
+          (least_of-none (λ i. p i && e i) (64 * w) 64 (λ i low high. outside i (p i) past refl low))) ∙ shared))
     ]
   where
     outside : (i : ℕ) (here : Bool) → words ≤ w → p i ≡ here → 64 * w ≤ i → (here && e i) ≡ false
@@ -73,7 +73,7 @@ both_least p e w shared =
     let x = both_words p e w in
     elim (cases_lt 0 x) [
       | inl some ↦ let low = bit_at-trailing_zeros w64 x some (both_small p e w) in
-            (trailing_zeros w64 x, low.0, ap (λ b. nat_eq b 1) low.1, λ b h. ap (λ y. nat_eq y 1) (low.2 b h))
+          (trailing_zeros w64 x, low.0, ap (λ b. nat_eq b 1) low.1, λ b h. ap (λ y. nat_eq y 1) (low.2 b h))
       | inr other ↦ absurd (false≢true (sym (none_shared p e w (omega arith)) ∙ shared))
     ]
 
@@ -84,7 +84,7 @@ pub no_members : (summary : ℕ) (p e : ℕ → Bool) (words : ℕ) → Summariz
 no_members summary p e words summarizes none few range i =
     elim (cases_lt (i / 64) 64) [
       | inl low ↦ not_shared p e (i / 64) i refl (sym (told summary p e summarizes (i / 64) low) ∙ ap (λ x. has_bit x (i / 64)) none
-            ∙ has_bit-zero (i / 64))
+          ∙ has_bit-zero (i / 64))
       | inr high ↦ outside (p i) refl high
     ]
   where

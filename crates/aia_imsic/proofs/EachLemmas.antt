@@ -23,7 +23,7 @@ there_still h spot Nowhere file there = there
 replaced : (h : ImsicState) (spot : Spot) (file : FileState) (P : Spot → FileState → Type 0) → IsThere h spot
     → P spot (file_at (with_file h spot file) spot)
     → ((other : Spot) → IsThere h other → other ≢ spot → P other (file_at h other)) → (other : Spot) → IsThere h other
-        → P other (file_at (with_file h spot file) other)
+    → P other (file_at (with_file h spot file) other)
 replaced h spot file P there this others other here = elim (same_or_other h other spot here there) [
   | inl e ↦ subst (λ (s : Spot). P s (file_at (with_file h spot file) s)) (sym e) this
   | inr ne ↦ subst (λ (f : FileState). P other f) (sym (kept_elsewhere h spot other file there here ne)) (others other here ne)
@@ -37,4 +37,4 @@ pub each_file : (h now : ImsicState) (spot : Spot) (file : FileState) (P : Spot 
 each_file h now spot file P is there this others other here =
     let still = there_still h spot other file (subst (λ (x : ImsicState). IsThere x other) is here) in
     subst (λ (x : ImsicState). P other (file_at x other)) (sym is)
-        (replaced h spot file P there (subst (λ (x : ImsicState). P spot (file_at x spot)) is this) others other still)
+    (replaced h spot file P there (subst (λ (x : ImsicState). P spot (file_at x spot)) is this) others other still)

@@ -17,7 +17,7 @@ pub bit_put : (bits at : ℕ) (members : ℕ → Bool) → at < 64 → members a
     → has_bit (bit_or bits (1 * 2 ^ at % 2 ^ 64)) j ≡ (nat_lt j (at + 1) && members j)
 bit_put bits at members low here so_far j = has_bit-set bits at j low ∙ elim (cases_eq j at) [
   | inl e ↦ ap (λ b. b || has_bit bits j) (eq-eqb j at e)
-        ∙ sym (ap (λ x. nat_lt x (at + 1) && members x) e ∙ ap (λ b. b && members at) (last_one at) ∙ here)
+      ∙ sym (ap (λ x. nat_lt x (at + 1) && members x) e ∙ ap (λ b. b && members at) (last_one at) ∙ here)
   | inr ne ↦ ap (λ b. b || has_bit bits j) (ne_eqb j at ne) ∙ so_far j ∙ ap (λ b. b && members j) (below_next j at ne)
 ]
 

@@ -40,19 +40,19 @@ member : {A : Type 0} (m : VsMajorState) (stopei : ℕ) (signal : Bool) (c : Can
     → A
 member {A} m stopei signal c is e s t o h =
     elim (Contains-append_cases (external m stopei signal ++ by_hviprio1 m signal 1 8 2 ++ by_hviprio1 m signal 5 24 3 ++ by_hviprio1 m signal 13
-        40 4) (by_hvictl m.hvictl) c is) [
+    40 4) (by_hvictl m.hvictl) c is) [
       | inr in_h ↦ let x = alone _ _ c in_h in let y = and_parts _ _ x.0 in h (y.0, not-true _ y.1) x.1
       | inl four ↦ elim (Contains-append_cases (external m stopei signal ++ by_hviprio1 m signal 1 8 2 ++ by_hviprio1 m signal 5 24 3)
-            (by_hviprio1 m signal 13 40 4) c four) [
-        | inr in_o ↦ other 13 40 4 in_o o
-        | inl three ↦ elim (Contains-append_cases (external m stopei signal ++ by_hviprio1 m signal 1 8 2) (by_hviprio1 m signal 5 24 3) c three) [
-          | inr in_t ↦ other 5 24 3 in_t t
-          | inl two ↦ elim (Contains-append_cases (external m stopei signal) (by_hviprio1 m signal 1 8 2) c two) [
-            | inr in_s ↦ other 1 8 2 in_s s
-            | inl in_e ↦ let x = alone (is_live m signal 9) (external_one stopei) c in_e in e x.0 x.1
+          (by_hviprio1 m signal 13 40 4) c four) [
+            | inr in_o ↦ other 13 40 4 in_o o
+            | inl three ↦ elim (Contains-append_cases (external m stopei signal ++ by_hviprio1 m signal 1 8 2) (by_hviprio1 m signal 5 24 3) c three) [
+              | inr in_t ↦ other 5 24 3 in_t t
+              | inl two ↦ elim (Contains-append_cases (external m stopei signal) (by_hviprio1 m signal 1 8 2) c two) [
+                | inr in_s ↦ other 1 8 2 in_s s
+                | inl in_e ↦ let x = alone (is_live m signal 9) (external_one stopei) c in_e in e x.0 x.1
+              ]
+            ]
           ]
-        ]
-      ]
     ]
   where
     other : (major lo rank : ℕ) → Contains (by_hviprio1 m signal major lo rank) c
@@ -146,7 +146,7 @@ major_in_range m stopei signal c may is =
     (λ live e. at 5 (ap (λ x. x.major) e) refl)
     (λ live e. at 13 (ap (λ x. x.major) e) refl)
     (λ live e. at (iid_of m.hvictl) (ap (λ x. x.major) e ∙ named_major (dpr_of m.hvictl) m.hvictl)
-        (legal (vti_of m.hvictl) (iid_of m.hvictl) live.0 may))
+    (legal (vti_of m.hvictl) (iid_of m.hvictl) live.0 may))
   where
     at : (major : ℕ) → c.major ≡ major → is_in_range 1 63 major ≡ true → is_in_range 1 63 c.major ≡ true
     at major e is = ap (is_in_range 1 63) e ∙ is
@@ -163,7 +163,7 @@ pub major_shown : (m : VsMajorState) (stopei : ℕ) (signal : Bool) (c : Candida
 major_shown m stopei signal c e =
     ap (λ o. field (candidate_value m.hvictl o) 27 16) e
     ∙ other_field (with_field 0 27 16 c.major) 7 0 (priority_shown m.hvictl c.number) 27 16 (omega arith) (omega arith)
-        (shown_small m.hvictl c.number) (inr (omega arith))
+    (shown_small m.hvictl c.number) (inr (omega arith))
     ∙ got 0 27 16 c.major (small m stopei signal c (first_of-found _ c e).is)
 
 pub none_shown : (m : VsMajorState) (stopei : ℕ) (signal : Bool) → is_hvictl m.hvictl ≡ true → stopi_value m stopei signal ≡ 0

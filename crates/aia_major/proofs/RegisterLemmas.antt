@@ -58,9 +58,9 @@ elsewhere a b c d j la lb lc ld n1 n5 n9 n13 =
       | inl less ↦ bit_at_cat_low (((d * 2 ^ 4 + c) * 2 ^ 4 + b) * 2 ^ 4 + a) 1 0 j less ∙ bit_at-zero j
       | inr more ↦ bit_at_cat_high (((d * 2 ^ 4 + c) * 2 ^ 4 + b) * 2 ^ 4 + a) 1 0 j (lit< tt) more
           ∙ past ((d * 2 ^ 4 + c) * 2 ^ 4 + b) a (j - 1) la (λ z. n1 (omega arith))
-              (λ h. past (d * 2 ^ 4 + c) b (j - 1 - 4) lb (λ z. n5 (omega arith))
-              (λ i. past d c (j - 1 - 4 - 4) lc (λ z. n9 (omega arith))
-              (λ k. bit_at_above d 1 (j - 1 - 4 - 4 - 4) ld (omega (arith, λ (z : j ≡ 13). n13 z)))))
+          (λ h. past (d * 2 ^ 4 + c) b (j - 1 - 4) lb (λ z. n5 (omega arith))
+          (λ i. past d c (j - 1 - 4 - 4) lc (λ z. n9 (omega arith))
+          (λ k. bit_at_above d 1 (j - 1 - 4 - 4 - 4) ld (omega (arith, λ (z : j ≡ 13). n13 z)))))
     ]
 
 none_of : (j : ℕ) (p : Bool) → j ≢ 1 → j ≢ 5 → j ≢ 9 → j ≢ 13 → (is_major j && p) ≡ false
@@ -78,7 +78,7 @@ majors_word-bit members j =
           | inr n9 ↦ elim (cases_eq j 13) [
             | inl e ↦ at 13 e four_are.3
             | inr n13 ↦ ap (λ x. nat_eq x 1) (elsewhere _ _ _ _ j (bit_number-lt (members 1)) (bit_number-lt (members 5))
-                  (bit_number-lt (members 9)) (bit_number-lt (members 13)) n1 n5 n9 n13) ∙ sym (none_of j (members j) n1 n5 n9 n13)
+                (bit_number-lt (members 9)) (bit_number-lt (members 13)) n1 n5 n9 n13) ∙ sym (none_of j (members j) n1 n5 n9 n13)
           ]
         ]
       ]

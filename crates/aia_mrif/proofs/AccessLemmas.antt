@@ -52,8 +52,8 @@ pub merged_bit : (word v mask b : ℕ) → mask < 2 ^ 64 → b < 64
     → has_bit (bit_or (bit_and v mask) (bit_and word (bit_not w64 mask))) b ≡ cond (has_bit mask b) (has_bit v b) (has_bit word b)
 merged_bit word v mask b fits low =
     has_bit-or _ _ b ∙ ap (λ x. x || has_bit (bit_and word (bit_not w64 mask)) b) (has_bit-and v mask b)
-        ∙ ap (λ x. (has_bit v b && has_bit mask b) || x) (has_bit-written (ops.Clear mask) word b fits low)
-        ∙ chosen (has_bit mask b) (has_bit v b) (has_bit word b)
+    ∙ ap (λ x. (has_bit v b && has_bit mask b) || x) (has_bit-written (ops.Clear mask) word b fits low)
+    ∙ chosen (has_bit mask b) (has_bit v b) (has_bit word b)
   where
     chosen : (m x y : Bool) → ((x && m) || settle (cond m Clear Nothing) y) ≡ cond m x y
     chosen true true y = refl
@@ -119,12 +119,12 @@ module _ (place : ℕ → ℕ) (words : List ℕ) (n k v new : ℕ) (apart : (j 
     | inl e ↦
         let bit : i % 64 ≡ i - 32 * k = omega arith in
         ap (λ b. is_in_range 1 n i && b) (cond-true _ _ _ (eq-eqb _ _ e) ∙ bit_written i e
-            ∙ ap (λ b. cond (is_in_range 1 n i) (has_bit v b) (set_at place words i)) bit)
+        ∙ ap (λ b. cond (is_in_range 1 n i) (has_bit v b) (set_at place words i)) bit)
         ∙ shown_here (is_in_range 1 n i) (has_bit v (i - 32 * k)) (set_at place words i) (is_in_range (32 * k) (32 * k + 63) i) (in_word e)
     | inr ne ↦
         ap (λ b. is_in_range 1 n i && b) (cond-false _ _ _ (ne_eqb _ _ ne))
-            ∙ elsewhere (is_in_range 1 n i) (is_in_range (32 * k) (32 * k + 63) i) (is_in_range 1 n i && set_at place words i)
-            (has_bit v (i - 32 * k)) (out_of_word ne)
+        ∙ elsewhere (is_in_range 1 n i) (is_in_range (32 * k) (32 * k + 63) i) (is_in_range 1 n i && set_at place words i)
+        (has_bit v (i - 32 * k)) (out_of_word ne)
   ]
     where
       in_word : i / 64 ≡ k / 2 → is_in_range (32 * k) (32 * k + 63) i ≡ true
@@ -271,10 +271,22 @@ read_leaves ops.Read reg file is reads = by_register reg is
     nothing false was = refl
 
     by_register : (reg : FileReg) → IsOfSets reg → SameFile file (accessed reg ops.Read file)
-    by_register (Pending k) is = record { n = refl; pending = λ i. nothing (shows file.n k i) (file.pending i); enabled = λ i. refl; threshold =
-        refl; delivery = refl }
-    by_register (Enable k) is = record { n = refl; pending = λ i. refl; enabled = λ i. nothing (shows file.n k i) (file.enabled i); threshold =
-        refl; delivery = refl }
+    by_register (Pending k) is = record {
+      n = refl;
+      pending = λ i. nothing (shows file.n k i) (file.pending i);
+      enabled = λ i. refl;
+      threshold =
+          refl;
+      delivery = refl;
+    }
+    by_register (Enable k) is = record {
+      n = refl;
+      pending = λ i. refl;
+      enabled = λ i. nothing (shows file.n k i) (file.enabled i);
+      threshold =
+          refl;
+      delivery = refl;
+    }
     by_register Delivery is = absurd is
     by_register Threshold is = absurd is
     by_register Reserved is = absurd is

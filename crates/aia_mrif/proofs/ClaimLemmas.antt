@@ -42,11 +42,11 @@ module _ (words : List ℕ) (q i : ℕ) (there : HasSlot words q) (small : i ≤
       slots.written (pending_place q) words (i / 64) _ j (λ k e. omega (arith, e)) (omega (arith, there)) low ∙ elim (cases_eq (j / 64) (i / 64)) [
         | inl e ↦
             cond-true _ _ _ (eq-eqb _ _ e) ∙ ap (λ x. has_bit (bit_and word (bit_not w64 x)) (j % 64))
-                (sym (slots.one_bit (i % 64) (omega arith))) ∙ has_bit-clear word (i % 64) (j % 64) (omega arith) (omega arith)
+            (sym (slots.one_bit (i % 64) (omega arith))) ∙ has_bit-clear word (i % 64) (j % 64) (omega arith) (omega arith)
             ∙ ap (λ b. not b && has_bit word (j % 64)) (same_places i j e)
-                ∙ ap (λ b. not (nat_eq i j) && b) (place_shows (pending_place q) words (i / 64) j low e)
+            ∙ ap (λ b. not (nat_eq i j) && b) (place_shows (pending_place q) words (i / 64) j low e)
         | inr ne ↦ cond-false _ _ _ (ne_eqb _ _ ne) ∙ sym
-              (ap (λ b. not b && set_at (pending_place q) words j) (ne_eqb i j (λ p. ne (ap (λ x. x / 64) (sym p)))))
+            (ap (λ b. not b && set_at (pending_place q) words j) (ne_eqb i j (λ p. ne (ap (λ x. x / 64) (sym p)))))
       ]
 
   pub claim_done : (n threshold : ℕ) → top_of (slot_file n threshold (mrif_in words q)) ≡ Some i

@@ -27,7 +27,7 @@ live_word p e k summary small some before w low = has_bit-set summary k w small 
   | inl at ↦
       let below : true ≡ nat_lt w (k + 1) = grind (arith, nat_tests) in
       ap (λ b. b || has_bit summary w) (eq-eqb w k at)
-          ∙ sym (ap (λ b. b && is_shared p e w) (sym below) ∙ ap (is_shared p e) at ∙ some_shared p e k some)
+      ∙ sym (ap (λ b. b && is_shared p e w) (sym below) ∙ ap (is_shared p e) at ∙ some_shared p e k some)
   | inr ne ↦ ap (λ b. b || has_bit summary w) (ne_eqb w k ne) ∙ before w low ∙ ap (λ b. b && is_shared p e w) (below_next w k ne)
 ]
 

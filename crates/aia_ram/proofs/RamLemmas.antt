@@ -89,7 +89,7 @@ words_of-put (suc n) (suc k) v bytes h l small =
     let first : word_in (take (8 * suc k) bytes ++ written) ≡ word_in bytes = first_kept (8 * suc k) bytes written (omega arith) (omega arith) in
     let later : words_of n (drop 8 (take (8 * suc k) bytes ++ written)) ≡ set (words_of n (drop 8 bytes)) k v =
     ap (words_of n) (dropped ∙ ap (λ r. take (8 * k) (drop 8 bytes) ++ (bytes_in v ++ r)) rest)
-        ∙ words_of-put n k v (drop 8 bytes) (omega arith) (omega (arith, len)) small in
+    ∙ words_of-put n k v (drop 8 bytes) (omega arith) (omega (arith, len)) small in
     rw (first, later) refl
 
 -- ---- a word among bytes

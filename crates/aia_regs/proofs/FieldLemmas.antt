@@ -57,7 +57,7 @@ powers hi lo w order within =
 pub put_fits : (x hi lo v w : ℕ) → lo ≤ hi → hi < w → v < 2 ^ (hi - lo + 1) → x < 2 ^ w → with_field x hi lo v < 2 ^ w
 put_fits x hi lo v w order within small fits =
     parts_fit (above x hi lo) (2 ^ (hi - lo + 1)) (2 ^ lo) (field x hi lo) v (x % 2 ^ lo) (2 ^ (w - suc hi)) (2 ^ w) (powers hi lo w order within)
-        (subst (λ (y : ℕ). y < 2 ^ w) (sym (put_back x hi lo)) fits) small (mod-lt x (pow_pos lo))
+    (subst (λ (y : ℕ). y < 2 ^ w) (sym (put_back x hi lo)) fits) small (mod-lt x (pow_pos lo))
 
 -- the shift loses nothing
 old_shifted : (x hi lo : ℕ) → x < 2 ^ 64 → field x hi lo * 2 ^ lo % 2 ^ 64 ≡ field x hi lo * 2 ^ lo
@@ -84,11 +84,11 @@ pub others_stay : (x hi lo v i : ℕ) → lo ≤ hi → v < 2 ^ (hi - lo + 1) �
 others_stay x hi lo v i order small out =
     elim out [
       | inl below ↦ bit_at_cat_low (above x hi lo * 2 ^ (hi - lo + 1) + v) lo (x % 2 ^ lo) i below
-            ∙ sym (bit_at_cat_low (above x hi lo * 2 ^ (hi - lo + 1) + field x hi lo) lo (x % 2 ^ lo) i below)
-            ∙ ap (λ y. bit_at y i) (put_back x hi lo)
+          ∙ sym (bit_at_cat_low (above x hi lo * 2 ^ (hi - lo + 1) + field x hi lo) lo (x % 2 ^ lo) i below)
+          ∙ ap (λ y. bit_at y i) (put_back x hi lo)
       | inr beyond ↦ bit_above (above x hi lo) (hi - lo + 1) v lo (x % 2 ^ lo) i small (mod-lt x (pow_pos lo)) (omega arith)
           ∙ sym (bit_above (above x hi lo) (hi - lo + 1) (field x hi lo) lo (x % 2 ^ lo) i (mod-lt (x / 2 ^ lo) (pow_pos (hi - lo + 1)))
-              (mod-lt x (pow_pos lo)) (omega arith))
+          (mod-lt x (pow_pos lo)) (omega arith))
           ∙ ap (λ y. bit_at y i) (put_back x hi lo)
     ]
 
@@ -96,7 +96,7 @@ others_stay x hi lo v i order small out =
 pub bit_of_field : (x hi lo i : ℕ) → lo + i ≤ hi → bit_at (field x hi lo) i ≡ bit_at x (lo + i)
 bit_of_field x hi lo i within =
     sym (bit_at_cat_low (above x hi lo) (hi - lo + 1) (field x hi lo) i (omega arith))
-        ∙ ap (λ y. bit_at y i) (div-add-mod' (x / 2 ^ lo) (2 ^ (hi - lo + 1))) ∙ ap (λ y. y % 2) (shr-shr x lo i)
+    ∙ ap (λ y. bit_at y i) (div-add-mod' (x / 2 ^ lo) (2 ^ (hi - lo + 1))) ∙ ap (λ y. y % 2) (shr-shr x lo i)
 
 pub bit_past_field : (x hi lo i : ℕ) → lo ≤ hi → hi < lo + i → bit_at (field x hi lo) i ≡ 0
 bit_past_field x hi lo i order past = bit_at_above (field x hi lo) (hi - lo + 1) i (mod-lt (x / 2 ^ lo) (pow_pos (hi - lo + 1))) (omega arith)
@@ -108,7 +108,7 @@ other_field x hi lo v top bottom order other small apart =
     same_from_bits (field (with_field x hi lo v) top bottom) (field x top bottom) (λ i. elim (cases_lt top (bottom + i)) [
       | inl past ↦ bit_past_field (with_field x hi lo v) top bottom i other past ∙ sym (bit_past_field x top bottom i other past)
       | inr within ↦ bit_of_field (with_field x hi lo v) top bottom i within ∙ others_stay x hi lo v (bottom + i) order small (outside i within)
-            ∙ sym (bit_of_field x top bottom i within)
+          ∙ sym (bit_of_field x top bottom i within)
     ])
   where
     outside : (i : ℕ) → bottom + i ≤ top → IsOutside hi lo (bottom + i)

@@ -63,7 +63,7 @@ pub filter_same : {X : Type 0} (p q : X → Bool) (xs : List X) → ((y : X) →
 filter_same p q [] same = refl
 filter_same p q (x ∷ xs) same =
     ap (λ (b : Bool). cond b (x ∷ filter p xs) (filter p xs)) (same x (here x xs))
-        ∙ ap (λ ys. cond (q x) (x ∷ ys) ys) (filter_same p q xs (λ y m. same y (later x y xs m)))
+    ∙ ap (λ ys. cond (q x) (x ∷ ys) ys) (filter_same p q xs (λ y m. same y (later x y xs m)))
 
 pub filter_none : {X : Type 0} (p : X → Bool) (xs : List X) → ((y : X) → Contains xs y → p y ≡ false) → filter p xs ≡ []
 filter_none p [] none = refl
@@ -79,8 +79,10 @@ filter_first {X} R p (x ∷ xs) y pairs m is none =
   where
     at : (x ≡ y) ⊎ Contains xs y → (Contains xs y → (rest : List X) × (filter p xs ≡ y ∷ rest)) → (rest : List X) × (filter p (x ∷ xs) ≡ y ∷ rest)
     at (inl e) next = (filter p xs, ap (λ (b : Bool). cond b (x ∷ filter p xs) (filter p xs)) (ap p e ∙ is) ∙ ap (λ z. z ∷ filter p xs) e)
-    at (inr n) next = let found = next n in (found.0,
-        ap (λ (b : Bool). cond b (x ∷ filter p xs) (filter p xs)) (none x (here x xs) (pairs_head R x y xs pairs n)) ∙ found.1)
+    at (inr n) next = let found = next n in (
+      found.0,
+      ap (λ (b : Bool). cond b (x ∷ filter p xs) (filter p xs)) (none x (here x xs) (pairs_head R x y xs pairs n)) ∙ found.1,
+    )
 
 same_head : {X : Type 0} (x y : X) (xs ys : List X) → (x ∷ xs) ≡ (y ∷ ys) → (x ≡ y) × (xs ≡ ys)
 same_head x y xs ys e = (cc, cc)
@@ -88,8 +90,10 @@ same_head x y xs ys e = (cc, cc)
 -- what it begins with passes, and comes before each member that does
 pub filter_begins : {X : Type 0} (R : X → X → Type 0) (p : X → Bool) (xs rest : List X) (y : X) → AllPairs R xs → filter p xs ≡ y ∷ rest
     → (p y ≡ true) × ((z : X) → Contains xs z → p z ≡ true → (y ≡ z) ⊎ R y z)
-filter_begins {X} R p xs rest y pairs is = ((in_filter p xs y (subst (λ zs. Contains zs y) (sym is) (here y rest))).1,
-    λ z m passes. at z (here_or_later y z rest (subst (λ zs. Contains zs z) is (filter_has p xs z m passes))))
+filter_begins {X} R p xs rest y pairs is = (
+  (in_filter p xs y (subst (λ zs. Contains zs y) (sym is) (here y rest))).1,
+  λ z m passes. at z (here_or_later y z rest (subst (λ zs. Contains zs z) is (filter_has p xs z m passes))),
+)
   where
     at : (z : X) → (y ≡ z) ⊎ Contains rest z → (y ≡ z) ⊎ R y z
     at z (inl e) = inl e

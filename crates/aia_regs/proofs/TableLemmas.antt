@@ -93,7 +93,7 @@ rest_here row i offset at = ap (λ x. x % row.stride) at.place ∙ add-mul-mod_s
 not_in_both : (a b : Row) (i j offset : ℕ) → are_apart a b ≡ true → IsAt a i offset → IsAt b j offset → ⊥
 not_in_both a b i j offset test in_a in_b =
     apart_in_numbers (first_offset a) (last_offset a) (first_offset b) (last_offset b) (a.base % a.stride) (b.base % b.stride) a.stride
-        b.stride offset test
+    b.stride offset test
     (from_first a i offset in_a) (to_last a i offset in_a) (from_first b j offset in_b) (to_last b j offset in_b)
     (λ e. sym (rest_here a i offset in_a) ∙ ap (λ s. offset % s) e ∙ rest_here b j offset in_b)
 
@@ -133,12 +133,12 @@ named_by_rows (a ∷ rows) zero row i offset h e at =
     let here : IsAt a i offset = subst (λ (x : Row). IsAt x i offset) same at in
     let p : 0 < a.stride = positive a.stride (parts_of_rows a rows h).0 in
     cond-true (has_offset a offset) (a.register (index_at a offset)) (register_by rows offset) (has_here a i offset p here)
-        ∙ ap a.register (index_here a i offset p here) ∙ ap (λ (x : Row). x.register i) (sym same)
+    ∙ ap a.register (index_here a i offset p here) ∙ ap (λ (x : Row). x.register i) (sym same)
 named_by_rows (a ∷ rows) (suc k) row i offset h e at =
     let p = parts_of_rows a rows h in
     let apart : are_apart a row ≡ true = in_each (are_apart a) rows k row p.1 e in
     let not_here : has_offset a offset ≡ false = false_from_ne_true (has_offset a offset)
-        (λ t. not_in_both a row (index_at a offset) i offset apart (is_at a offset t) at) in
+    (λ t. not_in_both a row (index_at a offset) i offset apart (is_at a offset t) at) in
     cond-false (has_offset a offset) (a.register (index_at a offset)) (register_by rows offset) not_here ∙ named_by_rows rows k row i offset p.2 e at
 
 -- where no row has the offset, the rows name nothing there
@@ -148,7 +148,7 @@ nothing_by_rows test [] offset h none = refl
 nothing_by_rows test (row ∷ rows) offset h none =
     let p = and_parts (test row) (each test rows) h in
     cond-false (has_offset row offset) (row.register (index_at row offset)) (register_by rows offset) (none row p.0)
-        ∙ nothing_by_rows test rows offset p.1 none
+    ∙ nothing_by_rows test rows offset p.1 none
 
 -- ---- the table
 
@@ -247,8 +247,13 @@ table_has_offsets = (
                                   alone 0x3000,
                                   (
                                     inside 0x3000 4 1 1023,
-                                    (inside 0x4000 32 0 511, (inside 0x4004 32 0 511,
-                                        (inside 0x4008 32 0 511, (inside 0x4018 32 0 511, (inside 0x401c 32 0 511, tt))))),
+                                    (
+                                      inside 0x4000 32 0 511,
+                                      (
+                                        inside 0x4004 32 0 511,
+                                        (inside 0x4008 32 0 511, (inside 0x4018 32 0 511, (inside 0x401c 32 0 511, tt))),
+                                      ),
+                                    ),
                                   ),
                                 ),
                               ),
@@ -331,7 +336,7 @@ elsewhere_row : (hart place offset : ℕ) → place < 32 → offset ≡ 0x4000 +
     → has_offset row offset ≡ false
 elsewhere_row hart place offset small e row h =
     false_from_ne_true (has_offset row offset) (λ t. outside (last_offset row) row.stride row.base h
-        (to_last row (index_at row offset) offset (is_at row offset t)) (rest_here row (index_at row offset) offset (is_at row offset t)))
+    (to_last row (index_at row offset) offset (is_at row offset t)) (rest_here row (index_at row offset) offset (is_at row offset t)))
   where
     outside : (last stride base : ℕ) → (nat_lt last 0x4000 || nat_eq stride 32 && not (nat_eq (base % 32) place)) ≡ true → offset ≤ last
         → offset % stride ≡ base % stride → ⊥

@@ -40,8 +40,8 @@ least_pair-step candidate so_far s n within =
     let e : n - s ≡ suc (n - (s + 1)) = omega arith in
     let f : suc s ≡ s + 1 = omega arith in
     lesser-assoc so_far (candidate s) _ ∙ ap (lesser so_far)
-        (sym (ap (least_pair candidate s) e ∙ least_pair-suc candidate s (n - (s + 1))
-        ∙ ap (λ k. lesser (candidate s) (least_pair candidate k (n - (s + 1)))) f))
+    (sym (ap (least_pair candidate s) e ∙ least_pair-suc candidate s (n - (s + 1))
+    ∙ ap (λ k. lesser (candidate s) (least_pair candidate k (n - (s + 1)))) f))
 
 pub least_pair-end : (candidate : ℕ → Option Pair) (so_far : Option Pair) (s n : ℕ) → n ≤ s → lesser so_far (least_pair candidate s (n - s)) ≡ so_far
 least_pair-end candidate so_far s n past =
@@ -94,15 +94,15 @@ one_more candidate from count (Some p) (Some r) own here rest = elim (cases_lt r
     ];
   })
   | inr more ↦ let at : p.1 ≡ from = own from p here in
-        subst (IsLeastOf candidate from (suc count)) (sym (cond-false _ _ _ (le-ltb r.0 p.0 more))) (record {
-    low = omega arith;
-    high = omega arith;
-    is = ap candidate at ∙ here;
-    least = λ s q low high found. elim (cases_eq s from) [
-      | inl e ↦ first_is p q (same_Some q p (sym found ∙ ap candidate e ∙ here))
-      | inr ne ↦ after more at (own s q found) (rest.least s q (omega arith) (omega arith) found) (omega arith)
-    ];
-  })
+      subst (IsLeastOf candidate from (suc count)) (sym (cond-false _ _ _ (le-ltb r.0 p.0 more))) (record {
+        low = omega arith;
+        high = omega arith;
+        is = ap candidate at ∙ here;
+        least = λ s q low high found. elim (cases_eq s from) [
+          | inl e ↦ first_is p q (same_Some q p (sym found ∙ ap candidate e ∙ here))
+          | inr ne ↦ after more at (own s q found) (rest.least s q (omega arith) (omega arith) found) (omega arith)
+        ];
+      })
 ]
   where
     after : {s : ℕ} {q : Pair} → p.0 ≤ r.0 → p.1 ≡ from → q.1 ≡ s → ComesFirst r q → from ≤ s → ComesFirst p q

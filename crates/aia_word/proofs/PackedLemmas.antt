@@ -59,7 +59,7 @@ packs_more x mask i out at low one p =
     let step : packed (64 - i) (x / 2 ^ i) (mask / 2 ^ i) ≡ bit + 2 * packed (64 - (i + 1)) (x / 2 ^ (i + 1)) (mask / 2 ^ (i + 1)) =
     packed_more (64 - i) (64 - (i + 1)) (x / 2 ^ i) (mask / 2 ^ i) (omega arith) ∙ cond-true _ _ _ (eq-eqb _ _ one)
     ∙ ap (λ k. bit + 2 * packed (64 - (i + 1)) k (mask / 2 ^ i / 2)) (halved x i)
-        ∙ ap (λ k. bit + 2 * packed (64 - (i + 1)) (x / 2 ^ (i + 1)) k) (halved mask i) in
+    ∙ ap (λ k. bit + 2 * packed (64 - (i + 1)) (x / 2 ^ (i + 1)) k) (halved mask i) in
     record {
       sum = rw (put, power) (sym (sums out bit (packed (64 - (i + 1)) (x / 2 ^ (i + 1)) (mask / 2 ^ (i + 1))) (2 ^ at)) ∙ rw step at p.sum);
       small = rw (put, power) (small_more out bit (2 ^ at) p.small two);
@@ -132,7 +132,7 @@ spreads_more x mask i out at low one p =
     let step : spread (64 - i) (x / 2 ^ at) (mask / 2 ^ i) ≡ bit + 2 * rest =
     spread_more (64 - i) (64 - (i + 1)) (x / 2 ^ at) (mask / 2 ^ i) (omega arith) ∙ cond-true _ _ _ (eq-eqb _ _ one)
     ∙ ap (λ k. bit + 2 * spread (64 - (i + 1)) k (mask / 2 ^ i / 2)) (halved x at)
-        ∙ ap (λ k. bit + 2 * spread (64 - (i + 1)) (x / 2 ^ (at + 1)) k) (halved mask i) in
+    ∙ ap (λ k. bit + 2 * spread (64 - (i + 1)) (x / 2 ^ (at + 1)) k) (halved mask i) in
     record {
       sum = rw put (spread_sum out bit rest (2 ^ i) (2 ^ (i + 1)) power ∙ rw step at p.sum);
       small = rw (put, power) (small_more out bit (2 ^ i) p.small two);
@@ -209,7 +209,7 @@ packed_bits zero x mask i h one = absurd (omega arith)
 packed_bits (suc count) x mask zero h one =
     elim (cases_eq (mask % 2) 1) [
       | inl e ↦ ap (has_bit (packed (suc count) x mask)) (no_ones mask)
-            ∙ has_bit-first _ x (ap (λ n. n % 2) (packed_one count x mask e) ∙ omega arith)
+          ∙ has_bit-first _ x (ap (λ n. n % 2) (packed_one count x mask e) ∙ omega arith)
       | inr ne ↦ absurd (false≢true (sym (none_first mask ne) ∙ one))
     ]
 packed_bits (suc count) x mask (suc i) h one =
@@ -217,9 +217,9 @@ packed_bits (suc count) x mask (suc i) h one =
     let rest = packed_bits count (x / 2) (mask / 2) i (omega arith) later ∙ sym (has_bit-later x (x / 2) i refl) in
     elim (cases_eq (mask % 2) 1) [
       | inl e ↦ ap (has_bit (packed (suc count) x mask)) (more_ones i mask e)
-            ∙ has_bit-later _ _ _ (ap (λ n. n / 2) (packed_one count x mask e) ∙ omega arith) ∙ rest
+          ∙ has_bit-later _ _ _ (ap (λ n. n / 2) (packed_one count x mask e) ∙ omega arith) ∙ rest
       | inr ne ↦ ap (has_bit (packed (suc count) x mask)) (same_ones i mask ne)
-            ∙ ap (λ n. has_bit n (ones i (mask / 2))) (packed_other count x mask ne) ∙ rest
+          ∙ ap (λ n. has_bit n (ones i (mask / 2))) (packed_other count x mask ne) ∙ rest
     ]
 
 none_packed : (x mask : ℕ) → packed 0 x mask < 2 ^ ones 0 mask
@@ -244,16 +244,16 @@ spread_bits (suc count) x mask zero h =
     elim (cases_eq (mask % 2) 1) [
       | inl e ↦ has_bit-first _ x (ap (λ n. n % 2) (spread_one count x mask e) ∙ omega arith) ∙ rw (one_first mask e, no_ones mask) refl
       | inr ne ↦ has_bit-first _ 0 (ap (λ n. n % 2) (spread_other count x mask ne) ∙ omega arith) ∙ ap (λ b. nat_eq b 1) (bit_at-zero 0)
-            ∙ rw (none_first mask ne) refl
+          ∙ rw (none_first mask ne) refl
     ]
 spread_bits (suc count) x mask (suc i) h =
     let here = has_bit-later mask (mask / 2) i refl in
     elim (cases_eq (mask % 2) 1) [
       | inl e ↦ has_bit-later _ _ i (ap (λ n. n / 2) (spread_one count x mask e) ∙ omega arith)
-            ∙ spread_bits count (x / 2) (mask / 2) i (omega arith)
-            ∙ rw (here, more_ones i mask e, has_bit-later x (x / 2) (ones i (mask / 2)) refl) refl
+          ∙ spread_bits count (x / 2) (mask / 2) i (omega arith)
+          ∙ rw (here, more_ones i mask e, has_bit-later x (x / 2) (ones i (mask / 2)) refl) refl
       | inr ne ↦ has_bit-later _ _ i (ap (λ n. n / 2) (spread_other count x mask ne) ∙ omega arith)
-            ∙ spread_bits count x (mask / 2) i (omega arith) ∙ rw (here, same_ones i mask ne) refl
+          ∙ spread_bits count x (mask / 2) i (omega arith) ∙ rw (here, same_ones i mask ne) refl
     ]
 
 none_spread : (x mask : ℕ) → spread 0 x mask < 2 ^ 0
@@ -265,7 +265,7 @@ spread-lt zero x mask = none_spread x mask
 spread-lt (suc count) x mask =
     elim (cases_eq (mask % 2) 1) [
       | inl e ↦ let rest = spread-lt count (x / 2) (mask / 2) in
-            rw (spread_one count x mask e, pow-succ' 2 count) (one_more (x % 2) _ _ (omega arith) rest)
+          rw (spread_one count x mask e, pow-succ' 2 count) (one_more (x % 2) _ _ (omega arith) rest)
       | inr ne ↦ let rest = spread-lt count x (mask / 2) in rw (spread_other count x mask ne, pow-succ' 2 count) (doubled_lt _ _ rest)
     ]
   where
@@ -298,8 +298,14 @@ packed-spread (suc count) x mask =
           let r = spread count (x / 2) (mask / 2) in
           let first : (x % 2 + 2 * r) % 2 ≡ x % 2 = omega arith in
           let rest : (x % 2 + 2 * r) / 2 ≡ r = omega arith in
-          rw (spread_one count x mask e, packed_one count (x % 2 + 2 * r) mask e, first, rest, packed-spread count (x / 2) (mask / 2),
-              more_ones count mask e) (low_bits x (ones count (mask / 2)))
+          rw (
+            spread_one count x mask e,
+            packed_one count (x % 2 + 2 * r) mask e,
+            first,
+            rest,
+            packed-spread count (x / 2) (mask / 2),
+            more_ones count mask e,
+          ) (low_bits x (ones count (mask / 2)))
       | inr ne ↦
           let r = spread count x (mask / 2) in
           let rest : (2 * r) / 2 ≡ r = omega arith in
@@ -317,7 +323,7 @@ no_bit false = refl
 pub spread-packed : (x mask : ℕ) → x < 2 ^ 64 → mask < 2 ^ 64 → spread 64 (packed 64 x mask) mask ≡ bit_and x mask
 spread-packed x mask small fits =
     same_from_bits_below 64 _ _ (spread-lt 64 (packed 64 x mask) mask) (and_lt 64 x mask small fits)
-        (λ i low. same_bit _ _ (bit_at-lt _ i) (bit_at-lt _ i) (bits i low))
+    (λ i low. same_bit _ _ (bit_at-lt _ i) (bit_at-lt _ i) (bits i low))
   where
     picked : (i : ℕ) (here : Bool) → i < 64 → has_bit mask i ≡ here → (here && has_bit (packed 64 x mask) (ones i mask)) ≡ (has_bit x i && here)
     picked i true low one = packed_bits 64 x mask i low one ∙ only_it (has_bit x i)

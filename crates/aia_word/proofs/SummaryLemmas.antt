@@ -32,7 +32,7 @@ other_has_some x w members small shows some =
     let low = bit_at-trailing_zeros w64 x more small in
     let t = trailing_zeros w64 x in
     ap is_some (least_of-found members (64 * w) 64 (64 * w + t) (omega arith) (omega (arith, low.0))
-        (sym (shows t low.0) ∙ ap (λ b. nat_eq b 1) low.1)
+    (sym (shows t low.0) ∙ ap (λ b. nat_eq b 1) low.1)
     (λ i from below. shown_by x w i members shows from (omega (arith, low.0)) ∙ ap (λ y. nat_eq y 1) (low.2 (i - 64 * w) (omega arith))))
 
 none_found : (found : Option ℕ) → is_some found ≡ false → found ≡ None

@@ -11,9 +11,9 @@ returns-in_err-least-clause-first c = c.from_residual.ensures
 pub returns-then-lets_through-clause-first : goal.returns-then-lets_through-clause-first
 returns-then-lets_through-clause-first c =
     let bit = c.in_ok-least.ensures in first_found c.args.k c.args.live c.args.threshold c.in_ok-least.field-0 bit.0 bit.1 bit.2
-        (sym c.if-lets_through.ensures)
+    (sym c.if-lets_through.ensures)
 
 pub returns-else-lets_through-clause-first : goal.returns-else-lets_through-clause-first
 returns-else-lets_through-clause-first c =
     let bit = c.in_ok-least.ensures in first_held_back c.args.k c.args.live c.args.threshold c.in_ok-least.field-0 bit.0 bit.2
-        (sym c.if-lets_through.ensures)
+    (sym c.if-lets_through.ensures)

@@ -10,5 +10,5 @@ returns c =
     let e = is_in c.args.enabled.now in
     c.refreshed.ensures (λ i. p i && e i)
     (λ b low. ap (λ x. has_bit (bit_and x c.word-2.result) b) c.word.ensures
-        ∙ ap (λ y. has_bit (bit_and (word_of p (64 * c.args.k) 64) y) b) c.word-2.ensures ∙ bit_of_both p e c.args.k b low)
+    ∙ ap (λ y. has_bit (bit_and (word_of p (64 * c.args.k) 64) y) b) c.word-2.ensures ∙ bit_of_both p e c.args.k b low)
     c.requires.others

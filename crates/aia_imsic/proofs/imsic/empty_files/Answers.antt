@@ -11,7 +11,8 @@ loop-place-preserved c =
     let so_far = c.loop-place.invariant in
     let items : c.push.new.self.items ≡ files ++ (file ∷ []) = c.in_ok-push.ensures.items in
     let IsEmpty = λ (f : FileState). SameFile (shown f) (empty_file c.args.n) in
-    let IsWide = λ (f : FileState). f.n ≡ c.args.n in
-    (omega (arith, ap length items, length-append files (file ∷ []), so_far.0),
-        subst (All IsEmpty) (sym items) (All-push IsEmpty files file so_far.1 c.in_ok-new.ensures),
-        subst (All IsWide) (sym items) (All-push IsWide files file so_far.2 c.in_ok-new.ensures.n))
+    let IsWide = λ (f : FileState). f.n ≡ c.args.n in (
+      omega (arith, ap length items, length-append files (file ∷ []), so_far.0),
+      subst (All IsEmpty) (sym items) (All-push IsEmpty files file so_far.1 c.in_ok-new.ensures),
+      subst (All IsWide) (sym items) (All-push IsWide files file so_far.2 c.in_ok-new.ensures.n),
+    )

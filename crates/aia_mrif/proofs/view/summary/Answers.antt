@@ -20,11 +20,11 @@ loop-k-preserved g c =
     let summary : SummarizesFirst (c.loop-k.k + 1) c.if-pending-enabled-ne0.summary file.pending file.enabled =
     elim c.if-pending-enabled-ne0.branch [
       | then-pending-enabled-ne0 w ↦ live_added file.pending file.enabled c.loop-k.k c.loop-k.summary c.if-pending-enabled-ne0.summary
-            c.pair-pending.result.0 c.pair-pending.result.1 words.pending_word words.enable_word c.loop-k.invariant.0 low
-            w.if-pending-enabled-ne0.true w.summary-is
+          c.pair-pending.result.0 c.pair-pending.result.1 words.pending_word words.enable_word c.loop-k.invariant.0 low
+          w.if-pending-enabled-ne0.true w.summary-is
       | else-pending-enabled-ne0 w ↦ dead_added file.pending file.enabled c.loop-k.k c.loop-k.summary c.if-pending-enabled-ne0.summary
-            c.pair-pending.result.0 c.pair-pending.result.1 words.pending_word words.enable_word c.loop-k.invariant.0
-            w.if-pending-enabled-ne0.false w.summary-is
+          c.pair-pending.result.0 c.pair-pending.result.1 words.pending_word words.enable_word c.loop-k.invariant.0
+          w.if-pending-enabled-ne0.false w.summary-is
     ] in
     (summary, omega (arith, c.count_one.ensures, c.loop-k.invariant.1))
 
@@ -33,4 +33,4 @@ returns-clause-summary g c =
     let file = slot_file c.args.n 0 (mrif_in c.args.ram.now c.args.q) in
     let end : c.loop-k.k ≡ (c.args.n + 1) / 64 = omega (arith, c.loop-k-test.false, c.loop-k.auto.k-end) in
     all_summarized file.pending file.enabled ((c.args.n + 1) / 64) c.loop-k.summary (file_identities c.args.n _ c.requires.greatest)
-        (subst (λ k. SummarizesFirst k c.loop-k.summary file.pending file.enabled) end c.loop-k.invariant.0)
+    (subst (λ k. SummarizesFirst k c.loop-k.summary file.pending file.enabled) end c.loop-k.invariant.0)

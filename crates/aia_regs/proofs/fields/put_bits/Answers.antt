@@ -8,7 +8,7 @@ use Rattle.aia_regs.proofs.fields.put_bits.Goals as goal
 pub overflow_add-result : goal.overflow_add-result
 overflow_add-result c =
     let e = exchange_shifted c.args.x c.args.hi c.args.lo c.args.v c.bits.result c.requires.order c.requires.within c.requires.fits (omega arith)
-        c.bits.ensures.value in
+    c.bits.ensures.value in
     omega (arith, e, put_fits c.args.x c.args.hi c.args.lo c.args.v 64 c.requires.order c.requires.within c.requires.fits (omega arith))
 
 pub returns-clause-value : goal.returns-clause-value

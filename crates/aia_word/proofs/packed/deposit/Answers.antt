@@ -7,9 +7,9 @@ pub loop-i-preserved : goal.loop-i-preserved
 loop-i-preserved c =
     elim c.if-mask-i-eq1.branch [
       | then-mask-i-eq1 w ↦ rw (w.spread-is, w.at-is)
-            (spreads_more c.args.x c.args.mask c.loop-i.i c.loop-i.spread c.loop-i.at (omega arith) w.if-mask-i-eq1.true c.loop-i.invariant)
+          (spreads_more c.args.x c.args.mask c.loop-i.i c.loop-i.spread c.loop-i.at (omega arith) w.if-mask-i-eq1.true c.loop-i.invariant)
       | else-mask-i-eq1 w ↦ rw (w.spread-is, w.at-is)
-            (spreads_skip c.args.x c.args.mask c.loop-i.i c.loop-i.spread c.loop-i.at (omega arith) w.if-mask-i-eq1.false c.loop-i.invariant)
+          (spreads_skip c.args.x c.args.mask c.loop-i.i c.loop-i.spread c.loop-i.at (omega arith) w.if-mask-i-eq1.false c.loop-i.invariant)
     ]
 
 pub returns : goal.returns

@@ -7,9 +7,9 @@ pub loop-i-preserved : goal.loop-i-preserved
 loop-i-preserved c =
     elim c.if-mask-i-eq1.branch [
       | then-mask-i-eq1 w ↦ rw (w.packed-is, w.at-is)
-            (packs_more c.args.x c.args.mask c.loop-i.i c.loop-i.packed c.loop-i.at (omega arith) w.if-mask-i-eq1.true c.loop-i.invariant)
+          (packs_more c.args.x c.args.mask c.loop-i.i c.loop-i.packed c.loop-i.at (omega arith) w.if-mask-i-eq1.true c.loop-i.invariant)
       | else-mask-i-eq1 w ↦ rw (w.packed-is, w.at-is)
-            (packs_skip c.args.x c.args.mask c.loop-i.i c.loop-i.packed c.loop-i.at (omega arith) w.if-mask-i-eq1.false c.loop-i.invariant)
+          (packs_skip c.args.x c.args.mask c.loop-i.i c.loop-i.packed c.loop-i.at (omega arith) w.if-mask-i-eq1.false c.loop-i.invariant)
     ]
 
 pub returns-after-loop-i : goal.returns-after-loop-i

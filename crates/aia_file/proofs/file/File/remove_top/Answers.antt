@@ -8,25 +8,25 @@ use Rattle.aia_file.proofs.file.File.remove_top.Goals as goal
 pub remove-requires : goal.remove-requires
 remove-requires c =
     let named = top_named c.self.inside c.args.self.now c.args.top c.self.invariant c.self.view_is c.requires c.if-top-ne0.true in
-        omega (arith, named.1, ap length c.deref_mut.ensures.value, c.self.invariant.pending_words)
+    omega (arith, named.1, ap length c.deref_mut.ensures.value, c.self.invariant.pending_words)
 
 pub refreshed-self-inside-requires-clause-word : goal.refreshed-self-inside-requires-clause-word
 refreshed-self-inside-requires-clause-word c =
     let named = top_named c.self.inside c.args.self.now c.args.top c.self.invariant c.self.view_is c.requires c.if-top-ne0.true in
-        omega (arith, named.1, c.self.invariant.few)
+    omega (arith, named.1, c.self.invariant.few)
 
 pub refreshed-self-inside-requires-clause-others : goal.refreshed-self-inside-requires-clause-others
 refreshed-self-inside-requires-clause-others c =
     let identity = c.args.top % 65536 in
     pending_elsewhere c.self.inside (identity / 64) c.deref_mut.result.now c.remove.new.words c.deref.result.now c.deref-then-top-ne0.result.now
-        c.self.invariant c.deref_mut.ensures.value c.deref_mut.ensures.len c.remove.auto.words c.deref.ensures.value
-        c.deref-then-top-ne0.ensures.value
+    c.self.invariant c.deref_mut.ensures.value c.deref_mut.ensures.len c.remove.auto.words c.deref.ensures.value
+    c.deref-then-top-ne0.ensures.value
     (λ i ne. c.remove.ensures i ∙ ap (λ b. not b && is_in c.deref_mut.result.now i) (ne_eqb identity i (λ at. ne (ap (λ x. x / 64) (sym at)))))
 
 pub invariant_of-self : goal.invariant_of-self
 invariant_of-self c =
     pending_written c.self.inside c.deref_mut.result.now c.remove.new.words c.refreshed-self-inside.result c.self.invariant
-        c.deref_mut.ensures.value c.deref_mut.ensures.len c.remove.auto.words
+    c.deref_mut.ensures.value c.deref_mut.ensures.len c.remove.auto.words
     (c.remove.ensures 0 ∙ and_right _ _ (ap (λ w. is_in w 0) c.deref_mut.ensures.value ∙ c.self.invariant.no_pending_zero))
     (rw (c.deref.ensures.value, c.deref-then-top-ne0.ensures.value) at c.refreshed-self-inside.ensures)
 

@@ -8,8 +8,13 @@ use Rattle.aia_file.proofs.file.FileBank.or_pending.Goals as goal
 pub refreshed-self-inside-requires-clause-others : goal.refreshed-self-inside-requires-clause-others
 refreshed-self-inside-requires-clause-others c =
     let inside : c.args.k < length c.deref_mut.result.now =
-        omega (arith, c.requires.word, ap (λ (s : FileState). s.n) c.self.view_is, ap length c.deref_mut.ensures.value,
-        c.self.invariant.pending_words) in
+    omega (
+      arith,
+      c.requires.word,
+      ap (λ (s : FileState). s.n) c.self.view_is,
+      ap length c.deref_mut.ensures.value,
+      c.self.invariant.pending_words,
+    ) in
     pending_elsewhere c.self.inside c.args.k c.deref_mut.result.now c.join_word.new.words c.deref.result.now c.deref-2.result.now c.self.invariant
-        c.deref_mut.ensures.value c.deref_mut.ensures.len c.join_word.auto.words c.deref.ensures.value c.deref-2.ensures.value
+    c.deref_mut.ensures.value c.deref_mut.ensures.len c.join_word.auto.words c.deref.ensures.value c.deref-2.ensures.value
     (λ i ne. ap (λ w. is_in w i) c.join_word.ensures.after ∙ elsewhere_stays c.deref_mut.result.now c.args.k _ i inside ne)

@@ -18,8 +18,8 @@ loop-file-preserved c =
     let here : is_in_range 1 all.guests c.loop-file.file ≡ true = in_range all.guests c.loop-file.file (omega arith) (omega arith) in
     elim c.if-signal.branch [
       | then-signal w ↦ rw w.bits-is (bit_put c.loop-file.bits c.loop-file.file members (omega arith)
-            (ap (λ b. b && signals (shown (file_at all (GuestFile c.args.hart c.loop-file.file)))) here ∙ sym same ∙ w.if-signal.true)
-            c.loop-file.invariant)
+          (ap (λ b. b && signals (shown (file_at all (GuestFile c.args.hart c.loop-file.file)))) here ∙ sym same ∙ w.if-signal.true)
+          c.loop-file.invariant)
       | else-signal w ↦ rw w.bits-is (bit_left c.loop-file.bits c.loop-file.file members (and_right _ _ (sym same ∙ w.if-signal.false))
-            c.loop-file.invariant)
+          c.loop-file.invariant)
     ]

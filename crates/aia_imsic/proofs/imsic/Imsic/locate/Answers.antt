@@ -16,19 +16,19 @@ returns-then-addr-lt-SUPERVISOR_FILES-clause-spot c =
 pub returns-then-hart-harts-2-clause-spot : goal.returns-then-hart-harts-2-clause-spot
 returns-then-hart-harts-2-clause-spot c =
     rw (← c.self.view_is) (sym (past_hosts c.self.inside.harts c.self.inside.guests c.args.addr _ (omega arith) (omega arith) refl (omega arith)
-        (omega arith)))
+    (omega arith)))
 
 pub returns-then-file-eq0-clause-spot : goal.returns-then-file-eq0-clause-spot
 returns-then-file-eq0-clause-spot c =
     rw (← c.self.view_is) (sym (at_host c.self.inside.harts c.self.inside.guests c.args.addr _ _ (omega arith) refl refl (omega arith)
-        (omega arith) (omega arith)))
+    (omega arith) (omega arith)))
 
 pub returns-then-file-from-clause-spot : goal.returns-then-file-from-clause-spot
 returns-then-file-from-clause-spot c =
     rw (← c.self.view_is) (sym (past_guests c.self.inside.harts c.self.inside.guests c.args.addr _ _ (omega arith) (omega arith) refl refl
-        (omega arith) (λ e. omega arith) (omega arith)))
+    (omega arith) (λ e. omega arith) (omega arith)))
 
 pub returns-clause-spot : goal.returns-clause-spot
 returns-clause-spot c =
     rw (← c.self.view_is) (sym (at_guest c.self.inside.harts c.self.inside.guests c.args.addr _ _ (omega arith) (omega arith) refl refl
-        (omega arith) (omega arith) (λ e. omega arith) (omega arith)))
+    (omega arith) (omega arith) (λ e. omega arith) (omega arith)))

@@ -9,5 +9,7 @@ use Rattle.aia_imsic.proofs.imsic.Imsic.new.Goals as goal
 pub returns-clause-empty : goal.returns-clause-empty
 returns-clause-empty c =
     let made : ImsicState = record { harts = c.args.harts; guests = c.args.guests; files = c.in_ok-files.files.items } in
-    record { each = λ spot there. All-get_or (λ (f : FileState). SameFile (shown f) (empty_file c.args.n)) made.files (place_of made spot) no_file
-        (omega (arith, place_within made spot there, c.in_ok-files.ensures.length)) c.in_ok-files.ensures.empty }
+    record {
+      each = λ spot there. All-get_or (λ (f : FileState). SameFile (shown f) (empty_file c.args.n)) made.files (place_of made spot) no_file
+          (omega (arith, place_within made spot there, c.in_ok-files.ensures.length)) c.in_ok-files.ensures.empty;
+    }

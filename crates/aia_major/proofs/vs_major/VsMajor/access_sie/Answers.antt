@@ -9,4 +9,4 @@ pub returns-clause-after : goal.returns-clause-after
 returns-clause-after c =
     let fits : FitsOp c.args.op = search rules in
     c.write_sie.ensures ∙ ap (λ v. sie_written v (majors_shown c.args.self.now)) (c.written.ensures ∙ ap (written c.args.op) c.sie-before.ensures)
-        ∙ sie_access c.args.op (majors_shown c.args.self.now) fits
+    ∙ sie_access c.args.op (majors_shown c.args.self.now) fits

@@ -9,4 +9,4 @@ pub returns-clause-after : goal.returns-clause-after
 returns-clause-after c =
     let fits : FitsOp c.args.op = search rules in
     c.write_sip.ensures ∙ ap (λ v. sip_written v (majors_shown c.args.self.now)) (c.written.ensures ∙ ap (written c.args.op) c.sip-before.ensures)
-        ∙ sip_access c.args.op (majors_shown c.args.self.now) c.args.signal fits
+    ∙ sip_access c.args.op (majors_shown c.args.self.now) c.args.signal fits
