@@ -8,7 +8,7 @@ use Rattle.aia_regs.specs.Top.{Pair, hart_of, priority_of, pair_if}
 use Rattle.aia_regs.specs.declared.limits.TheConstants.{SOURCES}
 use Rattle.aia_domain.specs.Order.{CandidatesState, IsRising, ordered, put_if, out_if}
 use Rattle.aia_domain.proofs.OrderedLemmas.{ordered-none, ordered-suc, ordered_same, ordered_changed, ordered_length, ordered_room, ordered_rising, ordered_all}
-use Rattle.aia_domain.specs.declared.interrupt_source.Aim.{Aim}
+use Rattle.aia_domain.specs.declared.interrupt_source.DirectAim.{DirectAim}
 use Rattle.aia_domain.specs.InterruptSource.{InterruptSourceState, new_source, EachAt, EachSource, changed_at, wired, source_at, waits, waits_at, waiting_pair, waiting_pair_at, candidates_of}
 use Rattle.aia_domain.specs.Waiting.{SourcesState, WaitingState, IsWhatWaits, HasRoom, aim_of, aim_at, pair_of_aim, renewed, with_pair, AllHave, HaveRoom}
 use Rattle.aia_domain.specs.Domain.{IsPairOfSource}
@@ -27,7 +27,7 @@ aim_pair hart s x = at (waits x)
 aim_waits : (x : InterruptSourceState) → waits x ≡ is_some (aim_of x)
 aim_waits x = at (waits x)
   where
-    at : (w : Bool) → w ≡ is_some {T = Aim} (cond w (Some (record { hart = hart_of x.target; priority = priority_of x.target })) None)
+    at : (w : Bool) → w ≡ is_some {T = DirectAim} (cond w (Some (record { hart = hart_of x.target; priority = priority_of x.target })) None)
     at true = refl
     at false = refl
 

@@ -4,7 +4,7 @@ use Rattle.std.specs.Option.{option_map_or}
 use Rattle.aia_word.specs.Sets.{is_in}
 use Rattle.aia_regs.specs.Top.{Pair, hart_of, priority_of}
 use Rattle.aia_domain.specs.Order.{CandidatesState, put_if, out_if}
-use Rattle.aia_domain.specs.declared.interrupt_source.Aim.{Aim}
+use Rattle.aia_domain.specs.declared.interrupt_source.DirectAim.{DirectAim}
 use Rattle.aia_domain.specs.InterruptSource.{InterruptSourceState, new_source, waits, waits_at, pairs_for}
 
 -- The sources of a domain, whether it is a leaf, how many harts there are, and whether it delivers
@@ -25,17 +25,17 @@ pub record IsNewSources (source_count hart_count : ℕ) (is_leaf : Bool) (x : So
   pub each : All (λ x. x ≡ new_source) x.sources
 
 -- Where a source that waits is aimed, and with which priority.
-abbrev pub aim_of : InterruptSourceState → Option Aim
+abbrev pub aim_of : InterruptSourceState → Option DirectAim
 aim_of x =
     if waits x then Some (record { hart = hart_of x.target; priority = priority_of x.target })
     else None
 
 -- The same of a source by its number; one that isn't there does not wait.
-abbrev pub aim_at : List InterruptSourceState → ℕ → Option Aim
+abbrev pub aim_at : List InterruptSourceState → ℕ → Option DirectAim
 aim_at sources s = option_map_or aim_of (slice_get sources s) None
 
 -- The pair of a source with such an aim, where it is at the hart.
-abbrev pub pair_of_aim : ℕ → ℕ → Option Aim → Option Pair
+abbrev pub pair_of_aim : ℕ → ℕ → Option DirectAim → Option Pair
 pair_of_aim hart s None = None
 pair_of_aim hart s (Some aim) = if nat_eq aim.hart hart then Some (aim.priority, s) else None
 
@@ -74,12 +74,12 @@ pub record IsWhatWaits (msi : Bool) (sources : List InterruptSourceState) (waiti
   pub bits : (s : ℕ) → is_in waiting.ready s ≡ (msi && waits_at sources s)
 
 -- What becomes of a list where a source that was aimed so is aimed otherwise.
-abbrev pub renewed : ℕ → Option Aim → Option Aim → ℕ → CandidatesState → CandidatesState
+abbrev pub renewed : ℕ → Option DirectAim → Option DirectAim → ℕ → CandidatesState → CandidatesState
 renewed s stood stands hart x =
     with_pair (pair_of_aim hart s stands) (without_pair (pair_of_aim hart s stood) x)
 
 -- Each list has room for the pair that comes to it.
-abbrev pub HasRoom : ℕ → Option Aim → Option Aim → List CandidatesState → Type 0
+abbrev pub HasRoom : ℕ → Option DirectAim → Option DirectAim → List CandidatesState → Type 0
 HasRoom s stood stands fronts =
     (hart : ℕ) (x : CandidatesState) → slice_get fronts hart ≡ Some x
     → is_some (pair_of_aim hart s stands) ≡ true

@@ -6,7 +6,7 @@ ghost use Rattle.aia_word.specs.Sets.{word_of};
 ghost use Rattle.aia_domain.specs.InterruptSource.{EachSource, new_source, changed_at, changed_by, all_switched, switched, sourcecfg_at, is_active_at, target_at, source_at, bit_at_source, waits_at};
 ghost use Rattle.aia_domain.specs.Waiting.{aim_at};
 
-use crate::interrupt_source::{Aim, Change, InterruptSource, SourceBit};
+use crate::interrupt_source::{Change, DirectAim, InterruptSource, SourceBit};
 use std::alloc::{AllocError, Global};
 
 /// The sources that a register has in one word.
@@ -105,7 +105,7 @@ pub(crate) fn enabled_at(sources: &[InterruptSource], s: u64) -> bool
 }
 
 /// Tells where a source is aimed, where it waits; one that isn't there does not.
-pub(crate) fn aim_at(sources: &[InterruptSource], s: u64) -> Option<Aim>
+pub(crate) fn aim_at(sources: &[InterruptSource], s: u64) -> Option<DirectAim>
     ensures { result ≡ aim_at sources.now s }
 {
     if s < sources.len() as u64 {

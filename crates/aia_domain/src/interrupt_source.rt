@@ -43,7 +43,7 @@ pub enum Change {
 
 /// Where a source that is pending and enabled is aimed in direct delivery.
 #[derive(Clone, Copy, Debug)]
-pub struct Aim {
+pub struct DirectAim {
     /// The hart index of its `target`.
     pub hart: u32,
     /// The priority of its `target`.
@@ -137,11 +137,11 @@ impl InterruptSource {
     }
 
     /// Tells where it is aimed, where it waits.
-    pub(crate) fn aim_of(&self) -> Option<Aim>
+    pub(crate) fn aim_of(&self) -> Option<DirectAim>
         ensures { result ≡ aim_of self.now }
     {
         if self.waits() {
-            Some(Aim {
+            Some(DirectAim {
                 hart: hart_of(self.target),
                 priority: priority_of(self.target),
             })

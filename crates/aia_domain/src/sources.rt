@@ -11,7 +11,7 @@ ghost use Rattle.aia_domain.specs.Domain.{IsPairOfSource};
 ghost use Rattle.aia_domain.specs.Order.{IsRising};
 
 use crate::by_number::{aim_at, change_one, enabled_at, new_sources, switch_all};
-use crate::interrupt_source::{Aim, Change, InterruptSource};
+use crate::interrupt_source::{Change, DirectAim, InterruptSource};
 use crate::waiting::Waiting;
 use aia_regs::bit;
 use aia_source::Touch;
@@ -282,7 +282,7 @@ fn change_with_waiting(
 }
 
 /// Tells whether a source is aimed as it was.
-fn is_same(stood: Option<Aim>, stands: Option<Aim>) -> bool
+fn is_same(stood: Option<DirectAim>, stands: Option<DirectAim>) -> bool
     ensures { result ≡ true → stood ≡ stands }
 {
     match (stood, stands) {

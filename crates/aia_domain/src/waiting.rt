@@ -9,7 +9,7 @@ ghost use Rattle.aia_domain.specs.InterruptSource.{EachAt, waits_at, waiting_pai
 ghost use Rattle.aia_domain.specs.Waiting.{IsWhatWaits, AllHave, HaveRoom, HasRoom, pairs_at, pair_of_aim, with_pair, without_pair, renewed};
 
 use crate::by_number::{aim_at, waits_at};
-use crate::interrupt_source::{Aim, InterruptSource};
+use crate::interrupt_source::{DirectAim, InterruptSource};
 use crate::{Candidates, ReadyBits};
 use std::alloc::{AllocError, Global};
 use std::marker::Model;
@@ -79,7 +79,7 @@ impl Waiting {
 
     /// Has a source that was aimed so be aimed otherwise, in direct delivery.
     #[inline(never)]
-    pub(crate) fn renew(&mut self, s: u32, stood: Option<Aim>, stands: Option<Aim>)
+    pub(crate) fn renew(&mut self, s: u32, stood: Option<DirectAim>, stands: Option<DirectAim>)
         requires room { HasRoom s stood stands self.old.fronts }
         ensures fronts { EachAt self.old.fronts self.new.fronts (renewed s stood stands) }
         ensures ready { self.new.ready ≡ self.old.ready }
@@ -105,7 +105,7 @@ impl Waiting {
 
 /// Has the pair of a source stand where the source is aimed now.
 #[inline(never)]
-fn move_pair(fronts: &mut [Candidates], s: u32, stood: Option<Aim>, stands: Option<Aim>)
+fn move_pair(fronts: &mut [Candidates], s: u32, stood: Option<DirectAim>, stands: Option<DirectAim>)
     requires room { HasRoom s stood stands fronts.old }
     ensures { EachAt fronts.old fronts.new (renewed s stood stands) }
 {
@@ -115,7 +115,7 @@ fn move_pair(fronts: &mut [Candidates], s: u32, stood: Option<Aim>, stands: Opti
 
 /// Takes the pair of a source out of the list of the hart that it was aimed at.
 #[inline(always)]
-fn take_from(fronts: &mut [Candidates], s: u32, aim: Option<Aim>)
+fn take_from(fronts: &mut [Candidates], s: u32, aim: Option<DirectAim>)
     ensures { EachAt fronts.old fronts.new (λ hart. without_pair (pair_of_aim hart s aim)) }
 {
     if let Some(aim) = aim {
@@ -128,7 +128,7 @@ fn take_from(fronts: &mut [Candidates], s: u32, aim: Option<Aim>)
 
 /// Puts the pair of a source into the list of the hart that it is aimed at.
 #[inline(always)]
-fn put_into(fronts: &mut [Candidates], s: u32, aim: Option<Aim>)
+fn put_into(fronts: &mut [Candidates], s: u32, aim: Option<DirectAim>)
     requires room { (hart : ℕ) (x : CandidatesState) → slice_get fronts.old hart ≡ Some x
         → is_some (pair_of_aim hart s aim) ≡ true → length x.pairs < x.room }
     ensures { EachAt fronts.old fronts.new (λ hart. with_pair (pair_of_aim hart s aim)) }

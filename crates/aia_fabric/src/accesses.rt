@@ -2,7 +2,7 @@ ghost use Rattle.std.specs.Prelude.{◌≡◌, ◌^◌, ◌<◌, ◌≤◌, fals
 ghost use Rattle.std.specs.Borrow.{Bor};
 ghost use Rattle.aia_word.specs.Sets.{has_bit};
 ghost use Rattle.aia_regs.specs.declared.limits.TheConstants.{VCPUS, FILE_WORDS};
-ghost use Rattle.aia_vcpu.specs.declared.place.Place.{Place};
+ghost use Rattle.aia_vcpu.specs.declared.place.GuestPlace.{GuestPlace};
 ghost use Rattle.aia_vcpu.specs.Vms.{vcpu};
 ghost use Rattle.aia_fabric_values.specs.Found.{IsFound};
 ghost use Rattle.aia_fabric_values.specs.Flights.{Fences};
@@ -158,7 +158,7 @@ impl Fabric {
     pub fn map(&mut self, found: Found, to: Option<&FileLease>)
         requires { IsFound self.old found }
         ensures { self.new ≡ with_map self.old (vcpu found.vm found.number)
-            (option_map (λ (lease : Bor Place). lease.now) to.entry) }
+            (option_map (λ (lease : Bor GuestPlace). lease.now) to.entry) }
     {
         self.stages[found.slot as usize].written = to.map(|lease| lease.place());
     }

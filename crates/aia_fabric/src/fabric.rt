@@ -31,7 +31,7 @@ use aia_ram::Ram;
 use aia_regs::address_map::PAGE;
 use aia_regs::limits::{MEMORY_WORDS, VCPUS};
 use aia_regs::{FileReg, Op};
-use aia_vcpu::{Place, Vm};
+use aia_vcpu::{GuestPlace, Vm};
 use std::alloc::{AllocError, Global};
 use std::marker::Model;
 
@@ -358,7 +358,7 @@ impl Fabric {
     }
 
     /// Finds the guest file that a G-stage record names; `Nowhere` exactly where it is not there.
-    pub(crate) fn named_spot(&self, place: Place) -> Spot
+    pub(crate) fn named_spot(&self, place: GuestPlace) -> Spot
         ensures value { result ≡ named_spot self.now.imsic place }
         ensures there { result ≢ Spot.Nowhere → IsThere self.now.imsic result }
     {

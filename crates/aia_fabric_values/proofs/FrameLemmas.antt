@@ -13,7 +13,7 @@ use Rattle.aia_entry.specs.declared.entry.Entry.{Entry}
 use Rattle.aia_entry.specs.declared.entry.Entry.TheVariants.{Basic, Mrif, NotValid, Custom, Misconfigured}
 use Rattle.aia_entry.specs.declared.table.Route.{Route}
 use Rattle.aia_entry.specs.declared.table.Route.TheVariants.{Other, Fault, To}
-use Rattle.aia_vcpu.specs.declared.place.Place.{Place}
+use Rattle.aia_vcpu.specs.declared.place.GuestPlace.{GuestPlace}
 use Rattle.aia_vcpu.specs.Vms.{Vcpu, slot_of, notice_identity, notice_hart}
 use Rattle.aia_fabric_values.specs.World.{World, OnlyStores}
 use Rattle.aia_fabric_values.specs.Stores.{StoresIn, StoresInGuestFile, Posts, NoticedAt, NoticedBy, StoresInSlot, ReachesBy, Reaches, ReachesByRecord, with_store, slot_at, page_spot, named_spot}
@@ -73,6 +73,6 @@ reaches_rest (To entry) w u offset value s = entry_rest entry w u offset value s
 reaches_rest Other w u offset value s = none_rest w u s
 reaches_rest (Fault entry) w u offset value s = none_rest w u s
 
-pub record_rest : (named : Option Place) (w u : World) (g : Vcpu) (value : ℕ) → ReachesByRecord named w u g value → OnlyStores w u
+pub record_rest : (named : Option GuestPlace) (w u : World) (g : Vcpu) (value : ℕ) → ReachesByRecord named w u g value → OnlyStores w u
 record_rest (Some p) w u g value s = at_rest w u (named_spot w.imsic p) 0 value s
 record_rest None w u g value s = slot_rest w u (Some (slot_of w.vms g)) (SupervisorFile (notice_hart w.vms g)) (notice_identity w.vms g) 0 value s

@@ -14,7 +14,7 @@ use Rattle.aia_regs.proofs.RequestLemmas.{requested_in_range}
 use Rattle.aia_file.specs.declared.spot.Spot.TheVariants.{SupervisorFile, Nowhere}
 use Rattle.aia_file.specs.Imsic.{ImsicState, IsThere}
 use Rattle.aia_file.proofs.MapLemmas.{in_page, spot_of_host, past_hosts}
-use Rattle.aia_vcpu.specs.declared.place.Place.{Place}
+use Rattle.aia_vcpu.specs.declared.place.GuestPlace.{GuestPlace}
 use Rattle.aia_file.specs.Mrif.{mrif_in, pending_place, after_store}
 use Rattle.aia_file.specs.Words.{HasSlot, SameMrif, words_after_store}
 use Rattle.aia_file.proofs.SlotLemmas.{landed, other_words}
@@ -80,5 +80,5 @@ store_keeps_size words q (Some i) = length-set words (pending_place q (i / 64)) 
 
 -- ---- the guest file that a record names
 
-pub named_guest : (i : ImsicState) (p : Place) → IsThere i (spot_of p) → named_spot i p ≡ spot_of p
+pub named_guest : (i : ImsicState) (p : GuestPlace) → IsThere i (spot_of p) → named_spot i p ≡ spot_of p
 named_guest i p inside = let named : (nat_lt p.hart i.harts && is_in_range 1 i.guests p.file) ≡ true = grind (arith, nat_tests, inside.0, inside.1, inside.2) in cond-true _ _ _ named

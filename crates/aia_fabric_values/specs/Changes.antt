@@ -10,7 +10,7 @@ use Rattle.aia_file.specs.declared.spot.Spot.TheVariants.{GuestFile}
 use Rattle.aia_file.specs.Imsic.{IsThere, file_at, with_file}
 use Rattle.aia_file.specs.Mrif.{pending_place, enable_place}
 use Rattle.aia_entry.specs.Tables.{fenced_at}
-use Rattle.aia_vcpu.specs.declared.place.Place.{Place}
+use Rattle.aia_vcpu.specs.declared.place.GuestPlace.{GuestPlace}
 use Rattle.aia_vcpu.specs.Vms.{Vcpu, slot_of}
 use Rattle.aia_fabric_values.specs.declared.at.At.{At}
 use Rattle.aia_fabric_values.specs.declared.at.At.TheVariants.{File, Slot}
@@ -88,7 +88,7 @@ with_fence w vm file = record w { tables = fenced_at w.tables vm file w.memory }
 abbrev pub with_stage : World → Vcpu → Stage → World
 with_stage w g stage = record w { stages = slice_set w.stages (slot_of w.vms g) stage }
 
-abbrev pub with_map : World → Vcpu → Option Place → World
+abbrev pub with_map : World → Vcpu → Option GuestPlace → World
 with_map w g to = with_stage w g (record (stage_of w g) { written = to })
 
 abbrev pub with_gfence : World → Vcpu → World
@@ -97,10 +97,10 @@ with_gfence w g = with_stage w g (record (stage_of w g) { in_force = (stage_of w
 -- ---- what the places of a virtual hart show
 
 -- Where a guest file is among all files.
-abbrev pub spot_of : Place → Spot
+abbrev pub spot_of : GuestPlace → Spot
 spot_of p = GuestFile p.hart p.file
 
 -- The interrupt file in a guest file; the empty one where there is none.
-abbrev pub file_in : World → Option Place → InterruptFile
+abbrev pub file_in : World → Option GuestPlace → InterruptFile
 file_in w None = empty_file w.n
 file_in w (Some p) = shown (file_at w.imsic (spot_of p))

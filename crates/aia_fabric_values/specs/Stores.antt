@@ -22,7 +22,7 @@ use Rattle.aia_entry.specs.declared.entry.Entry.{Entry}
 use Rattle.aia_entry.specs.declared.entry.Entry.TheVariants.{Basic, Mrif}
 use Rattle.aia_entry.specs.declared.table.Route.{Route}
 use Rattle.aia_entry.specs.declared.table.Route.TheVariants.{To}
-use Rattle.aia_vcpu.specs.declared.place.Place.{Place}
+use Rattle.aia_vcpu.specs.declared.place.GuestPlace.{GuestPlace}
 use Rattle.aia_vcpu.specs.Vms.{Vcpu, slot_of, notice_identity, notice_hart}
 use Rattle.aia_fabric_values.specs.World.{World}
 
@@ -109,7 +109,7 @@ Reaches route w u offset value = u ≡ w
 -- ---- where a record leads
 
 -- The guest file that a record names; Nowhere if it is not there, which a record may name too.
-abbrev pub named_spot : ImsicState → Place → Spot
+abbrev pub named_spot : ImsicState → GuestPlace → Spot
 named_spot i p =
     if nat_lt p.hart i.harts && is_in_range 1 i.guests p.file
     then GuestFile p.hart p.file
@@ -119,7 +119,7 @@ named_spot i p =
 -- in force names, at the register of its page that takes stores; where none is named it goes to g's
 -- slot of memory, with its notice. Profile: where no file is mapped, the hypervisor does the store.
 -- The hypervisor extension 1.0.
-abbrev pub ReachesByRecord : Option Place → World → World → Vcpu → ℕ → Type 0
+abbrev pub ReachesByRecord : Option GuestPlace → World → World → Vcpu → ℕ → Type 0
 ReachesByRecord (Some p) w u g value = StoresInGuestFile w u (named_spot w.imsic p) 0 value
 ReachesByRecord None w u g value =
     StoresInSlot w u (Some (slot_of w.vms g)) (SupervisorFile (notice_hart w.vms g))

@@ -1,7 +1,7 @@
 ghost use Rattle.std.specs.Prelude.{◌≡◌};
 ghost use Rattle.aia_fabric_values.specs.World.{no_stage};
 
-use aia_vcpu::Place;
+use aia_vcpu::GuestPlace;
 
 /// A G-stage record of a virtual hart's interrupt file page: the guest file that it names, `None`
 /// where it is empty; as it is written, and in force.
@@ -9,8 +9,8 @@ use aia_vcpu::Place;
 /// The hypervisor extension 1.0.
 #[derive(Clone, Copy, Debug, PartialEq, Eq)]
 pub struct Stage {
-    pub written: Option<Place>,
-    pub in_force: Option<Place>,
+    pub written: Option<GuestPlace>,
+    pub in_force: Option<GuestPlace>,
 }
 
 impl Stage {

@@ -18,8 +18,8 @@ use Rattle.aia_model.specs.declared.msi.Msi.{Msi}
 use Rattle.aia_model.specs.declared.answer.Answer.{Answer}
 use Rattle.aia_model.specs.declared.answer.Answer.TheVariants.{NoMachine, Again, Refused}
 use Rattle.aia_model.specs.declared.refusal.Refusal.TheVariants.{Range, Full}
-use Rattle.aia_model.specs.Move.{Move, mover, wanted_move, LineDeed, line_deed}
-use Rattle.aia_model.specs.Move.Move.{Arrives, Leaves, Shifts}
+use Rattle.aia_model.specs.Move.{WantedMove, mover, wanted_move, LineDeed, line_deed}
+use Rattle.aia_model.specs.Move.WantedMove.{Arrives, Leaves, Shifts}
 use Rattle.aia_model.specs.Move.LineDeed.{NoMove, Whole, Begins, Steps, Lands}
 use Rattle.aia_model.specs.Event.{Event, History, machine_of, has_machine, greatest_identity_of, file_words, MachineSize}
 use Rattle.aia_model.specs.Event.Event.{Accepted, Began, Stepped, Delivered, Landed, Relayed}
@@ -30,7 +30,7 @@ use Rattle.aia_model.specs.declared.sender.Sender.{Sender}
 use Rattle.aia_model.specs.declared.sender.Sender.TheVariants.{ByGenMsi, BySource}
 use Rattle.aia_model.specs.Act.{Past}
 use Rattle.aia_model.specs.SourceOf.{sources_in}
-use Rattle.aia_model.specs.Passes.{Pass, no_pass, passes_of, nth_pass, passed_by, passes_to, passes_for}
+use Rattle.aia_model.specs.Passes.{PassedSource, no_pass, passes_of, nth_pass, passed_by, passes_to, passes_for}
 use Rattle.aia_model.specs.Histories.{IsHistory}
 use Rattle.aia_model.specs.Sent.{all_senders, has_msi, msi_of, msis_sent_by}
 use Rattle.aia_model.proofs.PassesStandLemmas.{acts_by, passes_stand}
@@ -69,7 +69,7 @@ machine_stepped (suc count) g h = machine_stepped count g (step_taken g h) ∙ (
 same_small : (h k : History) → machine_of h ≡ machine_of k → IsSmall k → IsSmall h
 same_small h k same small = subst (λ (m : Option MachineSize). option_map_or (λ (s : MachineSize). s.n) m 0 ≤ IDENTITIES) (sym same) small
 
-moved-small : (count : ℕ) (g : Vcpu) (move : Move) (h : History) → IsSmall h → IsSmall (steps_taken count g (Began move ∷ h))
+moved-small : (count : ℕ) (g : Vcpu) (move : WantedMove) (h : History) → IsSmall h → IsSmall (steps_taken count g (Began move ∷ h))
 moved-small count g move h small = same_small (steps_taken count g (Began move ∷ h)) h (machine_stepped count g (Began move ∷ h)) small
 
 line-small : (h : History) (line : Line) → refusal h line ≡ None → IsSmall h → IsSmall (line_taken h line)
@@ -132,7 +132,7 @@ steps-few : (count : ℕ) (g : Vcpu) (h : History) → FewFly h → FewFly (step
 steps-few zero g h few = few
 steps-few (suc count) g h few = steps-few count g (step_taken g h) (step-few g h few)
 
-began-few : (move : Move) (h : History) → FewFly h → FewFly (Began move ∷ h)
+began-few : (move : WantedMove) (h : History) → FewFly h → FewFly (Began move ∷ h)
 unfolding flight
 began-few move h few = few
 
@@ -180,8 +180,8 @@ count P [] = 0
 count P (x ∷ xs) = if P x then suc (count P xs) else count P xs
 
 -- whether a source is one of some passes
-abbrev is_source_of : List Pass → ℕ → Bool
-is_source_of xs s = list_any (λ (x : Pass). nat_eq x.source s) xs
+abbrev is_source_of : List PassedSource → ℕ → Bool
+is_source_of xs s = list_any (λ (x : PassedSource). nat_eq x.source s) xs
 
 count_either : (P Q : ℕ → Bool) (xs : List ℕ) → count (λ s. P s || Q s) xs ≤ count P xs + count Q xs
 count_either P Q [] = omega arith
@@ -206,7 +206,7 @@ once_at_most k a (suc n) = elim (cases_eq k a) [
   | inr other ↦ rw (ne_eqb k a other) (once_at_most k (a + 1) n)
 ]
 
-few_sources : (xs : List Pass) (a n : ℕ) → count (is_source_of xs) (range_with_len a n) ≤ length xs
+few_sources : (xs : List PassedSource) (a n : ℕ) → count (is_source_of xs) (range_with_len a n) ≤ length xs
 few_sources [] a n = none_at_all (range_with_len a n)
   where
     none_at_all : (ys : List ℕ) → count (λ s. false) ys ≤ 0
@@ -218,7 +218,7 @@ few_sources (x ∷ xs) a n =
     let rest = few_sources xs a n in omega (arith, both, one, rest)
 
 -- one that is passed is a source of a pass
-source_at : (xs : List Pass) (p s : ℕ) → p < length xs → nat_eq (slice_index_or xs p no_pass).source s ≡ true → is_source_of xs s ≡ true
+source_at : (xs : List PassedSource) (p s : ℕ) → p < length xs → nat_eq (slice_index_or xs p no_pass).source s ≡ true → is_source_of xs s ≡ true
 source_at [] p s low e = absurd (omega (arith, low))
 source_at (x ∷ xs) zero s low e = ap (λ b. b || is_source_of xs s) e
 source_at (x ∷ xs) (suc p) s low e = or_right (nat_eq x.source s) (is_source_of xs s) (source_at xs p s (omega (arith, low)) e)
@@ -227,12 +227,12 @@ is_source : (h : History) (s p : ℕ) → passed_by h (Some s) ≡ Some p → is
 is_source h s p e = let least = least_of_is (λ q. nat_eq (nth_pass h q).source s) 0 (length (passes_of h)) p e in source_at (passes_of h) p s (let high = least.1 in omega (arith, high)) least.2
 
 -- how many of some senders forward a source of a pass
-abbrev given : List Pass → List Sender → ℕ
+abbrev given : List PassedSource → List Sender → ℕ
 given xs [] = 0
 given xs (ByGenMsi d ∷ senders) = given xs senders
 given xs (BySource d s ∷ senders) = if is_source_of xs s then suc (given xs senders) else given xs senders
 
-given_sources : (xs : List Pass) (numbers : List ℕ) → given xs (flat_map (λ s. BySource Root s ∷ BySource Child s ∷ []) numbers) ≡ count (is_source_of xs) numbers + count (is_source_of xs) numbers
+given_sources : (xs : List PassedSource) (numbers : List ℕ) → given xs (flat_map (λ s. BySource Root s ∷ BySource Child s ∷ []) numbers) ≡ count (is_source_of xs) numbers + count (is_source_of xs) numbers
 given_sources xs [] = refl
 given_sources xs (s ∷ later) = by_test (is_source_of xs s) (given_sources xs later)
   where
@@ -242,7 +242,7 @@ given_sources xs (s ∷ later) = by_test (is_source_of xs s) (given_sources xs l
     by_test true e = omega (arith, e)
     by_test false e = e
 
-few_given : (xs : List Pass) (n : ℕ) → given xs (all_senders n) ≤ 2 * length xs
+few_given : (xs : List PassedSource) (n : ℕ) → given xs (all_senders n) ≤ 2 * length xs
 unfolding all_senders
 few_given xs n = let sum = given_sources xs (range_with_len 1 n) in let few = few_sources xs 1 n in omega (arith, sum, few)
 
@@ -266,7 +266,7 @@ taken-sends msi h = msi_by_pass (λ k. notices_sent k ≤ notices_sent h + 1) ms
     (λ p e r. let one = event-sends (Relayed p) (Delivered msi ∷ h) in let same = delivered_sends msi h in omega (arith, one, same))
 
 -- of all that wait
-waiting-sends : (past : Past) (xs : List Sender) (h : History) (passes : List Pass) → passes_of h ≡ passes → notices_sent (delivered (map (msi_of past) (filter (has_msi past) xs)) h) ≤ notices_sent h + given passes xs
+waiting-sends : (past : Past) (xs : List Sender) (h : History) (passes : List PassedSource) → passes_of h ≡ passes → notices_sent (delivered (map (msi_of past) (filter (has_msi past) xs)) h) ≤ notices_sent h + given passes xs
 waiting-sends past [] h passes same = omega arith
 waiting-sends past (x ∷ xs) h passes same = by_test (has_msi past x) (λ k e. waiting-sends past xs k passes e)
   where
@@ -354,13 +354,13 @@ steps-send (suc count) g h =
 abbrev most_steps : ℕ
 most_steps = plan_steps File Memory FILE_WORDS
 
-few_steps : (words : ℕ) (move : Move) → words ≤ FILE_WORDS → steps_of words move ≤ most_steps
+few_steps : (words : ℕ) (move : WantedMove) → words ≤ FILE_WORDS → steps_of words move ≤ most_steps
 few_steps words (Arrives g hart) small = omega arith
 few_steps words (Leaves g) small = omega arith
 few_steps words (Shifts g hart) small = omega arith
 
 -- how many passes a virtual hart has
-own_passes : (g : Vcpu) (xs : List Pass) → passes_to g xs ≤ length xs
+own_passes : (g : Vcpu) (xs : List PassedSource) → passes_to g xs ≤ length xs
 own_passes g [] = omega arith
 own_passes g (x ∷ xs) = by_test (is_vcpu x.to g) (own_passes g xs)
   where

@@ -5,7 +5,7 @@ ghost use Rattle.std.specs.Int.{is_in_range};
 ghost use Rattle.aia_regs.specs.declared.limits.TheConstants.{GUEST_FILES, IDENTITIES, PASSES};
 ghost use Rattle.aia_file.specs.Map.{spot_at};
 ghost use Rattle.aia_file.specs.Imsic.{IsThere};
-ghost use Rattle.aia_vcpu.specs.declared.place.Place.{Place};
+ghost use Rattle.aia_vcpu.specs.declared.place.GuestPlace.{GuestPlace};
 ghost use Rattle.aia_vcpu.specs.Aims.{target_to};
 ghost use Rattle.aia_model.specs.declared.answer.Answer.TheVariants.{Okay, Refused};
 ghost use Rattle.aia_model.specs.declared.line.Line.TheVariants as lines;
@@ -242,7 +242,7 @@ fn aim_first<T: Targets>(
     requires harts { notice < (T.map targets.old).harts }
     requires number { number < PASSES }
     requires identity { identity ≤ IDENTITIES }
-    requires place { (p : Place) → resident_at stay.now ≡ Some p
+    requires place { (p : GuestPlace) → resident_at stay.now ≡ Some p
         → (p.hart < (T.map targets.old).harts) × (p.file ≤ GUEST_FILES) }
     ensures { T.aimed targets.old source
         (target_to notice number identity (resident_at stay.now)) targets.new }

@@ -22,7 +22,7 @@ use aia_hyp_values::VcpuRecord;
 use aia_model::Refusal;
 use aia_move::Plan;
 use aia_regs::{Csr, Level, Op};
-use aia_vcpu::Place;
+use aia_vcpu::GuestPlace;
 
 impl Core {
     /// Does a CSR instruction of a virtual hart, and answers what the CSR read before it. `Err` is
@@ -45,7 +45,13 @@ impl Core {
     }
 
     /// Does the access of a virtual hart that is resident in a guest file.
-    fn guest_access(&mut self, found: Found, place: Place, csr: Csr, op: Op) -> Result<u64, Refusal>
+    fn guest_access(
+        &mut self,
+        found: Found,
+        place: GuestPlace,
+        csr: Csr,
+        op: Op,
+    ) -> Result<u64, Refusal>
         requires found { IsFound self.old.world found }
         requires whole { IsWhole self.old.world }
         requires resident { resident_at (record_of self.old (vcpu found.vm found.number)).stay
@@ -86,7 +92,7 @@ impl Core {
 }
 
 /// Tells where a guest file is among all files.
-fn file_spot(place: Place) -> Spot
+fn file_spot(place: GuestPlace) -> Spot
     ensures { result ≡ spot_of place }
 {
     Spot::GuestFile(place.hart, place.file)

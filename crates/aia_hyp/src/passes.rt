@@ -19,10 +19,10 @@ pub struct Passes {
 
 impl Model for Passes {
     ghost use Rattle.std.specs.Prelude.{List, map};
-    ghost use Rattle.aia_model.specs.Passes.{Pass};
+    ghost use Rattle.aia_model.specs.Passes.{PassedSource};
     ghost use Rattle.aia_hyp_values.specs.Passes.{pass_shown};
 
-    ghost Value = { List Pass };
+    ghost Value = { List PassedSource };
 
     ghost view = { λ p. map pass_shown p.kept.items };
 }

@@ -4,7 +4,7 @@ use Rattle.std.proofs.Math.ListN.{set}
 use Rattle.std.proofs.lemmas.Bool.{cases_Bool, cond-true, and_parts, eqb-true, ne_eqb, lt-ltb, false≢true}
 use Rattle.std.proofs.lemmas.Bool.Decides.{nat_tests}
 use Rattle.std.proofs.lemmas.List.{length-set}
-use Rattle.aia_vcpu.specs.declared.place.Place.{Place}
+use Rattle.aia_vcpu.specs.declared.place.GuestPlace.{GuestPlace}
 use Rattle.aia_vcpu.specs.Vms.{Vcpu, vcpu, is_vcpu, slot_of, notice_hart}
 use Rattle.aia_vcpu.specs.Home.{Home, left, led_to, holds, is_moving}
 use Rattle.aia_vcpu.specs.Home.Home.{OnWay}
@@ -66,7 +66,7 @@ aimed_apart : (there : Home) → AreApart there → AreApart (aimed there)
 aimed_apart (OnWay way at) a = a
 aimed_apart there a = a
 
-aimed_holds : (q : Place) (there : Home) → holds q (aimed there) ≡ holds q there
+aimed_holds : (q : GuestPlace) (there : Home) → holds q (aimed there) ≡ holds q there
 aimed_holds q (OnWay way at) = refl
 aimed_holds q there = refl
 
@@ -152,7 +152,7 @@ module _ (x y : CoreState) (h : History) (g : Vcpu) (plan later : PlanState) (r 
   pub later_moves : is_moving (moving_of later).home ≡ true
   later_moves = ap (λ (m : Moving). is_moving m.home) a.goes.moved ∙ aimed_moves (moving_of plan).home ∙ planned.3
 
-  same_holds : (q : Place) → holds q (home (Stepped g ∷ h) g) ≡ holds q (home h g)
+  same_holds : (q : GuestPlace) → holds q (home (Stepped g ∷ h) g) ≡ holds q (home h g)
   same_holds q = ap (holds q) aimed_home ∙ aimed_holds q (home h g)
 
   same_words : width x.world ≡ file_words h
@@ -225,7 +225,7 @@ module _ (x y : CoreState) (h : History) (g : Vcpu) (plan later : PlanState) (r 
       }
 
   -- a file that another holds is not its own
-  its_alone : (other : Vcpu) (p : Place) → has_vcpu h other ≡ true → is_vcpu other g ≡ false → holds p (home h g) ≡ true → holds p (home h other) ≡ false
+  its_alone : (other : Vcpu) (p : GuestPlace) → has_vcpu h other ≡ true → is_vcpu other g ≡ false → holds p (home h g) ≡ true → holds p (home h other) ≡ false
   its_alone other p inside ne mine = elim (cases_Bool (holds p (home h other))) [
     | inl its ↦ absurd (false≢true (sym ne ∙ ap (λ z. is_vcpu z g) (a.stands.apart other g p inside a.there its mine) ∙ is_itself g))
     | inr none ↦ none
@@ -234,7 +234,7 @@ module _ (x y : CoreState) (h : History) (g : Vcpu) (plan later : PlanState) (r 
   quiet : noticed h (Stepped g) ≡ None
   quiet = ap (λ b. cond (b && a_look_saw h g) (Some g) None) (aim_ends_none (passes_for h g) (file_words h) (home h g) a.aiming)
 
-  still_held : (p : Place) → is_held (Stepped g ∷ h) p ≡ is_held h p
+  still_held : (p : GuestPlace) → is_held (Stepped g ∷ h) p ≡ is_held h p
   still_held p = held_as h (Stepped g) g p (stepped_move h g) (same_holds p)
 
   aim_changes : MoveChanges x y h (Stepped g) g

@@ -4,7 +4,7 @@ use Rattle.std.proofs.Math.ListN.{set}
 use Rattle.std.proofs.lemmas.Bool.{cases_lt, cond-true, lt-ltb, le-ltb}
 use Rattle.std.proofs.lemmas.List.{set-get_or}
 use Rattle.std.proofs.lemmas.Option.{none-some}
-use Rattle.aia_vcpu.specs.declared.place.Place.{Place}
+use Rattle.aia_vcpu.specs.declared.place.GuestPlace.{GuestPlace}
 use Rattle.aia_vcpu.specs.declared.vm.Vm.{Vm}
 use Rattle.aia_vcpu.specs.Vms.{Vcpu, vcpu, is_vcpu_in, slot_of}
 use Rattle.aia_vcpu.specs.Home.{at_first, rests_in_memory, is_moving}
@@ -167,9 +167,9 @@ module _ (x y : CoreState) (who : Who) (given : Answer) (h : History) (stands : 
   same_least hart low = sym (same_free x h hart stands (in_world hart low))
 
   -- it takes a guest file of a hart, where one is free, and is refused where none is
-  taken_in : (want : Want) (new old : Stay) (hart : ℕ) (moving : Place → Moving) (o : Option ℕ) → Put x y who new → (record_of x (vcpu who.found.vm who.found.number)).stay ≡ old → hart < x.leases.harts → least_free x.leases hart ≡ o
+  taken_in : (want : Want) (new old : Stay) (hart : ℕ) (moving : GuestPlace → Moving) (o : Option ℕ) → Put x y who new → (record_of x (vcpu who.found.vm who.found.number)).stay ≡ old → hart < x.leases.harts → least_free x.leases hart ≡ o
       → refusal h (lines.Move who.found.vm who.found.number want) ≡ cond (is_none o) (Some (Refused words.NoFile)) None
-      → ((plan : PlanState) (to : Place) → Given x y h (vcpu who.found.vm who.found.number) who plan (at_stay (record_of x (vcpu who.found.vm who.found.number)) (stays.Moving plan)) → IsFreeAt x h hart to → y.leases ≡ with_out x.leases to true → moving_of plan ≡ moving to
+      → ((plan : PlanState) (to : GuestPlace) → Given x y h (vcpu who.found.vm who.found.number) who plan (at_stay (record_of x (vcpu who.found.vm who.found.number)) (stays.Moving plan)) → IsFreeAt x h hart to → y.leases ≡ with_out x.leases to true → moving_of plan ≡ moving to
       → CoreStands y (Began (wanted_move (vcpu who.found.vm who.found.number) want) ∷ h))
       → BeginsIn o hart moving old new x.leases y.leases given → Answered x y h who.found.vm who.found.number want given
   taken_in want new old hart moving None p was low found is begun b = refused want words.NoFile new old p was b is

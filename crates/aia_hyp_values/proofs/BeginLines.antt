@@ -6,7 +6,7 @@ use Rattle.std.proofs.lemmas.Bool.{cases_Bool, cond-true, false≢true}
 use Rattle.aia_file.specs.InterruptFile.{InterruptFile, empty_file}
 use Rattle.aia_file.specs.FileState.{shown}
 use Rattle.aia_file.specs.Imsic.{file_at}
-use Rattle.aia_vcpu.specs.declared.place.Place.{Place}
+use Rattle.aia_vcpu.specs.declared.place.GuestPlace.{GuestPlace}
 use Rattle.aia_vcpu.specs.Vms.{Vcpu, vcpu, slot_of, notice_hart}
 use Rattle.aia_vcpu.specs.Home.{Way, Home, is_place, is_moving, holds, at_first, leaving, arriving, shifting}
 use Rattle.aia_vcpu.specs.declared.rest.Rest.TheVariants.{Parked}
@@ -26,8 +26,8 @@ use Rattle.aia_move_values.specs.declared.who.KeptNumbers.{KeptNumbers}
 use Rattle.aia_move_values.specs.Move.{Moving, width, IsWho}
 use Rattle.aia_move_values.specs.PlanState.{PlanState, moving_of}
 use Rattle.aia_move_values.specs.Plan.{IsInPhase}
-use Rattle.aia_model.specs.Move.{Move, mover}
-use Rattle.aia_model.specs.Move.Move.{Arrives, Leaves, Shifts}
+use Rattle.aia_model.specs.Move.{WantedMove, mover}
+use Rattle.aia_model.specs.Move.WantedMove.{Arrives, Leaves, Shifts}
 use Rattle.aia_model.specs.Event.{History, greatest_identity_of, file_words}
 use Rattle.aia_model.specs.Event.Event.{Began}
 use Rattle.aia_model.specs.Vms.{vms_of, has_vcpu}
@@ -62,7 +62,7 @@ pub record Given (x y : CoreState) (h : History) (g : Vcpu) (who : Who) (plan : 
 empty_is_empty : (n : ℕ) → IsEmpty (empty_file n)
 empty_is_empty n = record { pending = λ i. refl; enabled = λ i. refl; delivery = refl; threshold = refl }
 
-free_is_empty : (x : CoreState) (h : History) (hart : ℕ) (p : Place) → CoreStands x h → IsFreeAt x h hart p → IsEmpty (shown (file_at x.world.imsic (spot_of p)))
+free_is_empty : (x : CoreState) (h : History) (hart : ℕ) (p : GuestPlace) → CoreStands x h → IsFreeAt x h hart p → IsEmpty (shown (file_at x.world.imsic (spot_of p)))
 free_is_empty x h hart p stands free = subst (λ (f : InterruptFile). IsEmpty f) (sym (stands.free p free.inside free.none)) (empty_is_empty (greatest_identity_of h))
 
 -- what looks saw is nothing but to a leave
@@ -88,8 +88,8 @@ or_nothing true = refl
 or_nothing false = refl
 
 -- the move of one begins at a way, and its places hold what they held
-begun_at : (x y : CoreState) (h : History) (move : Move) (who : Who) (plan : PlanState) (r : VcpuRecord) (way : Way) (hand : Hand) (taken : Option Place) → Given x y h (mover move) who plan r → y.leases ≡ with_taken taken x.leases → IsFreeIn x h taken
-    → moving_of plan ≡ record { who = who; home = OnWay way at_first; hand = hand } → home (Began move ∷ h) (mover move) ≡ OnWay way at_first → ((q : Place) → holds q (OnWay way at_first) ≡ (holds q (home h (mover move)) || is_taken q taken)) → HasApart way
+begun_at : (x y : CoreState) (h : History) (move : WantedMove) (who : Who) (plan : PlanState) (r : VcpuRecord) (way : Way) (hand : Hand) (taken : Option GuestPlace) → Given x y h (mover move) who plan r → y.leases ≡ with_taken taken x.leases → IsFreeIn x h taken
+    → moving_of plan ≡ record { who = who; home = OnWay way at_first; hand = hand } → home (Began move ∷ h) (mover move) ≡ OnWay way at_first → ((q : GuestPlace) → holds q (OnWay way at_first) ≡ (holds q (home h (mover move)) || is_taken q taken)) → HasApart way
     → Holds (file_words h) (slot_of (vms_of h) (mover move)) (notice_hart (vms_of h) (mover move)) (in_force_of h (mover move)) (places_of x.world (mover move) (OnWay way at_first)) (OnWay way at_first) hand (guest_file h (mover move)) (a_look_saw (Began move ∷ h) (mover move))
     → CoreStands y (Began move ∷ h)
 begun_at x y h move who plan r way hand taken b leases free begins after holding apart held = begun_stands x y h move plan r taken (record {
@@ -120,7 +120,7 @@ begun_at x y h move who plan r way hand taken b leases free begins after holding
 
 -- ---- a leave
 
-pub leave_begun : (x y : CoreState) (h : History) (g : Vcpu) (who : Who) (plan : PlanState) (r : VcpuRecord) (from : Place) → Given x y h g who plan r → y.leases ≡ x.leases → (record_of x g).stay ≡ stays.Resident from
+pub leave_begun : (x y : CoreState) (h : History) (g : Vcpu) (who : Who) (plan : PlanState) (r : VcpuRecord) (from : GuestPlace) → Given x y h g who plan r → y.leases ≡ x.leases → (record_of x g).stay ≡ stays.Resident from
     → moving_of plan ≡ record { who = who; home = OnWay (Outward from) at_first; hand = record { word = 0; delivery = 0; threshold = 0; seen = false } } → CoreStands y (Began (Leaves g) ∷ h)
 leave_begun x y h g who plan r from b leases was begins =
     let hand : Hand = record { word = 0; delivery = 0; threshold = 0; seen = false } in
@@ -134,7 +134,7 @@ leave_begun x y h g who plan r from b leases was begins =
 
 -- ---- an arrival
 
-pub arrive_begun : (x y : CoreState) (h : History) (g : Vcpu) (hart : ℕ) (who : Who) (plan : PlanState) (r : VcpuRecord) (to : Place) (kept : KeptNumbers) → Given x y h g who plan r → IsFreeAt x h hart to → y.leases ≡ with_out x.leases to true
+pub arrive_begun : (x y : CoreState) (h : History) (g : Vcpu) (hart : ℕ) (who : Who) (plan : PlanState) (r : VcpuRecord) (to : GuestPlace) (kept : KeptNumbers) → Given x y h g who plan r → IsFreeAt x h hart to → y.leases ≡ with_out x.leases to true
     → (record_of x g).stay ≡ stays.InMemory Parked kept → moving_of plan ≡ record { who = who; home = OnWay (Inward to) at_first; hand = record { word = 0; delivery = kept.delivery; threshold = kept.threshold; seen = false } } → CoreStands y (Began (Arrives g hart) ∷ h)
 arrive_begun x y h g hart who plan r to kept b free leases was begins =
     let hand : Hand = record { word = 0; delivery = kept.delivery; threshold = kept.threshold; seen = false } in
@@ -150,7 +150,7 @@ arrive_begun x y h g hart who plan r to kept b free leases was begins =
 
 -- ---- a shift
 
-pub shift_begun : (x y : CoreState) (h : History) (g : Vcpu) (hart : ℕ) (who : Who) (plan : PlanState) (r : VcpuRecord) (from to : Place) → Given x y h g who plan r → IsFreeAt x h hart to → y.leases ≡ with_out x.leases to true
+pub shift_begun : (x y : CoreState) (h : History) (g : Vcpu) (hart : ℕ) (who : Who) (plan : PlanState) (r : VcpuRecord) (from to : GuestPlace) → Given x y h g who plan r → IsFreeAt x h hart to → y.leases ≡ with_out x.leases to true
     → (record_of x g).stay ≡ stays.Resident from → moving_of plan ≡ record { who = who; home = OnWay (Across from to) at_first; hand = record { word = 0; delivery = 0; threshold = 0; seen = false } } → CoreStands y (Began (Shifts g hart) ∷ h)
 shift_begun x y h g hart who plan r from to b free leases was begins =
     let hand : Hand = record { word = 0; delivery = 0; threshold = 0; seen = false } in
@@ -167,6 +167,6 @@ shift_begun x y h g hart who plan r from to b free leases was begins =
     -- its own file is held, the other one is not
     apart : home h g ≡ Resident from → is_place from to ≡ false
     apart before = elim (cases_Bool (is_place from to)) [
-      | inl e ↦ absurd (false≢true (sym (of_none (vms_of h) (λ z. holds to (home h z)) g free.none b.planned.there) ∙ ap (holds to) before ∙ ap (λ (p : Place). is_place p from) (sym (same_place from to e)) ∙ is_itself_place from))
+      | inl e ↦ absurd (false≢true (sym (of_none (vms_of h) (λ z. holds to (home h z)) g free.none b.planned.there) ∙ ap (holds to) before ∙ ap (λ (p : GuestPlace). is_place p from) (sym (same_place from to e)) ∙ is_itself_place from))
       | inr ne ↦ ne
     ]

@@ -10,7 +10,7 @@ use Rattle.aia_entry.specs.declared.table.Route.{Route}
 use Rattle.aia_entry.specs.declared.table.Route.TheVariants.{Other, Fault}
 use Rattle.aia_entry.specs.Translation.{is_msi_address, file_number}
 use Rattle.aia_entry.specs.Tables.{table_of, entry_in_force, leads_by, route_of}
-use Rattle.aia_vcpu.specs.declared.place.Place.{Place}
+use Rattle.aia_vcpu.specs.declared.place.GuestPlace.{GuestPlace}
 use Rattle.aia_vcpu.specs.declared.vm.Vm.{Vm}
 use Rattle.aia_vcpu.specs.Vms.{Vcpu, vm_in, is_vcpu_in, slot_of, notice_hart}
 use Rattle.aia_model.specs.ReachOf.{in_force_of}
@@ -142,7 +142,7 @@ leads_to_own x h v stands standing = record {
 }
 
 -- so the store lands where they reach
-pub reached : (x y : CoreState) (h : History) (g : Vcpu) (offset value : ℕ) (reach : Option Place) → CoreStands x h → IsWhole x.world → has_vcpu h g ≡ true → ((p : Place) → reach ≡ Some p → IsThere x.world.imsic (spot_of p))
+pub reached : (x y : CoreState) (h : History) (g : Vcpu) (offset value : ℕ) (reach : Option GuestPlace) → CoreStands x h → IsWhole x.world → has_vcpu h g ≡ true → ((p : GuestPlace) → reach ≡ Some p → IsThere x.world.imsic (spot_of p))
     → Reaches (leads_by (leads_to (slot_of (vms_of h) g) (notice_hart (vms_of h) g) reach)) x.world y.world offset value → GuestStored x.world y.world g reach offset value
 reached x y h g offset value (Some p) stands whole there inside reaches =
     subst (λ (s : Spot). StoresInGuestFile x.world y.world s offset value) (guest_spot x.world.imsic p whole.harts whole.guests (inside p refl)) reaches
@@ -158,7 +158,7 @@ pub own_route : (x : CoreState) (h : History) (vm addr : ℕ) → Addressed x h 
     → route_of (table_of x.world.tables vm) addr ≡ leads_by (leads_to (slot_of (vms_of h) (named_by h vm addr)) (notice_hart (vms_of h) (named_by h vm addr)) (in_force_of h (named_by h vm addr)))
 own_route x h vm addr c is there = route_is x h vm addr c is ∙ ap leads_by (entry_is x h (named_by h vm addr) c.stands there)
 
-pub goes_to : (o : Option Place) (q hart : ℕ) → route_answer (leads_by (leads_to q hart o)) ≡ Okay
+pub goes_to : (o : Option GuestPlace) (q hart : ℕ) → route_answer (leads_by (leads_to q hart o)) ≡ Okay
 goes_to None q hart = refl
 goes_to (Some p) q hart = refl
 

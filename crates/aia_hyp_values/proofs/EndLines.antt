@@ -7,7 +7,7 @@ use Rattle.aia_file.specs.InterruptFile.{InterruptFile, empty_file}
 use Rattle.aia_file.specs.FileState.{shown}
 use Rattle.aia_file.proofs.FileLemmas.{same_file}
 use Rattle.aia_file.specs.Imsic.{IsThere, file_at}
-use Rattle.aia_vcpu.specs.declared.place.Place.{Place}
+use Rattle.aia_vcpu.specs.declared.place.GuestPlace.{GuestPlace}
 use Rattle.aia_vcpu.specs.Vms.{Vcpu, is_vcpu}
 use Rattle.aia_vcpu.specs.Home.{Home, is_place, holds, ended}
 use Rattle.aia_vcpu.specs.Plans.{is_at_last, steps_done, step_of, is_last_made}
@@ -74,7 +74,7 @@ ended_back (Shifted old new) (OnWay (Across from to) at) hand g = ap Some g.0
 ended_back o there hand g = absurd g
 
 -- what it holds then, and what it held
-ended_left : (q : Place) (there : Home) → holds q there ≡ true → holds q (ended there) ≡ false → old_file there ≡ Some q
+ended_left : (q : GuestPlace) (there : Home) → holds q there ≡ true → holds q (ended there) ≡ false → old_file there ≡ Some q
 ended_left q (Resident p) e n = absurd (false≢true (sym n ∙ e))
 ended_left q (OnWay (Outward from) at) e n = ap Some (sym (same_place q from e))
 ended_left q (OnWay (Inward to) at) e n = absurd (false≢true (sym n ∙ e))
@@ -86,23 +86,23 @@ ended_left q (OnWay (Across from to) at) e n = ap Some (sym (same_place q from (
 ended_left q there e n = absurd (false≢true e)
 
 -- the file that it leaves it held, and holds no more
-pub ended_held : (p : Place) (there : Home) → old_file there ≡ Some p → holds p there ≡ true
+pub ended_held : (p : GuestPlace) (there : Home) → old_file there ≡ Some p → holds p there ≡ true
 ended_held p (OnWay way at) e = origin_is_held (OnWay way at) p e
 ended_held p there e = absurd (cc)
 
-ended_unheld : (p : Place) (there : Home) → AreApart there → old_file there ≡ Some p → holds p (ended there) ≡ false
+ended_unheld : (p : GuestPlace) (there : Home) → AreApart there → old_file there ≡ Some p → holds p (ended there) ≡ false
 ended_unheld p (Resident q) apart e = absurd (cc)
 ended_unheld p (OnWay (Inward to) at) apart e = absurd (cc)
 ended_unheld p (OnWay (Across from to) at) apart e = let same : from ≡ p = cc in ap (λ f. is_place f to) (sym same) ∙ apart
 ended_unheld p there apart e = refl
 
 -- of all others it holds what it held
-ended_same : (q : Place) (there : Home) → old_file there ≡ None → holds q (ended there) ≡ holds q there
+ended_same : (q : GuestPlace) (there : Home) → old_file there ≡ None → holds q (ended there) ≡ holds q there
 ended_same q (OnWay (Outward from) at) e = absurd (cc)
 ended_same q (OnWay (Across from to) at) e = absurd (cc)
 ended_same q there e = refl
 
-ended_others : (q p : Place) (there : Home) → old_file there ≡ Some p → is_place q p ≡ false → holds q (ended there) ≡ holds q there
+ended_others : (q p : GuestPlace) (there : Home) → old_file there ≡ Some p → is_place q p ≡ false → holds q (ended there) ≡ holds q there
 ended_others q p (OnWay (Outward from) at) e ne = let same : from ≡ p = cc in sym ne ∙ ap (is_place q) (sym same)
 ended_others q p (OnWay (Across from to) at) e ne = let same : from ≡ p = cc in ap (λ b. b || is_place q to) (sym ne ∙ ap (is_place q) (sym same))
 ended_others q p there e ne = refl
@@ -133,7 +133,7 @@ change_word words v there word now file first h = record {
     enables_no : (w : ℕ) → is_last_made words there (TakeEnables w) ≡ false
     enables_no w = ne_eqb (steps_done there) (step_of words there (TakeEnables w) + 1) (λ e. omega (arith, first, e))
 
-in_its_file : (p : Place) (hand now : Hand) (words slot hart : ℕ) (reach : Option Place) (v : Places) (file : InterruptFile) (saw : Bool) → Holds words slot hart reach v (Resident p) hand file false → Holds words slot hart reach v (Resident p) now file saw
+in_its_file : (p : GuestPlace) (hand now : Hand) (words slot hart : ℕ) (reach : Option GuestPlace) (v : Places) (file : InterruptFile) (saw : Bool) → Holds words slot hart reach v (Resident p) hand file false → Holds words slot hart reach v (Resident p) now file saw
 in_its_file p hand now words slot hart reach v file saw h = record {
   sets = change_word words v (Resident p) hand.word now.word file refl h.sets;
   numbers = record {
@@ -148,7 +148,7 @@ in_its_file p hand now words slot hart reach v file saw h = record {
   looks = refl;
 }
 
-rested : (o : Outcome) (there : Home) (hand : Hand) (words slot hart : ℕ) (reach : Option Place) (v : Places) (file : InterruptFile) (saw : Bool) → GivesBack o there hand → Holds words slot hart reach v (ended there) hand file false → Holds words slot hart reach v (ended there) (hand_in (stay_after o)) file saw
+rested : (o : Outcome) (there : Home) (hand : Hand) (words slot hart : ℕ) (reach : Option GuestPlace) (v : Places) (file : InterruptFile) (saw : Bool) → GivesBack o there hand → Holds words slot hart reach v (ended there) hand file false → Holds words slot hart reach v (ended there) (hand_in (stay_after o)) file saw
 rested (Left place kept) (OnWay (Outward from) at) hand words slot hart reach v file saw g h = record {
   sets = change_word words v (InMemory Parked) hand.word 0 file refl h.sets;
   numbers = record {
@@ -238,10 +238,10 @@ module _ (x y : CoreState) (h : History) (g : Vcpu) (plan : PlanState) (o : Outc
   back_is : back_of o ≡ old_file (home h g)
   back_is = ended_back o (moving_of plan).home hand b.ends.gives ∙ ap old_file home_is
 
-  pub back_held : (p : Place) → back_of o ≡ Some p → holds p (home h g) ≡ true
+  pub back_held : (p : GuestPlace) → back_of o ≡ Some p → holds p (home h g) ≡ true
   back_held p e = ended_held p (home h g) (sym back_is ∙ e)
 
-  out_held : (back : Option Place) → back_of o ≡ back → (q : Place) → IsThere x.world.imsic (spot_of q) → is_out (with_back back x.leases) q ≡ is_held (Stepped g ∷ h) q
+  out_held : (back : Option GuestPlace) → back_of o ≡ back → (q : GuestPlace) → IsThere x.world.imsic (spot_of q) → is_out (with_back back x.leases) q ≡ is_held (Stepped g ∷ h) q
   out_held None e q inside =
       b.step_of.stands.leases q inside ∙ sym (held_as h (Stepped g) g q (stepped_move h g) (ap (holds q) at_end ∙ ended_same q (home h g) (sym back_is ∙ e)))
   out_held (Some p) e q inside = elim (cases_Bool (is_place q p)) [
@@ -270,7 +270,7 @@ module _ (x y : CoreState) (h : History) (g : Vcpu) (plan : PlanState) (o : Outc
       ]
 
   -- it is empty
-  left_is_empty : (q : Place) → IsThere x.world.imsic (spot_of q) → holds q (home h g) ≡ true → holds q (home (Stepped g ∷ h) g) ≡ false → shown (file_at y.world.imsic (spot_of q)) ≡ empty_file (greatest_identity_of h)
+  left_is_empty : (q : GuestPlace) → IsThere x.world.imsic (spot_of q) → holds q (home h g) ≡ true → holds q (home (Stepped g ∷ h) g) ≡ false → shown (file_at y.world.imsic (spot_of q)) ≡ empty_file (greatest_identity_of h)
   left_is_empty q inside mine not_mine =
       let s = b.step_of in
       let leaves : old_file (home h g) ≡ Some q = ended_left q (home h g) mine (ap (holds q) (sym at_end) ∙ not_mine) in
@@ -296,14 +296,14 @@ module _ (x y : CoreState) (h : History) (g : Vcpu) (plan : PlanState) (o : Outc
     left = left_is_empty;
   })) b.step_of.stands
     where
-      harts_back : (back : Option Place) → (with_back back x.leases).harts ≡ x.leases.harts
+      harts_back : (back : Option GuestPlace) → (with_back back x.leases).harts ≡ x.leases.harts
       harts_back None = refl
       harts_back (Some p) = refl
 
-      guests_back : (back : Option Place) → (with_back back x.leases).guests ≡ x.leases.guests
+      guests_back : (back : Option GuestPlace) → (with_back back x.leases).guests ≡ x.leases.guests
       guests_back None = refl
       guests_back (Some p) = refl
 
-      count_back : (back : Option Place) → length (with_back back x.leases).out ≡ length x.leases.out
+      count_back : (back : Option GuestPlace) → length (with_back back x.leases).out ≡ length x.leases.out
       count_back None = refl
       count_back (Some p) = length-set x.leases.out _ false

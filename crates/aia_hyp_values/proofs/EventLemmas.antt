@@ -15,7 +15,7 @@ use Rattle.aia_file.proofs.PlaceLemmas.{kept_elsewhere}
 use Rattle.aia_file.specs.Mrif.{mrif_in}
 use Rattle.aia_entry.specs.Tables.{table_of, entry_in_force}
 use Rattle.aia_vcpu.specs.declared.vm.Vm.{Vm}
-use Rattle.aia_vcpu.specs.declared.place.Place.{Place}
+use Rattle.aia_vcpu.specs.declared.place.GuestPlace.{GuestPlace}
 use Rattle.aia_vcpu.specs.Vms.{Vcpu, vcpus_in, is_vcpu_in, slot_of}
 use Rattle.aia_vcpu.specs.Home.{holds}
 use Rattle.aia_pool.specs.Leases.{Leases, is_out}
@@ -68,7 +68,7 @@ pub record Changes (x y : CoreState) (h : History) (event : Event) : Type 0 wher
   pub count : y.world.notices ≡ count_after (noticed h event) x.world.notices
   pub host : (f : FileName) → IsThere x.world.imsic (host_spot f) → FileDone x y f (deed_at f h event)
   pub vcpus : (g : Vcpu) → has_vcpu h g ≡ true → VcpuStands x h g → VcpuStands y (event ∷ h) g
-  pub free_files : (p : Place) → IsThere x.world.imsic (spot_of p) → is_held h p ≡ false → file_at y.world.imsic (spot_of p) ≡ file_at x.world.imsic (spot_of p)
+  pub free_files : (p : GuestPlace) → IsThere x.world.imsic (spot_of p) → is_held h p ≡ false → file_at y.world.imsic (spot_of p) ≡ file_at x.world.imsic (spot_of p)
   pub no_vcpu : (g : Vcpu) → has_vcpu h g ≡ false → guest_deed g h event ≡ Rests
   pub no_majors : (g : Vcpu) → has_vcpu h g ≡ false → MajorsRest g event
   pub no_slot : (q : ℕ) → vcpus_in (vms_of h) ≤ q → q < VCPUS → mrif_in y.world.memory q ≡ mrif_in x.world.memory q
@@ -105,7 +105,7 @@ changed x y h event c stands = record {
     was_missing : (g : Vcpu) → has_vcpu (event ∷ h) g ≡ false → has_vcpu h g ≡ false
     was_missing g outside = ap (λ vms. is_vcpu_in vms g) (sym c.quiet.stays.vms) ∙ outside
 
-    still_held : (g : Vcpu) (p : Place) → holds p (home (event ∷ h) g) ≡ true → holds p (home h g) ≡ true
+    still_held : (g : Vcpu) (p : GuestPlace) → holds p (home (event ∷ h) g) ≡ true → holds p (home h g) ≡ true
     still_held g p holding = ap (holds p) (sym (c.quiet.stays.homes g)) ∙ holding
 
 pub one_more : (x y : CoreState) (h : History) (event : Event) → Changes x y h event → IsStill h event → CoreStands x h → CoreStands y (event ∷ h)
@@ -137,8 +137,8 @@ as_it_was file = record { n = refl; pending = λ i. refl; enabled = λ i. refl; 
 -- an event of the host, where its files alone may have changed
 host_alone : (x y : CoreState) (h : History) (event : Event) → IsHosts h event → y.world ≡ record x.world { imsic = y.world.imsic } → y.leases ≡ x.leases → y.passes ≡ x.passes → y.vcpus ≡ x.vcpus → y.world.imsic.harts ≡ x.world.imsic.harts → y.world.imsic.guests ≡ x.world.imsic.guests
     → ((f : FileName) → IsThere x.world.imsic (host_spot f) → FileDone x y f (deed_at f h event))
-    → ((p : Place) → IsThere x.world.imsic (spot_of p) → file_at y.world.imsic (spot_of p) ≡ file_at x.world.imsic (spot_of p))
-    → ((g : Vcpu) (p : Place) → has_vcpu h g ≡ true → holds p (home h g) ≡ true → IsThere x.world.imsic (spot_of p))
+    → ((p : GuestPlace) → IsThere x.world.imsic (spot_of p) → file_at y.world.imsic (spot_of p) ≡ file_at x.world.imsic (spot_of p))
+    → ((g : Vcpu) (p : GuestPlace) → has_vcpu h g ≡ true → holds p (home h g) ≡ true → IsThere x.world.imsic (spot_of p))
     → Changes x y h event
 host_alone x y h event hosts rest leases passes vcpus harts guests files guest_files held =
     let vms = ap (λ (w : World). w.vms) rest in

@@ -22,7 +22,7 @@ use Rattle.aia_file.specs.Imsic.{IsThere, file_at}
 use Rattle.aia_file.specs.Mrif.{Mrif, mrif_in, pending_place, enable_place}
 use Rattle.aia_entry.specs.declared.entry.Entry.TheVariants.{NotValid}
 use Rattle.aia_entry.specs.Tables.{table_of, entry_in_force}
-use Rattle.aia_vcpu.specs.declared.place.Place.{Place}
+use Rattle.aia_vcpu.specs.declared.place.GuestPlace.{GuestPlace}
 use Rattle.aia_vcpu.specs.Vms.{Vcpu, vcpu, is_vcpu, is_vcpu_in, vm_in}
 use Rattle.aia_vcpu.specs.Home.{Home, is_place, holds}
 use Rattle.aia_vcpu.specs.declared.rest.Rest.TheVariants.{Parked}
@@ -49,7 +49,7 @@ use Rattle.aia_model.specs.AddressOf.{addresses_of}
 use Rattle.aia_model.specs.SourceOf.{genmsi_waits, wire_of, enabled, target, pending}
 use Rattle.aia_model.specs.Sent.{all_senders}
 use Rattle.aia_word.specs.Packed.{ones}
-use Rattle.aia_model.specs.Move.Move.{Arrives, Leaves}
+use Rattle.aia_model.specs.Move.WantedMove.{Arrives, Leaves}
 use Rattle.aia_model.specs.Event.{History, file_words}
 use Rattle.aia_model.specs.Event.Event.{Began, Stepped}
 use Rattle.aia_model.specs.Vms.{vms_of, has_vcpu}
@@ -270,7 +270,7 @@ no_enabled q i few = no_low_bit (nat_le i IDENTITIES) (enable_place q (i / 64)) 
 
 -- ---- who holds what
 
-held_is : (p : Place) → is_held leaving_history p ≡ (is_place p stayer_file || (is_place p leaver_file || false))
+held_is : (p : GuestPlace) → is_held leaving_history p ≡ (is_place p stayer_file || (is_place p leaver_file || false))
 unfolding passes_of home least_of
 held_is p = refl
 
@@ -291,19 +291,19 @@ free_by zero (suc (suc (suc zero))) low first last none = empty_shown
 free_by zero (suc (suc (suc (suc file)))) low first last none = absurd (omega (arith, last))
 free_by (suc hart) file low first last none = absurd (omega (arith, low))
 
-stayer_holds : (p : Place) → holds p (home leaving_history stayer) ≡ true → p ≡ stayer_file
+stayer_holds : (p : GuestPlace) → holds p (home leaving_history stayer) ≡ true → p ≡ stayer_file
 stayer_holds p e = same_place p stayer_file (ap (holds p) (sym stayer_home) ∙ e)
 
-leaver_holds : (p : Place) → holds p (home leaving_history leaver) ≡ true → p ≡ leaver_file
+leaver_holds : (p : GuestPlace) → holds p (home leaving_history leaver) ≡ true → p ≡ leaver_file
 leaver_holds p e = same_place p leaver_file (ap (holds p) (sym leaver_home) ∙ e)
 
-held_there : (g : Vcpu) → has_vcpu leaving_history g ≡ true → (p : Place) → holds p (home leaving_history g) ≡ true → IsThere example_files (spot_of p)
-held_there = of_both (λ g. (p : Place) → holds p (home leaving_history g) ≡ true → IsThere example_files (spot_of p))
-    (λ p e. subst (λ (p : Place). IsThere example_files (spot_of p)) (sym (stayer_holds p e)) (omega arith, omega arith, omega arith))
-    (λ p e. subst (λ (p : Place). IsThere example_files (spot_of p)) (sym (leaver_holds p e)) (omega arith, omega arith, omega arith))
+held_there : (g : Vcpu) → has_vcpu leaving_history g ≡ true → (p : GuestPlace) → holds p (home leaving_history g) ≡ true → IsThere example_files (spot_of p)
+held_there = of_both (λ g. (p : GuestPlace) → holds p (home leaving_history g) ≡ true → IsThere example_files (spot_of p))
+    (λ p e. subst (λ (p : GuestPlace). IsThere example_files (spot_of p)) (sym (stayer_holds p e)) (omega arith, omega arith, omega arith))
+    (λ p e. subst (λ (p : GuestPlace). IsThere example_files (spot_of p)) (sym (leaver_holds p e)) (omega arith, omega arith, omega arith))
 
 two_files : stayer_file ≡ leaver_file → ⊥
-two_files e = let same : 1 ≡ 2 = ap (λ (p : Place). p.file) e in omega (arith, same)
+two_files e = let same : 1 ≡ 2 = ap (λ (p : GuestPlace). p.file) e in omega (arith, same)
 
 hold_apart : HoldApart leaving_history
 hold_apart a b p ia ib ha hb = elim (two a ia) [
@@ -485,8 +485,8 @@ leave_fits = record {
   there = refl;
   slot = refl;
   notice = refl;
-  own = λ p e. let same : leaver_file ≡ p = cc in subst (λ (p : Place). IsThere example_files (spot_of p)) same (omega arith, omega arith, omega arith);
-  next = λ p e. let bad : ◌≡◌ {A = Option Place} None (Some p) = e in absurd (cc);
+  own = λ p e. let same : leaver_file ≡ p = cc in subst (λ (p : GuestPlace). IsThere example_files (spot_of p)) same (omega arith, omega arith, omega arith);
+  next = λ p e. let bad : ◌≡◌ {A = Option GuestPlace} None (Some p) = e in absurd (cc);
   no_pending_zero = λ e. refl;
   no_enabled_zero = λ e. refl;
 }

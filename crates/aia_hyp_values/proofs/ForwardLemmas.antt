@@ -12,7 +12,7 @@ use Rattle.aia_file.specs.declared.spot.Spot.TheVariants as spots
 use Rattle.aia_file.specs.Imsic.{ImsicState, IsThere}
 use Rattle.aia_file.specs.Map.{spot_at, is_guest_page}
 use Rattle.aia_file.proofs.MapLemmas.{in_page, spot_of_host, spot_of_guest}
-use Rattle.aia_vcpu.specs.declared.place.Place.{Place}
+use Rattle.aia_vcpu.specs.declared.place.GuestPlace.{GuestPlace}
 use Rattle.aia_vcpu.specs.declared.vm.Vm.{Vm}
 use Rattle.aia_vcpu.specs.Vms.{Vcpu, is_vcpu_in, notice_hart}
 use Rattle.aia_vcpu.specs.Routes.{MayLand}
@@ -24,7 +24,7 @@ use Rattle.aia_fabric_values.proofs.WholeLemmas.{notice_hart_there}
 use Rattle.aia_model.specs.declared.msi.Msi.{Msi}
 use Rattle.aia_model.specs.Event.{Event, History, file_words}
 use Rattle.aia_model.specs.Event.Event.{Delivered, Relayed}
-use Rattle.aia_model.specs.Passes.{Pass, no_pass, passes_of, nth_pass, passed_by}
+use Rattle.aia_model.specs.Passes.{PassedSource, no_pass, passes_of, nth_pass, passed_by}
 use Rattle.aia_model.specs.Aim.{pass_reach, pass_notice_hart, page_to, value_to, IsForward, IsForwardIf}
 use Rattle.aia_model.specs.HomeOf.{home}
 use Rattle.aia_model.specs.FileAfter.FileDeed.{Rests}
@@ -66,20 +66,20 @@ pass_hart_there x h p stands whole low =
 
 -- ---- the file to which it leads
 
-abbrev pub spot_to : ℕ → Option Place → Spot
+abbrev pub spot_to : ℕ → Option GuestPlace → Spot
 spot_to hart None = spots.SupervisorFile hart
 spot_to hart (Some q) = spot_of q
 
-at_page : (i : ImsicState) (hart : ℕ) (reach : Option Place) (addr : ℕ) → i.harts ≤ HARTS → i.guests ≤ GUEST_FILES → addr ≡ page_to hart reach → IsThere i (spot_to hart reach) → spot_at i.harts i.guests addr ≡ spot_to hart reach
+at_page : (i : ImsicState) (hart : ℕ) (reach : Option GuestPlace) (addr : ℕ) → i.harts ≤ HARTS → i.guests ≤ GUEST_FILES → addr ≡ page_to hart reach → IsThere i (spot_to hart reach) → spot_at i.harts i.guests addr ≡ spot_to hart reach
 at_page i hart None addr few fewer is there = spot_of_host i.harts i.guests addr hart few there (in_page (supervisor_page hart) addr (omega (arith, is)) (omega (arith, is)))
 at_page i hart (Some q) addr few fewer is there =
     spot_of_guest i.harts i.guests addr q.hart q.file few fewer there.0 there.1 there.2 (in_page (guest_page q.hart q.file) addr (omega (arith, is)) (omega (arith, is)))
 
-at_start : (hart : ℕ) (reach : Option Place) (addr : ℕ) → addr ≡ page_to hart reach → addr % PAGE ≡ 0
+at_start : (hart : ℕ) (reach : Option GuestPlace) (addr : ℕ) → addr ≡ page_to hart reach → addr % PAGE ≡ 0
 at_start hart None addr is = omega (arith, is)
 at_start hart (Some q) addr is = omega (arith, is)
 
-spot_there : (x : CoreState) (h : History) (p : ℕ) → CoreStands x h → IsWhole x.world → p < length (passes_of h) → (reach : Option Place) → pass_reach h p ≡ reach → IsThere x.world.imsic (spot_to (pass_notice_hart h p) reach)
+spot_there : (x : CoreState) (h : History) (p : ℕ) → CoreStands x h → IsWhole x.world → p < length (passes_of h) → (reach : Option GuestPlace) → pass_reach h p ≡ reach → IsThere x.world.imsic (spot_to (pass_notice_hart h p) reach)
 spot_there x h p stands whole low None is = pass_hart_there x h p stands whole low
 spot_there x h p stands whole low (Some q) is =
     let g = (nth_pass h p).to in
@@ -102,10 +102,10 @@ module _ (x : CoreState) (h : History) (p : ℕ) (msi : Msi) (spot : Spot) (c : 
   low : p < length (passes_of h)
   low = number_found h msi.source p c.is
 
-  there_to : (reach : Option Place) → pass_reach h p ≡ reach → IsThere x.world.imsic (spot_to (pass_notice_hart h p) reach)
+  there_to : (reach : Option GuestPlace) → pass_reach h p ≡ reach → IsThere x.world.imsic (spot_to (pass_notice_hart h p) reach)
   there_to reach is = spot_there x h p c.stands c.whole low reach is
 
-  pub forward_spot : (reach : Option Place) → pass_reach h p ≡ reach → spot ≡ spot_to (pass_notice_hart h p) reach
+  pub forward_spot : (reach : Option GuestPlace) → pass_reach h p ≡ reach → spot ≡ spot_to (pass_notice_hart h p) reach
   forward_spot reach is =
       c.at ∙ at_page x.world.imsic (pass_notice_hart h p) reach msi.address c.whole.harts c.whole.guests (c.leads.page ∙ ap (page_to (pass_notice_hart h p)) is) (there_to reach is)
 
@@ -113,7 +113,7 @@ module _ (x : CoreState) (h : History) (p : ℕ) (msi : Msi) (spot : Spot) (c : 
   forward_there = subst (IsThere x.world.imsic) (sym (forward_spot (pass_reach h p) refl)) (there_to (pass_reach h p) refl)
 
   -- it goes to a guest's page exactly where the pass leads to a guest file
-  pub forward_page : (reach : Option Place) → pass_reach h p ≡ reach → goes_to_guest h msi ≡ is_guest_page (spot_to (pass_notice_hart h p) reach)
+  pub forward_page : (reach : Option GuestPlace) → pass_reach h p ≡ reach → goes_to_guest h msi ≡ is_guest_page (spot_to (pass_notice_hart h p) reach)
   forward_page reach is = ap is_guest_page (sym (page_stands x h msi.address c.stands) ∙ sym c.at ∙ forward_spot reach is)
 
 -- ---- one lands
@@ -131,7 +131,7 @@ module _ (x y : CoreState) (h : History) (p : ℕ) (msi : Msi) (spot : Spot) (c 
   to = (nth_pass h p).to
 
   -- in a guest file it is a store for the virtual hart of the pass
-  in_guest_file : (q : Place) → pass_reach h p ≡ Some q → Changes x y h (Delivered msi)
+  in_guest_file : (q : GuestPlace) → pass_reach h p ≡ Some q → Changes x y h (Delivered msi)
   in_guest_file q is =
       let low = number_found h msi.source p c.is in
       let named : spot ≡ spot_of q = forward_spot x h p msi spot c (Some q) is in
@@ -176,7 +176,7 @@ module _ (x y : CoreState) (h : History) (p : ℕ) (msi : Msi) (spot : Spot) (c 
         passes = d.passes;
       })
 
-  by_reach : (reach : Option Place) → pass_reach h p ≡ reach → Changes x y h (Delivered msi)
+  by_reach : (reach : Option GuestPlace) → pass_reach h p ≡ reach → Changes x y h (Delivered msi)
   by_reach None is = at_notice_hart is
   by_reach (Some q) is = in_guest_file q is
 
@@ -228,7 +228,7 @@ none_heard : (h : History) (msi : Msi) → passes_of (Delivered msi ∷ h) ≡ p
 unfolding passes_of
 none_heard h msi = refl
 
-at_host_or_guest : (hart : ℕ) (reach : Option Place) → is_host_spot (spot_to hart reach) ≡ is_none reach
+at_host_or_guest : (hart : ℕ) (reach : Option GuestPlace) → is_host_spot (spot_to hart reach) ≡ is_none reach
 at_host_or_guest hart None = refl
 at_host_or_guest hart (Some q) = refl
 
@@ -238,7 +238,7 @@ is_none_then (Some x) e = absurd (cc)
 
 reach_told : (x : CoreState) (h : History) (p : ℕ) (msi : Msi) (spot : Spot) → IsOfPass x h p msi spot → is_none (pass_reach (Delivered msi ∷ h) p) ≡ is_host_spot spot
 reach_told x h p msi spot c =
-    ap (λ (o : Option Place). is_none o) (reach_heard h msi p) ∙ sym (ap is_host_spot (forward_spot x h p msi spot c (pass_reach h p) refl) ∙ at_host_or_guest (pass_notice_hart h p) (pass_reach h p))
+    ap (λ (o : Option GuestPlace). is_none o) (reach_heard h msi p) ∙ sym (ap is_host_spot (forward_spot x h p msi spot c (pass_reach h p) refl) ∙ at_host_or_guest (pass_notice_hart h p) (pass_reach h p))
 
 pub then_relays : (x y : CoreState) (number : ℕ) (msi : Msi) (spot : Spot) → IsForwarding x number msi spot → is_host_spot spot ≡ true → MayGo x (Delivered msi) → CoreGoes x y (Delivered msi) → MayGo y (Relayed number)
 then_relays x y number msi spot c host m goes =
@@ -249,7 +249,7 @@ then_relays x y number msi spot c host m goes =
       happens = (m.may, m.happens);
       stands = goes h m.stands m.may;
       may = (
-        subst (λ (ps : List Pass). number < length ps) (sym (none_heard h msi)) (number_found h msi.source number of.is),
+        subst (λ (ps : List PassedSource). number < length ps) (sym (none_heard h msi)) (number_found h msi.source number of.is),
         is_none_then (pass_reach (Delivered msi ∷ h) number) (reach_told x h number msi spot of ∙ host),
       );
     }
@@ -258,7 +258,7 @@ pub relayed_too : (x y z : CoreState) (number : ℕ) (msi : Msi) (spot : Spot) �
 relayed_too x y z number msi spot c host lands relays = λ h stands may.
     let of = of_pass x h number msi spot stands c.whole c.at c.pass may.1 in
     let memory = reach_told x h number msi spot of ∙ host in
-    let low = subst (λ (ps : List Pass). number < length ps) (sym (none_heard h msi)) (number_found h msi.source number of.is) in
+    let low = subst (λ (ps : List PassedSource). number < length ps) (sym (none_heard h msi)) (number_found h msi.source number of.is) in
     subst (λ (o : Option ℕ). CoreStands z (given_on o (Delivered msi ∷ h))) (sym of.is)
     (subst (CoreStands z) (sym (cond-true _ _ _ memory)) (relays (Delivered msi ∷ h) (lands h stands may) (low, is_none_then (pass_reach (Delivered msi ∷ h) number) memory)))
 

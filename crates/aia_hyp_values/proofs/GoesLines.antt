@@ -1,7 +1,7 @@
 -- A step of a move that goes on, in a core that stands for a history.
 use Rattle.std.proofs.Common.{◌≡◌, true, ◌||◌, length, ◌∷◌, refl, sym, ap, subst, ◌∙◌}
 use Rattle.std.proofs.lemmas.Bool.{cond-false, false≢true, cond-true}
-use Rattle.aia_vcpu.specs.declared.place.Place.{Place}
+use Rattle.aia_vcpu.specs.declared.place.GuestPlace.{GuestPlace}
 use Rattle.aia_vcpu.specs.Vms.{Vcpu, vcpu}
 use Rattle.aia_vcpu.specs.Home.{Home, holds, is_moving, one_more}
 use Rattle.aia_vcpu.specs.Plans.{is_at_last}
@@ -36,7 +36,7 @@ use Rattle.aia_model.specs.Passes.{passes_of}
 use Rattle.aia_hyp_values.specs.Passes.{own_passes, HasItsPasses}
 use Rattle.aia_hyp_values.proofs.MoveSteps.{StepOf, unaimed_home}
 
-one_more_holds : (q : Place) (there : Home) → holds q (one_more there) ≡ holds q there
+one_more_holds : (q : GuestPlace) (there : Home) → holds q (one_more there) ≡ holds q there
 one_more_holds q (OnWay way at) = refl
 one_more_holds q there = refl
 
@@ -73,7 +73,7 @@ module _ (x y : CoreState) (h : History) (g : Vcpu) (plan later : PlanState) (r 
   pub later_moving : is_moving (moving_of later).home ≡ true
   later_moving = ap is_moving b.goes.home ∙ one_more_moves (moving_of plan).home ∙ steps.still_moving x y h g plan r hand b.step_of
 
-  same_holds : (q : Place) → holds q (home (Stepped g ∷ h) g) ≡ holds q (home h g)
+  same_holds : (q : GuestPlace) → holds q (home (Stepped g ∷ h) g) ≡ holds q (home h g)
   same_holds q = ap (holds q) further ∙ one_more_holds q (home h g)
 
   later_seen : (a_look_saw h g || sees (width x.world) (moving_of plan).home (guest_file h g)) ≡ a_look_saw (Stepped g ∷ h) g

@@ -17,7 +17,7 @@ use Rattle.aia_file.specs.declared.spot.Spot.{Spot}
 use Rattle.aia_file.specs.Imsic.{ImsicState, IsThere, file_at, with_file}
 use Rattle.aia_file.proofs.PlaceLemmas.{kept_elsewhere}
 use Rattle.aia_file.specs.Mrif.{mrif_in}
-use Rattle.aia_vcpu.specs.declared.place.Place.{Place}
+use Rattle.aia_vcpu.specs.declared.place.GuestPlace.{GuestPlace}
 use Rattle.aia_vcpu.specs.declared.vm.Vm.{Vm}
 use Rattle.aia_vcpu.specs.Vms.{Vcpu, vcpu, is_vcpu, is_vcpu_in, slot_of, notice_hart}
 use Rattle.aia_vcpu.specs.Home.{Home, holds, is_place, is_moving}
@@ -69,15 +69,15 @@ use Rattle.aia_hyp_values.proofs.WithinLemmas.{guest_within, guest_sound, within
 
 -- ---- where it is
 
-resident_home : (stay : Stay) (p : Place) → resident_at stay ≡ Some p → home_in stay ≡ Resident p
+resident_home : (stay : Stay) (p : GuestPlace) → resident_at stay ≡ Some p → home_in stay ≡ Resident p
 resident_home (stays.Resident q) p e = let same : q ≡ p = cc in ap Resident same
-resident_home (stays.InMemory rest kept) p e = let bad : ◌≡◌ {A = Option Place} None (Some p) = e in absurd (cc)
-resident_home (stays.Moving plan) p e = let bad : ◌≡◌ {A = Option Place} None (Some p) = e in absurd (cc)
+resident_home (stays.InMemory rest kept) p e = let bad : ◌≡◌ {A = Option GuestPlace} None (Some p) = e in absurd (cc)
+resident_home (stays.Moving plan) p e = let bad : ◌≡◌ {A = Option GuestPlace} None (Some p) = e in absurd (cc)
 
-resident_stay : (stay : Stay) (p : Place) → resident_at stay ≡ Some p → stay ≡ stays.Resident p
+resident_stay : (stay : Stay) (p : GuestPlace) → resident_at stay ≡ Some p → stay ≡ stays.Resident p
 resident_stay (stays.Resident q) p e = let same : q ≡ p = cc in ap stays.Resident same
-resident_stay (stays.InMemory rest kept) p e = let bad : ◌≡◌ {A = Option Place} None (Some p) = e in absurd (cc)
-resident_stay (stays.Moving plan) p e = let bad : ◌≡◌ {A = Option Place} None (Some p) = e in absurd (cc)
+resident_stay (stays.InMemory rest kept) p e = let bad : ◌≡◌ {A = Option GuestPlace} None (Some p) = e in absurd (cc)
+resident_stay (stays.Moving plan) p e = let bad : ◌≡◌ {A = Option GuestPlace} None (Some p) = e in absurd (cc)
 
 pub there_in : (x : CoreState) (h : History) (g : Vcpu) → CoreStands x h → is_vcpu_in x.world.vms g ≡ true → has_vcpu h g ≡ true
 there_in x h g stands there = subst (λ (vs : List Vm). is_vcpu_in vs g ≡ true) stands.vms there
@@ -85,13 +85,13 @@ there_in x h g stands there = subst (λ (vs : List Vm). is_vcpu_in vs g ≡ true
 pub missing_in : (x : CoreState) (h : History) (g : Vcpu) → CoreStands x h → is_vcpu_in x.world.vms g ≡ false → has_vcpu h g ≡ false
 missing_in x h g stands none = subst (λ (vs : List Vm). is_vcpu_in vs g ≡ false) stands.vms none
 
-pub is_home_at : (x : CoreState) (h : History) (g : Vcpu) (p : Place) → CoreStands x h → has_vcpu h g ≡ true → resident_at (record_of x g).stay ≡ Some p → home h g ≡ Resident p
+pub is_home_at : (x : CoreState) (h : History) (g : Vcpu) (p : GuestPlace) → CoreStands x h → has_vcpu h g ≡ true → resident_at (record_of x g).stay ≡ Some p → home h g ≡ Resident p
 is_home_at x h g p stands there at = sym (stands.vcpus g there).same_home ∙ resident_home (record_of x g).stay p at
 
-holds_it : (there : Home) (p : Place) → there ≡ Resident p → holds p there ≡ true
+holds_it : (there : Home) (p : GuestPlace) → there ≡ Resident p → holds p there ≡ true
 holds_it there p e = ap (holds p) e ∙ is_itself_place p
 
-pub file_there : (x : CoreState) (g : Vcpu) (p : Place) → StandsForSome x → is_vcpu_in x.world.vms g ≡ true → resident_at (record_of x g).stay ≡ Some p → IsThere x.world.imsic (spot_of p)
+pub file_there : (x : CoreState) (g : Vcpu) (p : GuestPlace) → StandsForSome x → is_vcpu_in x.world.vms g ≡ true → resident_at (record_of x g).stay ≡ Some p → IsThere x.world.imsic (spot_of p)
 file_there x g p some inside at =
     let there = there_in x some.past g some.stands inside in
     some.stands.held g p there (holds_it (home some.past g) p (is_home_at x some.past g p some.stands there at))
@@ -99,7 +99,7 @@ file_there x g p some inside at =
 -- ---- a deed at the file of a resident virtual hart
 
 -- it was done at its guest file and its select number, and nothing else changed
-pub record GuestHasDone (x y : CoreState) (g : Vcpu) (p : Place) (deed : FileDeed) : Type 0 where
+pub record GuestHasDone (x y : CoreState) (g : Vcpu) (p : GuestPlace) (deed : FileDeed) : Type 0 where
   pub harts : y.world.imsic.harts ≡ x.world.imsic.harts
   pub guests : y.world.imsic.guests ≡ x.world.imsic.guests
   pub rest : y.world ≡ record x.world { imsic = y.world.imsic }
@@ -115,7 +115,7 @@ pub record GuestHasDone (x y : CoreState) (g : Vcpu) (p : Place) (deed : FileDee
   pub files : (spot : Spot) → IsThere x.world.imsic spot → spot ≢ spot_of p → file_at y.world.imsic spot ≡ file_at x.world.imsic spot
 
 -- the file that its home holds is the history's
-pub own_is : (x : CoreState) (h : History) (g : Vcpu) (p : Place) → CoreStands x h → IsWhole x.world → has_vcpu h g ≡ true → home h g ≡ Resident p → shown (file_at x.world.imsic (spot_of p)) ≡ guest_file h g
+pub own_is : (x : CoreState) (h : History) (g : Vcpu) (p : GuestPlace) → CoreStands x h → IsWhole x.world → has_vcpu h g ≡ true → home h g ≡ Resident p → shown (file_at x.world.imsic (spot_of p)) ≡ guest_file h g
 own_is x h g p stands whole there at =
     let greatest : is_greatest_identity (greatest_identity_of h) ≡ true = subst (λ n. is_greatest_identity n ≡ true) stands.greatest whole.greatest in
     let held = subst (λ (t : Home). Holds (file_words h) (slot_of (vms_of h) g) (notice_hart (vms_of h) g) (in_force_of h g) (places_of x.world g t) t (hand_in (record_of x g).stay) (guest_file h g) (a_look_saw h g)) at (stands.vcpus g there).holds in
@@ -123,7 +123,7 @@ own_is x h g p stands whole there at =
     same_file _ _ (resident (greatest_identity_of h) (file_words h) (slot_of (vms_of h) g) (notice_hart (vms_of h) g) (in_force_of h g) (places_of x.world g (Resident p)) (hand_in (record_of x g).stay) (guest_file h g) (a_look_saw h g) (guest_within h g greatest) (width_at x.world (spot_of p) whole inside ∙ stands.greatest) p held)
 
 -- what is known of an access
-pub record IsAccess (x y : CoreState) (h : History) (vm number : ℕ) (csr : Csr) (op : Op) (p : Place) : Type 0 where
+pub record IsAccess (x y : CoreState) (h : History) (vm number : ℕ) (csr : Csr) (op : Op) (p : GuestPlace) : Type 0 where
   pub stands : CoreStands x h
   pub whole : IsWhole x.world
   pub there : has_vcpu h (vcpu vm number) ≡ true
@@ -131,10 +131,10 @@ pub record IsAccess (x y : CoreState) (h : History) (vm number : ℕ) (csr : Csr
   pub done : GuestHasDone x y (vcpu vm number) p (Accesses csr op)
   pub majors : (other : Vcpu) → MajorsRest other (Accepted (GuestCsr vm number csr op))
 
-machine_stays : (x y : CoreState) (g : Vcpu) (p : Place) (deed : FileDeed) → GuestHasDone x y g p deed → SameMachine x.world y.world
+machine_stays : (x y : CoreState) (g : Vcpu) (p : GuestPlace) (deed : FileDeed) → GuestHasDone x y g p deed → SameMachine x.world y.world
 machine_stays x y g p deed done = record { n = ap (λ (w : World). w.n) done.rest; vms = ap (λ (w : World). w.vms) done.rest; harts = done.harts; guests = done.guests }
 
-own_accessed : (x y : CoreState) (h : History) (vm number : ℕ) (csr : Csr) (op : Op) (p : Place) → IsAccess x y h vm number csr op p → VcpuStands x h (vcpu vm number) → VcpuStands y (Accepted (GuestCsr vm number csr op) ∷ h) (vcpu vm number)
+own_accessed : (x y : CoreState) (h : History) (vm number : ℕ) (csr : Csr) (op : Op) (p : GuestPlace) → IsAccess x y h vm number csr op p → VcpuStands x h (vcpu vm number) → VcpuStands y (Accepted (GuestCsr vm number csr op) ∷ h) (vcpu vm number)
 own_accessed x y h vm number csr op p c stood =
     let g = vcpu vm number in
     let at : home h g ≡ Resident p = is_home_at x h g p c.stands c.there c.at in
@@ -166,13 +166,13 @@ own_accessed x y h vm number csr op p c stood =
 pub other_rests : (h : History) (vm number : ℕ) (csr : Csr) (op : Op) (other : Vcpu) → is_vcpu other (vcpu vm number) ≡ false → guest_deed other h (Accepted (GuestCsr vm number csr op)) ≡ Rests
 other_rests h vm number csr op other ne = cond-false _ _ _ ne
 
-not_it : (p q : Place) → is_place q p ≡ false → spot_of q ≢ spot_of p
+not_it : (p q : GuestPlace) → is_place q p ≡ false → spot_of q ≢ spot_of p
 not_it p q ne e =
     let hart : q.hart ≡ p.hart = cc in
     let file : q.file ≡ p.file = cc in
-    false≢true (sym ne ∙ ap (λ (r : Place). is_place r p) (ap (λ h. record { hart = h; file = q.file }) hart ∙ ap (λ f. record { hart = p.hart; file = f }) file) ∙ is_itself_place p)
+    false≢true (sym ne ∙ ap (λ (r : GuestPlace). is_place r p) (ap (λ h. record { hart = h; file = q.file }) hart ∙ ap (λ f. record { hart = p.hart; file = f }) file) ∙ is_itself_place p)
 
-pub access_changes : (x y : CoreState) (h : History) (vm number : ℕ) (csr : Csr) (op : Op) (p : Place) → IsAccess x y h vm number csr op p → Changes x y h (Accepted (GuestCsr vm number csr op))
+pub access_changes : (x y : CoreState) (h : History) (vm number : ℕ) (csr : Csr) (op : Op) (p : GuestPlace) → IsAccess x y h vm number csr op p → Changes x y h (Accepted (GuestCsr vm number csr op))
 access_changes x y h vm number csr op p c =
     let g = vcpu vm number in
     let event = Accepted (GuestCsr vm number csr op) in
@@ -214,7 +214,7 @@ access_changes x y h vm number csr op p c =
 -- ---- what each access does
 
 -- the select number alone is written
-pub guest_select_done : (x y : CoreState) (g : Vcpu) (p : Place) (op : Op) → y.world ≡ x.world → y.leases ≡ x.leases → y.selects ≡ x.selects → y.passes ≡ x.passes → slot_of x.world.vms g < length x.vcpus
+pub guest_select_done : (x y : CoreState) (g : Vcpu) (p : GuestPlace) (op : Op) → y.world ≡ x.world → y.leases ≡ x.leases → y.selects ≡ x.selects → y.passes ≡ x.passes → slot_of x.world.vms g < length x.vcpus
     → y.vcpus ≡ set x.vcpus (slot_of x.world.vms g) (record (record_of x g) { select = select_written op (record_of x g).select }) → GuestHasDone x y g p (Accesses csrs.Select op)
 guest_select_done x y g p op world leases selects passes low vcpus =
     let slot : (other : Vcpu) → slot_of y.world.vms other ≡ slot_of x.world.vms other = λ other. ap (λ (w : World). slot_of w.vms other) world in
@@ -236,7 +236,7 @@ guest_select_done x y g p op world leases selects passes low vcpus =
     }
 
 -- the file alone is changed
-pub guest_file_done : (x y : CoreState) (g : Vcpu) (p : Place) (deed : FileDeed) → IsThere x.world.imsic (spot_of p) → y.world ≡ record x.world { imsic = with_file x.world.imsic (spot_of p) (file_at y.world.imsic (spot_of p)) } → y.leases ≡ x.leases → y.vcpus ≡ x.vcpus → y.selects ≡ x.selects → y.passes ≡ x.passes
+pub guest_file_done : (x y : CoreState) (g : Vcpu) (p : GuestPlace) (deed : FileDeed) → IsThere x.world.imsic (spot_of p) → y.world ≡ record x.world { imsic = with_file x.world.imsic (spot_of p) (file_at y.world.imsic (spot_of p)) } → y.leases ≡ x.leases → y.vcpus ≡ x.vcpus → y.selects ≡ x.selects → y.passes ≡ x.passes
     → SameFile (shown (file_at y.world.imsic (spot_of p))) (file_after (record_of x g).select deed (shown (file_at x.world.imsic (spot_of p)))) → select_after deed (record_of x g).select ≡ (record_of x g).select → GuestHasDone x y g p deed
 guest_file_done x y g p deed there world leases vcpus selects passes file select =
     let imsic : y.world.imsic ≡ with_file x.world.imsic (spot_of p) (file_at y.world.imsic (spot_of p)) = ap (λ (w : World). w.imsic) world in
@@ -288,13 +288,13 @@ refusal_served x h vm number csr op access stands there served table =
     by_access : CsrAccess → Option Answer
     by_access a = cond (raises_illegal a) (Some (Refused Illegal)) (cond (raises_virtual a) (Some (Refused Virtual)) None)
 
-pub refusal_there : (x : CoreState) (h : History) (vm number : ℕ) (csr : Csr) (op : Op) (p : Place) (access : CsrAccess) → CoreStands x h → has_vcpu h (vcpu vm number) ≡ true → resident_at (record_of x (vcpu vm number)).stay ≡ Some p
+pub refusal_there : (x : CoreState) (h : History) (vm number : ℕ) (csr : Csr) (op : Op) (p : GuestPlace) (access : CsrAccess) → CoreStands x h → has_vcpu h (vcpu vm number) ≡ true → resident_at (record_of x (vcpu vm number)).stay ≡ Some p
     → access ≡ access_by (record_of x (vcpu vm number)) csr op
     → refusal h (GuestCsr vm number csr op) ≡ cond (raises_illegal access) (Some (Refused Illegal)) (cond (raises_virtual access) (Some (Refused Virtual)) None)
 refusal_there x h vm number csr op p access stands there at table =
     refusal_served x h vm number csr op access stands there (ap (λ t. serves t csr) (is_home_at x h (vcpu vm number) p stands there at)) table
 
-pub guest_accessed : (x y : CoreState) (vm number : ℕ) (csr kind : Csr) (op : Op) (p : Place) (access : CsrAccess) (value : ℕ) → IsWhole x.world → is_vcpu_in x.world.vms (vcpu vm number) ≡ true → resident_at (record_of x (vcpu vm number)).stay ≡ Some p
+pub guest_accessed : (x y : CoreState) (vm number : ℕ) (csr kind : Csr) (op : Op) (p : GuestPlace) (access : CsrAccess) (value : ℕ) → IsWhole x.world → is_vcpu_in x.world.vms (vcpu vm number) ≡ true → resident_at (record_of x (vcpu vm number)).stay ≡ Some p
     → access ≡ access_by (record_of x (vcpu vm number)) csr op → raises_illegal access ≡ false → raises_virtual access ≡ false → csr ≡ kind
     → value ≡ csr_shown (record_of x (vcpu vm number)).select (shown (file_at x.world.imsic (spot_of p))) kind → GuestHasDone x y (vcpu vm number) p (Accesses kind op) → IsFileCsr kind → CoreTakes x y (GuestCsr vm number csr op) (Wide value)
 guest_accessed x y vm number csr kind op p access value whole inside at table legal kept named read done of_file =
@@ -308,11 +308,11 @@ guest_accessed x y vm number csr kind op p access value whole inside at table le
       access_changes x y h vm number csr op p (record { stands = stands; whole = whole; there = there; at = at; done = subst (λ (k : Csr). GuestHasDone x y g p (Accesses k op)) (sym named) done; majors = λ other. file_access vm number csr op other (subst (λ (k : Csr). IsFileCsr k) (sym named) of_file) }),
     ))
 
-pub guest_virtual : (x : CoreState) (vm number : ℕ) (csr : Csr) (op : Op) (p : Place) → is_vcpu_in x.world.vms (vcpu vm number) ≡ true → resident_at (record_of x (vcpu vm number)).stay ≡ Some p
+pub guest_virtual : (x : CoreState) (vm number : ℕ) (csr : Csr) (op : Op) (p : GuestPlace) → is_vcpu_in x.world.vms (vcpu vm number) ≡ true → resident_at (record_of x (vcpu vm number)).stay ≡ Some p
     → reaches.Virtual ≡ access_by (record_of x (vcpu vm number)) csr op → CoreTakes x x (GuestCsr vm number csr op) (Refused Virtual)
 guest_virtual x vm number csr op p inside at table = refused x (GuestCsr vm number csr op) (Refused Virtual) (λ h stands. refusal_there x h vm number csr op p reaches.Virtual stands (there_in x h (vcpu vm number) stands inside) at table)
 
-pub guest_illegal : (x : CoreState) (vm number : ℕ) (csr : Csr) (op : Op) (p : Place) → is_vcpu_in x.world.vms (vcpu vm number) ≡ true → resident_at (record_of x (vcpu vm number)).stay ≡ Some p
+pub guest_illegal : (x : CoreState) (vm number : ℕ) (csr : Csr) (op : Op) (p : GuestPlace) → is_vcpu_in x.world.vms (vcpu vm number) ≡ true → resident_at (record_of x (vcpu vm number)).stay ≡ Some p
     → reaches.Illegal ≡ access_by (record_of x (vcpu vm number)) csr op → CoreTakes x x (GuestCsr vm number csr op) (Refused Illegal)
 guest_illegal x vm number csr op p inside at table = refused x (GuestCsr vm number csr op) (Refused Illegal) (λ h stands. refusal_there x h vm number csr op p reaches.Illegal stands (there_in x h (vcpu vm number) stands inside) at table)
 
@@ -322,7 +322,7 @@ no_such_guest x vm number csr op outside = refused x (GuestCsr vm number csr op)
 
 pub away_stay : (w : World) (g : Vcpu) (stay : Stay) (csr : Csr) → PlanStands w g stay → resident_at stay ≡ None → (is_some (entered_at stay) && is_file_csr csr) ≡ false → serves (home_in stay) csr ≡ false
 away_stay w g (stays.InMemory rest kept) csr plan e none = ap (λ b. b && is_file_csr csr) (entered_as_kept w g (stays.InMemory rest kept) plan) ∙ none
-away_stay w g (stays.Resident p) csr plan e none = let bad : ◌≡◌ {A = Option Place} (Some p) None = e in absurd (cc)
+away_stay w g (stays.Resident p) csr plan e none = let bad : ◌≡◌ {A = Option GuestPlace} (Some p) None = e in absurd (cc)
 away_stay w g (stays.Moving plan) csr stands e none = moving_away (moving_of plan).home stands.3
   where
     moving_away : (there : Home) → is_moving there ≡ true → serves there csr ≡ false

@@ -17,7 +17,7 @@ use Rattle.aia_file.specs.declared.stored.Stored.{Stored}
 use Rattle.aia_file.specs.declared.stored.Stored.TheVariants.{Discarded, Quiet, Notice}
 use Rattle.aia_file.specs.Mrif.{mrif_in, pending_place, after_store, stored}
 use Rattle.aia_file.specs.Words.{words_after_store}
-use Rattle.aia_vcpu.specs.declared.place.Place.{Place}
+use Rattle.aia_vcpu.specs.declared.place.GuestPlace.{GuestPlace}
 use Rattle.aia_vcpu.specs.declared.vm.Vm.{Vm}
 use Rattle.aia_vcpu.specs.Vms.{Vcpu, is_vcpu, vcpus_in, is_vcpu_in, slot_of, notice_identity, notice_hart}
 use Rattle.aia_vcpu.specs.Home.{Home, is_place, holds}
@@ -74,43 +74,43 @@ use Rattle.aia_hyp_values.proofs.WithinLemmas.{guest_within}
 
 -- ---- where stores lead
 
-by_step : (b : Bool) (x y : Option Place) (p : Place) (there : Home) → (x ≡ Some p → holds p there ≡ true) → (y ≡ Some p → holds p there ≡ true) → cond b x y ≡ Some p → holds p there ≡ true
+by_step : (b : Bool) (x y : Option GuestPlace) (p : GuestPlace) (there : Home) → (x ≡ Some p → holds p there ≡ true) → (y ≡ Some p → holds p there ≡ true) → cond b x y ≡ Some p → holds p there ≡ true
 by_step true x y p there f g e = f e
 by_step false x y p there f g e = g e
 
-pub devices_held : (h : History) (g : Vcpu) (p : Place) → in_force_of h g ≡ Some p → holds p (home h g) ≡ true
+pub devices_held : (h : History) (g : Vcpu) (p : GuestPlace) → in_force_of h g ≡ Some p → holds p (home h g) ≡ true
 devices_held h g p e = landing_is_held (file_words h) (home h g) (in_force_of h g) p (reach_lands (file_words h) (home h g) (in_force_of h g) (in_force_may h g)) e
 
 -- a store in flight goes where its virtual hart holds it
-pub flying_held : (h : History) (v k : ℕ) (s : Sending) (p : Place) → AllMayFly h → flying h v k ≡ Some s → sent_into v s ≡ Some p → holds p (home h (sent_to v s)) ≡ true
+pub flying_held : (h : History) (v k : ℕ) (s : Sending) (p : GuestPlace) → AllMayFly h → flying h v k ≡ Some s → sent_into v s ≡ Some p → holds p (home h (sent_to v s)) ≡ true
 flying_held h v k s p may is e =
     let g = sent_to v s in
     landing_is_held (file_words h) (home h g) (sent_into v s) p (reach_lands (file_words h) (home h g) (sent_into v s) (all_at (MayFly h v) k (flight h v) s is (may v))) e
 
-pub peers_held : (h : History) (g : Vcpu) (p : Place) → peers_reach (home h g) ≡ Some p → holds p (home h g) ≡ true
+pub peers_held : (h : History) (g : Vcpu) (p : GuestPlace) → peers_reach (home h g) ≡ Some p → holds p (home h g) ≡ true
 peers_held h g p e = landing_is_held (file_words h) (home h g) (peers_reach (home h g)) p (peers_may (file_words h) (home h g)) e
 
 -- ---- what the store makes of the world
 
 -- it lands in a guest file, or in the slot
-abbrev pub GuestStored : World → World → Vcpu → Option Place → ℕ → ℕ → Type 0
+abbrev pub GuestStored : World → World → Vcpu → Option GuestPlace → ℕ → ℕ → Type 0
 GuestStored w u g (Some p) offset value = StoresIn w u (spot_of p) offset value
 GuestStored w u g None offset value = StoresInSlot w u (Some (slot_of w.vms g)) (spots.SupervisorFile (notice_hart w.vms g)) (notice_identity w.vms g) offset value
 
 -- ---- it lands in a guest file
 
-file_landed : (w u : World) (p : Place) (offset value : ℕ) → StoresIn w u (spot_of p) offset value → shown (file_at u.imsic (spot_of p)) ≡ landed offset value (shown (file_at w.imsic (spot_of p)))
+file_landed : (w u : World) (p : GuestPlace) (offset value : ℕ) → StoresIn w u (spot_of p) offset value → shown (file_at u.imsic (spot_of p)) ≡ landed offset value (shown (file_at w.imsic (spot_of p)))
 file_landed w u p offset value s = same_file _ _ s.lands.lands
 
-other_file : (w u : World) (p q : Place) (offset value : ℕ) → StoresIn w u (spot_of p) offset value → IsThere w.imsic (spot_of p) → IsThere w.imsic (spot_of q) → is_place q p ≡ false → file_at u.imsic (spot_of q) ≡ file_at w.imsic (spot_of q)
+other_file : (w u : World) (p q : GuestPlace) (offset value : ℕ) → StoresIn w u (spot_of p) offset value → IsThere w.imsic (spot_of p) → IsThere w.imsic (spot_of q) → is_place q p ≡ false → file_at u.imsic (spot_of q) ≡ file_at w.imsic (spot_of q)
 other_file w u p q offset value s here there apart =
     ap (λ (i : ImsicState). file_at i (spot_of q)) s.lands.others ∙ kept_elsewhere w.imsic (spot_of p) (spot_of q) (file_at u.imsic (spot_of p)) here there (λ e. false≢true (sym apart ∙ by_spots q p e))
   where
-    by_spots : (q p : Place) → spot_of q ≡ spot_of p → is_place q p ≡ true
+    by_spots : (q p : GuestPlace) → spot_of q ≡ spot_of p → is_place q p ≡ true
     by_spots q p e =
         let hart : q.hart ≡ p.hart = cc in
         let file : q.file ≡ p.file = cc in
-        ap (λ (r : Place). is_place r p) (ap (λ h. record { hart = h; file = q.file }) hart ∙ ap (λ f. record { hart = p.hart; file = f }) file) ∙ is_itself_place p
+        ap (λ (r : GuestPlace). is_place r p) (ap (λ h. record { hart = h; file = q.file }) hart ∙ ap (λ f. record { hart = p.hart; file = f }) file) ∙ is_itself_place p
 
 -- the places but for their files
 view_with : (w : World) (g : Vcpu) (there : Home) (own next : InterruptFile) → Places
@@ -123,11 +123,11 @@ seen_by w u g there own next rest eo en =
     ∙ (λ k. record (places_of w g there) { own = eo k; next = en k })
 
 -- of a resident virtual hart
-pub resident_seen : (w u : World) (g : Vcpu) (p : Place) (own : InterruptFile) → u ≡ record w { imsic = u.imsic } → file_in u (Some p) ≡ own → places_of u g (Resident p) ≡ record (places_of w g (Resident p)) { own = own }
+pub resident_seen : (w u : World) (g : Vcpu) (p : GuestPlace) (own : InterruptFile) → u ≡ record w { imsic = u.imsic } → file_in u (Some p) ≡ own → places_of u g (Resident p) ≡ record (places_of w g (Resident p)) { own = own }
 unfolding view_with
 resident_seen w u g p own rest eo = seen_by w u g (Resident p) own (file_in w None) rest eo (ap (λ (w : World). file_in w None) rest)
 
-pub view_stored : (w u : World) (g : Vcpu) (there : Home) (p : Place) (offset value : ℕ) → StoresIn w u (spot_of p) offset value → ((q : Place) → holds q there ≡ true → IsThere w.imsic (spot_of q)) → AreApart there → holds p there ≡ true
+pub view_stored : (w u : World) (g : Vcpu) (there : Home) (p : GuestPlace) (offset value : ℕ) → StoresIn w u (spot_of p) offset value → ((q : GuestPlace) → holds q there ≡ true → IsThere w.imsic (spot_of q)) → AreApart there → holds p there ≡ true
     → places_of u g there ≡ places_landed (Some p) there offset value (places_of w g there)
 unfolding view_with
 view_stored w u g (OnWay (Across from to) at) p offset value s held apart here = elim (cases_Bool (is_place p to)) [
@@ -137,8 +137,8 @@ view_stored w u g (OnWay (Across from to) at) p offset value s held apart here =
       let new = held to (or_right (is_place to from) (is_place to to) (is_itself_place to)) in
       let other : is_place from p ≡ false = ap (is_place from) same ∙ apart in
       seen_by w u g (OnWay (Across from to) at) (file_in w (Some from)) (landed offset value (file_in w (Some to))) s.rest
-      (ap shown (other_file w u p from offset value s (subst (λ (x : Place). IsThere w.imsic (spot_of x)) (sym same) new) old other))
-      (subst (λ (x : Place). shown (file_at u.imsic (spot_of x)) ≡ landed offset value (shown (file_at w.imsic (spot_of x)))) same (file_landed w u p offset value s))
+      (ap shown (other_file w u p from offset value s (subst (λ (x : GuestPlace). IsThere w.imsic (spot_of x)) (sym same) new) old other))
+      (subst (λ (x : GuestPlace). shown (file_at u.imsic (spot_of x)) ≡ landed offset value (shown (file_at w.imsic (spot_of x)))) same (file_landed w u p offset value s))
       ∙ sym (cond-true _ _ _ e)
   | inr ne ↦
       let is : is_place p from ≡ true = left (is_place p from) (is_place p to) here ne in
@@ -147,8 +147,8 @@ view_stored w u g (OnWay (Across from to) at) p offset value s held apart here =
       let new = held to (or_right (is_place to from) (is_place to to) (is_itself_place to)) in
       let other : is_place to p ≡ false = ap (is_place to) same ∙ turned from to apart in
       seen_by w u g (OnWay (Across from to) at) (landed offset value (file_in w (Some from))) (file_in w (Some to)) s.rest
-      (subst (λ (x : Place). shown (file_at u.imsic (spot_of x)) ≡ landed offset value (shown (file_at w.imsic (spot_of x)))) same (file_landed w u p offset value s))
-      (ap shown (other_file w u p to offset value s (subst (λ (x : Place). IsThere w.imsic (spot_of x)) (sym same) old) new other))
+      (subst (λ (x : GuestPlace). shown (file_at u.imsic (spot_of x)) ≡ landed offset value (shown (file_at w.imsic (spot_of x)))) same (file_landed w u p offset value s))
+      (ap shown (other_file w u p to offset value s (subst (λ (x : GuestPlace). IsThere w.imsic (spot_of x)) (sym same) old) new other))
       ∙ sym (cond-false _ _ _ ne)
 ]
   where
@@ -156,7 +156,7 @@ view_stored w u g (OnWay (Across from to) at) p offset value s held apart here =
     left true b e n = refl
     left false b e n = absurd (false≢true (sym n ∙ e))
 
-    turned : (p q : Place) → is_place p q ≡ false → is_place q p ≡ false
+    turned : (p q : GuestPlace) → is_place p q ≡ false → is_place q p ≡ false
     turned p q e = elim (cases_Bool (is_place q p)) [
       | inl t ↦ absurd (false≢true (sym e ∙ ap (is_place p) (same_place q p t) ∙ is_itself_place p))
       | inr f ↦ f
@@ -192,14 +192,14 @@ slot_landed w q offset value size few =
 pub record SlotStored (w u : World) (g : Vcpu) (offset value : ℕ) : Type 0 where
   pub rest : OnlyStores w u
   pub memory : u.memory ≡ slot_words w g offset value
-  pub files : (p : Place) → IsThere w.imsic (spot_of p) → file_at u.imsic (spot_of p) ≡ file_at w.imsic (spot_of p)
+  pub files : (p : GuestPlace) → IsThere w.imsic (spot_of p) → file_at u.imsic (spot_of p) ≡ file_at w.imsic (spot_of p)
 
 -- the entry of a virtual hart lies past all slots
 past_slots : (g : Vcpu) → WORDS_OF_SLOTS ≤ entry_word_place g.vm g.number
 past_slots g = omega arith
 
 -- another virtual hart has all that it had
-slot_others : (w u : World) (g other : Vcpu) (there : Home) (offset value : ℕ) → SlotStored w u g offset value → slot_of w.vms g < SLOTS → slot_of w.vms other ≢ slot_of w.vms g → ((p : Place) → holds p there ≡ true → IsThere w.imsic (spot_of p)) → SameFor w u other there
+slot_others : (w u : World) (g other : Vcpu) (there : Home) (offset value : ℕ) → SlotStored w u g offset value → slot_of w.vms g < SLOTS → slot_of w.vms other ≢ slot_of w.vms g → ((p : GuestPlace) → holds p there ≡ true → IsThere w.imsic (spot_of p)) → SameFor w u other there
 slot_others w u g other there offset value s few apart held = record {
   n = ap (λ (x : World). x.n) s.rest;
   files = λ p holding. s.files p (held p holding);
@@ -211,7 +211,7 @@ slot_others w u g other there offset value s few apart held = record {
 }
 
 -- its own places show the store in the slot
-slot_view : (w u : World) (g : Vcpu) (there : Home) (offset value : ℕ) → SlotStored w u g offset value → length w.memory ≡ MEMORY_WORDS → slot_of w.vms g < SLOTS → ((p : Place) → holds p there ≡ true → IsThere w.imsic (spot_of p)) → places_of u g there ≡ places_landed None there offset value (places_of w g there)
+slot_view : (w u : World) (g : Vcpu) (there : Home) (offset value : ℕ) → SlotStored w u g offset value → length w.memory ≡ MEMORY_WORDS → slot_of w.vms g < SLOTS → ((p : GuestPlace) → holds p there ≡ true → IsThere w.imsic (spot_of p)) → places_of u g there ≡ places_landed None there offset value (places_of w g there)
 slot_view w u g there offset value s size few held =
     let own = file_stays (own_file there) (λ p e. held p (own_is_held there p e)) in
     let next = file_stays (next_file there) (λ p e. held p (next_is_held there p e)) in
@@ -229,14 +229,14 @@ slot_view w u g there offset value s size few held =
       stage_in_force = (stage_of (s.rest k) g).in_force;
     }
   where
-    file_stays : (o : Option Place) → ((p : Place) → o ≡ Some p → IsThere w.imsic (spot_of p)) → file_in u o ≡ file_in w o
+    file_stays : (o : Option GuestPlace) → ((p : GuestPlace) → o ≡ Some p → IsThere w.imsic (spot_of p)) → file_in u o ≡ file_in w o
     file_stays None there = ap (λ (x : World). empty_file x.n) s.rest
     file_stays (Some p) there = ap shown (s.files p (there p refl))
 
 -- ---- what it changes of a core
 
 -- what is so of an event that is a store at the file of a virtual hart, which goes to `reach`
-pub record IsMeantFor (x y : CoreState) (h : History) (event : Event) (g : Vcpu) (reach : Option Place) (offset value : ℕ) : Type 0 where
+pub record IsMeantFor (x y : CoreState) (h : History) (event : Event) (g : Vcpu) (reach : Option GuestPlace) (offset value : ℕ) : Type 0 where
   pub stands : CoreStands x h
   pub whole : IsWhole x.world
   pub quiet : IsQuiet h event
@@ -250,7 +250,7 @@ pub record IsMeantFor (x y : CoreState) (h : History) (event : Event) (g : Vcpu)
   pub passes : y.passes ≡ x.passes
 
 -- what a call says of it
-pub record IsStoredFor (x y : CoreState) (h : History) (event : Event) (g : Vcpu) (reach : Option Place) (offset value : ℕ) : Type 0 where
+pub record IsStoredFor (x y : CoreState) (h : History) (event : Event) (g : Vcpu) (reach : Option GuestPlace) (offset value : ℕ) : Type 0 where
   pub meant : IsMeantFor x y h event g reach offset value
   pub notices : noticed h event ≡ noticed_by_store h g reach offset value
   pub host : (f : FileName) → deed_at f h event ≡ notice_deed h f (noticed h event)
@@ -261,12 +261,12 @@ noticed_vms Notice w u hart identity by = ap (λ (w : World). w.vms) by.rest
 noticed_vms Quiet w u hart identity by = ap (λ (w : World). w.vms) by
 noticed_vms Discarded w u hart identity by = ap (λ (w : World). w.vms) by
 
-stored_vms : (w u : World) (g : Vcpu) (reach : Option Place) (offset value : ℕ) → GuestStored w u g reach offset value → u.vms ≡ w.vms
+stored_vms : (w u : World) (g : Vcpu) (reach : Option GuestPlace) (offset value : ℕ) → GuestStored w u g reach offset value → u.vms ≡ w.vms
 stored_vms w u g (Some p) offset value s = ap (λ (w : World). w.vms) s.rest
 stored_vms w u g None offset value s = noticed_vms (stored (mrif_in w.memory (slot_of w.vms g)) (requested IDENTITIES offset value)) (with_store w (slot_of w.vms g) offset value) u (notice_hart w.vms g) (notice_identity w.vms g) s
 
 -- the places of the virtual hart hold the file with the store
-held_stored : (x y : CoreState) (h : History) (event : Event) (g : Vcpu) (reach : Option Place) (offset value : ℕ) → SameMachine x.world y.world → IsMeantFor x y h event g reach offset value → places_of y.world g (home h g) ≡ places_landed reach (home h g) offset value (places_of x.world g (home h g)) → VcpuStands x h g → VcpuStands y (event ∷ h) g
+held_stored : (x y : CoreState) (h : History) (event : Event) (g : Vcpu) (reach : Option GuestPlace) (offset value : ℕ) → SameMachine x.world y.world → IsMeantFor x y h event g reach offset value → places_of y.world g (home h g) ≡ places_landed reach (home h g) offset value (places_of x.world g (home h g)) → VcpuStands x h g → VcpuStands y (event ∷ h) g
 held_stored x y h event g reach offset value machine c shows p =
     let greatest : is_greatest_identity (greatest_identity_of h) ≡ true = subst (λ n. is_greatest_identity n ≡ true) c.stands.greatest c.whole.greatest in
     let within = guest_within h g greatest in
@@ -290,11 +290,11 @@ held_stored x y h event g reach offset value machine c shows p =
     vms : y.world.vms ≡ x.world.vms
     vms = machine.vms
 
-    n_of : (o : Option Place) → ((p : Place) → o ≡ Some p → IsThere x.world.imsic (spot_of p)) → (file_in x.world o).n ≡ greatest_identity_of h
+    n_of : (o : Option GuestPlace) → ((p : GuestPlace) → o ≡ Some p → IsThere x.world.imsic (spot_of p)) → (file_in x.world o).n ≡ greatest_identity_of h
     n_of None inside = c.stands.greatest
     n_of (Some p) inside = width_at x.world (spot_of p) c.whole (inside p refl) ∙ c.stands.greatest
 
-    landing : (reach : Option Place) → MayLand (file_words h) (home h g) reach → IsWithin (greatest_identity_of h) (file_words h) (guest_file h g) → file_words h ≤ FILE_WORDS
+    landing : (reach : Option GuestPlace) → MayLand (file_words h) (home h g) reach → IsWithin (greatest_identity_of h) (file_words h) (guest_file h g) → file_words h ≤ FILE_WORDS
         → Holds (file_words h) (slot_of (vms_of h) g) (notice_hart (vms_of h) g) (in_force_of h g) (places_of x.world g (home h g)) (home h g) (hand_in (record_of x g).stay) (guest_file h g) (a_look_saw h g)
         → Holds (file_words h) (slot_of (vms_of h) g) (notice_hart (vms_of h) g) (in_force_of h g) (places_landed reach (home h g) offset value (places_of x.world g (home h g))) (home h g) (hand_in (record_of x g).stay) (landed offset value (guest_file h g)) (a_look_saw h g)
     landing reach may within few held =
@@ -303,7 +303,7 @@ held_stored x y h event g reach offset value machine c shows p =
 
 -- ---- all that it changes
 
-pub not_out : (h : History) (g : Vcpu) (p : Place) → has_vcpu h g ≡ true → holds p (home h g) ≡ true → is_held h p ≡ false → ⊥
+pub not_out : (h : History) (g : Vcpu) (p : GuestPlace) → has_vcpu h g ≡ true → holds p (home h g) ≡ true → is_held h p ≡ false → ⊥
 not_out h g p there holding none = false≢true (sym none ∙ any_vcpu (vms_of h) (λ g. holds p (home h g)) g there holding)
 
 others_rest : (h : History) (event : Event) (g other : Vcpu) (offset value : ℕ) → guest_deed other h event ≡ cond (is_vcpu other g) (Stores offset value) Rests → is_vcpu other g ≡ false → guest_deed other h event ≡ Rests
@@ -325,14 +325,14 @@ pub slots_apart : (x : CoreState) (h : History) (g other : Vcpu) → CoreStands 
 slots_apart x h g other stands there inside ne e = ne (same_slot (vms_of h) other g inside there (sym (slot_is x h other stands) ∙ e ∙ slot_is x h g stands))
 
 -- a host's file is none of guests'
-host_stays : (x y : CoreState) (h : History) (p : Place) (offset value : ℕ) (f : FileName) → StoresIn x.world y.world (spot_of p) offset value → IsThere x.world.imsic (spot_of p) → y.selects ≡ x.selects → IsThere x.world.imsic (host_spot f) → FileDone x y f Rests
+host_stays : (x y : CoreState) (h : History) (p : GuestPlace) (offset value : ℕ) (f : FileName) → StoresIn x.world y.world (spot_of p) offset value → IsThere x.world.imsic (spot_of p) → y.selects ≡ x.selects → IsThere x.world.imsic (host_spot f) → FileDone x y f Rests
 host_stays x y h p offset value f s here selects inside = record {
   file = subst (λ (file : FileState). SameFile (shown file) (shown (file_at x.world.imsic (host_spot f)))) (sym (ap (λ (i : ImsicState). file_at i (host_spot f)) s.lands.others ∙ kept_elsewhere x.world.imsic (spot_of p) (host_spot f) (file_at y.world.imsic (spot_of p)) here inside (λ e. no_guest (host_spot f) (is_hosts f) p.hart p.file (sym e)))) (as_it_was (shown (file_at x.world.imsic (host_spot f))));
   select = ap (λ xs. get_or xs (select_place f) 0) selects;
 }
 
 -- where the event is nothing to the host
-pub file_changes : (x y : CoreState) (h : History) (event : Event) (g : Vcpu) (p : Place) (offset value : ℕ) → IsMeantFor x y h event g (Some p) offset value → noticed h event ≡ None
+pub file_changes : (x y : CoreState) (h : History) (event : Event) (g : Vcpu) (p : GuestPlace) (offset value : ℕ) → IsMeantFor x y h event g (Some p) offset value → noticed h event ≡ None
     → ((f : FileName) → IsThere x.world.imsic (host_spot f) → deed_at f h event ≡ Rests) → StoresIn x.world y.world (spot_of p) offset value → Changes x y h event
 file_changes x y h event g p offset value c quiet rests s =
     let holding = landing_is_held (file_words h) (home h g) (Some p) p c.leads refl in
@@ -368,7 +368,7 @@ file_changes x y h event g p offset value c quiet rests s =
       no_slot = λ q past few. ap (λ (w : World). mrif_in w.memory q) s.rest;
     }
 
-in_a_file : (x y : CoreState) (h : History) (event : Event) (g : Vcpu) (p : Place) (offset value : ℕ) → IsStoredFor x y h event g (Some p) offset value → Changes x y h event
+in_a_file : (x y : CoreState) (h : History) (event : Event) (g : Vcpu) (p : GuestPlace) (offset value : ℕ) → IsStoredFor x y h event g (Some p) offset value → Changes x y h event
 in_a_file x y h event g p offset value d = file_changes x y h event g p offset value d.meant d.notices (λ f inside. d.host f ∙ ap (notice_deed h f) d.notices) d.stores
 
 -- ---- in the slot, with a notice or without
@@ -447,7 +447,7 @@ host_told x y h event g stands whole inside_vm same_selects loud deeds lands f i
     ])
 
 -- and no guest file has it
-pub guests_untold : (x y : CoreState) (h : History) (g : Vcpu) → CoreStands x h → IsWhole x.world → has_vcpu h g ≡ true → LandsIn x.world.imsic y.world.imsic (spots.SupervisorFile (notice_hart x.world.vms g)) 0 (notice_identity x.world.vms g) → (p : Place) → IsThere x.world.imsic (spot_of p) → file_at y.world.imsic (spot_of p) ≡ file_at x.world.imsic (spot_of p)
+pub guests_untold : (x y : CoreState) (h : History) (g : Vcpu) → CoreStands x h → IsWhole x.world → has_vcpu h g ≡ true → LandsIn x.world.imsic y.world.imsic (spots.SupervisorFile (notice_hart x.world.vms g)) 0 (notice_identity x.world.vms g) → (p : GuestPlace) → IsThere x.world.imsic (spot_of p) → file_at y.world.imsic (spot_of p) ≡ file_at x.world.imsic (spot_of p)
 guests_untold x y h g stands whole inside_vm lands p inside =
     let spot = spots.SupervisorFile (notice_hart x.world.vms g) in
     ap (λ (i : ImsicState). file_at i (spot_of p)) lands.others ∙ kept_elsewhere x.world.imsic spot (spot_of p) (file_at y.world.imsic spot) (notice_there x h g stands whole inside_vm) inside (no_guest spot refl p.hart p.file)
@@ -488,18 +488,18 @@ in_the_slot x y h event g offset value d = landed_changes x y h event g offset v
     by_notice Quiet e by = quietly x y h event g offset value d (who Quiet e) by
     by_notice Discarded e by = quietly x y h event g offset value d (who Discarded e) by
 
-pub stored_for_guest : (x y : CoreState) (h : History) (event : Event) (g : Vcpu) (reach : Option Place) (offset value : ℕ) → IsStoredFor x y h event g reach offset value → Changes x y h event
+pub stored_for_guest : (x y : CoreState) (h : History) (event : Event) (g : Vcpu) (reach : Option GuestPlace) (offset value : ℕ) → IsStoredFor x y h event g reach offset value → Changes x y h event
 stored_for_guest x y h event g (Some p) offset value c = in_a_file x y h event g p offset value c
 stored_for_guest x y h event g None offset value c = in_the_slot x y h event g offset value c
 
 -- ---- files that nobody holds
 
-pub none_reaches : (x : CoreState) (h : History) (g : Vcpu) (p : Place) → CoreStands x h → has_vcpu h g ≡ true → IsThere x.world.imsic (spot_of p) → is_out x.leases p ≡ false → (in_force_of h g ≢ Some p) × (peers_reach (home h g) ≢ Some p)
+pub none_reaches : (x : CoreState) (h : History) (g : Vcpu) (p : GuestPlace) → CoreStands x h → has_vcpu h g ≡ true → IsThere x.world.imsic (spot_of p) → is_out x.leases p ≡ false → (in_force_of h g ≢ Some p) × (peers_reach (home h g) ≢ Some p)
 none_reaches x h g p stands there inside free =
     let none : holds p (home h g) ≡ false = of_none (vms_of h) (λ g. holds p (home h g)) g (sym (stands.leases p inside) ∙ free) there in
     (λ e. false≢true (sym none ∙ devices_held h g p e), λ e. false≢true (sym none ∙ peers_held h g p e))
 
-pub none_flies_there : (x : CoreState) (h : History) (v k : ℕ) (s : Sending) (p : Place) → CoreStands x h → flying h v k ≡ Some s → IsThere x.world.imsic (spot_of p) → is_out x.leases p ≡ false → sent_into v s ≢ Some p
+pub none_flies_there : (x : CoreState) (h : History) (v k : ℕ) (s : Sending) (p : GuestPlace) → CoreStands x h → flying h v k ≡ Some s → IsThere x.world.imsic (spot_of p) → is_out x.leases p ≡ false → sent_into v s ≢ Some p
 none_flies_there x h v k s p stands is inside free e =
     let one : IsForOne h v s = all_at (IsForOne h v) k (flight h v) s is (stands.for_one v) in
     let none : holds p (home h (sent_to v s)) ≡ false = of_none (vms_of h) (λ g. holds p (home h g)) (sent_to v s) (sym (stands.leases p inside) ∙ free) one.there in

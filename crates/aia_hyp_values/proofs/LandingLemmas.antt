@@ -12,7 +12,7 @@ use Rattle.aia_entry.specs.declared.table.Route.{Route}
 use Rattle.aia_entry.specs.declared.table.Route.TheVariants.{Other, Fault}
 use Rattle.aia_entry.specs.Tables.{table_of, leads_by, route_of}
 use Rattle.aia_entry.specs.Translation.{is_msi_address}
-use Rattle.aia_vcpu.specs.declared.place.Place.{Place}
+use Rattle.aia_vcpu.specs.declared.place.GuestPlace.{GuestPlace}
 use Rattle.aia_vcpu.specs.declared.vm.Vm.{Vm}
 use Rattle.aia_vcpu.specs.Vms.{slot_of, notice_hart}
 use Rattle.aia_vcpu.specs.Routes.{is_at_fence}
@@ -272,7 +272,7 @@ nowhere x y h vm addr value route word c refuses is answers kept =
     (Some word, refuses, ap route_answer is ∙ answers, subst (λ z. CoreStands z h) (sym core) c.at.stands, λ other e. core)
 
 -- one that is for a virtual hart that is there
-sent_by : (o : Option Place) (q hart : ℕ) (w u : World) (vm offset value : ℕ) → Sends (leads_by (leads_to q hart o)) w u vm offset value → u ≡ with_flight w vm (flight_of w vm ++ record { entry = leads_to q hart o; offset = offset; value = value } ∷ [])
+sent_by : (o : Option GuestPlace) (q hart : ℕ) (w u : World) (vm offset value : ℕ) → Sends (leads_by (leads_to q hart o)) w u vm offset value → u ≡ with_flight w vm (flight_of w vm ++ record { entry = leads_to q hart o; offset = offset; value = value } ∷ [])
 sent_by None q hart w u vm offset value sends = sends
 sent_by (Some p) q hart w u vm offset value sends = sends
 

@@ -4,7 +4,7 @@ use Rattle.std.proofs.lemmas.Bool.{false≢true}
 use Rattle.aia_word.specs.Sets.{least_of}
 use Rattle.aia_word.proofs.LeastLemmas.{least_of_is}
 use Rattle.aia_file.specs.Imsic.{IsThere}
-use Rattle.aia_vcpu.specs.declared.place.Place.{Place}
+use Rattle.aia_vcpu.specs.declared.place.GuestPlace.{GuestPlace}
 use Rattle.aia_pool.specs.Leases.{IsFileThere, is_out, least_free}
 use Rattle.aia_fabric_values.specs.Changes.{spot_of}
 use Rattle.aia_model.specs.Event.{History, guests_of}
@@ -23,13 +23,13 @@ least_alike P Q from (suc count) same =
     λ k. cond (here k) (Some from) (later k)
 
 -- a guest file of the pool is one of the machine
-pub in_pool : (x : CoreState) (h : History) (p : Place) → CoreStands x h → IsThere x.world.imsic (spot_of p) → IsFileThere x.leases p
+pub in_pool : (x : CoreState) (h : History) (p : GuestPlace) → CoreStands x h → IsThere x.world.imsic (spot_of p) → IsFileThere x.leases p
 in_pool x h p stands there =
     let hart = there.0 in
     let file = there.2 in
     (omega (arith, hart, stands.harts, stands.lease_harts), there.1, omega (arith, file, stands.guests, stands.lease_guests))
 
-pub in_machine : (x : CoreState) (h : History) (p : Place) → CoreStands x h → IsFileThere x.leases p → IsThere x.world.imsic (spot_of p)
+pub in_machine : (x : CoreState) (h : History) (p : GuestPlace) → CoreStands x h → IsFileThere x.leases p → IsThere x.world.imsic (spot_of p)
 in_machine x h p stands there =
     let hart = there.0 in
     let file = there.2 in
@@ -43,13 +43,13 @@ same_free x h hart stands low =
     (λ j some few. ap not (stands.leases (guest_place hart j) (low, some, omega (arith, few, stands.guests))))
 
 -- the one that is taken is there, and nobody holds it
-pub record IsFreeAt (x : CoreState) (h : History) (hart : ℕ) (p : Place) : Type 0 where
+pub record IsFreeAt (x : CoreState) (h : History) (hart : ℕ) (p : GuestPlace) : Type 0 where
   pub found : free_file h (home h) hart ≡ Some p.file
   pub hart_of : p.hart ≡ hart
   pub inside : IsThere x.world.imsic (spot_of p)
   pub none : is_held h p ≡ false
 
-pub free_there : (x : CoreState) (h : History) (hart : ℕ) (p : Place) → CoreStands x h → hart < x.world.imsic.harts → least_free x.leases hart ≡ Some p.file → p.hart ≡ hart → IsFreeAt x h hart p
+pub free_there : (x : CoreState) (h : History) (hart : ℕ) (p : GuestPlace) → CoreStands x h → hart < x.world.imsic.harts → least_free x.leases hart ≡ Some p.file → p.hart ≡ hart → IsFreeAt x h hart p
 free_there x h hart p stands low found same =
     let least = least_of_is (λ file. not (is_out x.leases (guest_place hart file))) 1 x.leases.guests p.file found in
     let high = least.1 in

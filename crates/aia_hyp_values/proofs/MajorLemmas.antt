@@ -15,7 +15,7 @@ use Rattle.aia_file.specs.Imsic.{file_at}
 use Rattle.aia_file.specs.Mrif.{mrif_in}
 use Rattle.aia_major.specs.VsMajor.{VsMajorState, is_major, is_hvictl, with_injection, with_hviprio1, with_hvictl, with_sip, with_sie, stopi_value, sip_value, sie_value}
 use Rattle.aia_major.specs.Kept.{majors_shown}
-use Rattle.aia_vcpu.specs.declared.place.Place.{Place}
+use Rattle.aia_vcpu.specs.declared.place.GuestPlace.{GuestPlace}
 use Rattle.aia_vcpu.specs.declared.vm.Vm.{Vm}
 use Rattle.aia_vcpu.specs.Vms.{Vcpu, vcpu, is_vcpu, is_vcpu_in, slot_of, notice_hart}
 use Rattle.aia_fabric_values.specs.World.{World}
@@ -309,7 +309,7 @@ majors_answered x y line vm number false done l (Ok u) e ok err there low world 
 majors_answered x y line vm number true done l (Err word) e ok err there low world leases selects passes = absurd (cc)
 
 -- an access of a resident virtual hart to a CSR of its majors
-module _ (x y : CoreState) (vm number : ℕ) (csr : Csr) (op : Op) (p : Place) (access : CsrAccess) (value : ℕ) (done : VsMajorState → VsMajorState) where
+module _ (x y : CoreState) (vm number : ℕ) (csr : Csr) (op : Op) (p : GuestPlace) (access : CsrAccess) (value : ℕ) (done : VsMajorState → VsMajorState) where
   pub majors_accessed : is_vcpu_in x.world.vms (vcpu vm number) ≡ true → resident_at (record_of x (vcpu vm number)).stay ≡ Some p → access ≡ access_by (record_of x (vcpu vm number)) csr op → raises_illegal access ≡ false → raises_virtual access ≡ false
       → ((h : History) → IsOfMajors h (Accepted (GuestCsr vm number csr op)) (vcpu vm number) done) → ((h : History) → CoreStands x h → has_vcpu h (vcpu vm number) ≡ true → value ≡ guest_csr_value h (vcpu vm number) csr)
       → HasMajors x y (vcpu vm number) done → CoreTakes x y (GuestCsr vm number csr op) (Wide value)
@@ -321,7 +321,7 @@ module _ (x y : CoreState) (vm number : ℕ) (csr : Csr) (op : Op) (p : Place) (
       ))
 
 -- what is read, by the file of a virtual hart that is resident
-module _ (x : CoreState) (g : Vcpu) (p : Place) (whole : IsWhole x.world) (at : resident_at (record_of x g).stay ≡ Some p) (h : History) (stands : CoreStands x h) (there : has_vcpu h g ≡ true) where
+module _ (x : CoreState) (g : Vcpu) (p : GuestPlace) (whole : IsWhole x.world) (at : resident_at (record_of x g).stay ≡ Some p) (h : History) (stands : CoreStands x h) (there : has_vcpu h g ≡ true) where
   own_file_is : shown (file_at x.world.imsic (spot_of p)) ≡ guest_file h g
   own_file_is = own_is x h g p stands whole there (is_home_at x h g p stands there at)
 

@@ -11,7 +11,7 @@ use Rattle.aia_file.specs.Imsic.{ImsicState}
 use Rattle.aia_file.specs.Mrif.{mrif_in}
 use Rattle.aia_major.specs.Kept.{majors_shown}
 use Rattle.aia_entry.specs.Tables.{table_of, entry_in_force}
-use Rattle.aia_vcpu.specs.declared.place.Place.{Place}
+use Rattle.aia_vcpu.specs.declared.place.GuestPlace.{GuestPlace}
 use Rattle.aia_vcpu.specs.Vms.{Vcpu, is_vcpu, slot_of, notice_hart}
 use Rattle.aia_vcpu.specs.Home.{Home, holds, rests_in_memory}
 use Rattle.aia_vcpu.specs.Home.Home.{Resident, OnWay}
@@ -93,7 +93,7 @@ slot_has w q words kept all pending enabled above = record {
   above = above;
 }
 
-holds_none : (there : Home) (p : Place) → rests_in_memory there ≡ true → holds p there ≡ false
+holds_none : (there : Home) (p : GuestPlace) → rests_in_memory there ≡ true → holds p there ≡ false
 holds_none (Resident q) p rests = absurd (cc)
 holds_none (OnWay way at) p rests = absurd (cc)
 holds_none there p rests = refl

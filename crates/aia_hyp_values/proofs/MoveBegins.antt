@@ -8,7 +8,7 @@ use Rattle.aia_file.specs.FileState.{shown}
 use Rattle.aia_file.specs.Imsic.{IsThere, file_at}
 use Rattle.aia_file.specs.Mrif.{mrif_in}
 use Rattle.aia_entry.specs.Tables.{table_of, entry_in_force}
-use Rattle.aia_vcpu.specs.declared.place.Place.{Place}
+use Rattle.aia_vcpu.specs.declared.place.GuestPlace.{GuestPlace}
 use Rattle.aia_vcpu.specs.Vms.{Vcpu, is_vcpu, slot_of, notice_hart}
 use Rattle.aia_vcpu.specs.Home.{is_place, is_moving, holds}
 use Rattle.aia_vcpu.specs.Plans.{steps_done}
@@ -23,8 +23,8 @@ use Rattle.aia_move_values.specs.Views.{places_of}
 use Rattle.aia_move_values.specs.Move.{mover, width, MoveFits, IsWho}
 use Rattle.aia_move_values.specs.PlanState.{PlanState, moving_of}
 use Rattle.aia_move_values.specs.Plan.{IsInPhase}
-use Rattle.aia_model.specs.Move.{Move}
-use Rattle.aia_model.specs.Move.Move.{Arrives, Leaves, Shifts}
+use Rattle.aia_model.specs.Move.{WantedMove}
+use Rattle.aia_model.specs.Move.WantedMove.{Arrives, Leaves, Shifts}
 use Rattle.aia_model.specs.Move as moves
 use Rattle.aia_model.specs.Event.{Event, History, file_words}
 use Rattle.aia_model.specs.Event.Event.{Began}
@@ -52,7 +52,7 @@ use Rattle.aia_model.specs.Passes.{passes_of}
 use Rattle.aia_hyp_values.specs.Passes.{own_passes, HasItsPasses}
 use Rattle.aia_hyp_values.proofs.MoveChanges.{began_move, select_rests, file_rests, held_as, MoveChanges, moved_on}
 
-begun_same_reach : (h : History) (move : Move) (g : Vcpu) → in_force_of (Began move ∷ h) g ≡ in_force_of h g
+begun_same_reach : (h : History) (move : WantedMove) (g : Vcpu) → in_force_of (Began move ∷ h) g ≡ in_force_of h g
 begun_same_reach h (Leaves x) g = reach_step (Began (Leaves x)) h g
 begun_same_reach h (Arrives x hart) g = reach_step (Began (Arrives x hart)) h g
 begun_same_reach h (Shifts x hart) g = reach_step (Began (Shifts x hart)) h g
@@ -77,15 +77,15 @@ other_record x y h g other r stands there inside ne vms vcpus =
 
 -- ---- the guest file that is taken, where one is
 
-abbrev pub with_taken : Option Place → Leases → Leases
+abbrev pub with_taken : Option GuestPlace → Leases → Leases
 with_taken None l = l
 with_taken (Some p) l = with_out l p true
 
-abbrev pub is_taken : Place → Option Place → Bool
+abbrev pub is_taken : GuestPlace → Option GuestPlace → Bool
 is_taken q None = false
 is_taken q (Some p) = is_place q p
 
-abbrev pub IsFreeIn : CoreState → History → Option Place → Type 0
+abbrev pub IsFreeIn : CoreState → History → Option GuestPlace → Type 0
 IsFreeIn x h None = Unit {0}
 IsFreeIn x h (Some p) = IsThere x.world.imsic (spot_of p) × (is_held h p ≡ false)
 
@@ -117,7 +117,7 @@ pub record Begins (x y : CoreState) (h : History) (move : Move) (plan : PlanStat
   pub goes : (moving_of plan).home ≡ home (Began move ∷ h) (moves.mover move)
   pub moving : is_moving (moving_of plan).home ≡ true
   pub first : steps_done (moving_of plan).home ≡ 0
-  pub holds : (q : Place) → holds q (home (Began move ∷ h) (moves.mover move)) ≡ (holds q (home h (moves.mover move)) || is_taken q taken)
+  pub holds : (q : GuestPlace) → holds q (home (Began move ∷ h) (moves.mover move)) ≡ (holds q (home h (moves.mover move)) || is_taken q taken)
   pub two_files : AreApart (home (Began move ∷ h) (moves.mover move))
   pub held : Holds (file_words h) (slot_of (vms_of h) (moves.mover move)) (notice_hart (vms_of h) (moves.mover move)) (in_force_of h (moves.mover move)) (places_of x.world (moves.mover move) (home (Began move ∷ h) (moves.mover move)))
       (home (Began move ∷ h) (moves.mover move)) (moving_of plan).hand (guest_file h (moves.mover move)) (a_look_saw (Began move ∷ h) (moves.mover move))
@@ -130,7 +130,7 @@ either : (a b : Bool) → (a || b) ≡ true → (a ≡ true) ⊎ (b ≡ true)
 either true b e = inl refl
 either false b e = inr e
 
-module _ (x y : CoreState) (h : History) (move : Move) (plan : PlanState) (r : VcpuRecord) where
+module _ (x y : CoreState) (h : History) (move : WantedMove) (plan : PlanState) (r : VcpuRecord) where
   abbrev event : Event
   event = Began move
 
@@ -138,30 +138,30 @@ module _ (x y : CoreState) (h : History) (move : Move) (plan : PlanState) (r : V
   g = moves.mover move
 
   -- what it holds then is there
-  held_there : (taken : Option Place) → Begins x y h move plan r taken → (q : Place) → holds q (home (Began move ∷ h) (moves.mover move)) ≡ true → IsThere x.world.imsic (spot_of q)
+  held_there : (taken : Option GuestPlace) → Begins x y h move plan r taken → (q : GuestPlace) → holds q (home (Began move ∷ h) (moves.mover move)) ≡ true → IsThere x.world.imsic (spot_of q)
   held_there None b q holding = b.planned.stands.held g q b.planned.there (sym (or_none (holds q (home h g)) false refl) ∙ sym (b.holds q) ∙ holding)
   held_there (Some p) b q holding = elim (either (holds q (home h g)) (is_place q p) (sym (b.holds q) ∙ holding)) [
     | inl e ↦ b.planned.stands.held g q b.planned.there e
-    | inr e ↦ subst (λ (z : Place). IsThere x.world.imsic (spot_of z)) (sym (same_place q p e)) b.is_free.0
+    | inr e ↦ subst (λ (z : GuestPlace). IsThere x.world.imsic (spot_of z)) (sym (same_place q p e)) b.is_free.0
   ]
 
   -- and nobody else holds it
-  held_apart : (taken : Option Place) → Begins x y h move plan r taken → (other : Vcpu) (q : Place) → has_vcpu h other ≡ true → is_vcpu other (moves.mover move) ≡ false → holds q (home (Began move ∷ h) (moves.mover move)) ≡ true → holds q (home h other) ≡ false
+  held_apart : (taken : Option GuestPlace) → Begins x y h move plan r taken → (other : Vcpu) (q : GuestPlace) → has_vcpu h other ≡ true → is_vcpu other (moves.mover move) ≡ false → holds q (home (Began move ∷ h) (moves.mover move)) ≡ true → holds q (home h other) ≡ false
   held_apart taken b other q inside ne holding = by_case taken b (holds q (home h other)) refl
     where
       stood : Begins x y h move plan r taken → holds q (home h g) ≡ true → holds q (home h other) ≡ true → ⊥
       stood b mine its = false≢true (sym ne ∙ ap (λ z. is_vcpu z g) (b.planned.stands.apart other g q inside b.planned.there its mine) ∙ is_itself g)
 
-      by_case : (taken : Option Place) → Begins x y h move plan r taken → (its : Bool) → holds q (home h other) ≡ its → its ≡ false
+      by_case : (taken : Option GuestPlace) → Begins x y h move plan r taken → (its : Bool) → holds q (home h other) ≡ its → its ≡ false
       by_case taken b false e = refl
       by_case None b true e = absurd (false≢true (sym ne ∙ ap (λ z. is_vcpu z g) (b.planned.stands.apart other g q inside b.planned.there e (sym (or_none (holds q (home h g)) false refl) ∙ sym (b.holds q) ∙ holding)) ∙ is_itself g))
       by_case (Some p) b true e = elim (either (holds q (home h g)) (is_place q p) (sym (b.holds q) ∙ holding)) [
         | inl mine ↦ absurd (false≢true (sym ne ∙ ap (λ z. is_vcpu z g) (b.planned.stands.apart other g q inside b.planned.there e mine) ∙ is_itself g))
-        | inr new ↦ absurd (false≢true (sym (of_none (vms_of h) (λ z. holds p (home h z)) other b.is_free.1 inside) ∙ ap (λ (z : Place). holds z (home h other)) (sym (same_place q p new)) ∙ e))
+        | inr new ↦ absurd (false≢true (sym (of_none (vms_of h) (λ z. holds p (home h z)) other b.is_free.1 inside) ∙ ap (λ (z : GuestPlace). holds z (home h other)) (sym (same_place q p new)) ∙ e))
       ]
 
   -- what is handed out is what is held
-  out_held : (taken : Option Place) → Begins x y h move plan r taken → (q : Place) → IsThere x.world.imsic (spot_of q) → is_out y.leases q ≡ is_held (Began move ∷ h) q
+  out_held : (taken : Option GuestPlace) → Begins x y h move plan r taken → (q : GuestPlace) → IsThere x.world.imsic (spot_of q) → is_out y.leases q ≡ is_held (Began move ∷ h) q
   out_held None b q inside =
       ap (λ l. is_out l q) b.leases ∙ b.planned.stands.leases q inside ∙ sym (held_as h event g q (began_move h move) (b.holds q ∙ or_none (holds q (home h g)) false refl))
   out_held (Some p) b q inside = elim (cases_Bool (is_place q p)) [
@@ -179,7 +179,7 @@ module _ (x y : CoreState) (h : History) (move : Move) (plan : PlanState) (r : V
       long = b.planned.stands.lease_count ∙ (λ k. (sym b.planned.stands.lease_harts k) * (sym b.planned.stands.lease_guests k))
 
   -- what nobody holds then was held by nobody
-  unheld : (taken : Option Place) → Begins x y h move plan r taken → (q : Place) → is_held (Began move ∷ h) q ≡ false → is_held h q ≡ false
+  unheld : (taken : Option GuestPlace) → Begins x y h move plan r taken → (q : GuestPlace) → is_held (Began move ∷ h) q ≡ false → is_held h q ≡ false
   unheld taken b q none = sym (held_as h event g q (began_move h move) (b.holds q ∙ or_none (holds q (home h g)) (is_taken q taken) (unnamed taken (b.holds q)))) ∙ none
     where
       mine : holds q (home (Began move ∷ h) g) ≡ false
@@ -189,14 +189,14 @@ module _ (x y : CoreState) (h : History) (move : Move) (plan : PlanState) (r : V
       part true c e = absurd (false≢true (sym e))
       part false c e = e
 
-      unnamed : (taken : Option Place) → holds q (home (Began move ∷ h) g) ≡ (holds q (home h g) || is_taken q taken) → is_taken q taken ≡ false
+      unnamed : (taken : Option GuestPlace) → holds q (home (Began move ∷ h) g) ≡ (holds q (home h g) || is_taken q taken) → is_taken q taken ≡ false
       unnamed taken e = part (holds q (home h g)) (is_taken q taken) (sym e ∙ mine)
 
   same_machine : y.world ≡ x.world → SameMachine x.world y.world
   same_machine world = record { n = ap (λ (w : World). w.n) world; vms = ap (λ (w : World). w.vms) world; harts = ap (λ (w : World). w.imsic.harts) world; guests = ap (λ (w : World). w.imsic.guests) world }
 
   -- its plan can be begun
-  begun_fits : (taken : Option Place) → Begins x y h move plan r taken → MoveFits x.world (moving_of plan)
+  begun_fits : (taken : Option GuestPlace) → Begins x y h move plan r taken → MoveFits x.world (moving_of plan)
   begun_fits taken b = record {
     there = b.who.there;
     slot = b.who.slot;
@@ -207,7 +207,7 @@ module _ (x y : CoreState) (h : History) (move : Move) (plan : PlanState) (r : V
     no_enabled_zero = λ e. absurd (omega (arith, b.first, eqb-true _ _ e));
   }
 
-  begun_own : (taken : Option Place) → Begins x y h move plan r taken → VcpuStands y (Began move ∷ h) (moves.mover move)
+  begun_own : (taken : Option GuestPlace) → Begins x y h move plan r taken → VcpuStands y (Began move ∷ h) (moves.mover move)
   begun_own taken b =
       let kept = own_record x y h g r b.planned.stands b.planned.there (ap (λ (w : World). w.vms) b.planned.world) b.planned.vcpus in
       let stay : (record_of y g).stay ≡ stays.Moving plan = ap (λ (r : VcpuRecord). r.stay) kept ∙ b.planned.stay in
@@ -233,7 +233,7 @@ module _ (x y : CoreState) (h : History) (move : Move) (plan : PlanState) (r : V
         }) b.held;
       }
 
-  begun_changes : (taken : Option Place) → Begins x y h move plan r taken → MoveChanges x y h (Began move) (moves.mover move)
+  begun_changes : (taken : Option GuestPlace) → Begins x y h move plan r taken → MoveChanges x y h (Began move) (moves.mover move)
   begun_changes taken b = record {
     moves = began_move h move;
     still = still_move h move;
@@ -261,18 +261,18 @@ module _ (x y : CoreState) (h : History) (move : Move) (plan : PlanState) (r : V
     stages = λ q apart. ap (λ (w : World). get_or w.stages q no_stage) b.planned.world;
   }
     where
-      harts_with : (taken : Option Place) → (with_taken taken x.leases).harts ≡ x.leases.harts
+      harts_with : (taken : Option GuestPlace) → (with_taken taken x.leases).harts ≡ x.leases.harts
       harts_with None = refl
       harts_with (Some p) = refl
 
-      guests_with : (taken : Option Place) → (with_taken taken x.leases).guests ≡ x.leases.guests
+      guests_with : (taken : Option GuestPlace) → (with_taken taken x.leases).guests ≡ x.leases.guests
       guests_with None = refl
       guests_with (Some p) = refl
 
-      count_with : (taken : Option Place) → length (with_taken taken x.leases).out ≡ length x.leases.out
+      count_with : (taken : Option GuestPlace) → length (with_taken taken x.leases).out ≡ length x.leases.out
       count_with None = refl
       count_with (Some p) = length-set x.leases.out _ true
 
 -- the core then stands for the history with the beginning
-pub begun_stands : (x y : CoreState) (h : History) (move : Move) (plan : PlanState) (r : VcpuRecord) (taken : Option Place) → Begins x y h move plan r taken → CoreStands y (Began move ∷ h)
+pub begun_stands : (x y : CoreState) (h : History) (move : WantedMove) (plan : PlanState) (r : VcpuRecord) (taken : Option GuestPlace) → Begins x y h move plan r taken → CoreStands y (Began move ∷ h)
 begun_stands x y h move plan r taken b = moved_on x y h (Began move) (moves.mover move) (begun_changes x y h move plan r taken b) b.planned.stands

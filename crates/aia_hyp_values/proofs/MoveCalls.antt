@@ -5,7 +5,7 @@ use Rattle.std.proofs.Math.ListN.{set}
 use Rattle.std.proofs.lemmas.Bool.{true≢false, and_parts, ltb-true}
 use Rattle.std.proofs.lemmas.List.{get_or-set_same, set-set}
 use Rattle.std.proofs.lemmas.Option.{slice_get_within}
-use Rattle.aia_vcpu.specs.declared.place.Place.{Place}
+use Rattle.aia_vcpu.specs.declared.place.GuestPlace.{GuestPlace}
 use Rattle.aia_vcpu.specs.declared.vm.Vm.{Vm}
 use Rattle.aia_vcpu.specs.Vms.{Vcpu, vcpu, is_vcpu_in, slot_of, notice_hart}
 use Rattle.aia_vcpu.specs.Home.{Home, holds, is_moving, one_more, old_end, new_end}
@@ -57,7 +57,7 @@ use Rattle.aia_hyp_values.proofs.LeaseLemmas.{in_pool}
 use Rattle.aia_vcpu.specs.Aims.{is_aiming, aims_done, aimed}
 use Rattle.aia_vcpu.proofs.PassLemmas.{aim_is_no_fence}
 use Rattle.aia_model.specs.Passes.{passes_to, passes_for}
-use Rattle.aia_move_values.specs.Targets.{TargetMap, AimsOne, Aim, AimsAs, aims, aim_if, next_aim}
+use Rattle.aia_move_values.specs.Targets.{TargetMap, AimsOne, PassAim, AimsAs, aims, aim_if, next_aim}
 use Rattle.aia_hyp_values.proofs.OwnPasses.{aims_alike}
 use Rattle.aia_hyp_values.proofs.AimLines.{AimOf, aim_stands, later_moves, aim_is_not_last}
 use Rattle.aia_hyp_values.proofs.MoveSteps as steps
@@ -513,7 +513,7 @@ back_known x u who plan (Finished o) some is was c = by_kind (aims (moving_of pl
     same : (moving_of plan).home ≡ home some.past (vcpu who.vm who.number)
     same = ap home_in (was ∙ ap (λ q. (get_or x.vcpus q no_record).stay) is.slot) ∙ (some.stands.vcpus (vcpu who.vm who.number) inside).same_home
 
-    by_file : (back : Option Place) → GivesBack o (moving_of plan).home (moving_of plan).hand → back_of o ≡ back → IsOutThere x.leases back
+    by_file : (back : Option GuestPlace) → GivesBack o (moving_of plan).home (moving_of plan).hand → back_of o ≡ back → IsOutThere x.leases back
     by_file None gives e = tt
     by_file (Some p) gives e =
         let mine : holds p (home some.past (vcpu who.vm who.number)) ≡ true = ap (holds p) (sym same) ∙ ended_held p (moving_of plan).home (sym (ended_back o (moving_of plan).home (moving_of plan).hand gives) ∙ e) in
@@ -542,6 +542,6 @@ harts_still x y g last goes some =
     (goes.stands some.past some.stands).harts ∙ ap (λ (o : Option MachineSize). option_map_or (λ (m : MachineSize). m.harts) o 0) (same_first g some.past).1 ∙ sym some.stands.harts
 
 -- an aim leaves how many harts the targets have
-pub told_harts : {T : Type 0} (aim : T → ℕ → ℕ → T → Type 0) (map : T → TargetMap) (one : (old new : T) (source target : ℕ) → aim old source target new → AimsOne (map old) source target (map new)) (o : Option Aim) (old new : T) → AimsAs aim o old new → (map new).harts ≡ (map old).harts
+pub told_harts : {T : Type 0} (aim : T → ℕ → ℕ → T → Type 0) (map : T → TargetMap) (one : (old new : T) (source target : ℕ) → aim old source target new → AimsOne (map old) source target (map new)) (o : Option PassAim) (old new : T) → AimsAs aim o old new → (map new).harts ≡ (map old).harts
 told_harts {T} aim map one None old new same = ap (λ t. (map t).harts) same
 told_harts {T} aim map one (Some a) old new done = (one old new a.source a.target done).harts

@@ -9,7 +9,7 @@ use Rattle.aia_file.specs.FileState.{shown}
 use Rattle.aia_file.specs.Imsic.{IsThere, file_at}
 use Rattle.aia_file.specs.Mrif.{mrif_in}
 use Rattle.aia_entry.specs.Tables.{table_of, entry_in_force}
-use Rattle.aia_vcpu.specs.declared.place.Place.{Place}
+use Rattle.aia_vcpu.specs.declared.place.GuestPlace.{GuestPlace}
 use Rattle.aia_vcpu.specs.declared.vm.Vm.{Vm}
 use Rattle.aia_vcpu.specs.Vms.{Vcpu, is_vcpu, vcpus_in, is_vcpu_in, slot_of, notice_hart, all_vcpus}
 use Rattle.aia_vcpu.specs.Home.{holds}
@@ -19,8 +19,8 @@ use Rattle.aia_pool.specs.Leases.{is_out}
 use Rattle.aia_fabric_values.specs.World.{World, no_stage}
 use Rattle.aia_fabric_values.specs.Changes.{spot_of}
 use Rattle.aia_move_values.specs.Views.{places_of}
-use Rattle.aia_model.specs.Move.{Move, mover}
-use Rattle.aia_model.specs.Move.Move.{Arrives, Leaves, Shifts}
+use Rattle.aia_model.specs.Move.{WantedMove, mover}
+use Rattle.aia_model.specs.Move.WantedMove.{Arrives, Leaves, Shifts}
 use Rattle.aia_model.specs.Event.{Event, History, greatest_identity_of}
 use Rattle.aia_major.specs.Kept.{majors_shown}
 use Rattle.aia_model.specs.Event.Event.{Began, Stepped}
@@ -62,7 +62,7 @@ pub record IsMoveOf (h : History) (event : Event) (g : Vcpu) : Type 0 where
   pub passes : passes_of (event ∷ h) ≡ passes_of h
   pub host : (f : FileName) → deed_at f h event ≡ notice_deed h f (noticed h event)
 
-pub began_move : (h : History) (move : Move) → IsMoveOf h (Began move) (mover move)
+pub began_move : (h : History) (move : WantedMove) → IsMoveOf h (Began move) (mover move)
 unfolding passes_of
 began_move h (Leaves g) = record {
   plain = refl;
@@ -150,7 +150,7 @@ other_stands x y h event g other moves machine ne kept shows p =
     }
 
 -- who holds a file holds it still, where its own home does as it did
-pub held_as : (h : History) (event : Event) (g : Vcpu) (p : Place) → IsMoveOf h event g → holds p (home (event ∷ h) g) ≡ holds p (home h g) → is_held (event ∷ h) p ≡ is_held h p
+pub held_as : (h : History) (event : Event) (g : Vcpu) (p : GuestPlace) → IsMoveOf h event g → holds p (home (event ∷ h) g) ≡ holds p (home h g) → is_held (event ∷ h) p ≡ is_held h p
 held_as h event g p moves same = λ k. list_any (λ other. each other k) (all_vcpus (moves.vms k))
   where
     each : (other : Vcpu) → holds p (home (event ∷ h) other) ≡ holds p (home h other)
@@ -178,10 +178,10 @@ pub record MoveChanges (x y : CoreState) (h : History) (event : Event) (g : Vcpu
   pub lease_harts : y.leases.harts ≡ x.leases.harts
   pub lease_guests : y.leases.guests ≡ x.leases.guests
   pub lease_count : length y.leases.out ≡ length x.leases.out
-  pub leases : (p : Place) → IsThere x.world.imsic (spot_of p) → is_out y.leases p ≡ is_held (event ∷ h) p
-  pub held : (p : Place) → holds p (home (event ∷ h) g) ≡ true → IsThere x.world.imsic (spot_of p)
-  pub apart : (other : Vcpu) (p : Place) → has_vcpu h other ≡ true → is_vcpu other g ≡ false → holds p (home (event ∷ h) g) ≡ true → holds p (home h other) ≡ false
-  pub free : (p : Place) → IsThere x.world.imsic (spot_of p) → is_held (event ∷ h) p ≡ false → shown (file_at y.world.imsic (spot_of p)) ≡ empty_file (greatest_identity_of h)
+  pub leases : (p : GuestPlace) → IsThere x.world.imsic (spot_of p) → is_out y.leases p ≡ is_held (event ∷ h) p
+  pub held : (p : GuestPlace) → holds p (home (event ∷ h) g) ≡ true → IsThere x.world.imsic (spot_of p)
+  pub apart : (other : Vcpu) (p : GuestPlace) → has_vcpu h other ≡ true → is_vcpu other g ≡ false → holds p (home (event ∷ h) g) ≡ true → holds p (home h other) ≡ false
+  pub free : (p : GuestPlace) → IsThere x.world.imsic (spot_of p) → is_held (event ∷ h) p ≡ false → shown (file_at y.world.imsic (spot_of p)) ≡ empty_file (greatest_identity_of h)
   pub entries : (other : Vcpu) → is_vcpu other g ≡ false → entry_in_force (table_of y.world.tables other.vm) other.number ≡ entry_in_force (table_of x.world.tables other.vm) other.number
   pub slots : (q : ℕ) → q < VCPUS → q ≢ slot_of x.world.vms g → mrif_in y.world.memory q ≡ mrif_in x.world.memory q
   pub stages : (q : ℕ) → q ≢ slot_of x.world.vms g → slice_index_or y.world.stages q no_stage ≡ slice_index_or x.world.stages q no_stage
@@ -196,10 +196,10 @@ module _ (x y : CoreState) (h : History) (event : Event) (g : Vcpu) (c : MoveCha
   is_other : (other : Vcpu) → has_vcpu h other ≡ false → is_vcpu other g ≡ false
   is_other other outside = is_another other g (λ e. false≢true (sym outside ∙ ap (has_vcpu h) e ∙ c.there))
 
-  own_home : (other : Vcpu) (p : Place) → is_vcpu other g ≡ true → holds p (home (event ∷ h) other) ≡ true → holds p (home (event ∷ h) g) ≡ true
+  own_home : (other : Vcpu) (p : GuestPlace) → is_vcpu other g ≡ true → holds p (home (event ∷ h) other) ≡ true → holds p (home (event ∷ h) g) ≡ true
   own_home other p e holding = ap (λ z. holds p (home (event ∷ h) z)) (sym (same_vcpu other g e)) ∙ holding
 
-  not_both : (other : Vcpu) (p : Place) → has_vcpu h other ≡ true → is_vcpu other g ≡ false → holds p (home (event ∷ h) g) ≡ true → holds p (home (event ∷ h) other) ≡ true → ⊥
+  not_both : (other : Vcpu) (p : GuestPlace) → has_vcpu h other ≡ true → is_vcpu other g ≡ false → holds p (home (event ∷ h) g) ≡ true → holds p (home (event ∷ h) other) ≡ true → ⊥
   not_both other p inside ne mine its = false≢true (sym (c.apart other p inside ne mine) ∙ ap (holds p) (sym (c.moves.homes other ne)) ∙ its)
 
   slot_apart : (q : ℕ) → vcpus_in (vms_of h) ≤ q → q ≢ slot_of x.world.vms g

@@ -6,7 +6,7 @@ use Rattle.std.proofs.lemmas.List.{length-set}
 use Rattle.aia_file.specs.InterruptFile.{empty_file, is_greatest_identity}
 use Rattle.aia_file.specs.FileState.{shown}
 use Rattle.aia_file.specs.Imsic.{IsThere, file_at}
-use Rattle.aia_vcpu.specs.declared.place.Place.{Place}
+use Rattle.aia_vcpu.specs.declared.place.GuestPlace.{GuestPlace}
 use Rattle.aia_vcpu.specs.declared.vm.Vm.{Vm}
 use Rattle.aia_vcpu.specs.Vms.{Vcpu, is_vcpu, is_vcpu_in, slot_of, notice_hart}
 use Rattle.aia_vcpu.specs.Home.{holds, is_moving}
@@ -164,13 +164,13 @@ module _ (x y : CoreState) (h : History) (g : Vcpu) (plan : PlanState) (r : Vcpu
   is_other other ne e = false≢true (sym ne ∙ ap (λ z. is_vcpu z g) (e ∙ is_mover) ∙ is_itself g)
 
   -- a file that another holds is not its own
-  pub its_alone : (other : Vcpu) (p : Place) → has_vcpu h other ≡ true → is_vcpu other g ≡ false → holds p (home h g) ≡ true → holds p (home h other) ≡ false
+  pub its_alone : (other : Vcpu) (p : GuestPlace) → has_vcpu h other ≡ true → is_vcpu other g ≡ false → holds p (home h g) ≡ true → holds p (home h other) ≡ false
   its_alone other p inside ne mine = elim (cases_Bool (holds p (home h other))) [
     | inl its ↦ absurd (false≢true (sym ne ∙ ap (λ z. is_vcpu z g) (s.stands.apart other g p inside s.there its mine) ∙ is_itself g))
     | inr none ↦ none
   ]
 
-  not_its : (other : Vcpu) (p : Place) → has_vcpu h other ≡ true → is_vcpu other g ≡ false → holds p (home h other) ≡ true → holds p (moving_of plan).home ≡ false
+  not_its : (other : Vcpu) (p : GuestPlace) → has_vcpu h other ≡ true → is_vcpu other g ≡ false → holds p (home h other) ≡ true → holds p (moving_of plan).home ≡ false
   not_its other p inside ne its = elim (cases_Bool (holds p m.home)) [
     | inl mine ↦ absurd (false≢true (sym (its_alone other p inside ne (ap (holds p) (sym same_home) ∙ mine)) ∙ its))
     | inr none ↦ none
@@ -184,14 +184,14 @@ module _ (x y : CoreState) (h : History) (g : Vcpu) (plan : PlanState) (r : Vcpu
   -- what is left to be shown: its own places, the leases, and the file that it leaves
   pub record StepEnds : Type 0 where
     pub own : VcpuStands y (Stepped g ∷ h) g
-    pub keeps : (q : Place) → holds q (home (Stepped g ∷ h) g) ≡ true → holds q (home h g) ≡ true
+    pub keeps : (q : GuestPlace) → holds q (home (Stepped g ∷ h) g) ≡ true → holds q (home h g) ≡ true
     pub lease_harts : y.leases.harts ≡ x.leases.harts
     pub lease_guests : y.leases.guests ≡ x.leases.guests
     pub lease_count : length y.leases.out ≡ length x.leases.out
-    pub leases : (q : Place) → IsThere x.world.imsic (spot_of q) → is_out y.leases q ≡ is_held (Stepped g ∷ h) q
-    pub left : (q : Place) → IsThere x.world.imsic (spot_of q) → holds q (home h g) ≡ true → holds q (home (Stepped g ∷ h) g) ≡ false → shown (file_at y.world.imsic (spot_of q)) ≡ empty_file (greatest_identity_of h)
+    pub leases : (q : GuestPlace) → IsThere x.world.imsic (spot_of q) → is_out y.leases q ≡ is_held (Stepped g ∷ h) q
+    pub left : (q : GuestPlace) → IsThere x.world.imsic (spot_of q) → holds q (home h g) ≡ true → holds q (home (Stepped g ∷ h) g) ≡ false → shown (file_at y.world.imsic (spot_of q)) ≡ empty_file (greatest_identity_of h)
 
-  free : StepEnds → (q : Place) → IsThere x.world.imsic (spot_of q) → is_held (Stepped g ∷ h) q ≡ false → shown (file_at y.world.imsic (spot_of q)) ≡ empty_file (greatest_identity_of h)
+  free : StepEnds → (q : GuestPlace) → IsThere x.world.imsic (spot_of q) → is_held (Stepped g ∷ h) q ≡ false → shown (file_at y.world.imsic (spot_of q)) ≡ empty_file (greatest_identity_of h)
   free e q inside none = elim (cases_Bool (holds q (home h g))) [
     | inl mine ↦ e.left q inside mine after
     | inr not_mine ↦

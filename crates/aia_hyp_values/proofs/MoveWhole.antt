@@ -17,8 +17,8 @@ use Rattle.aia_model.specs.declared.refusal.Refusal.{Refusal}
 use Rattle.aia_model.specs.declared.refusal.Refusal.TheVariants as words
 use Rattle.aia_model.specs.Event.{History, has_machine, has_hart, file_words}
 use Rattle.aia_model.specs.Event.Event.{Began}
-use Rattle.aia_model.specs.Move.{Move, wanted_move}
-use Rattle.aia_model.specs.Move.Move.{Arrives, Leaves, Shifts}
+use Rattle.aia_model.specs.Move.{WantedMove, wanted_move}
+use Rattle.aia_model.specs.Move.WantedMove.{Arrives, Leaves, Shifts}
 use Rattle.aia_model.specs.Vms.{has_vcpu}
 use Rattle.aia_model.specs.Passes.{passes_of, passes_for}
 use Rattle.aia_model.specs.Event.Event.{Stepped}
@@ -60,17 +60,17 @@ same_passes (suc i) g h = same_passes i g (step_taken g h) ∙ passes_stepped g 
 -- ---- how far a move has come
 
 -- a home is on a way of the move, whose steps are those between its ends
-abbrev IsOn : Move → Home → Type 0
+abbrev IsOn : WantedMove → Home → Type 0
 IsOn move (OnWay way at) = (words : ℕ) → steps_of words move ≡ plan_steps (old_end way) (new_end way) words
 IsOn move there = ⊥
 
 -- with so many of its steps done, those that aim among them
-pub record IsAt (move : Move) (passes i : ℕ) (there : Home) : Type 0 where
+pub record IsAt (move : WantedMove) (passes i : ℕ) (there : Home) : Type 0 where
   pub on : IsOn move there
   pub count : steps_done there + aims_done there ≡ i
   pub few : aims_done there ≤ passes
 
-last_at : (move : Move) (passes i : ℕ) (there : Home) (words : ℕ) → AreAimed passes there → IsAt move passes i there → is_at_last words there ≡ true → i + 1 ≡ steps_of words move + passes
+last_at : (move : WantedMove) (passes i : ℕ) (there : Home) (words : ℕ) → AreAimed passes there → IsAt move passes i there → is_at_last words there ≡ true → i + 1 ≡ steps_of words move + passes
 last_at move passes i (OnWay way at) words aimed is last =
     let end : at.steps + 1 ≡ plan_steps (old_end way) (new_end way) words = eqb-true _ _ last in
     let far = not_the_last way words in
@@ -80,15 +80,15 @@ last_at move passes i (OnWay way at) words aimed is last =
     omega (arith, end, most, few, count, same)
 last_at move passes i there words aimed is last = absurd is.on
 
-on_aimed : (move : Move) (there : Home) → IsOn move there → IsOn move (aimed there) × (steps_done (aimed there) ≡ steps_done there) × (aims_done (aimed there) ≡ suc (aims_done there))
+on_aimed : (move : WantedMove) (there : Home) → IsOn move there → IsOn move (aimed there) × (steps_done (aimed there) ≡ steps_done there) × (aims_done (aimed there) ≡ suc (aims_done there))
 on_aimed move (OnWay way at) on = (on, refl, omega arith)
 on_aimed move there on = absurd on
 
-on_more : (move : Move) (there : Home) → IsOn move there → IsOn move (one_more there) × (steps_done (one_more there) ≡ suc (steps_done there)) × (aims_done (one_more there) ≡ aims_done there)
+on_more : (move : WantedMove) (there : Home) → IsOn move there → IsOn move (one_more there) × (steps_done (one_more there) ≡ suc (steps_done there)) × (aims_done (one_more there) ≡ aims_done there)
 on_more move (OnWay way at) on = (on, omega arith, refl)
 on_more move there on = absurd on
 
-next_at : (move : Move) (passes i words : ℕ) (there : Home) → IsAt move passes i there → is_at_last words there ≡ false → IsAt move passes (suc i) (further passes words there)
+next_at : (move : WantedMove) (passes i words : ℕ) (there : Home) → IsAt move passes i there → is_at_last words there ≡ false → IsAt move passes (suc i) (further passes words there)
 next_at move passes i words there is more = by_aim (is_aiming passes there) refl
   where
     by_aim : (b : Bool) → is_aiming passes there ≡ b → IsAt move passes (suc i) (further passes words there)
@@ -102,7 +102,7 @@ next_at move passes i words there is more = by_aim (is_aiming passes there) refl
         let count = is.count in let few = is.few in let steps = then.1 in let aims = then.2 in
         rw e (rw more (record { on = then.0; count = omega (arith, count, steps, aims); few = omega (arith, few, aims) }))
 
-moving_at : (move : Move) (there : Home) → IsOn move there → is_moving there ≡ true
+moving_at : (move : WantedMove) (there : Home) → IsOn move there → is_moving there ≡ true
 moving_at move (OnWay way at) e = refl
 moving_at move there e = absurd e
 
@@ -122,7 +122,7 @@ of_not true e = refl
 of_not false e = absurd (cc)
 
 -- what an accepted line tells
-pub record Accepts (h : History) (line_refusal : Option Answer) (move : Move) (g : Vcpu) : Type 0 where
+pub record Accepts (h : History) (line_refusal : Option Answer) (move : WantedMove) (g : Vcpu) : Type 0 where
   pub accepted : line_refusal ≡ None
   pub begun : IsAt move (passes_for h g) 0 (home (Began move ∷ h) g)
 
@@ -187,7 +187,7 @@ pub record SoFar {T : Type 0} (aim : T → ℕ → ℕ → T → Type 0) (old no
   pub moving : is_moving (home_in (record_of now (vcpu who.vm who.number)).stay) ≡ true
   pub under : (h : History) → CoreStands old h → UnderWay aim now told told_now h who.vm who.number want
 
-none_by_begin : (h : History) (move : Move) (g : Vcpu) → passes_for (Began move ∷ h) g ≡ passes_for h g
+none_by_begin : (h : History) (move : WantedMove) (g : Vcpu) → passes_for (Began move ∷ h) g ≡ passes_for h g
 unfolding passes_of
 none_by_begin h move g = refl
 

@@ -6,7 +6,7 @@ use Rattle.aia_file.specs.FileState.{FileState, shown}
 use Rattle.aia_file.specs.declared.spot.Spot.{Spot}
 use Rattle.aia_file.specs.declared.spot.Spot.TheVariants as spots
 use Rattle.aia_file.specs.Imsic.{IsThere, file_at}
-use Rattle.aia_vcpu.specs.declared.place.Place.{Place}
+use Rattle.aia_vcpu.specs.declared.place.GuestPlace.{GuestPlace}
 use Rattle.aia_vcpu.specs.Vms.{Vcpu, slot_of, notice_hart}
 use Rattle.aia_vcpu.specs.Home.{Home, Progress}
 use Rattle.aia_vcpu.specs.Home.Home.{OnWay}
@@ -37,7 +37,7 @@ use Rattle.aia_hyp_values.proofs.EventLemmas.{as_it_was}
 not_last : (steps words : ℕ) (saw : Bool) → steps ≢ plan_step File Memory words Post → false ≡ (nat_eq (steps + 1) (plan_steps File Memory words) && saw)
 not_last steps words saw ne = sym (ap (λ b. b && saw) (ne_eqb (steps + 1) (plan_steps File Memory words) (λ e. ne (omega (arith, e)))))
 
-leave_sent : (words : ℕ) (access : Access) (from : Place) (at : Progress) (hand : Hand) (saw : Bool) → IsNext words (OnWay (Outward from) at) access → hand.seen ≡ saw → sends access hand ≡ (nat_eq (at.steps + 1) (plan_steps File Memory words) && saw)
+leave_sent : (words : ℕ) (access : Access) (from : GuestPlace) (at : Progress) (hand : Hand) (saw : Bool) → IsNext words (OnWay (Outward from) at) access → hand.seen ≡ saw → sends access hand ≡ (nat_eq (at.steps + 1) (plan_steps File Memory words) && saw)
 leave_sent words access from at hand saw next seen = elim (cases_eq at.steps (plan_step File Memory words Post)) [
   | inl last ↦
       let post : access ≡ Post = one_a_step words (OnWay (Outward from) at) access Post next.has refl (sym next.step ∙ last) in

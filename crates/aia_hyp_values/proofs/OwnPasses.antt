@@ -17,7 +17,7 @@ use Rattle.aia_model.specs.Event.{History, greatest_identity_of}
 use Rattle.aia_model.specs.Event.Event.{Stepped}
 use Rattle.aia_model.specs.Vms.{vms_of, has_vcpu}
 use Rattle.aia_model.specs.HomeOf.{home}
-use Rattle.aia_model.specs.Passes.{Pass, no_pass, passes_of, nth_pass, passes_to, numbers_to, passes_for, own_pass}
+use Rattle.aia_model.specs.Passes.{PassedSource, no_pass, passes_of, nth_pass, passes_to, numbers_to, passes_for, own_pass}
 use Rattle.aia_model.specs.Act.{Act}
 use Rattle.aia_model.specs.Act.Act.{Aimed}
 use Rattle.aia_model.specs.Aim.{aimed_by, aim_of}
@@ -29,7 +29,7 @@ use Rattle.aia_hyp_values.proofs.AimLines.{aim_leads}
 
 -- ---- among all passes
 
-pub own_length : (n : ℕ) (g : Vcpu) (xs : List Pass) → length (own_passes n g xs) ≡ passes_to g xs
+pub own_length : (n : ℕ) (g : Vcpu) (xs : List PassedSource) → length (own_passes n g xs) ≡ passes_to g xs
 own_length n g [] = refl
 own_length n g (x ∷ xs) = elim (cases_Bool (is_vcpu x.to g)) [
   | inl mine ↦ rw mine (ap suc (own_length (suc n) g xs))
@@ -37,11 +37,11 @@ own_length n g (x ∷ xs) = elim (cases_Bool (is_vcpu x.to g)) [
 ]
 
 -- the r-th of them is the pass of the r-th of their numbers
-abbrev IsNth : ℕ → Vcpu → List Pass → ℕ → ℕ → Type 0
+abbrev IsNth : ℕ → Vcpu → List PassedSource → ℕ → ℕ → Type 0
 IsNth n g xs r k = (slice_index_or (numbers_to g n xs) r 0 ≡ n + k)
     × (slice_index_or (own_passes n g xs) r targets.no_pass ≡ record { source = (slice_index_or xs k no_pass).source; identity = (slice_index_or xs k no_pass).identity; number = n + k })
 
-own_nth : (n : ℕ) (g : Vcpu) (xs : List Pass) (r : ℕ) → r < passes_to g xs → (k : ℕ) × IsNth n g xs r k
+own_nth : (n : ℕ) (g : Vcpu) (xs : List PassedSource) (r : ℕ) → r < passes_to g xs → (k : ℕ) × IsNth n g xs r k
 own_nth n g [] r low = absurd (omega (arith, low))
 own_nth n g (x ∷ xs) r low = by_own (is_vcpu x.to g) refl r low (own_nth (suc n) g xs)
   where
@@ -58,7 +58,7 @@ own_nth n g (x ∷ xs) r low = by_own (is_vcpu x.to g) refl r low (own_nth (suc 
         rw e (suc found.0, (found.1.0 ∙ moved found.0, found.1.1 ∙ ap (λ m. record { source = (slice_index_or xs found.0 no_pass).source; identity = (slice_index_or xs found.0 no_pass).identity; number = m }) (moved found.0)))
 
 -- each has an identity that a file may have, and a number below that of all
-own_all : (h : History) (n : ℕ) (g : Vcpu) (xs : List Pass) → greatest_identity_of h ≤ IDENTITIES → n + length xs ≤ PASSES → AllByRecursion (IsToOne h) xs → All (λ (p : plans.Pass). (p.identity ≤ IDENTITIES) × (p.number < PASSES)) (own_passes n g xs)
+own_all : (h : History) (n : ℕ) (g : Vcpu) (xs : List PassedSource) → greatest_identity_of h ≤ IDENTITIES → n + length xs ≤ PASSES → AllByRecursion (IsToOne h) xs → All (λ (p : plans.Pass). (p.identity ≤ IDENTITIES) × (p.number < PASSES)) (own_passes n g xs)
 own_all h n g [] most few to = λ k d low. absurd (omega (arith, low))
 own_all h n g (x ∷ xs) most few to = by_own (is_vcpu x.to g) refl (own_all h (suc n) g xs most (omega (arith, few)) to.1)
   where
@@ -90,7 +90,7 @@ module _ (x : CoreState) (h : History) (g : Vcpu) (plan : PlanState) (stands : C
   aims_alike = λ k. is_aiming (same_count k) (same_home k)
 
   pub are_passes : greatest_identity_of h ≤ IDENTITIES → length x.passes ≤ PASSES → ArePasses (moving_of plan).who
-  are_passes most few = subst (All (λ (p : plans.Pass). (p.identity ≤ IDENTITIES) × (p.number < PASSES))) (sym has) (own_all h 0 g (passes_of h) most (omega (arith, few, ap (λ (xs : List Pass). length xs) stands.passes.same)) stands.passes.to_one)
+  are_passes most few = subst (All (λ (p : plans.Pass). (p.identity ≤ IDENTITIES) × (p.number < PASSES))) (sym has) (own_all h 0 g (passes_of h) most (omega (arith, few, ap (λ (xs : List PassedSource). length xs) stands.passes.same)) stands.passes.to_one)
 
   -- what its step aims is what the history says
   same_notice : (moving_of plan).who.found.notice ≡ notice_hart (vms_of h) g

@@ -2,7 +2,7 @@
 use Rattle.std.proofs.Common.{◌≡◌, ◌≢◌, ℕ, ◌%◌, true, List, Option, Some, ◌⊎◌, sym, subst}
 use Rattle.aia_regs.specs.declared.address_map.TheConstants.{PAGE}
 use Rattle.aia_entry.specs.Tables.{table_of, route_of}
-use Rattle.aia_vcpu.specs.declared.place.Place.{Place}
+use Rattle.aia_vcpu.specs.declared.place.GuestPlace.{GuestPlace}
 use Rattle.aia_vcpu.specs.declared.vm.Vm.{Vm}
 use Rattle.aia_vcpu.specs.Vms.{Vcpu, is_vcpu_in, slot_of, notice_hart}
 use Rattle.aia_vcpu_places.specs.Places.{leads_to}
@@ -42,7 +42,7 @@ peer_own x h u g value stands whole there relays =
     subst (TouchesOwn x.world u g) (in_force x h g stands there).1 (peer_touches x.world u g (stage_of x.world g).in_force value whole (in_world x h g stands there) relays)
 
 -- what another virtual hart holds is there, and no store for the one reaches it
-others_own : (x : CoreState) (h : History) (u : World) (g other : Vcpu) (reach : Option Place) → CoreStands x h → has_vcpu h g ≡ true → has_vcpu h other ≡ true → other ≢ g → ((p : Place) → reach ≡ Some p → holds p (home h g) ≡ true) → TouchesOwn x.world u g reach
+others_own : (x : CoreState) (h : History) (u : World) (g other : Vcpu) (reach : Option GuestPlace) → CoreStands x h → has_vcpu h g ≡ true → has_vcpu h other ≡ true → other ≢ g → ((p : GuestPlace) → reach ≡ Some p → holds p (home h g) ≡ true) → TouchesOwn x.world u g reach
     → places_of u other (home h other) ≡ places_of x.world other (home h other)
 others_own x h u g other reach stands there inside ne held touches =
     others_stay x.world u g other reach (home h other) (in_world x h g stands there) (in_world x h other stands inside) ne touches
@@ -64,7 +64,7 @@ module _ (x : CoreState) (h : History) (u : World) (v k : ℕ) (s : Sending) (st
   leads = subst (λ (vs : List Vm). ReachesBy (leads_to (slot_of vs (sent_to v s)) (notice_hart vs (sent_to v s)) (sent_into v s)) x.world landing.stored (s.addr % PAGE) s.value) (sym stands.vms)
       (reaches_as_sent x h u v k stands landing s is)
 
-  holding : (p : Place) → sent_into v s ≡ Some p → holds p (home h (sent_to v s)) ≡ true
+  holding : (p : GuestPlace) → sent_into v s ≡ Some p → holds p (home h (sent_to v s)) ≡ true
   holding p e = flying_held h v k s p stands.may_fly is e
 
   touches : TouchesOwn x.world landing.stored (sent_to v s) (sent_into v s)

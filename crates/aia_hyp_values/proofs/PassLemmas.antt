@@ -11,7 +11,7 @@ use Rattle.aia_regs.specs.declared.limits.TheConstants.{IDENTITIES, GUEST_FILES,
 use Rattle.aia_word.proofs.LeastLemmas.{least_of-found, least_of-none}
 use Rattle.aia_vcpu.specs.Vms.{Vcpu, vcpu, is_vcpu, is_vcpu_in, vcpus_in, slot_of, notice_hart}
 use Rattle.aia_file.specs.InterruptFile.{is_greatest_identity}
-use Rattle.aia_vcpu.specs.declared.place.Place.{Place}
+use Rattle.aia_vcpu.specs.declared.place.GuestPlace.{GuestPlace}
 use Rattle.aia_vcpu.specs.Home.{holds, is_moving}
 use Rattle.aia_vcpu.proofs.HomeLemmas.{some_same}
 use Rattle.aia_vcpu.proofs.VmLemmas.{slot_below}
@@ -30,7 +30,7 @@ use Rattle.aia_model.specs.Event.Event.{Accepted}
 use Rattle.aia_model.specs.Vms.{has_vcpu}
 use Rattle.aia_model.specs.HomeOf.{home}
 use Rattle.aia_model.specs.Flight.{flight}
-use Rattle.aia_model.specs.Passes.{Pass, no_pass, passes_of, passes_for}
+use Rattle.aia_model.specs.Passes.{PassedSource, no_pass, passes_of, passes_for}
 use Rattle.aia_model.specs.Aim.{aimed_by}
 use Rattle.aia_model.specs.Refusal.{refusal}
 use Rattle.aia_model.proofs.AnswerLemmas.{answered, pass_refusal}
@@ -51,13 +51,13 @@ use Rattle.aia_hyp_values.proofs.EventLemmas.{IsHosts, changed, nothing_done}
 -- ---- the passes to one virtual hart
 
 -- the first one, and those after it
-one_own : (number : ℕ) (g : Vcpu) (x : Pass) (later : List Pass) → own_passes number g (x ∷ later) ≡ own_passes number g (x ∷ []) ++ own_passes (suc number) g later
+one_own : (number : ℕ) (g : Vcpu) (x : PassedSource) (later : List PassedSource) → own_passes number g (x ∷ later) ≡ own_passes number g (x ∷ []) ++ own_passes (suc number) g later
 one_own number g x later = elim (cases_Bool (is_vcpu x.to g)) [
   | inl own ↦ rw own refl
   | inr other ↦ rw other refl
 ]
 
-at_most_one : (number : ℕ) (g : Vcpu) (x : Pass) → length (own_passes number g (x ∷ [])) ≤ 1
+at_most_one : (number : ℕ) (g : Vcpu) (x : PassedSource) → length (own_passes number g (x ∷ [])) ≤ 1
 at_most_one number g x = elim (cases_Bool (is_vcpu x.to g)) [
   | inl own ↦ rw own (omega arith)
   | inr other ↦ rw other (omega arith)
@@ -102,15 +102,15 @@ all_gathered kept k g own end has = nothing_after own ∙ ap (λ (xs : List Pass
 
 -- ---- the pass of a source
 
-pub first_of_source : (passes : List Pass) (source number : ℕ) → number < length passes → (slice_index_or passes number no_pass).source ≡ source → ((j : ℕ) → j < number → nat_eq (slice_index_or passes j no_pass).source source ≡ false) → Some number ≡ number_of_pass passes (Some source)
+pub first_of_source : (passes : List PassedSource) (source number : ℕ) → number < length passes → (slice_index_or passes number no_pass).source ≡ source → ((j : ℕ) → j < number → nat_eq (slice_index_or passes j no_pass).source source ≡ false) → Some number ≡ number_of_pass passes (Some source)
 first_of_source passes source number low is none = sym (least_of-found (λ p. nat_eq (slice_index_or passes p no_pass).source source) 0 (length passes) number (omega arith) (omega arith) (eq-eqb _ source is) (λ j a b. none j b))
 
-pub none_of_source : (passes : List Pass) (source count : ℕ) → length passes ≤ count → ((j : ℕ) → j < count → nat_eq (slice_index_or passes j no_pass).source source ≡ false) → None ≡ number_of_pass passes (Some source)
+pub none_of_source : (passes : List PassedSource) (source count : ℕ) → length passes ≤ count → ((j : ℕ) → j < count → nat_eq (slice_index_or passes j no_pass).source source ≡ false) → None ≡ number_of_pass passes (Some source)
 none_of_source passes source count all none = sym (least_of-none (λ p. nat_eq (slice_index_or passes p no_pass).source source) 0 (length passes) (λ j a b. none j (omega arith)))
 
 -- ---- one more pass
 
-other_own : (number : ℕ) (g : Vcpu) (x : Pass) (xs : List Pass) → is_vcpu x.to g ≡ false → own_passes number g (xs ++ x ∷ []) ≡ own_passes number g xs
+other_own : (number : ℕ) (g : Vcpu) (x : PassedSource) (xs : List PassedSource) → is_vcpu x.to g ≡ false → own_passes number g (xs ++ x ∷ []) ≡ own_passes number g xs
 other_own number g x [] other = cond-false _ _ _ other
 other_own number g x (y ∷ ys) other = ap (λ (own : List plans.Pass). cond (is_vcpu y.to g) (record { source = y.source; identity = y.identity; number = number } ∷ own) own) (other_own (suc number) g x ys other)
 
@@ -230,7 +230,7 @@ unfolding flight
 none_flies_off h source vm number identity v = refl
 
 -- other passes are nothing to all but the passes
-with_passes : (x y : CoreState) (h : History) (event : Event) (passes : List Pass) → Becomes x y h event → Becomes x (record y { passes = passes }) h event
+with_passes : (x y : CoreState) (h : History) (event : Event) (passes : List PassedSource) → Becomes x y h event → Becomes x (record y { passes = passes }) h event
 with_passes x y h event passes b = record {
   keeps = record { machine = b.keeps.machine; n = b.keeps.n; harts = b.keeps.harts; guests = b.keeps.guests };
   vms = b.vms;
@@ -257,7 +257,7 @@ module _ (x : CoreState) (h : History) (source vm number identity : ℕ) (stands
   abbrev event : Event
   event = Accepted (lines.Pass source vm number identity)
 
-  abbrev pass : Pass
+  abbrev pass : PassedSource
   pass = record { source = source; to = g; identity = identity }
 
   abbrev new : CoreState
@@ -280,7 +280,7 @@ module _ (x : CoreState) (h : History) (source vm number identity : ℕ) (stands
       stands_after x new h event (with_passes x x h event (x.passes ++ pass ∷ []) (changed x x h event (nothing_done x h event stands hosts (λ f there. refl)) stands))
       (record { first = tt; one = tt; flights = λ v. stands.flights v ∙ ap (map (flying_of v)) (sym (none_flies_off h source vm number identity v)) })
       (record {
-        same = ap (λ (ps : List Pass). ps ++ pass ∷ []) stands.passes.same ∙ sym (one_passed h source vm number identity);
+        same = ap (λ (ps : List PassedSource). ps ++ pass ∷ []) stands.passes.same ∙ sym (one_passed h source vm number identity);
         to_one = subst (AllByRecursion (IsToOne h)) (sym (one_passed h source vm number identity)) (all_append (IsToOne h) (passes_of h) pass stands.passes.to_one to_one);
         rest = at_rest;
       }) stands
@@ -327,13 +327,13 @@ record_read x h g q r stands there is read = read ∙ get_or_default x.vcpus q r
 pub few_identities : (n identity : ℕ) → is_greatest_identity n ≡ true → is_in_range 1 n identity ≡ true → identity ≤ IDENTITIES
 few_identities n identity greatest inside = grind (arith, nat_tests)
 
-resident_holds : (stay : Stay) (p : Place) → resident_at stay ≡ Some p → holds p (home_in stay) ≡ true
+resident_holds : (stay : Stay) (p : GuestPlace) → resident_at stay ≡ Some p → holds p (home_in stay) ≡ true
 resident_holds (stays.Resident lease) p e = some_same lease p e
 resident_holds (stays.InMemory rest kept) p e = absurd (cc)
 resident_holds (stays.Moving plan) p e = absurd (cc)
 
 -- where it is resident is a guest file that is there
-pub resident_there : (x : CoreState) (h : History) (g : Vcpu) (p : Place) → CoreStands x h → IsWhole x.world → is_vcpu_in x.world.vms g ≡ true → resident_at (record_of x g).stay ≡ Some p → (p.hart < x.world.imsic.harts) × (p.file ≤ GUEST_FILES)
+pub resident_there : (x : CoreState) (h : History) (g : Vcpu) (p : GuestPlace) → CoreStands x h → IsWhole x.world → is_vcpu_in x.world.vms g ≡ true → resident_at (record_of x g).stay ≡ Some p → (p.hart < x.world.imsic.harts) × (p.file ≤ GUEST_FILES)
 resident_there x h g p stands whole there e =
     let inside : has_vcpu h g ≡ true = ap (λ vms. is_vcpu_in vms g) (sym stands.vms) ∙ there in
     let holding : holds p (home h g) ≡ true = ap (holds p) (sym (stands.vcpus g inside).same_home) ∙ resident_holds (record_of x g).stay p e in

@@ -6,7 +6,7 @@ use Rattle.std.proofs.Common.{◌≡◌, ℕ, true, false, not, cond, Option, So
 use Rattle.std.proofs.lemmas.Bool.{cond-true, cond-false}
 use Rattle.aia_file.specs.declared.spot.Spot.{Spot}
 use Rattle.aia_file.specs.Imsic.{IsThere}
-use Rattle.aia_vcpu.specs.declared.place.Place.{Place}
+use Rattle.aia_vcpu.specs.declared.place.GuestPlace.{GuestPlace}
 use Rattle.aia_vcpu.specs.Vms.{Vcpu, vcpu, is_vcpu_in}
 use Rattle.aia_vcpu.specs.Home.{runs}
 use Rattle.aia_vcpu.specs.Routes.{peers_reach, MayLand}
@@ -41,7 +41,7 @@ home_away x h g stands there =
 
 -- ---- where the store goes
 
-relayed : (w u : World) (g : Vcpu) (value : ℕ) (reach : Option Place) → ((p : Place) → reach ≡ Some p → IsThere w.imsic (spot_of p)) → ReachesByRecord reach w u g value → GuestStored w u g reach 0 value
+relayed : (w u : World) (g : Vcpu) (value : ℕ) (reach : Option GuestPlace) → ((p : GuestPlace) → reach ≡ Some p → IsThere w.imsic (spot_of p)) → ReachesByRecord reach w u g value → GuestStored w u g reach 0 value
 relayed w u g value (Some p) inside relays = subst (λ (s : Spot). StoresInGuestFile w u s 0 value) (named_guest w.imsic p (inside p refl)) relays
 relayed w u g value None inside relays = relays
 
@@ -98,7 +98,7 @@ ipi_taken x y vm number to value whole sender resident there relays leases vcpus
       };
       notices = refl;
       host = λ f. refl;
-      stores = relayed x.world y.world g value reach (λ p e. stands.held g p inside (peers_held h g p (by_home ∙ e))) (subst (λ (o : Option Place). ReachesByRecord o x.world y.world g value) in_force relays);
+      stores = relayed x.world y.world g value reach (λ p e. stands.held g p inside (peers_held h g p (by_home ∙ e))) (subst (λ (o : Option GuestPlace). ReachesByRecord o x.world y.world g value) in_force relays);
     } in (
       by_stay x h vm number to value stands sender ∙ cond-false _ _ _ (ap not resident) ∙ ap (λ b. cond (not b) (Some (Refused GFault)) None) inside,
       refl,

@@ -7,7 +7,7 @@ use Rattle.aia_file.specs.Imsic.{file_at}
 use Rattle.aia_entry.specs.Format.{decoded}
 use Rattle.aia_entry.specs.Tables.{table_of, entry_in_force, fenced_at}
 use Rattle.aia_entry.proofs.TableLemmas.{fenced_elsewhere}
-use Rattle.aia_vcpu.specs.declared.place.Place.{Place}
+use Rattle.aia_vcpu.specs.declared.place.GuestPlace.{GuestPlace}
 use Rattle.aia_vcpu.specs.declared.vm.Vm.{Vm}
 use Rattle.aia_vcpu.specs.Vms.{Vcpu, vcpu, is_vcpu, is_vcpu_in, slot_of, notice_hart}
 use Rattle.aia_vcpu.specs.Home.{holds}
@@ -159,13 +159,13 @@ module _ (x y : CoreState) (h : History) (vm number : ℕ) (c : IsRefetch x y vm
       ap (λ (w : World). entry_in_force (table_of w.tables other.vm) other.number) (sym c.world) ∙ other_entry other ne in
       ap (λ (w : World). places_of w other (home h other)) c.world ∙ (λ k. record (places_of x.world other (home h other)) { in_force = fenced k })
 
-  its_alone : (other : Vcpu) (p : Place) → has_vcpu h other ≡ true → is_vcpu other g ≡ false → holds p (home h g) ≡ true → holds p (home h other) ≡ false
+  its_alone : (other : Vcpu) (p : GuestPlace) → has_vcpu h other ≡ true → is_vcpu other g ≡ false → holds p (home h g) ≡ true → holds p (home h other) ≡ false
   its_alone other p there ne mine = elim (cases_Bool (holds p (home h other))) [
     | inl its ↦ absurd (false≢true (sym ne ∙ ap (λ z. is_vcpu z g) (stands.apart other g p there inside its mine) ∙ is_itself g))
     | inr none ↦ none
   ]
 
-  still_held : (p : Place) → is_held (Accepted (Refetch vm number) ∷ h) p ≡ is_held h p
+  still_held : (p : GuestPlace) → is_held (Accepted (Refetch vm number) ∷ h) p ≡ is_held h p
   still_held p = held_as h (Accepted (Refetch vm number)) g p (refetch_of h vm number) (ap (holds p) home_is)
 
   refetched : MoveChanges x y h (Accepted (Refetch vm number)) g

@@ -40,7 +40,7 @@ use Rattle.aia_model.specs.Event.{History, file_words}
 use Rattle.aia_model.specs.Event.Event.{Relayed}
 use Rattle.aia_model.specs.Vms.{vms_of}
 use Rattle.aia_model.specs.HomeOf.{home}
-use Rattle.aia_model.specs.Passes.{Pass, no_pass, passes_of, nth_pass}
+use Rattle.aia_model.specs.Passes.{PassedSource, no_pass, passes_of, nth_pass}
 use Rattle.aia_model.specs.Aim.{pass_reach}
 use Rattle.aia_model.specs.Notice.{noticed}
 use Rattle.aia_model.specs.FileAfter.{relay_said, file_after}
@@ -113,13 +113,13 @@ then_noticed p v file = record {
 -- ---- what the calls say of it
 
 -- the file where it is taken, and the world between
-abbrev pub spot_at_notice : CoreState → Pass → Spot
+abbrev pub spot_at_notice : CoreState → PassedSource → Spot
 spot_at_notice x pass = spots.SupervisorFile (notice_hart x.world.vms pass.to)
 
-abbrev pub once_taken : CoreState → Pass → FileState → World
+abbrev pub once_taken : CoreState → PassedSource → FileState → World
 once_taken x pass file = record x.world { imsic = with_file x.world.imsic (spot_at_notice x pass) file }
 
-pub record IsRelayed (x y : CoreState) (p : ℕ) (pass : Pass) (file : FileState) : Type 0 where
+pub record IsRelayed (x y : CoreState) (p : ℕ) (pass : PassedSource) (file : FileState) : Type 0 where
   pub whole : IsWhole x.world
   pub few : p < PASSES
   pub kept : file_at (with_file x.world.imsic (spot_at_notice x pass) file) (spot_at_notice x pass) ≡ file
@@ -244,7 +244,7 @@ relay_goes x y p file c = λ h stands may.
     relay_stands x y h p file (subst (λ ps. IsRelayed x y p (slice_index_or ps p no_pass) file) stands.passes.same c) stands may.0 may.1
 
 -- the two calls, one after the other
-pub record RelayCalls (x y : CoreState) (p : ℕ) (pass : Pass) (between : World) (at q : ℕ) : Type 0 where
+pub record RelayCalls (x y : CoreState) (p : ℕ) (pass : PassedSource) (between : World) (at q : ℕ) : Type 0 where
   pub whole : IsWhole x.world
   pub few : p < PASSES
   pub is : pass ≡ slice_index_or x.passes p no_pass
@@ -259,7 +259,7 @@ pub record RelayCalls (x y : CoreState) (p : ℕ) (pass : Pass) (between : World
   pub selects : y.selects ≡ x.selects
   pub passes : y.passes ≡ x.passes
 
-relayed : (x y : CoreState) (p : ℕ) (pass : Pass) (between : World) (at q : ℕ) → RelayCalls x y p pass between at q → IsRelayed x y p pass (file_at between.imsic (spots.SupervisorFile at))
+relayed : (x y : CoreState) (p : ℕ) (pass : PassedSource) (between : World) (at q : ℕ) → RelayCalls x y p pass between at q → IsRelayed x y p pass (file_at between.imsic (spots.SupervisorFile at))
 relayed x y p pass between at q c =
     let file = file_at between.imsic (spots.SupervisorFile at) in
     let spot : spots.SupervisorFile at ≡ spot_at_notice x pass = ap spots.SupervisorFile c.hart in
@@ -278,10 +278,10 @@ relayed x y p pass between at q c =
       passes = c.passes;
     }
 
-pub calls_go : (x y : CoreState) (p : ℕ) (pass : Pass) (between : World) (at q : ℕ) → RelayCalls x y p pass between at q → CoreGoes x y (Relayed p)
+pub calls_go : (x y : CoreState) (p : ℕ) (pass : PassedSource) (between : World) (at q : ℕ) → RelayCalls x y p pass between at q → CoreGoes x y (Relayed p)
 calls_go x y p pass between at q c =
     let file = file_at between.imsic (spots.SupervisorFile at) in
-    relay_goes x y p file (subst (λ (z : Pass). IsRelayed x y p z file) c.is (relayed x y p pass between at q c))
+    relay_goes x y p file (subst (λ (z : PassedSource). IsRelayed x y p z file) c.is (relayed x y p pass between at q c))
 
 -- what is so of the pass of a number where it may be given on
 pub may_relay : (x : CoreState) (p : ℕ) → MayGo x (Relayed p) → length x.passes ≤ PASSES → (p < PASSES) × (is_vcpu_in x.world.vms (slice_index_or x.passes p no_pass).to ≡ true)

@@ -11,7 +11,7 @@ use Rattle.aia_file.specs.Imsic.{IsThere, file_at}
 use Rattle.aia_file.specs.Mrif.{mrif_in}
 use Rattle.aia_major.specs.Kept.{majors_shown}
 use Rattle.aia_entry.specs.Tables.{table_of, entry_in_force}
-use Rattle.aia_vcpu.specs.declared.place.Place.{Place}
+use Rattle.aia_vcpu.specs.declared.place.GuestPlace.{GuestPlace}
 use Rattle.aia_vcpu.specs.declared.vm.Vm.{Vm}
 use Rattle.aia_vcpu.specs.Vms.{Vcpu, vcpu, is_vcpu, is_vcpu_in, slot_of, notice_hart, notice_identity}
 use Rattle.aia_vcpu.specs.Home.{Home, holds, is_entered, rests_in_memory, resting}
@@ -116,9 +116,9 @@ pub record OnlyNotifies (x y : CoreState) (h : History) (event : Event) : Type 0
   pub accesses : OnlyAccesses x.world y.world
   pub count : y.world.notices ≡ count_after (noticed h event) x.world.notices
   pub host : (f : FileName) → IsThere x.world.imsic (host_spot f) → FileDone x y f (deed_at f h event)
-  pub files : (p : Place) → IsThere x.world.imsic (spot_of p) → file_at y.world.imsic (spot_of p) ≡ file_at x.world.imsic (spot_of p)
+  pub files : (p : GuestPlace) → IsThere x.world.imsic (spot_of p) → file_at y.world.imsic (spot_of p) ≡ file_at x.world.imsic (spot_of p)
 
-same_for : (x y : CoreState) (h : History) (event : Event) (other : Vcpu) (there : Home) → OnlyNotifies x y h event → ((p : Place) → holds p there ≡ true → IsThere x.world.imsic (spot_of p)) → SameFor x.world y.world other there
+same_for : (x y : CoreState) (h : History) (event : Event) (other : Vcpu) (there : Home) → OnlyNotifies x y h event → ((p : GuestPlace) → holds p there ≡ true → IsThere x.world.imsic (spot_of p)) → SameFor x.world y.world other there
 same_for x y h event other there notifies held = record {
   n = ap (λ (w : World). w.n) notifies.rest;
   files = λ p holding. notifies.files p (held p holding);
@@ -170,13 +170,13 @@ pub record IsRun (x y : CoreState) (h : History) (event : Event) (g : Vcpu) (fro
   pub goes : home (event ∷ h) g ≡ home_in to
   pub reach : in_force_of (event ∷ h) g ≡ in_force_of h g
   pub seen : a_look_saw (event ∷ h) g ≡ a_look_saw h g
-  pub none_before : (p : Place) → holds p (home_in from) ≡ false
-  pub none_after : (p : Place) → holds p (home_in to) ≡ false
+  pub none_before : (p : GuestPlace) → holds p (home_in from) ≡ false
+  pub none_after : (p : GuestPlace) → holds p (home_in to) ≡ false
   pub two_files : AreApart (home_in to)
   pub plan : PlanStands y.world g to
   pub has_passes : HasItsPasses (passes_of (event ∷ h)) g to
   pub same_shown : places_of x.world g (home_in to) ≡ places_of x.world g (home_in from)
-  pub held : (words q hart : ℕ) (reach : Option Place) (v : Places) (file : InterruptFile) (saw : Bool) → Holds words q hart reach v (home_in from) (hand_in from) file saw → Holds words q hart reach v (home_in to) (hand_in to) file saw
+  pub held : (words q hart : ℕ) (reach : Option GuestPlace) (v : Places) (file : InterruptFile) (saw : Bool) → Holds words q hart reach v (home_in from) (hand_in from) file saw → Holds words q hart reach v (home_in to) (hand_in to) file saw
 
 module _ (x y : CoreState) (h : History) (event : Event) (g : Vcpu) (from to : Stay) (c : IsRun x y h event g from to) where
   same_vms : y.world.vms ≡ x.world.vms
@@ -233,10 +233,10 @@ module _ (x y : CoreState) (h : History) (event : Event) (g : Vcpu) (from to : S
             }) stood.holds));
       }
 
-  still_held : (p : Place) → is_held (event ∷ h) p ≡ is_held h p
+  still_held : (p : GuestPlace) → is_held (event ∷ h) p ≡ is_held h p
   still_held p = held_as h event g p c.moves (ap (holds p) c.goes ∙ c.none_after p ∙ sym (ap (holds p) home_before ∙ c.none_before p))
 
-  none_held : (p : Place) → holds p (home (event ∷ h) g) ≡ true → ⊥
+  none_held : (p : GuestPlace) → holds p (home (event ∷ h) g) ≡ true → ⊥
   none_held p holding = false≢true (sym (ap (holds p) c.goes ∙ c.none_after p) ∙ holding)
 
   pub run_changes : MoveChanges x y h event g

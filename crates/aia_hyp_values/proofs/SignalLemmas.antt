@@ -13,7 +13,7 @@ use Rattle.aia_word.proofs.SetLemmas.{has_bit-word_of, same_bit}
 use Rattle.aia_file.specs.InterruptFile.{is_greatest_identity, signals}
 use Rattle.aia_file.specs.FileState.{shown}
 use Rattle.aia_file.specs.Imsic.{IsThere, file_at}
-use Rattle.aia_vcpu.specs.declared.place.Place.{Place}
+use Rattle.aia_vcpu.specs.declared.place.GuestPlace.{GuestPlace}
 use Rattle.aia_vcpu.specs.Vms.{Vcpu, slot_of, notice_hart, all_vcpus}
 use Rattle.aia_vcpu.specs.Home.{Home, is_place, holds}
 use Rattle.aia_vcpu.specs.Home.Home.{Resident, OnWay}
@@ -51,39 +51,39 @@ and_first false b e = refl
 -- ---- where a virtual hart is heard
 
 -- it holds the file
-heard_holds : (p : Place) (there : Home) → is_heard p there ≡ true → holds p there ≡ true
+heard_holds : (p : GuestPlace) (there : Home) → is_heard p there ≡ true → holds p there ≡ true
 heard_holds p (Resident q) e = e
 heard_holds p (OnWay (Outward from) at) e = (and_parts (is_place p from) (delivery_in_own (OnWay (Outward from) at)) e).0
 heard_holds p (OnWay (Across from to) at) e = ap (λ b. b || is_place p to) (and_parts (is_place p from) (delivery_in_own (OnWay (Across from to) at)) e).0
 heard_holds p there e = absurd (false≢true e)
 
-unheld_unheard : (p : Place) (there : Home) → holds p there ≡ false → is_heard p there ≡ false
+unheld_unheard : (p : GuestPlace) (there : Home) → holds p there ≡ false → is_heard p there ≡ false
 unheld_unheard p there none = elim (cases_Bool (is_heard p there)) [
   | inl t ↦ absurd (false≢true (sym none ∙ heard_holds p there t))
   | inr f ↦ f
 ]
 
 -- in its own file it is heard while eidelivery stands there
-own_heard : (p : Place) (there : Home) → own_file there ≡ Some p → is_heard p there ≡ delivery_in_own there
+own_heard : (p : GuestPlace) (there : Home) → own_file there ≡ Some p → is_heard p there ≡ delivery_in_own there
 own_heard p (Resident q) e = some_same q p e
 own_heard p (OnWay (Outward from) at) e = ap (λ b. b && delivery_in_own (OnWay (Outward from) at)) (some_same from p e)
 own_heard p (OnWay (Across from to) at) e = ap (λ b. b && delivery_in_own (OnWay (Across from to) at)) (some_same from p e)
 own_heard p there e = refl
 
 -- in the other one it is not
-next_unheard : (p : Place) (there : Home) → AreApart there → next_file there ≡ Some p → is_heard p there ≡ false
-next_unheard p (Resident q) apart e = let bad : ◌≡◌ {A = Option Place} None (Some p) = e in absurd (cc)
-next_unheard p (OnWay (Outward from) at) apart e = let bad : ◌≡◌ {A = Option Place} None (Some p) = e in absurd (cc)
+next_unheard : (p : GuestPlace) (there : Home) → AreApart there → next_file there ≡ Some p → is_heard p there ≡ false
+next_unheard p (Resident q) apart e = let bad : ◌≡◌ {A = Option GuestPlace} None (Some p) = e in absurd (cc)
+next_unheard p (OnWay (Outward from) at) apart e = let bad : ◌≡◌ {A = Option GuestPlace} None (Some p) = e in absurd (cc)
 next_unheard p (OnWay (Across from to) at) apart e = and_first (is_place p from) (delivery_in_own (OnWay (Across from to) at)) (elsewhere (cases_Bool (is_place p from)))
   where
     elsewhere : (is_place p from ≡ true) ⊎ (is_place p from ≡ false) → is_place p from ≡ false
-    elsewhere (inl t) = absurd (false≢true (sym apart ∙ ap (λ (q : Place). is_place q to) (sym (same_place p from t)) ∙ some_same to p e))
+    elsewhere (inl t) = absurd (false≢true (sym apart ∙ ap (λ (q : GuestPlace). is_place q to) (sym (same_place p from t)) ∙ some_same to p e))
     elsewhere (inr f) = f
 next_unheard p there apart e = refl
 
 -- ---- the file of one that holds it
 
-file_signals : (x : CoreState) (h : History) (g : Vcpu) (p : Place) → CoreStands x h → IsWhole x.world → has_vcpu h g ≡ true → holds p (home h g) ≡ true → IsThere x.world.imsic (spot_of p)
+file_signals : (x : CoreState) (h : History) (g : Vcpu) (p : GuestPlace) → CoreStands x h → IsWhole x.world → has_vcpu h g ≡ true → holds p (home h g) ≡ true → IsThere x.world.imsic (spot_of p)
     → signals (shown (file_at x.world.imsic (spot_of p))) ≡ (is_heard p (home h g) && signals (guest_file h g))
 file_signals x h g p stands whole there holding inside = elim (either_file p (home h g) holding) [
   | inl own ↦
@@ -111,18 +111,18 @@ file_signals x h g p stands whole there holding inside = elim (either_file p (ho
 -- ---- each guest file that is there
 
 -- whom it signals for
-abbrev speaks : History → Place → Vcpu → Bool
+abbrev speaks : History → GuestPlace → Vcpu → Bool
 speaks h p g = is_heard p (home h g) && signals (guest_file h g)
 
 -- where one holds it, no other one is heard there
-one_speaks : (x : CoreState) (h : History) (g : Vcpu) (p : Place) (b : Bool) → CoreStands x h → has_vcpu h g ≡ true → holds p (home h g) ≡ true → speaks h p g ≡ b → list_any (speaks h p) (all_vcpus (vms_of h)) ≡ b
+one_speaks : (x : CoreState) (h : History) (g : Vcpu) (p : GuestPlace) (b : Bool) → CoreStands x h → has_vcpu h g ≡ true → holds p (home h g) ≡ true → speaks h p g ≡ b → list_any (speaks h p) (all_vcpus (vms_of h)) ≡ b
 one_speaks x h g p true stands there holding e = any_vcpu (vms_of h) (speaks h p) g there e
 one_speaks x h g p false stands there holding e = no_vcpu (vms_of h) (speaks h p) (λ other inside. elim (cases_Bool (holds p (home h other))) [
   | inl t ↦ ap (speaks h p) (stands.apart other g p inside there t holding) ∙ e
   | inr f ↦ and_first (is_heard p (home h other)) (signals (guest_file h other)) (unheld_unheard p (home h other) f)
 ])
 
-pub signalled : (x : CoreState) (h : History) (p : Place) → CoreStands x h → IsWhole x.world → IsThere x.world.imsic (spot_of p) → signals (shown (file_at x.world.imsic (spot_of p))) ≡ is_signalled_at h p
+pub signalled : (x : CoreState) (h : History) (p : GuestPlace) → CoreStands x h → IsWhole x.world → IsThere x.world.imsic (spot_of p) → signals (shown (file_at x.world.imsic (spot_of p))) ≡ is_signalled_at h p
 signalled x h p stands whole inside = elim (cases_Bool (is_held h p)) [
   | inl held ↦
       let who = some_vcpu (vms_of h) (λ g. holds p (home h g)) held in

@@ -17,7 +17,7 @@ use Rattle.aia_entry.specs.declared.entry.Entry.TheVariants.{NotValid}
 use Rattle.aia_entry.specs.Tables.{TableState, table_of, entry_in_force}
 use Rattle.aia_major.specs.VsMajor.{new_majors}
 use Rattle.aia_vcpu.specs.declared.vm.Vm.{Vm}
-use Rattle.aia_vcpu.specs.declared.place.Place.{Place}
+use Rattle.aia_vcpu.specs.declared.place.GuestPlace.{GuestPlace}
 use Rattle.aia_vcpu.specs.Vms.{Vcpu, vcpus_in, is_vcpu_in}
 use Rattle.aia_vcpu.specs.Home.{holds}
 use Rattle.aia_vcpu.specs.declared.rest.Rest.TheVariants.{Parked}
@@ -58,7 +58,7 @@ use Rattle.aia_hyp_values.proofs.VcpuLemmas.{IsStill, same_n, select_is, MajorsR
 use Rattle.aia_hyp_values.proofs.NameLemmas.{there_too}
 use Rattle.std.specs.List.{AllByRecursion}
 use Rattle.std.specs.Int.{is_in_range}
-use Rattle.aia_model.specs.Passes.{Pass, passes_of}
+use Rattle.aia_model.specs.Passes.{PassedSource, passes_of}
 use Rattle.aia_model.specs.Aim.{PassAtRest}
 use Rattle.aia_model.proofs.PassLemmas.{aimed_on, none_passed}
 use Rattle.aia_hyp_values.specs.Passes.{IsToOne, PassesKept}
@@ -77,7 +77,7 @@ host_more x y h event f done stands = record {
   select = done.select ∙ ap (select_after (deed_at f h event)) stands.select ∙ sym (select_step event h f);
 }
 
-pub guest_too : (a b : ImsicState) (p : Place) → a.harts ≡ b.harts → a.guests ≡ b.guests → IsThere a (spot_of p) → IsThere b (spot_of p)
+pub guest_too : (a b : ImsicState) (p : GuestPlace) → a.harts ≡ b.harts → a.guests ≡ b.guests → IsThere a (spot_of p) → IsThere b (spot_of p)
 guest_too a b p harts guests inside = (omega (arith, inside.0, harts), inside.1, omega (arith, inside.2, guests))
 
 pub counted_more : (who : Option Vcpu) (count : ℕ) → count_after who (min count (2 ^ 64 - 1)) ≡ min (with_notice who count) (2 ^ 64 - 1)
@@ -127,10 +127,10 @@ pub record Becomes (x y : CoreState) (h : History) (event : Event) : Type 0 wher
   pub lease_harts : y.leases.harts ≡ x.leases.harts
   pub lease_guests : y.leases.guests ≡ x.leases.guests
   pub lease_count : length y.leases.out ≡ length x.leases.out
-  pub leases : (p : Place) → IsThere x.world.imsic (spot_of p) → is_out y.leases p ≡ is_held (event ∷ h) p
-  pub held : (g : Vcpu) (p : Place) → has_vcpu (event ∷ h) g ≡ true → holds p (home (event ∷ h) g) ≡ true → IsThere x.world.imsic (spot_of p)
+  pub leases : (p : GuestPlace) → IsThere x.world.imsic (spot_of p) → is_out y.leases p ≡ is_held (event ∷ h) p
+  pub held : (g : Vcpu) (p : GuestPlace) → has_vcpu (event ∷ h) g ≡ true → holds p (home (event ∷ h) g) ≡ true → IsThere x.world.imsic (spot_of p)
   pub apart : HoldApart (event ∷ h)
-  pub free : (p : Place) → IsThere x.world.imsic (spot_of p) → is_held (event ∷ h) p ≡ false → shown (file_at y.world.imsic (spot_of p)) ≡ empty_file (greatest_identity_of h)
+  pub free : (p : GuestPlace) → IsThere x.world.imsic (spot_of p) → is_held (event ∷ h) p ≡ false → shown (file_at y.world.imsic (spot_of p)) ≡ empty_file (greatest_identity_of h)
   pub no_vcpu : (g : Vcpu) → has_vcpu (event ∷ h) g ≡ false → (has_vcpu h g ≡ false) × (guest_deed g h event ≡ Rests) × (home (event ∷ h) g ≡ home h g) × MajorsRest g event
   pub no_entry : (g : Vcpu) → has_vm (event ∷ h) g.vm ≡ true → has_vcpu (event ∷ h) g ≡ false → entry_in_force (table_of y.world.tables g.vm) g.number ≡ NotValid
   pub no_slot : (q : ℕ) → vcpus_in (vms_of (event ∷ h)) ≤ q → q < VCPUS → (vcpus_in (vms_of h) ≤ q) × (mrif_in y.world.memory q ≡ mrif_in x.world.memory q) × (get_or y.world.stages q no_stage ≡ get_or x.world.stages q no_stage)
@@ -187,7 +187,7 @@ none_passes x y h event none rest same stands = record {
   rest = rest;
 }
 
-to_one_still : (h : History) (event : Event) → greatest_identity_of h ≡ greatest_identity_of (event ∷ h) → (pass : Pass) → IsToOne h pass → IsToOne (event ∷ h) pass
+to_one_still : (h : History) (event : Event) → greatest_identity_of h ≡ greatest_identity_of (event ∷ h) → (pass : PassedSource) → IsToOne h pass → IsToOne (event ∷ h) pass
 to_one_still h event n pass one = ((stays_there event h pass.to one.0).0, subst (λ most. is_in_range 1 most pass.identity ≡ true) n one.1)
 
 pub stands_after : (x y : CoreState) (h : History) (event : Event) → Becomes x y h event → FlightsBecome y h event → PassesBecome y h event → CoreStands x h → CoreStands y (event ∷ h)
@@ -197,7 +197,7 @@ stands_after x y h event b flights passes stands =
     let guests : guests_of h ≡ guests_of (event ∷ h) = sym (ap (λ (o : Option MachineSize). option_map_or (λ (m : MachineSize). m.guests) o 0) b.keeps.machine) in
     let same_harts = b.keeps.harts in
     let same_guests = b.keeps.guests in
-    let before : (p : Place) → IsThere y.world.imsic (spot_of p) → IsThere x.world.imsic (spot_of p) = λ p inside. guest_too y.world.imsic x.world.imsic p same_harts same_guests inside in
+    let before : (p : GuestPlace) → IsThere y.world.imsic (spot_of p) → IsThere x.world.imsic (spot_of p) = λ p inside. guest_too y.world.imsic x.world.imsic p same_harts same_guests inside in
     record {
       there = ap (λ (o : Option MachineSize). is_some o) b.keeps.machine ∙ stands.there;
       harts = same_harts ∙ stands.harts ∙ harts;
@@ -262,7 +262,7 @@ nobody g there = let low = numbered [] g.vm g.number there in omega (arith, low)
 none_below_0 : (n : ℕ) → nat_lt n 0 ≡ true → ⊥
 none_below_0 n low = let bad = ltb-true n 0 low in omega (arith, bad)
 
-no_held : (p : Place) → is_held [] p ≡ false
+no_held : (p : GuestPlace) → is_held [] p ≡ false
 no_held p = refl
 
 no_out : (n p : ℕ) → get_or (replicate n false) p false ≡ false

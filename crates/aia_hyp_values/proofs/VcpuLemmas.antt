@@ -13,7 +13,7 @@ use Rattle.aia_file.specs.Mrif.{mrif_in}
 use Rattle.aia_major.specs.VsMajor.{VsMajorState}
 use Rattle.aia_major.specs.Kept.{majors_shown}
 use Rattle.aia_entry.specs.Tables.{table_of, entry_in_force}
-use Rattle.aia_vcpu.specs.declared.place.Place.{Place}
+use Rattle.aia_vcpu.specs.declared.place.GuestPlace.{GuestPlace}
 use Rattle.aia_vcpu.specs.Vms.{Vcpu, slot_of, notice_hart, all_vcpus}
 use Rattle.aia_vcpu.specs.Home.{Home, holds}
 use Rattle.aia_vcpu.specs.BySteps.{own_file, next_file}
@@ -48,7 +48,7 @@ use Rattle.aia_model.specs.MajorOf.{majors_of, majors_after}
 use Rattle.aia_model.specs.ReachOf.{in_force_of, in_force_after, NoneAtFence}
 use Rattle.aia_model.proofs.FlightLemmas.{SendsToOne}
 use Rattle.aia_model.specs.Flight.{flight}
-use Rattle.aia_model.specs.Move.{Move}
+use Rattle.aia_model.specs.Move.{WantedMove}
 use Rattle.aia_model.specs.HomeOf.{home, moved, rest_after}
 use Rattle.aia_model.specs.Notice.{a_look_saw}
 use Rattle.aia_model.proofs.FileLemmas.{file_by_step}
@@ -60,14 +60,14 @@ use Rattle.aia_hyp_values.specs.Stands.{PlanStands, VcpuStands, is_held}
 
 -- ---- what places of a home show
 
-file_same : (w u : World) (o : Option Place) → u.n ≡ w.n → ((p : Place) → o ≡ Some p → file_at u.imsic (spot_of p) ≡ file_at w.imsic (spot_of p)) → file_in u o ≡ file_in w o
+file_same : (w u : World) (o : Option GuestPlace) → u.n ≡ w.n → ((p : GuestPlace) → o ≡ Some p → file_at u.imsic (spot_of p) ≡ file_at w.imsic (spot_of p)) → file_in u o ≡ file_in w o
 file_same w u None n same = ap empty_file n
 file_same w u (Some p) n same = ap shown (same p refl)
 
 -- what of the world a virtual hart with a home has, in another world
 pub record SameFor (w u : World) (g : Vcpu) (there : Home) : Type 0 where
   pub n : u.n ≡ w.n
-  pub files : (p : Place) → holds p there ≡ true → file_at u.imsic (spot_of p) ≡ file_at w.imsic (spot_of p)
+  pub files : (p : GuestPlace) → holds p there ≡ true → file_at u.imsic (spot_of p) ≡ file_at w.imsic (spot_of p)
   pub slot : mrif_in u.memory (slot_of u.vms g) ≡ mrif_in w.memory (slot_of w.vms g)
   pub word0 : slice_index u.memory (entry_word_place g.vm g.number) ≡ slice_index w.memory (entry_word_place g.vm g.number)
   pub word1 : slice_index u.memory (entry_word_place g.vm g.number + 1) ≡ slice_index w.memory (entry_word_place g.vm g.number + 1)
@@ -90,7 +90,7 @@ same_view w u g there same =
     }
 
 -- a world in which files alone changed, none of them this home's
-pub files_alone : (w u : World) (g : Vcpu) (there : Home) → u ≡ record w { imsic = u.imsic } → ((p : Place) → holds p there ≡ true → file_at u.imsic (spot_of p) ≡ file_at w.imsic (spot_of p)) → SameFor w u g there
+pub files_alone : (w u : World) (g : Vcpu) (there : Home) → u ≡ record w { imsic = u.imsic } → ((p : GuestPlace) → holds p there ≡ true → file_at u.imsic (spot_of p) ≡ file_at w.imsic (spot_of p)) → SameFor w u g there
 files_alone w u g there rest files = record {
   n = ap (λ (w : World). w.n) rest;
   files = files;
@@ -108,7 +108,7 @@ pub record Wanted : Type 0 where
   pub words : ℕ
   pub slot : ℕ
   pub hart : ℕ
-  pub reach : Option Place
+  pub reach : Option GuestPlace
   pub shows : Places
   pub there : Home
   pub hand : Hand
@@ -273,7 +273,7 @@ pub still_relay : (h : History) (p : ℕ) → IsStill h (Relayed p)
 unfolding flight passes_of
 still_relay h p = record { first = tt; one = tt; flights = λ v. refl; passes = refl; rest = tt }
 
-pub still_move : (h : History) (move : Move) → IsStill h (Began move)
+pub still_move : (h : History) (move : WantedMove) → IsStill h (Began move)
 unfolding flight passes_of
 still_move h move = record { first = tt; one = tt; flights = λ v. refl; passes = refl; rest = tt }
 
@@ -356,5 +356,5 @@ guest_rests x y h event g quiet machine rests nothing same shows p =
     }) held) p
 
 -- who holds a file holds it still
-pub held_stays : (h : History) (event : Event) → StaysPut h event → (p : Place) → is_held (event ∷ h) p ≡ is_held h p
+pub held_stays : (h : History) (event : Event) → StaysPut h event → (p : GuestPlace) → is_held (event ∷ h) p ≡ is_held h p
 held_stays h event quiet p = λ k. list_any (λ g. holds p (quiet.homes g k)) (all_vcpus (quiet.vms k))

@@ -26,7 +26,7 @@ use Rattle.aia_entry.specs.Format.{mrif_word, notice_word}
 use Rattle.aia_entry.specs.Tables.{TableState, table_of, entry_in_force}
 use Rattle.aia_entry.specs.Translation.{is_mask}
 use Rattle.aia_entry.proofs.TableLemmas.{ones_counted, mask_parts}
-use Rattle.aia_vcpu.specs.declared.place.Place.{Place}
+use Rattle.aia_vcpu.specs.declared.place.GuestPlace.{GuestPlace}
 use Rattle.aia_vcpu.specs.declared.vm.Vm.{Vm}
 use Rattle.aia_vcpu.specs.Vms.{Vcpu, vcpu, is_vcpu_in, vm_in, vcpus_in, slot_of, notice_hart}
 use Rattle.aia_vcpu.specs.Home.{holds}
@@ -258,7 +258,7 @@ never n = grind (arith, nat_tests)
 nowhere : (h : History) (g : Vcpu) → home h g ≡ InMemory Parked → in_force_of h g ≡ None
 nowhere h g parked = in_memory (in_force_of h g) (subst (λ t. MayReach t (in_force_of h g)) parked (in_force_may h g))
   where
-    in_memory : (reach : Option Place) → MayReach (InMemory Parked) reach → reach ≡ None
+    in_memory : (reach : Option GuestPlace) → MayReach (InMemory Parked) reach → reach ≡ None
     in_memory reach (inl m) = m.0
     in_memory reach (inr m) = absurd (cc)
 
@@ -338,7 +338,7 @@ new_stands x y h vm g c last low lacks =
 -- ---- all of it
 
 -- who holds a file holds it still, and the new ones hold none
-held_grown : (x y : CoreState) (h : History) (vm : Vm) (p : Place) → HasMade x y h vm → is_held (made_line vm ∷ h) p ≡ is_held h p
+held_grown : (x y : CoreState) (h : History) (vm : Vm) (p : GuestPlace) → HasMade x y h vm → is_held (made_line vm ∷ h) p ≡ is_held h p
 held_grown x y h vm p c = elim (cases_Bool (is_held h p)) [
   | inl t ↦
       let who = some_vcpu (vms_of h) (λ g. holds p (home h g)) t in
@@ -385,10 +385,10 @@ made_becomes x y h vm c =
     by_age g (inl (low, there)) = old_stands x y h vm g c low there
     by_age g (inr (last, low)) = new_stands x y h vm g c last low (le-ltb g.number (vm_in (vms_of h) g.vm).vcpus (let none = vm_past (vms_of h) g.vm (omega (arith, last)) in omega (arith, none)))
 
-    still_held : (g : Vcpu) (p : Place) → holds p (home (made_line vm ∷ h) g) ≡ true → holds p (home h g) ≡ true
+    still_held : (g : Vcpu) (p : GuestPlace) → holds p (home (made_line vm ∷ h) g) ≡ true → holds p (home h g) ≡ true
     still_held g p holding = ap (holds p) (sym (same_home h vm g)) ∙ holding
 
-    was_there : (g : Vcpu) (p : Place) → holds p (home h g) ≡ true → has_vcpu h g ≡ true
+    was_there : (g : Vcpu) (p : GuestPlace) → holds p (home h g) ≡ true → has_vcpu h g ≡ true
     was_there g p holding = elim (cases_Bool (has_vcpu h g)) [ inl t ↦ t | inr lacks ↦ absurd (false≢true (sym (ap (holds p) (c.stands.no_vcpu g lacks).2) ∙ holding)) ]
 
     no_entry_past : (g : Vcpu) → g.vm < length (vms_of h ++ vm ∷ []) → is_vcpu_in (vms_of h ++ vm ∷ []) g ≡ false → length x.world.tables ≡ length (vms_of h) → entry_in_force (table_of y.world.tables g.vm) g.number ≡ entries.NotValid

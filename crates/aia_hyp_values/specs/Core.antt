@@ -1,6 +1,6 @@
 -- What the hypervisor's core keeps. Vocabulary.
 use Rattle.std.specs.Prelude.{◌≡◌, ℕ, Bool, true, false, List, Option, Some, None, Result, Ok, Err, slice_index_or, slice_set}
-use Rattle.aia_vcpu.specs.declared.place.Place.{Place}
+use Rattle.aia_vcpu.specs.declared.place.GuestPlace.{GuestPlace}
 use Rattle.aia_vcpu.specs.Vms.{Vcpu, slot_of}
 use Rattle.aia_vcpu.specs.Home.{Home}
 use Rattle.aia_vcpu.specs.declared.rest.Rest.TheVariants.{Parked, Entered}
@@ -9,7 +9,7 @@ use Rattle.aia_major.specs.VsMajor.{VsMajorState}
 use Rattle.aia_major.specs.Kept.{majors_shown, kept_at_first}
 use Rattle.aia_vcpu_places.specs.Holds.{Hand}
 use Rattle.aia_pool.specs.Leases.{Leases}
-use Rattle.aia_model.specs.Passes.{Pass}
+use Rattle.aia_model.specs.Passes.{PassedSource}
 use Rattle.aia_model.specs.declared.refusal.Refusal.{Refusal}
 use Rattle.aia_model.specs.declared.refusal.Refusal.TheVariants as refusals
 use Rattle.aia_fabric_values.specs.World.{World}
@@ -33,7 +33,7 @@ pub record CoreState : Type 0 where
   pub leases : Leases
   pub vcpus : List VcpuRecord
   pub selects : List ℕ
-  pub passes : List Pass
+  pub passes : List PassedSource
 
 -- ---- a virtual hart
 
@@ -64,7 +64,7 @@ home_in (stays.Resident lease) = Resident lease
 home_in (stays.Moving plan) = (moving_of plan).home
 
 -- The guest file of one that is resident.
-abbrev pub resident_at : {P : Type 0} → StayBy P → Option Place
+abbrev pub resident_at : {P : Type 0} → StayBy P → Option GuestPlace
 resident_at (stays.Resident lease) = Some lease
 resident_at stay = None
 

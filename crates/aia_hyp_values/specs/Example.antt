@@ -12,7 +12,7 @@ use Rattle.aia_file.specs.FileState.{FileState}
 use Rattle.aia_file.specs.Imsic.{ImsicState}
 use Rattle.aia_entry.specs.declared.entry.Entry.TheVariants.{NotValid}
 use Rattle.aia_entry.specs.Tables.{TableState}
-use Rattle.aia_vcpu.specs.declared.place.Place.{Place}
+use Rattle.aia_vcpu.specs.declared.place.GuestPlace.{GuestPlace}
 use Rattle.aia_vcpu.specs.Vms.{Vcpu, vcpu}
 use Rattle.aia_vcpu.specs.Home.{Progress}
 use Rattle.aia_vcpu.specs.Home.Home.{OnWay}
@@ -27,11 +27,11 @@ use Rattle.aia_move_values.specs.Move.{Moving}
 use Rattle.aia_model.specs.declared.line.Line.{Line}
 use Rattle.aia_model.specs.declared.line.Line.TheVariants as lines
 use Rattle.aia_model.specs.declared.want.Want.TheVariants as wants
-use Rattle.aia_model.specs.Move.Move.{Arrives, Leaves}
-use Rattle.aia_model.specs.Move.{Move, mover}
+use Rattle.aia_model.specs.Move.WantedMove.{Arrives, Leaves}
+use Rattle.aia_model.specs.Move.{WantedMove, mover}
 use Rattle.aia_model.specs.Event.{History, file_words}
 use Rattle.aia_model.specs.Event.Event.{Accepted, Began, Stepped}
-use Rattle.aia_model.specs.Passes.{Pass}
+use Rattle.aia_model.specs.Passes.{PassedSource}
 use Rattle.aia_model.specs.HomeOf.{guest_place}
 use Rattle.aia_model.specs.Answer.{steps_of}
 use Rattle.aia_hyp_values.specs.declared.vcpu.Stay.TheVariants as stays
@@ -48,7 +48,7 @@ abbrev pub stepped_on : ℕ → Vcpu → History → History
 stepped_on zero g h = h
 stepped_on (suc count) g h = stepped_on count g (Stepped g ∷ h)
 
-abbrev pub moved_whole : ℕ → History → Move → History
+abbrev pub moved_whole : ℕ → History → WantedMove → History
 moved_whole aims h move =
     stepped_on (steps_of (file_words h) move + aims) (mover move) (Began move ∷ h)
 
@@ -77,7 +77,7 @@ made_lines = lines.Machine 1 3 63 1 ∷ passable_lines
 abbrev pub made_history : History
 made_history = accepted made_lines []
 
-abbrev pub the_pass : Pass
+abbrev pub the_pass : PassedSource
 the_pass = record { source = 1; to = leaver; identity = 5 }
 
 -- Both virtual harts arrive.
@@ -122,10 +122,10 @@ leave_lines = lines.Begin 0 1 wants.Leave ∷ replicate steps_so_far (lines.Step
 -- ---- the core then
 
 -- The guest files of both.
-abbrev pub stayer_file : Place
+abbrev pub stayer_file : GuestPlace
 stayer_file = guest_place 0 1
 
-abbrev pub leaver_file : Place
+abbrev pub leaver_file : GuestPlace
 leaver_file = guest_place 0 2
 
 -- A file of which nothing is pending or enabled.
@@ -166,7 +166,7 @@ example_table = record {
 }
 
 -- A G-stage record that names a file, and has it in force.
-abbrev pub stage_to : Place → Stage
+abbrev pub stage_to : GuestPlace → Stage
 stage_to p = record { written = Some p; in_force = Some p }
 
 abbrev pub example_world : World

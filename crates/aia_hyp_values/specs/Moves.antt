@@ -1,6 +1,6 @@
 -- The moves of virtual harts in the core: what is wanted, and what each call makes of it.
 use Rattle.std.specs.Prelude.{◌≡◌, ℕ, ◌+◌, ◌-◌, ◌<◌, ◌≤◌, Bool, true, false, if◌then◌else◌, ◌∷◌, Option, Some, None, Result, Ok, Err}
-use Rattle.aia_vcpu.specs.declared.place.Place.{Place}
+use Rattle.aia_vcpu.specs.declared.place.GuestPlace.{GuestPlace}
 use Rattle.aia_vcpu.specs.declared.rest.Rest.TheVariants.{Parked}
 use Rattle.aia_vcpu.specs.Vms.{Vcpu, vcpu}
 use Rattle.aia_vcpu.specs.Aims.{aims_done}
@@ -18,13 +18,13 @@ use Rattle.aia_model.specs.declared.refusal.Refusal.TheVariants as refusals
 use Rattle.aia_model.specs.declared.line.Line.TheVariants as lines
 use Rattle.aia_model.specs.Event.{History, file_words}
 use Rattle.aia_model.specs.Event.Event.{Began}
-use Rattle.aia_model.specs.Move.{Move, wanted_move}
+use Rattle.aia_model.specs.Move.{WantedMove, wanted_move}
 use Rattle.aia_model.specs.ReachOf.{in_force_of}
 use Rattle.aia_model.specs.HomeOf.{home, guest_place}
 use Rattle.aia_model.specs.Refusal.{refusal}
 use Rattle.aia_model.specs.Answer.{answer, steps_of, step_taken}
 use Rattle.aia_model.specs.Passes.{passes_to, passes_for}
-use Rattle.aia_move_values.specs.Targets.{Aim, next_aim}
+use Rattle.aia_move_values.specs.Targets.{PassAim, next_aim}
 use Rattle.aia_move_values.specs.declared.who.KeptNumbers.{KeptNumbers}
 use Rattle.aia_move_values.specs.declared.who.Who.{Who}
 use Rattle.aia_move_values.specs.declared.turn.Next.{Next}
@@ -62,7 +62,7 @@ Refuses word old new was now given = (given ≡ Refused word) × (new ≡ old) �
 
 -- A guest file of a hart is taken for the move that has such a home in it; where none is free, the
 -- move is refused.
-abbrev pub BeginsIn : Option ℕ → ℕ → (Place → Moving) → Stay → Stay → Leases → Leases → Answer
+abbrev pub BeginsIn : Option ℕ → ℕ → (GuestPlace → Moving) → Stay → Stay → Leases → Leases → Answer
     → Type 0
 BeginsIn None hart moving old new was now given =
     Refuses refusals.NoFile old new was now given
@@ -116,7 +116,7 @@ WantBegins (wants.Shift hart) who old new was now given =
     OnHart hart old new was now given (ShiftBegins who hart old new was now given)
 
 -- What has happened when a move is to begin, by the refusal of its line.
-abbrev pub move_begun : Option Answer → History → Move → History
+abbrev pub move_begun : Option Answer → History → WantedMove → History
 move_begun None h move = Began move ∷ h
 move_begun (Some word) h move = h
 
@@ -139,17 +139,17 @@ stay_after (Left file kept) = stays.InMemory Parked kept
 stay_after (Arrived file) = stays.Resident file
 stay_after (Shifted old new) = stays.Resident new
 
-abbrev pub back_of : Outcome → Option Place
+abbrev pub back_of : Outcome → Option GuestPlace
 back_of (Left file kept) = Some file
 back_of (Arrived file) = None
 back_of (Shifted old new) = Some old
 
 -- A guest file comes back, where one does; it is there, and out.
-abbrev pub with_back : Option Place → Leases → Leases
+abbrev pub with_back : Option GuestPlace → Leases → Leases
 with_back None l = l
 with_back (Some p) l = with_out l p false
 
-abbrev pub IsOutThere : Leases → Option Place → Type 0
+abbrev pub IsOutThere : Leases → Option GuestPlace → Type 0
 IsOutThere l None = Unit {0}
 IsOutThere l (Some p) = IsFileThere l p × (is_out l p ≡ true)
 
@@ -159,7 +159,7 @@ abbrev pub stay_then : Next PlanState → Stay
 stay_then (Again plan) = stays.Moving plan
 stay_then (Finished outcome) = stay_after outcome
 
-abbrev pub back_then : Next PlanState → Option Place
+abbrev pub back_then : Next PlanState → Option GuestPlace
 back_then (Again plan) = None
 back_then (Finished outcome) = back_of outcome
 
@@ -183,7 +183,7 @@ left_in x g = steps_left (width x.world) (home_in (record_of x g).stay)
 
 -- One access of a move is made, whatever the move then carries, once what lands before it has
 -- landed; and nothing else of the world is changed. A step that aims leaves the world as it is.
-abbrev pub MakesOneBy : Option Aim → World → Moving → World → Type 0
+abbrev pub MakesOneBy : Option PassAim → World → Moving → World → Type 0
 MakesOneBy None w m u = OnceLanded w m (λ landed. (hand : Hand) × MakesNext landed m u hand)
 MakesOneBy (Some aim) w m u = u ≡ w
 

@@ -14,7 +14,7 @@ use Rattle.aia_model.specs.Vms.{has_vcpu}
 use Rattle.aia_model.specs.Act.{Act}
 use Rattle.aia_model.specs.Act.Act.{Aimed}
 use Rattle.aia_model.specs.Sent.{acts_of}
-use Rattle.aia_model.specs.Passes.{Pass, no_pass, passes_of}
+use Rattle.aia_model.specs.Passes.{PassedSource, no_pass, passes_of}
 use Rattle.aia_model.specs.Passable.{is_passable}
 use Rattle.aia_model.specs.Aim.{aimed_by, AllAreAimed}
 use Rattle.aia_model.specs.Answer.{steps_taken}
@@ -26,19 +26,19 @@ use Rattle.aia_hyp_values.specs.Core.{CoreState}
 -- ---- what is kept
 
 -- A pass as the core keeps it.
-abbrev pub pass_shown : Passed → Pass
+abbrev pub pass_shown : Passed → PassedSource
 pass_shown p = record { source = p.source; to = vcpu p.vm p.number; identity = p.identity }
 
 -- The number that the pass of a source has among some passes; None where it has none, or no source
 -- is given.
-abbrev pub number_of_pass : List Pass → Option ℕ → Option ℕ
+abbrev pub number_of_pass : List PassedSource → Option ℕ → Option ℕ
 number_of_pass passes None = None
 number_of_pass passes (Some s) =
     least_of (λ p. nat_eq (slice_index_or passes p no_pass).source s) 0 (length passes)
 
 -- Those of some passes that are to a virtual hart, as its plan has them, if the first of all has
 -- this number.
-abbrev pub own_passes : ℕ → Vcpu → List Pass → List plans.Pass
+abbrev pub own_passes : ℕ → Vcpu → List PassedSource → List plans.Pass
 own_passes number g [] = []
 own_passes number g (x ∷ later) =
     if is_vcpu x.to g
@@ -47,13 +47,13 @@ own_passes number g (x ∷ later) =
     else own_passes (suc number) g later
 
 -- The plan of a move has the passes to its virtual hart, in order.
-abbrev pub HasItsPasses : List Pass → Vcpu → Stay → Type 0
+abbrev pub HasItsPasses : List PassedSource → Vcpu → Stay → Type 0
 HasItsPasses passes g (stays.Moving plan) =
     (moving_of plan).who.passes.items ≡ own_passes 0 g passes
 HasItsPasses passes g stay = Unit {0}
 
 -- A pass is to a virtual hart that is there, as an identity of its file.
-abbrev pub IsToOne : History → Pass → Type 0
+abbrev pub IsToOne : History → PassedSource → Type 0
 IsToOne h pass =
     (has_vcpu h pass.to ≡ true) × (is_in_range 1 (greatest_identity_of h) pass.identity ≡ true)
 

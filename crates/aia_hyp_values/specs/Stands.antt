@@ -16,7 +16,7 @@ use Rattle.aia_entry.specs.declared.entry.Entry.TheVariants.{NotValid}
 use Rattle.aia_entry.specs.declared.table.Route.{Route}
 use Rattle.aia_entry.specs.declared.table.Route.TheVariants.{Other, Fault, To}
 use Rattle.aia_entry.specs.Tables.{table_of, entry_in_force}
-use Rattle.aia_vcpu.specs.declared.place.Place.{Place}
+use Rattle.aia_vcpu.specs.declared.place.GuestPlace.{GuestPlace}
 use Rattle.aia_vcpu.specs.Vms.{Vcpu, vcpus_in, slot_of, notice_hart, all_vcpus}
 use Rattle.aia_vcpu.specs.Home.{holds, is_moving}
 use Rattle.aia_vcpu.specs.declared.rest.Rest.TheVariants.{Parked}
@@ -98,12 +98,12 @@ flying_of vm s = record {
 }
 
 -- Whether a virtual hart holds a guest file.
-abbrev pub is_held : History → Place → Bool
+abbrev pub is_held : History → GuestPlace → Bool
 is_held h p = list_any (λ g. holds p (home h g)) (all_vcpus (vms_of h))
 
 -- No two virtual harts hold one guest file.
 abbrev pub HoldApart : History → Type 0
-HoldApart h = (a b : Vcpu) (p : Place) → has_vcpu h a ≡ true → has_vcpu h b ≡ true
+HoldApart h = (a b : Vcpu) (p : GuestPlace) → has_vcpu h a ≡ true → has_vcpu h b ≡ true
     → holds p (home h a) ≡ true → holds p (home h b) ≡ true → a ≡ b
 
 -- The core is that of the history's machine: it has its numbers, its VMs, and has sent its notices.
@@ -125,15 +125,16 @@ pub record CoreStands (x : CoreState) (h : History) : Type 0 where
   pub lease_harts : x.leases.harts ≡ harts_of h
   pub lease_guests : x.leases.guests ≡ guests_of h
   pub lease_count : length x.leases.out ≡ harts_of h * guests_of h
-  pub leases : (p : Place) → IsThere x.world.imsic (spot_of p) → is_out x.leases p ≡ is_held h p
-  pub held : (g : Vcpu) (p : Place) → has_vcpu h g ≡ true → holds p (home h g) ≡ true
+  pub leases : (p : GuestPlace) → IsThere x.world.imsic (spot_of p)
+      → is_out x.leases p ≡ is_held h p
+  pub held : (g : Vcpu) (p : GuestPlace) → has_vcpu h g ≡ true → holds p (home h g) ≡ true
       → IsThere x.world.imsic (spot_of p)
   pub apart : HoldApart h
   pub flights : (v : ℕ) → flight_of x.world v ≡ map (flying_of v) (flight h v)
   pub may_fly : AllMayFly h
   pub for_one : AllAreForOne h
   pub passes : PassesKept x h
-  pub free : (p : Place) → IsThere x.world.imsic (spot_of p) → is_held h p ≡ false
+  pub free : (p : GuestPlace) → IsThere x.world.imsic (spot_of p) → is_held h p ≡ false
       → shown (file_at x.world.imsic (spot_of p)) ≡ empty_file (greatest_identity_of h)
   pub no_vcpu : (g : Vcpu) → has_vcpu h g ≡ false
       → (guest_file h g ≡ empty_file (greatest_identity_of h)) × (guest_select h g ≡ 0)

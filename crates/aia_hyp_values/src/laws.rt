@@ -3,7 +3,7 @@
 
 ghost use Rattle.std.specs.Prelude.{◌≡◌, ◌≢◌, ◌⊎◌, ℕ, ◌%◌, true, false, [], ◌∷◌, ◌++◌, Some};
 ghost use Rattle.aia_file.specs.Imsic.{IsThere};
-ghost use Rattle.aia_vcpu.specs.declared.place.Place.{Place};
+ghost use Rattle.aia_vcpu.specs.declared.place.GuestPlace.{GuestPlace};
 ghost use Rattle.aia_vcpu.specs.Vms.{Vcpu, slot_of, notice_hart};
 ghost use Rattle.aia_vcpu.specs.Home.{holds};
 ghost use Rattle.aia_vcpu.specs.Home.Home.{Resident, OnWay};
@@ -59,16 +59,16 @@ pub fn a_core_stands_in_the_middle_of_a_leave()
 /// next. In a core that stands for a history the entry and the record that are in force are these
 /// routes, and a VM has no other entries, so that a store of its devices touches its own alone.
 pub fn stores_reach_files_that_are_held()
-    ensures devices { (h : History) (g : Vcpu) (p : Place) → in_force_of h g ≡ Some p
+    ensures devices { (h : History) (g : Vcpu) (p : GuestPlace) → in_force_of h g ≡ Some p
         → holds p (home h g) ≡ true }
-    ensures peers { (h : History) (g : Vcpu) (p : Place) → peers_reach (home h g) ≡ Some p
+    ensures peers { (h : History) (g : Vcpu) (p : GuestPlace) → peers_reach (home h g) ≡ Some p
         → holds p (home h g) ≡ true }
-    ensures free { (x : CoreState) (h : History) (g : Vcpu) (p : Place) → CoreStands x h
+    ensures free { (x : CoreState) (h : History) (g : Vcpu) (p : GuestPlace) → CoreStands x h
         → has_vcpu h g ≡ true → IsThere x.world.imsic (spot_of p) → is_out x.leases p ≡ false
         → (in_force_of h g ≢ Some p) × (peers_reach (home h g) ≢ Some p) }
-    ensures flying { (h : History) (v k : ℕ) (s : Sending) (p : Place) → IsHistory h
+    ensures flying { (h : History) (v k : ℕ) (s : Sending) (p : GuestPlace) → IsHistory h
         → flying h v k ≡ Some s → sent_into v s ≡ Some p → holds p (home h (sent_to v s)) ≡ true }
-    ensures none_flying { (x : CoreState) (h : History) (v k : ℕ) (s : Sending) (p : Place)
+    ensures none_flying { (x : CoreState) (h : History) (v k : ℕ) (s : Sending) (p : GuestPlace)
         → CoreStands x h → flying h v k ≡ Some s → IsThere x.world.imsic (spot_of p)
         → is_out x.leases p ≡ false → sent_into v s ≢ Some p }
     ensures in_force { (x : CoreState) (h : History) (g : Vcpu) → CoreStands x h

@@ -5,7 +5,7 @@ use aia_major::VsMajor;
 use aia_model::Refusal;
 use aia_move_values::KeptNumbers;
 use aia_pool::FileLease;
-use aia_vcpu::{Place, Rest};
+use aia_vcpu::{GuestPlace, Rest};
 
 /// Where a virtual hart is: what the hypervisor keeps of it there, and of one that is being moved
 /// the plan.
@@ -24,7 +24,7 @@ pub enum Stay<P> {
 impl<P> Stay<P> {
     /// Tells the guest file of a virtual hart that is resident, `None` for one that is parked, runs
     /// from memory or is being moved.
-    pub fn resident(&self) -> Option<Place>
+    pub fn resident(&self) -> Option<GuestPlace>
         ensures { result ≡ resident_at self.now }
     {
         match self {

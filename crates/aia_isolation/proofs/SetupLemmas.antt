@@ -18,7 +18,7 @@ use Rattle.aia_model.specs.Flight.{Sending, flight, flying}
 use Rattle.aia_word.specs.Sets.{least_of}
 use Rattle.aia_file.specs.Map.{spot_at, is_guest_page}
 use Rattle.aia_model.specs.declared.msi.Msi.{Msi}
-use Rattle.aia_model.specs.Passes.{Pass, no_pass, passes_of, passed_by}
+use Rattle.aia_model.specs.Passes.{PassedSource, no_pass, passes_of, passed_by}
 use Rattle.aia_model.specs.GuestFile.{sent_to, goes_to_guest}
 use Rattle.aia_isolation.specs.Said.{Said, said_by, landing_said, passed_said}
 use Rattle.aia_isolation.specs.Said.Said.{Asked}
@@ -149,16 +149,16 @@ said_of_landing g machine None = None
 said_of_landing g machine (Some s) =
     if is_vcpu g s.to then option_map Asked (requested (option_map_or (λ (m : MachineSize). m.n) machine 0) (s.addr % PAGE) s.value) else None
 
-abbrev said_of_pass : Vcpu → Option MachineSize → List Pass → Option ℕ → Option Said
+abbrev said_of_pass : Vcpu → Option MachineSize → List PassedSource → Option ℕ → Option Said
 said_of_pass g machine xs None = None
 said_of_pass g machine xs (Some p) =
     if is_vcpu g (slice_index_or xs p no_pass).to then option_map Asked (requested (option_map_or (λ (m : MachineSize). m.n) machine 0) 0 (slice_index_or xs p no_pass).identity) else None
 
-abbrev number_in : List Pass → Option ℕ → Option ℕ
+abbrev number_in : List PassedSource → Option ℕ → Option ℕ
 number_in xs None = None
 number_in xs (Some s) = least_of (λ p. nat_eq (slice_index_or xs p no_pass).source s) 0 (length xs)
 
-abbrev said_of_forward : Vcpu → Msi → Option MachineSize → List Pass → Option Said
+abbrev said_of_forward : Vcpu → Msi → Option MachineSize → List PassedSource → Option Said
 said_of_forward g msi machine xs =
     if is_guest_page (spot_at (option_map_or (λ (m : MachineSize). m.harts) machine 0) (option_map_or (λ (m : MachineSize). m.guests) machine 0) msi.address) then said_of_pass g machine xs (number_in xs msi.source) else None
 

@@ -18,7 +18,7 @@ use Rattle.aia_model.specs.Move.LineDeed.{NoMove, Whole, Begins, Steps, Lands}
 use Rattle.aia_model.specs.Event.{Event, History, file_words}
 use Rattle.aia_model.specs.Event.Event.{Accepted, Began, Stepped, Delivered, Landed, Relayed}
 use Rattle.aia_model.specs.Flight.{flight}
-use Rattle.aia_model.specs.Passes.{Pass, no_pass, passes_of, passed_by, passes_to, passes_for}
+use Rattle.aia_model.specs.Passes.{PassedSource, no_pass, passes_of, passed_by, passes_to, passes_for}
 use Rattle.aia_model.specs.Aim.{pass_reach}
 use Rattle.aia_model.specs.HomeOf.{home}
 use Rattle.aia_model.specs.Refusal.{refusal}
@@ -33,7 +33,7 @@ IsUnpassed h = passes_of h ≡ []
 
 -- ---- none was passed before
 
-none_appended : (xs : List Pass) (x : Pass) → xs ++ x ∷ [] ≡ [] → xs ≡ []
+none_appended : (xs : List PassedSource) (x : PassedSource) → xs ++ x ∷ [] ≡ [] → xs ≡ []
 none_appended [] x e = refl
 none_appended (y ∷ ys) x e = absurd (cc)
 
@@ -125,7 +125,7 @@ unpassed_on (Landed vm k) h other e = e
 unpassed_on (Relayed p) h other e = e
 
 -- a line that passes a source, accepted, leaves one passed
-one_appended : (xs : List Pass) (x : Pass) → xs ++ x ∷ [] ≡ [] → ⊥
+one_appended : (xs : List PassedSource) (x : PassedSource) → xs ++ x ∷ [] ≡ [] → ⊥
 one_appended [] x e = cc
 one_appended (y ∷ ys) x e = cc
 
@@ -146,7 +146,7 @@ none_in P = refl
 
 pub none_passed_by : (h : History) (o : Option ℕ) → IsUnpassed h → passed_by h o ≡ None
 none_passed_by h None e = refl
-none_passed_by h (Some s) e = ap (λ (xs : List Pass). least_of (λ p. nat_eq (slice_index_or xs p no_pass).source s) 0 (length xs)) e ∙ none_in _
+none_passed_by h (Some s) e = ap (λ (xs : List PassedSource). least_of (λ p. nat_eq (slice_index_or xs p no_pass).source s) 0 (length xs)) e ∙ none_in _
 
 pub taken_alone : (msi : Msi) (h : History) → IsUnpassed h → msi_taken msi h ≡ Delivered msi ∷ h
 taken_alone msi h e = ap (λ o. given_on o (Delivered msi ∷ h)) (none_passed_by h msi.source e)

@@ -21,7 +21,7 @@ use Rattle.aia_model.specs.declared.line.Line.TheVariants as lines
 use Rattle.aia_model.specs.declared.want.Want.TheVariants as wants
 use Rattle.aia_model.specs.declared.answer.Answer.{Answer}
 use Rattle.aia_model.specs.declared.msi.Msi.{Msi}
-use Rattle.aia_model.specs.Move.{Move, mover, wanted_move, LineDeed, line_deed}
+use Rattle.aia_model.specs.Move.{WantedMove, mover, wanted_move, LineDeed, line_deed}
 use Rattle.aia_model.proofs.BeginLemmas.{moves_its_own}
 use Rattle.aia_model.specs.Move.LineDeed.{NoMove, Whole, Begins, Steps, Lands}
 use Rattle.aia_model.specs.Event.{Event, History, has_machine, file_words}
@@ -50,7 +50,7 @@ and_same new mid old g late early = (late.0 ∙ early.0, late.1 ∙ early.1, lat
 
 -- ---- moves and MSIs
 
-pub begun_same : (move : Move) (h : History) (g : Vcpu) → IsSameGuest (Began move ∷ h) h g
+pub begun_same : (move : WantedMove) (h : History) (g : Vcpu) → IsSameGuest (Began move ∷ h) h g
 unfolding select_by file_by majors_of
 begun_same move h g = (refl, refl, refl)
 
@@ -102,7 +102,7 @@ still_stepped : (vm : ℕ) (x : Vcpu) (h : History) (g : Vcpu) → Still h vm g 
 unfolding flight
 still_stepped vm x h g all = all
 
-still_begun : (vm : ℕ) (move : Move) (h : History) (g : Vcpu) → Still h vm g → Still (Began move ∷ h) vm g
+still_begun : (vm : ℕ) (move : WantedMove) (h : History) (g : Vcpu) → Still h vm g → Still (Began move ∷ h) vm g
 unfolding flight
 still_begun vm move h g all = all
 
@@ -291,7 +291,7 @@ moved_same h line g moves quiet = let still = none_forwarded h line g (moves_sen
 -- ---- its file, by what the line is to it
 
 -- an accepted line that does no steps of a move is one event
-one_event : (h : History) (line : Line) → does_steps (line_deed line) ≡ false → (line_taken h line ≡ event_of line ∷ h) ⊎ ((move : Move) × (line_taken h line ≡ Began move ∷ h) × ((g : Vcpu) → guest_deed g h (event_of line) ≡ Rests))
+one_event : (h : History) (line : Line) → does_steps (line_deed line) ≡ false → (line_taken h line ≡ event_of line ∷ h) ⊎ ((move : WantedMove) × (line_taken h line ≡ Began move ∷ h) × ((g : Vcpu) → guest_deed g h (event_of line) ≡ Rests))
 one_event h (lines.Move vm number want) e = absurd (cc)
 one_event h (Step vm number) e = absurd (cc)
 one_event h (lines.Begin vm number want) e = inr (wanted_move (vcpu vm number) want, refl, λ g. refl)

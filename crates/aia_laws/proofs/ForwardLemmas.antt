@@ -14,7 +14,7 @@ use Rattle.aia_file.specs.InterruptFile.{InterruptFile}
 use Rattle.aia_file.specs.Map.{is_guest_page}
 use Rattle.aia_file.proofs.MapLemmas.{in_page, before_page, after_page, spot_of_host, spot_of_guest}
 use Rattle.aia_regs.proofs.ListLemmas.{here_or_later, nowhere}
-use Rattle.aia_vcpu.specs.declared.place.Place.{Place}
+use Rattle.aia_vcpu.specs.declared.place.GuestPlace.{GuestPlace}
 use Rattle.aia_vcpu.specs.Vms.{Vcpu, notice_identity}
 use Rattle.aia_vcpu.specs.Aims.{host_identity}
 use Rattle.aia_model.specs.declared.line.Line.{Line}
@@ -55,7 +55,7 @@ own_page page = in_page page page (omega arith) (omega arith)
 notice_there : (h : History) (p : ℕ) → IsHistory h → p < length (passes_of h) → pass_notice_hart h p < harts_of h
 notice_there h p good low = notice_fits h (nth_pass h p).to good ((passes_stand h good).pass p low).there
 
-place_there : (h : History) (p : ℕ) (q : Place) → IsHistory h → pass_reach h p ≡ Some q → IsPlaceOf h q
+place_there : (h : History) (p : ℕ) (q : GuestPlace) → IsHistory h → pass_reach h p ≡ Some q → IsPlaceOf h q
 place_there h p q good r = all_held h (nth_pass h p).to good q (reach_is_held _ (home h (nth_pass h p).to) q r)
 
 pub memory_page : (h : History) (p : ℕ) (msi : Msi) → IsHistory h → p < length (passes_of h) → IsForward h p msi → pass_reach h p ≡ None → goes_to_guest h msi ≡ false
@@ -63,7 +63,7 @@ memory_page h p msi good low forward r =
     let addr : msi.address ≡ supervisor_page (pass_notice_hart h p) = forward.page ∙ ap (λ o. page_to (pass_notice_hart h p) o) r in
     ap is_guest_page (spot_of_host (harts_of h) (guests_of h) msi.address (pass_notice_hart h p) (sized h good).harts (notice_there h p good low) (ap (is_in_page (supervisor_page (pass_notice_hart h p))) addr ∙ own_page (supervisor_page (pass_notice_hart h p))))
 
-file_page : (h : History) (p : ℕ) (msi : Msi) (q : Place) → IsHistory h → IsForward h p msi → pass_reach h p ≡ Some q → goes_to_guest h msi ≡ true
+file_page : (h : History) (p : ℕ) (msi : Msi) (q : GuestPlace) → IsHistory h → IsForward h p msi → pass_reach h p ≡ Some q → goes_to_guest h msi ≡ true
 file_page h p msi q good forward r =
     let addr : msi.address ≡ guest_page q.hart q.file = forward.page ∙ ap (λ o. page_to (pass_notice_hart h p) o) r in
     let one = place_there h p q good r in
@@ -105,7 +105,7 @@ stored_host (SupervisorFile x) h notice p address value size there at is = elim 
   | inr other ↦ cond-false _ _ _ (ap (is_in_page (supervisor_page x)) at ∙ other_page x notice other) ∙ sym (cond-false _ _ _ other)
 ]
 
-guest_unstored : (f : FileName) (h : History) (q : Place) (address value : ℕ) → IsSized h → IsPlaceOf h q → has_file h f ≡ true → address ≡ guest_page q.hart q.file → store_deed f address value ≡ Rests
+guest_unstored : (f : FileName) (h : History) (q : GuestPlace) (address value : ℕ) → IsSized h → IsPlaceOf h q → has_file h f ≡ true → address ≡ guest_page q.hart q.file → store_deed f address value ≡ Rests
 guest_unstored (MachineFile x) h q address value size one there at =
     let low = ltb-true x (harts_of h) there in let few = size.harts in
     cond-false _ _ _ (no_machine_page x address (omega (arith, low, few)) (omega (arith, at)))
@@ -126,37 +126,37 @@ goes_as_aimed h p msi good passed forward = by_reach (pass_reach h p) refl
     low : p < length (passes_of h)
     low = number_found h msi.source p passed
 
-    by_reach : (o : Option Place) → pass_reach h p ≡ o → GoesAsAimed h p msi
+    by_reach : (o : Option GuestPlace) → pass_reach h p ≡ o → GoesAsAimed h p msi
     by_reach None r = record {
       passed = passed;
       page = memory_page h p msi good low forward r ∙ sym (ap is_some r);
       host = λ f there. stored_host f h (pass_notice_hart h p) p msi.address msi.value (sized h good) there (forward.page ∙ ap (λ o. page_to (pass_notice_hart h p) o) r)
-          (forward.value ∙ ap (λ o. value_to p (nth_pass h p).identity o) r) ∙ sym (ap (λ (o : Option Place). cond (is_none o && is_file f (pass_file h p)) (Stores 0 (host_identity p)) Rests) r);
+          (forward.value ∙ ap (λ o. value_to p (nth_pass h p).identity o) r) ∙ sym (ap (λ (o : Option GuestPlace). cond (is_none o && is_file f (pass_file h p)) (Stores 0 (host_identity p)) Rests) r);
     }
     by_reach (Some q) r = record {
       passed = passed;
       page = file_page h p msi q good forward r ∙ sym (ap is_some r);
       host = λ f there. guest_unstored f h q msi.address msi.value (sized h good) (place_there h p q good r) there (forward.page ∙ ap (λ o. page_to (pass_notice_hart h p) o) r)
-          ∙ sym (ap (λ (o : Option Place). cond (is_none o && is_file f (pass_file h p)) (Stores 0 (host_identity p)) Rests) r);
+          ∙ sym (ap (λ (o : Option GuestPlace). cond (is_none o && is_file f (pass_file h p)) (Stores 0 (host_identity p)) Rests) r);
     }
 
 -- ---- what it does
 
 -- an MSI of a pass that leads to a guest file is delivered; one that leads to memory is given on
 -- too
-taken_at_file : (h : History) (p : ℕ) (msi : Msi) (q : Place) → passed_by h msi.source ≡ Some p → pass_reach h p ≡ Some q → msi_taken msi h ≡ Delivered msi ∷ h
+taken_at_file : (h : History) (p : ℕ) (msi : Msi) (q : GuestPlace) → passed_by h msi.source ≡ Some p → pass_reach h p ≡ Some q → msi_taken msi h ≡ Delivered msi ∷ h
 unfolding passes_of home
-taken_at_file h p msi q e r = ap (λ o. given_on o (Delivered msi ∷ h)) e ∙ ap (λ (o : Option Place). cond (is_none o) (Relayed p ∷ Delivered msi ∷ h) (Delivered msi ∷ h)) r
+taken_at_file h p msi q e r = ap (λ o. given_on o (Delivered msi ∷ h)) e ∙ ap (λ (o : Option GuestPlace). cond (is_none o) (Relayed p ∷ Delivered msi ∷ h) (Delivered msi ∷ h)) r
 
 taken_in_memory : (h : History) (p : ℕ) (msi : Msi) → passed_by h msi.source ≡ Some p → pass_reach h p ≡ None → msi_taken msi h ≡ Relayed p ∷ Delivered msi ∷ h
 unfolding passes_of home
-taken_in_memory h p msi e r = ap (λ o. given_on o (Delivered msi ∷ h)) e ∙ ap (λ (o : Option Place). cond (is_none o) (Relayed p ∷ Delivered msi ∷ h) (Delivered msi ∷ h)) r
+taken_in_memory h p msi e r = ap (λ o. given_on o (Delivered msi ∷ h)) e ∙ ap (λ (o : Option GuestPlace). cond (is_none o) (Relayed p ∷ Delivered msi ∷ h) (Delivered msi ∷ h)) r
 
 forwarded_file : (h : History) (p : ℕ) (msi : Msi) (g : Vcpu) → GoesAsAimed h p msi → guest_file (msi_taken msi h) g ≡ file_after (guest_select h g) (forward_deed h p g) (guest_file h g)
 unfolding select_by file_by passes_of
 forwarded_file h p msi g goes = by_reach (pass_reach h p) refl
   where
-    by_reach : (o : Option Place) → pass_reach h p ≡ o → guest_file (msi_taken msi h) g ≡ file_after (guest_select h g) (forward_deed h p g) (guest_file h g)
+    by_reach : (o : Option GuestPlace) → pass_reach h p ≡ o → guest_file (msi_taken msi h) g ≡ file_after (guest_select h g) (forward_deed h p g) (guest_file h g)
     by_reach (Some q) r =
         let there : goes_to_guest h msi ≡ true = goes.page ∙ ap is_some r in
         ap (λ x. guest_file x g) (taken_at_file h p msi q goes.passed r)
@@ -203,18 +203,18 @@ forwarded_hosts h p msi f i goes there = by_reach (pass_reach h p) refl
     told : Option ℕ
     told = option_map (notice_identity (vms_of h)) (noticed (Delivered msi ∷ h) (Relayed p))
 
-    by_reach : (o : Option Place) → pass_reach h p ≡ o → (file_of (msi_taken msi h) f).pending i ≡ settle (forward_said h p msi f i) ((file_of h f).pending i)
+    by_reach : (o : Option GuestPlace) → pass_reach h p ≡ o → (file_of (msi_taken msi h) f).pending i ≡ settle (forward_said h p msi f i) ((file_of h f).pending i)
     by_reach (Some q) r =
-        let rests : store_deed f msi.address msi.value ≡ Rests = goes.host f there ∙ ap (λ (o : Option Place). cond (is_none o && is_file f (pass_file h p)) (Stores 0 (host_identity p)) Rests) r in
+        let rests : store_deed f msi.address msi.value ≡ Rests = goes.host f there ∙ ap (λ (o : Option GuestPlace). cond (is_none o && is_file f (pass_file h p)) (Stores 0 (host_identity p)) Rests) r in
         rw r (ap (λ x. (file_of x f).pending i) (taken_at_file h p msi q goes.passed r) ∙ (rw rests refl))
     by_reach None r = by_file (is_file f (pass_file h p)) refl
       where
         by_file : (b : Bool) → is_file f (pass_file h p) ≡ b → (file_of (msi_taken msi h) f).pending i ≡ settle (forward_said h p msi f i) ((file_of h f).pending i)
         by_file true own =
-            let stores : store_deed f msi.address msi.value ≡ Stores 0 (host_identity p) = goes.host f there ∙ ap (λ (o : Option Place). cond (is_none o && is_file f (pass_file h p)) (Stores 0 (host_identity p)) Rests) r ∙ cond-true _ _ _ own in
+            let stores : store_deed f msi.address msi.value ≡ Stores 0 (host_identity p) = goes.host f there ∙ ap (λ (o : Option GuestPlace). cond (is_none o && is_file f (pass_file h p)) (Stores 0 (host_identity p)) Rests) r ∙ cond-true _ _ _ own in
             rw (r, own) (ap (λ x. (file_of x f).pending i) (taken_in_memory h p msi goes.passed r) ∙ rw (stores, own) (own_first (host_identity p) (file_of h f).n told i ((file_of h f).pending i)))
         by_file false other =
-            let rests : store_deed f msi.address msi.value ≡ Rests = goes.host f there ∙ ap (λ (o : Option Place). cond (is_none o && is_file f (pass_file h p)) (Stores 0 (host_identity p)) Rests) r ∙ cond-false _ _ _ other in
+            let rests : store_deed f msi.address msi.value ≡ Rests = goes.host f there ∙ ap (λ (o : Option GuestPlace). cond (is_none o && is_file f (pass_file h p)) (Stores 0 (host_identity p)) Rests) r ∙ cond-false _ _ _ other in
             rw (r, other) (ap (λ x. (file_of x f).pending i) (taken_in_memory h p msi goes.passed r) ∙ rw (rests, other) refl)
 
 -- ---- in every history whose events may happen

@@ -4,7 +4,7 @@ use Rattle.aia_regs.specs.BitUpdate.{BitUpdate}
 use Rattle.aia_regs.specs.BitUpdate.BitUpdate.{Ask, Clear}
 use Rattle.aia_vcpu.specs.Vms.{Vcpu, vcpu, is_vcpu, notice_hart, notice_identity}
 use Rattle.aia_vcpu.specs.Home.{is_resident}
-use Rattle.aia_model.specs.Move.Move.{Leaves}
+use Rattle.aia_model.specs.Move.WantedMove.{Leaves}
 use Rattle.aia_model.specs.declared.line.Line.{Line}
 use Rattle.aia_model.specs.declared.line.Line.TheVariants.{Exit, LoadPart}
 use Rattle.aia_model.specs.declared.part.Part.{Part}

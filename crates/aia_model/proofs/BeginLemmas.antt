@@ -11,8 +11,8 @@ use Rattle.aia_vcpu.specs.Plans.{plan_steps}
 use Rattle.aia_model.specs.declared.line.Line.TheVariants as lines
 use Rattle.aia_model.specs.declared.want.Want.{Want}
 use Rattle.aia_model.specs.declared.want.Want.TheVariants as wants
-use Rattle.aia_model.specs.Move.{Move, mover, wanted_move}
-use Rattle.aia_model.specs.Move.Move.{Arrives, Leaves, Shifts}
+use Rattle.aia_model.specs.Move.{WantedMove, mover, wanted_move}
+use Rattle.aia_model.specs.Move.WantedMove.{Arrives, Leaves, Shifts}
 use Rattle.aia_model.specs.Event.{History}
 use Rattle.aia_model.specs.Event.Event.{Began}
 use Rattle.aia_model.specs.HomeOf.{home, free_file, guest_place}
@@ -28,7 +28,7 @@ may_begin h vm number (wants.Arrive hart) e = let may = arrive_allowed h vm numb
 may_begin h vm number (wants.Shift hart) e = let may = shift_allowed h vm number hart e in (may.0, may.1, may.4)
 
 -- a home is at the beginning of a way of the move, whose steps are those between its ends
-pub record IsBegun (move : Move) (there : Home) : Type 0 where
+pub record IsBegun (move : WantedMove) (there : Home) : Type 0 where
   pub way : Way
   pub at_home : there ≡ OnWay way at_first
   pub steps : (words : ℕ) → steps_of words move ≡ plan_steps (old_end way) (new_end way) words

@@ -14,7 +14,7 @@ use Rattle.aia_model.specs.declared.answer.Answer.{Answer}
 use Rattle.aia_model.specs.declared.msi.Msi.{Msi}
 use Rattle.aia_model.specs.declared.parsed.Parsed.{Parsed}
 use Rattle.aia_model.specs.declared.parsed.Parsed.TheVariants as parsed
-use Rattle.aia_model.specs.Move.{Move, mover, wanted_move}
+use Rattle.aia_model.specs.Move.{WantedMove, mover, wanted_move}
 use Rattle.aia_model.specs.Event.{History, has_machine, file_words}
 use Rattle.aia_model.specs.Event.Event.{Accepted, Began, Stepped, Delivered, Landed, Relayed}
 use Rattle.aia_model.specs.Vms.{has_vcpu}
@@ -32,7 +32,7 @@ use Rattle.aia_model.proofs.AnswerLemmas.{after_by}
 use Rattle.aia_model.proofs.BeginLemmas.{may_begin, IsBegun, begun, moves_its_own}
 use Rattle.aia_vcpu.specs.Vms.{is_vcpu_in}
 use Rattle.aia_vcpu.specs.BySteps.{new_file}
-use Rattle.aia_vcpu.specs.declared.place.Place.{Place}
+use Rattle.aia_vcpu.specs.declared.place.GuestPlace.{GuestPlace}
 use Rattle.aia_vcpu.specs.Routes.{is_at_fence, is_closed, origin, MayReach}
 use Rattle.aia_vcpu.proofs.HomeLemmas.{not_the_last}
 use Rattle.aia_model.specs.Flight.{Sending, flight, flying}
@@ -51,7 +51,7 @@ abbrev steps_left : ℕ → ℕ → Home → ℕ
 steps_left passes words (OnWay way at) = (plan_steps (old_end way) (new_end way) words - at.steps) + (passes - at.aims)
 steps_left passes words there = 0
 
-none_left : (passes words : ℕ) (to : Option Place) → steps_left passes words (at_rest to) ≡ 0
+none_left : (passes words : ℕ) (to : Option GuestPlace) → steps_left passes words (at_rest to) ≡ 0
 none_left passes words None = refl
 none_left passes words (Some p) = refl
 
@@ -121,7 +121,7 @@ steps_happen (suc count) g h there left good =
     let one = one_less (passes_for h g) (file_words h) count (home h g) (all_aimed_in h good g) left in
     steps_happen count g (step_taken g h) (there_still g g h there) (ap (λ n. steps_left n (file_words (landed_first g h)) (home (step_taken g h) g)) (passes_stepped g g h) ∙ ap (λ w. steps_left (passes_for h g) w (home (step_taken g h) g)) (words_first g h) ∙ ap (steps_left (passes_for h g) (file_words h)) (home_stepped g h) ∙ one.1) (step_happens g h there one.0 good)
 
-move_left : (passes words : ℕ) (move : Move) (there : Home) → IsBegun move there → steps_left passes words there ≡ steps_of words move + passes
+move_left : (passes words : ℕ) (move : WantedMove) (there : Home) → IsBegun move there → steps_left passes words there ≡ steps_of words move + passes
 move_left passes words move there its = ap (steps_left passes words) its.at_home ∙ omega (arith, its.steps words)
 
 move_happens : (h : History) (vm number : ℕ) (want : Want) → refusal h (lines.Move vm number want) ≡ None → IsHistory h → IsHistory (whole_move h (wanted_move (vcpu vm number) want))
@@ -167,7 +167,7 @@ pub msi_by_pass : (P : History → Type 0) (msi : Msi) (h : History) → P (Deli
     → ((p : ℕ) → passed_by h msi.source ≡ Some p → pass_reach (Delivered msi ∷ h) p ≡ None → P (Relayed p ∷ Delivered msi ∷ h)) → P (msi_taken msi h)
 msi_by_pass P msi h file memory = by_pass (passed_by h msi.source) refl
   where
-    by_reach : (p : ℕ) (o : Option Place) → passed_by h msi.source ≡ Some p → pass_reach (Delivered msi ∷ h) p ≡ o → P (if is_none o then Relayed p ∷ Delivered msi ∷ h else Delivered msi ∷ h)
+    by_reach : (p : ℕ) (o : Option GuestPlace) → passed_by h msi.source ≡ Some p → pass_reach (Delivered msi ∷ h) p ≡ o → P (if is_none o then Relayed p ∷ Delivered msi ∷ h else Delivered msi ∷ h)
     by_reach p None e r = memory p e r
     by_reach p (Some q) e r = file
 
@@ -238,7 +238,7 @@ flying_closed h vm k s good e closed = elim (all_at (MayFly h vm) k (flight h vm
 ]
 
 -- at rest each goes where it is
-rest_reach : (there : Home) (into : Option Place) → is_moving there ≡ false → MayReach there into → into ≡ origin there
+rest_reach : (there : Home) (into : Option GuestPlace) → is_moving there ≡ false → MayReach there into → into ≡ origin there
 rest_reach there into rests (inl old) = old.0
 rest_reach (InMemory rest) into rests (inr new) = absurd (cc)
 rest_reach (Resident p) into rests (inr new) = absurd (cc)

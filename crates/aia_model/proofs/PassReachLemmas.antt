@@ -3,7 +3,7 @@ use Rattle.std.proofs.Common.{◌≡◌, ◌+◌, ◌||◌, ℕ, Bool, true, fal
 use Rattle.std.specs.Option.{option_map_or}
 use Rattle.std.proofs.lemmas.Bool.{cases_Bool, cond-true, cond-false}
 use Rattle.std.proofs.lemmas.Bool.Decides.{nat_tests}
-use Rattle.aia_vcpu.specs.declared.place.Place.{Place}
+use Rattle.aia_vcpu.specs.declared.place.GuestPlace.{GuestPlace}
 use Rattle.aia_vcpu.specs.Home.{Home, left, led_to, at_rest, holds, ended, one_more, leaving, arriving, shifting}
 use Rattle.aia_vcpu.specs.declared.rest.Rest.TheVariants.{Parked}
 use Rattle.aia_vcpu.specs.Home.Home.{InMemory, Resident, OnWay}
@@ -23,11 +23,11 @@ pub leaving_passes : (r : ℕ) (there : Home) → pass_reaches r (leaving there)
 leaving_passes r (OnWay way at) = refl
 leaving_passes r there = refl
 
-pub arriving_passes : (r : ℕ) (q : Place) (there : Home) → pass_reaches r (arriving q there) ≡ pass_reaches r there
+pub arriving_passes : (r : ℕ) (q : GuestPlace) (there : Home) → pass_reaches r (arriving q there) ≡ pass_reaches r there
 arriving_passes r q (InMemory Parked) = rw (none_below r) refl
 arriving_passes r q there = refl
 
-pub shifting_passes : (r : ℕ) (q : Place) (there : Home) → pass_reaches r (shifting q there) ≡ pass_reaches r there
+pub shifting_passes : (r : ℕ) (q : GuestPlace) (there : Home) → pass_reaches r (shifting q there) ≡ pass_reaches r there
 shifting_passes r q (Resident p) = rw (none_below r) refl
 shifting_passes r q there = refl
 
@@ -46,7 +46,7 @@ one_more_passes r (OnWay way at) = refl
 one_more_passes r there = refl
 
 -- at the last step all are aimed
-rests_reached : (r : ℕ) (to : Option Place) → pass_reaches r (at_rest to) ≡ to
+rests_reached : (r : ℕ) (to : Option GuestPlace) → pass_reaches r (at_rest to) ≡ to
 rests_reached r None = cond-false _ _ _ (none_below r)
 rests_reached r (Some p) = cond-false _ _ _ (none_below r)
 
@@ -82,7 +82,7 @@ aimed_other r there other = refl
 
 -- ---- it leads to no guest file that its virtual hart does not hold
 
-pub reach_is_held : (r : ℕ) (there : Home) (q : Place) → pass_reaches r there ≡ Some q → holds q there ≡ true
+pub reach_is_held : (r : ℕ) (there : Home) (q : GuestPlace) → pass_reaches r there ≡ Some q → holds q there ≡ true
 reach_is_held r there q e = by_test (nat_lt r (aims_done there)) e
   where
     by_test : (b : Bool) → (if b then new_file there else origin there) ≡ Some q → holds q there ≡ true

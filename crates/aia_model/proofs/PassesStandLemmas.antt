@@ -21,7 +21,7 @@ use Rattle.aia_model.specs.declared.line.Line.TheVariants.{Machine, Wire, Load, 
 use Rattle.aia_model.specs.declared.line.Line.TheVariants as lines
 use Rattle.aia_model.specs.declared.domain_name.DomainName.{DomainName}
 use Rattle.aia_model.specs.declared.domain_name.DomainName.TheVariants.{Child}
-use Rattle.aia_model.specs.Move.Move.{Arrives, Leaves, Shifts}
+use Rattle.aia_model.specs.Move.WantedMove.{Arrives, Leaves, Shifts}
 use Rattle.aia_model.specs.Event.{Event, History, MachineSize, has_machine, machine_of, greatest_identity_of, file_words}
 use Rattle.aia_model.specs.Event.Event.{Accepted, Began, Stepped, Delivered, Landed, Relayed}
 use Rattle.aia_model.specs.Vms.{vms_of, has_vcpu}
@@ -29,7 +29,7 @@ use Rattle.aia_model.specs.Act.{Act, Past, act_of, domain_at, register_at}
 use Rattle.aia_model.specs.Act.Act.{Driven, Written, Loaded, Aimed}
 use Rattle.aia_model.specs.SourceOf.{target}
 use Rattle.aia_model.specs.Sent.{with_act, with_all_sent, senders, acts_of}
-use Rattle.aia_model.specs.Passes.{Pass, no_pass, passes_of, nth_pass, pass_of, is_passed, passes_to, passes_for, own_pass, rank_of}
+use Rattle.aia_model.specs.Passes.{PassedSource, no_pass, passes_of, nth_pass, pass_of, is_passed, passes_to, passes_for, own_pass, rank_of}
 use Rattle.aia_model.specs.Passable.{is_passable, redirects, KeepsItsWay}
 use Rattle.aia_model.specs.HomeOf.{home, rest_after, rested, free_file}
 use Rattle.aia_model.specs.Aim.{pass_reach, target_for, aim_of, aimed_by, PassAtRest, AllAreAimed}
@@ -92,32 +92,32 @@ aimed_left h p past a leaves aim = let stays = passed_stays past a (nth_pass h p
 
 -- ---- one pass more
 
-one_longer : (xs : List Pass) (x : Pass) → length (xs ++ x ∷ []) ≡ length xs + 1
+one_longer : (xs : List PassedSource) (x : PassedSource) → length (xs ++ x ∷ []) ≡ length xs + 1
 one_longer [] x = omega arith
 one_longer (y ∷ ys) x = let rest = one_longer ys x in omega (arith, rest)
 
-old_pass : (xs : List Pass) (x : Pass) (p : ℕ) → p < length xs → slice_index_or (xs ++ x ∷ []) p no_pass ≡ slice_index_or xs p no_pass
+old_pass : (xs : List PassedSource) (x : PassedSource) (p : ℕ) → p < length xs → slice_index_or (xs ++ x ∷ []) p no_pass ≡ slice_index_or xs p no_pass
 old_pass xs x p low = get_or_append_left xs (x ∷ []) no_pass p low
 
-new_pass : (xs : List Pass) (x : Pass) → slice_index_or (xs ++ x ∷ []) (length xs) no_pass ≡ x
+new_pass : (xs : List PassedSource) (x : PassedSource) → slice_index_or (xs ++ x ∷ []) (length xs) no_pass ≡ x
 new_pass xs x = get_or-append_seam xs x [] no_pass
 
 -- the number of the pass of a source, in a list
-abbrev number_in : List Pass → ℕ → Option ℕ
+abbrev number_in : List PassedSource → ℕ → Option ℕ
 number_in xs s = least_of (λ q. nat_eq (slice_index_or xs q no_pass).source s) 0 (length xs)
 
-number_stays : (xs : List Pass) (x : Pass) (p : ℕ) → p < length xs → number_in xs (slice_index_or xs p no_pass).source ≡ Some p → number_in (xs ++ x ∷ []) (slice_index_or xs p no_pass).source ≡ Some p
+number_stays : (xs : List PassedSource) (x : PassedSource) (p : ℕ) → p < length xs → number_in xs (slice_index_or xs p no_pass).source ≡ Some p → number_in (xs ++ x ∷ []) (slice_index_or xs p no_pass).source ≡ Some p
 number_stays xs x p low is =
     let least = least_of_is _ 0 (length xs) p is in
     let longer = one_longer xs x in
-    least_of-found _ 0 (length (xs ++ x ∷ [])) p (omega arith) (omega (arith, low, longer)) (ap (λ (y : Pass). nat_eq y.source (slice_index_or xs p no_pass).source) (old_pass xs x p low) ∙ eq-eqb _ _ refl)
-    (λ j a b. ap (λ (y : Pass). nat_eq y.source (slice_index_or xs p no_pass).source) (old_pass xs x j (omega (arith, low, b))) ∙ least.3 j a b)
+    least_of-found _ 0 (length (xs ++ x ∷ [])) p (omega arith) (omega (arith, low, longer)) (ap (λ (y : PassedSource). nat_eq y.source (slice_index_or xs p no_pass).source) (old_pass xs x p low) ∙ eq-eqb _ _ refl)
+    (λ j a b. ap (λ (y : PassedSource). nat_eq y.source (slice_index_or xs p no_pass).source) (old_pass xs x j (omega (arith, low, b))) ∙ least.3 j a b)
 
-number_new : (xs : List Pass) (x : Pass) → number_in xs x.source ≡ None → number_in (xs ++ x ∷ []) x.source ≡ Some (length xs)
+number_new : (xs : List PassedSource) (x : PassedSource) → number_in xs x.source ≡ None → number_in (xs ++ x ∷ []) x.source ≡ Some (length xs)
 number_new xs x none =
     let longer = one_longer xs x in
-    least_of-found _ 0 (length (xs ++ x ∷ [])) (length xs) (omega arith) (omega (arith, longer)) (ap (λ (y : Pass). nat_eq y.source x.source) (new_pass xs x) ∙ eq-eqb _ _ refl)
-    (λ j a b. ap (λ (y : Pass). nat_eq y.source x.source) (old_pass xs x j b) ∙ least_of_is_none _ 0 (length xs) none j a (omega (arith, b)))
+    least_of-found _ 0 (length (xs ++ x ∷ [])) (length xs) (omega arith) (omega (arith, longer)) (ap (λ (y : PassedSource). nat_eq y.source x.source) (new_pass xs x) ∙ eq-eqb _ _ refl)
+    (λ j a b. ap (λ (y : PassedSource). nat_eq y.source x.source) (old_pass xs x j b) ∙ least_of_is_none _ 0 (length xs) none j a (omega (arith, b)))
 
 fresh_number : (h : History) (s : ℕ) → is_passed h s ≡ false → pass_of h s ≡ None
 fresh_number h s fresh = by_pass (pass_of h s) fresh
@@ -148,20 +148,20 @@ more_known h source vm number identity p may all low = elim (cases_lt p (length 
       let s = all.pass p old in
       let e = old_pass (passes_of h) x p old in
       record {
-        there = subst (λ (y : Pass). has_vcpu h y.to ≡ true) (sym e) s.there;
-        identity = subst (λ (y : Pass). is_in_range 1 (greatest_identity_of h) y.identity ≡ true) (sym e) s.identity;
-        known = subst (λ (y : Pass). number_in (passes_of h ++ x ∷ []) y.source ≡ Some p) (sym e) (number_stays (passes_of h) x p old s.known);
+        there = subst (λ (y : PassedSource). has_vcpu h y.to ≡ true) (sym e) s.there;
+        identity = subst (λ (y : PassedSource). is_in_range 1 (greatest_identity_of h) y.identity ≡ true) (sym e) s.identity;
+        known = subst (λ (y : PassedSource). number_in (passes_of h ++ x ∷ []) y.source ≡ Some p) (sym e) (number_stays (passes_of h) x p old s.known);
       }
   | inr new ↦
       let last : length (passes_of h) ≡ p = let longer = one_longer (passes_of h) x in omega (arith, low, new, longer) in
       subst (IsKnown (Accepted (lines.Pass source vm number identity) ∷ h)) last (record {
-        there = subst (λ (y : Pass). has_vcpu h y.to ≡ true) (sym (new_pass (passes_of h) x)) may.there;
-        identity = subst (λ (y : Pass). is_in_range 1 (greatest_identity_of h) y.identity ≡ true) (sym (new_pass (passes_of h) x)) may.identity_there;
-        known = subst (λ (y : Pass). number_in (passes_of h ++ x ∷ []) y.source ≡ Some (length (passes_of h))) (sym (new_pass (passes_of h) x)) (number_new (passes_of h) x (fresh_number h source may.fresh));
+        there = subst (λ (y : PassedSource). has_vcpu h y.to ≡ true) (sym (new_pass (passes_of h) x)) may.there;
+        identity = subst (λ (y : PassedSource). is_in_range 1 (greatest_identity_of h) y.identity ≡ true) (sym (new_pass (passes_of h) x)) may.identity_there;
+        known = subst (λ (y : PassedSource). number_in (passes_of h ++ x ∷ []) y.source ≡ Some (length (passes_of h))) (sym (new_pass (passes_of h) x)) (number_new (passes_of h) x (fresh_number h source may.fresh));
       })
 ]
   where
-    x : Pass
+    x : PassedSource
     x = record { source = source; to = vcpu vm number; identity = identity }
 
 known_on : (event : Event) (h : History) (p : ℕ) → MayHappen h event → AllPassesStand h → p < length (passes_of (event ∷ h)) → IsKnown (event ∷ h) p
@@ -193,8 +193,8 @@ more_aimed h source vm number identity p may all low = elim (cases_lt p (length 
       let t : take p (passes_of h ++ x ∷ []) ≡ take p (passes_of h) = take-append-le p (passes_of h) (x ∷ []) (omega (arith, old)) in
       let stays = passed_stays (acts_of h) (Aimed source aim) (nth_pass h p).source s.passable (another h source (nth_pass h p).source (passed_already h p s.known) may.fresh) in
       record {
-        passable = subst (λ (y : Pass). is_passable (Aimed source aim ∷ acts_of h) y.source ≡ true) (sym e) stays.0;
-        target = subst (λ (y : Pass). IsTarget p y (take p (passes_of h ++ x ∷ []))) (sym e) (subst (IsTarget p (nth_pass h p)) (sym t) (stays.1 ∙ s.target));
+        passable = subst (λ (y : PassedSource). is_passable (Aimed source aim ∷ acts_of h) y.source ≡ true) (sym e) stays.0;
+        target = subst (λ (y : PassedSource). IsTarget p y (take p (passes_of h ++ x ∷ []))) (sym e) (subst (IsTarget p (nth_pass h p)) (sym t) (stays.1 ∙ s.target));
       }
   | inr new ↦
       let last : length (passes_of h) ≡ p = let longer = one_longer (passes_of h) x in omega (arith, low, new, longer) in
@@ -202,18 +202,18 @@ more_aimed h source vm number identity p may all low = elim (cases_lt p (length 
       let t : take (length (passes_of h)) (passes_of h ++ x ∷ []) ≡ passes_of h = take-append_seam (passes_of h) (x ∷ []) in
       let own = aim_gives (acts_of h) source aim may.ready in
       subst (λ p. IsAimedIn (Accepted (lines.Pass source vm number identity) ∷ h) p (acts_by h (lines.Pass source vm number identity))) last (record {
-        passable = subst (λ (y : Pass). is_passable (Aimed source aim ∷ acts_of h) y.source ≡ true) (sym e) own.0;
-        target = subst (λ (y : Pass). IsTarget (length (passes_of h)) y (take (length (passes_of h)) (passes_of h ++ x ∷ []))) (sym e) (subst (IsTarget (length (passes_of h)) x) (sym t) own.1);
+        passable = subst (λ (y : PassedSource). is_passable (Aimed source aim ∷ acts_of h) y.source ≡ true) (sym e) own.0;
+        target = subst (λ (y : PassedSource). IsTarget (length (passes_of h)) y (take (length (passes_of h)) (passes_of h ++ x ∷ []))) (sym e) (subst (IsTarget (length (passes_of h)) x) (sym t) own.1);
       })
 ]
   where
-    x : Pass
+    x : PassedSource
     x = record { source = source; to = vcpu vm number; identity = identity }
 
     aim : ℕ
     aim = target_for h (length (passes_of h)) (vcpu vm number) identity (pass_reaches (passes_for h (vcpu vm number)) (home h (vcpu vm number)))
 
-    IsTarget : ℕ → Pass → List Pass → Type 0
+    IsTarget : ℕ → PassedSource → List PassedSource → Type 0
     IsTarget p y xs = target (Aimed source aim ∷ acts_of h) Child y.source ≡ target_to (notice_hart (vms_of h) y.to) p y.identity (pass_reaches (passes_to y.to xs) (home h y.to))
 
 loaded_aimed : (h : History) (p : ℕ) (d : Option DomainName) (addr : ℕ) → IsAimedIn h p (acts_of h) → IsAimedIn h p (with_act (option_map (λ d. Loaded d (register_at addr)) d) (acts_of h))
@@ -235,7 +235,7 @@ same_aimed h line p past same notice homes a = record {
     at : target past Child (nth_pass h p).source ≡ target_for h p (nth_pass h p).to (nth_pass h p).identity (pass_reaches (rank_of h p) (home (Accepted line ∷ h) (nth_pass h p).to))
     at = a.target ∙ ap (λ there. target_for h p (nth_pass h p).to (nth_pass h p).identity (pass_reaches (rank_of h p) there)) (sym (homes (nth_pass h p).to))
 
-    IsTarget : List Pass → ℕ → Type 0
+    IsTarget : List PassedSource → ℕ → Type 0
     IsTarget xs hart = target past Child (slice_index_or xs p no_pass).source ≡ target_to hart p (slice_index_or xs p no_pass).identity (pass_reaches (passes_to (slice_index_or xs p no_pass).to (take p xs)) (home (Accepted line ∷ h) (slice_index_or xs p no_pass).to))
 
 -- however one rests in memory, its passes lead there

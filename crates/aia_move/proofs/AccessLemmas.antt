@@ -3,7 +3,7 @@ use Rattle.std.proofs.Common.{◌≡◌, ℕ, true, false, Option, Some, None, r
 use Rattle.std.specs.Prelude.{IsSome, option_map, not, nat_lt}
 use Rattle.std.proofs.lemmas.Bool.{ltb-true, eq-eqb, false≢true, and_parts}
 use Rattle.aia_word.specs.Sets.{has_bit}
-use Rattle.aia_vcpu.specs.declared.place.Place.{Place}
+use Rattle.aia_vcpu.specs.declared.place.GuestPlace.{GuestPlace}
 use Rattle.aia_vcpu.specs.declared.access.Access.{Access}
 use Rattle.aia_vcpu.specs.declared.access.Access.TheVariants.{TakeDelivery, PutDelivery, TakePending, PutPending, TakeEnables, PutEnables, Look, TakeThreshold, PutThreshold}
 use Rattle.aia_vcpu.specs.declared.end.End.{End}
@@ -34,7 +34,7 @@ word_fits w s access fits next = by_home s.home fits.no_pending_zero fits.no_ena
 has_file : (words : ℕ) (there : Home) (access : Access) → IsNext words there access → HasFile access (old_file there) (new_file there)
 has_file words (OnWay way at) access next = at_ends (left way) (led_to way) access next.has
   where
-    at_ends : (old new : Option Place) (access : Access) → plan_has (end_at old) (end_at new) words access ≡ true → HasFile access old new
+    at_ends : (old new : Option GuestPlace) (access : Access) → plan_has (end_at old) (end_at new) words access ≡ true → HasFile access old new
     at_ends (Some p) new TakeDelivery has = refl
     at_ends (Some p) new TakeThreshold has = refl
     at_ends old (Some p) PutDelivery has = refl
@@ -47,10 +47,10 @@ has_file words (OnWay way at) access next = at_ends (left way) (led_to way) acce
 has_file words there access next = absurd (false≢true next.has)
 
 -- of the leases that have them
-pub leases_have : {A : Type 0} (place : A → Place) (words : ℕ) (there : Home) (access : Access) (old new : Option A) → IsNext words there access → option_map place old ≡ old_file there → option_map place new ≡ new_file there → HasFile access old new
+pub leases_have : {A : Type 0} (place : A → GuestPlace) (words : ℕ) (there : Home) (access : Access) (old new : Option A) → IsNext words there access → option_map place old ≡ old_file there → option_map place new ≡ new_file there → HasFile access old new
 leases_have place words there access old new next is_old is_new = by_access access (has_file words there access next)
   where
-    some : {B : Type 0} (x : Option B) (z : Option Place) (f : B → Place) → option_map f x ≡ z → IsSome z → IsSome x
+    some : {B : Type 0} (x : Option B) (z : Option GuestPlace) (f : B → GuestPlace) → option_map f x ≡ z → IsSome z → IsSome x
     some (Some b) z f e is = refl
     some None z f e is = let no : IsSome (option_map f None) = subst IsSome (sym e) is in absurd (false≢true no)
 

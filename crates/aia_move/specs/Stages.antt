@@ -3,8 +3,8 @@ use Rattle.std.specs.Prelude.{Option, Some, None}
 use Rattle.aia_vcpu.specs.Phases.{Phase}
 use Rattle.aia_vcpu.specs.Phases.Phase.{FirstPhase, ClosingPhase, DrainPhase, EnablePhase, LookPhase, LastPhase}
 use Rattle.aia_move_values.specs.Move.{Moving}
-use Rattle.aia_move.specs.declared.phase.Stage.{Stage}
-use Rattle.aia_move.specs.declared.phase.Stage.TheVariants as stages
+use Rattle.aia_move.specs.declared.phase.PlanPhase.{PlanPhase}
+use Rattle.aia_move.specs.declared.phase.PlanPhase.TheVariants as stages
 use Rattle.aia_move.specs.declared.plan.Course.{Course}
 use Rattle.aia_move.specs.declared.plan.Course.TheVariants as courses
 use Rattle.aia_move.specs.declared.plan.State.{State}
@@ -18,7 +18,7 @@ move_of (courses.Arrive m) = m
 move_of (courses.Shift m) = m
 
 -- The phase, of those whose steps are accesses.
-abbrev pub phase_at : Stage → Option Phase
+abbrev pub phase_at : PlanPhase → Option Phase
 phase_at stages.First = Some FirstPhase
 phase_at stages.Closing = Some ClosingPhase
 phase_at stages.Aim = None

@@ -4,7 +4,7 @@ ghost use Rattle.aia_regs.specs.FileRegisters.{IsUsable};
 ghost use Rattle.aia_file.specs.InterruptFile.{register_value};
 ghost use Rattle.aia_file.specs.FileState.{shown};
 ghost use Rattle.aia_file.specs.Imsic.{IsThere, file_at};
-ghost use Rattle.aia_vcpu.specs.declared.place.Place.{Place};
+ghost use Rattle.aia_vcpu.specs.declared.place.GuestPlace.{GuestPlace};
 ghost use Rattle.aia_vcpu.specs.Home.{Way, Progress, left, led_to};
 ghost use Rattle.aia_vcpu_places.specs.Places.{entry_word, second_word};
 ghost use Rattle.aia_vcpu_places.specs.Holds.{meets};
@@ -89,8 +89,8 @@ impl Hand {
         requires file { HasFile access old new }
         requires word { WordFits access (width fabric.old) self.old.word }
         ensures { (way : Way) (at : Progress)
-            → left way ≡ option_map (λ (lease : Bor Place). lease.now) old.entry
-            → led_to way ≡ option_map (λ (lease : Bor Place). lease.now) new.entry
+            → left way ≡ option_map (λ (lease : Bor GuestPlace). lease.now) old.entry
+            → led_to way ≡ option_map (λ (lease : Bor GuestPlace). lease.now) new.entry
             → Executes access (moved who.now way at self.old) fabric.old fabric.new self.new }
     {
         fabric.recall();
@@ -131,7 +131,7 @@ impl Hand {
 /// Gives where the fabric has a place of the virtual hart of a slot.
 fn place(file: Option<&FileLease>, slot: u32) -> At
     ensures { result
-        ≡ place_at (option_map (λ (lease : Bor Place). lease.now) file.entry) slot }
+        ≡ place_at (option_map (λ (lease : Bor GuestPlace). lease.now) file.entry) slot }
 {
     match file {
         Some(lease) => At::File(spot(lease)),
@@ -145,9 +145,9 @@ fn take(fabric: &mut Fabric, file: Option<&FileLease>, reg: FileReg) -> u64
     requires some { IsSome file }
     requires there { IfSome file (λ lease. IsThere fabric.old.imsic (spot_of lease.now)) }
     ensures value { result ≡ register_value (shown (file_at fabric.old.imsic
-        (spot_in (option_map (λ (lease : Bor Place). lease.now) file.entry)))) reg }
+        (spot_in (option_map (λ (lease : Bor GuestPlace). lease.now) file.entry)))) reg }
     ensures puts { PutsRegister fabric.old fabric.new
-        (spot_in (option_map (λ (lease : Bor Place). lease.now) file.entry)) reg 0 }
+        (spot_in (option_map (λ (lease : Bor GuestPlace). lease.now) file.entry)) reg 0 }
 {
     let Some(lease) = file else { unreachable!() };
     fabric.reg(spot(lease), reg, Op::Write(0))
@@ -159,7 +159,7 @@ fn put(fabric: &mut Fabric, file: Option<&FileLease>, reg: FileReg, value: u64)
     requires some { IsSome file }
     requires there { IfSome file (λ lease. IsThere fabric.old.imsic (spot_of lease.now)) }
     ensures { PutsRegister fabric.old fabric.new
-        (spot_in (option_map (λ (lease : Bor Place). lease.now) file.entry)) reg value }
+        (spot_in (option_map (λ (lease : Bor GuestPlace). lease.now) file.entry)) reg value }
 {
     let Some(lease) = file else { unreachable!() };
     let _was = fabric.reg(spot(lease), reg, Op::Write(value));
@@ -189,7 +189,7 @@ fn write_entry(fabric: &mut Fabric, who: &Who, to: Option<&FileLease>)
     requires there { IfSome to (λ lease. IsThere fabric.old.imsic (spot_of lease.now)) }
     ensures { fabric.new ≡ with_entry_word fabric.old who.now.found.vm who.now.found.number 0
         (entry_word who.now.found.slot
-        (option_map (λ (lease : Bor Place). lease.now) to.entry)) }
+        (option_map (λ (lease : Bor GuestPlace). lease.now) to.entry)) }
 {
     fabric.recall();
     let word = match to {

@@ -1,6 +1,6 @@
 ghost use Rattle.std.specs.Prelude.{◌≡◌, ℕ, option_map, refl};
 ghost use Rattle.std.specs.Borrow.{Bor};
-ghost use Rattle.aia_vcpu.specs.declared.place.Place.{Place};
+ghost use Rattle.aia_vcpu.specs.declared.place.GuestPlace.{GuestPlace};
 ghost use Rattle.aia_vcpu.specs.Home.{Way, Progress, end_at, left, led_to};
 ghost use Rattle.aia_vcpu.specs.Home.Home.{OnWay};
 ghost use Rattle.aia_vcpu.specs.Home.Way.{Outward, Inward, Across};
@@ -32,8 +32,8 @@ pub type Arrive<P> = Move<ToFile, P>;
 /// A virtual hart that shifts from one guest file to another: its interrupts go there with it.
 pub type Shift<P> = Move<ToOtherFile, P>;
 
-/// A kind of move: what it leaves, and where it leads.
-pub trait Kind: Drop {
+/// The direction of a move: what it leaves, and where it leads.
+pub trait Direction: Drop {
     ghost way: { Self → Way };
 
     ghost after: { Phase };
@@ -43,11 +43,12 @@ pub trait Kind: Drop {
 
     /// Gives the guest file that the move leaves; `None`: it leaves memory.
     fn old_file(&self) -> Option<&FileLease>
-        ensures { option_map (λ (lease : Bor Place). lease.now) result ≡ left (way self.now) };
+        ensures { option_map (λ (lease : Bor GuestPlace). lease.now) result ≡ left (way self.now) };
 
     /// Gives the guest file to which the move leads; `None`: it leads to memory.
     fn new_file(&self) -> Option<&FileLease>
-        ensures { option_map (λ (lease : Bor Place). lease.now) result ≡ led_to (way self.now) };
+        ensures { option_map (λ (lease : Bor GuestPlace). lease.now) result
+            ≡ led_to (way self.now) };
 
     /// Gives back the files, and what is kept of one that was left for memory.
     fn end(self, hand: Hand) -> Outcome
@@ -63,7 +64,7 @@ pub struct ToMemory {
     pub(crate) file: FileLease,
 }
 
-impl Kind for ToMemory {
+impl Direction for ToMemory {
     ghost way = { λ k. Outward k.file };
 
     ghost after = { LookPhase };
@@ -98,7 +99,7 @@ pub struct ToFile {
     pub(crate) file: FileLease,
 }
 
-impl Kind for ToFile {
+impl Direction for ToFile {
     ghost way = { λ k. Inward k.file };
 
     ghost after = { LastPhase };
@@ -129,7 +130,7 @@ pub struct ToOtherFile {
     pub(crate) to: FileLease,
 }
 
-impl Kind for ToOtherFile {
+impl Direction for ToOtherFile {
     ghost way = { λ k. Across k.from k.to };
 
     ghost after = { LastPhase };
@@ -191,7 +192,7 @@ impl Plan {
 
 /// Tells what the end of a move is that has this guest file; `None`: memory.
 pub(crate) fn end_of(file: Option<&FileLease>) -> End
-    ensures { result ≡ end_at (option_map (λ (lease : Bor Place). lease.now) file.entry) }
+    ensures { result ≡ end_at (option_map (λ (lease : Bor GuestPlace). lease.now) file.entry) }
 {
     match file {
         Some(_) => End::File,

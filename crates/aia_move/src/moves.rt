@@ -12,8 +12,8 @@ ghost use Rattle.aia_move_values.specs.Plan.{past_phase};
 ghost use Rattle.aia_move_values.specs.Plan.{IsInDrain, NextStepIsOf, begun, GoesInPhase, GoesInPlace, next_phase};
 
 use crate::hand::Hand;
-use crate::kind::{Kind, end_of};
-use crate::phase::{Aim, Closing, Drain, Enable, First, Last, Look, Stage};
+use crate::kind::{Direction, end_of};
+use crate::phase::{Aim, Closing, Drain, Enable, First, Last, Look, PlanPhase};
 use crate::{Closed, Outcome, Targets, Turn, Who};
 use aia_fabric::Fabric;
 use aia_regs::limits::FIRST_PASS_IDENTITY;
@@ -23,7 +23,7 @@ use std::marker::{Model, PhantomData};
 /// A virtual hart that is moved, by a plan of a kind, in one of its phases. A step is one access,
 /// or one aim in the phase of aims, and says which phase comes next.
 #[derive(Drop)]
-pub struct Move<K: Kind, P> {
+pub struct Move<K: Direction, P> {
     /// What it leaves, and where it leads.
     kind: K,
     /// Who is moved.
@@ -37,7 +37,7 @@ pub struct Move<K: Kind, P> {
     phase: PhantomData<P>,
 }
 
-impl<K: Kind, P> Model for Move<K, P> {
+impl<K: Direction, P> Model for Move<K, P> {
     ghost use Rattle.aia_vcpu.specs.Home.Home.{OnWay};
     ghost use Rattle.aia_move_values.specs.Move.{Moving};
 
@@ -50,7 +50,7 @@ impl<K: Kind, P> Model for Move<K, P> {
     } };
 }
 
-impl<K: Kind> Move<K, First> {
+impl<K: Direction> Move<K, First> {
     /// Takes eidelivery of the file that is left, where one is; writes the entry, word 1 first
     /// where the move leads to memory, so that it leads to the new place; and puts it in force,
     /// once all stores in flight of the VM have landed, so that none comes to the old place later.
@@ -65,7 +65,7 @@ impl<K: Kind> Move<K, First> {
         ensures phase { MatchTurn result (IsIn FirstPhase (width fabric.new))
             (IsIn ClosingPhase (width fabric.new)) }
     {
-        if self.step_in(Stage::First, fabric) {
+        if self.step_in(PlanPhase::First, fabric) {
             Turn::Stay(self)
         } else {
             Turn::On(self.into_phase())
@@ -73,7 +73,7 @@ impl<K: Kind> Move<K, First> {
     }
 }
 
-impl<K: Kind> Move<K, Closing> {
+impl<K: Direction> Move<K, Closing> {
     /// Makes the G-stage record name the new file, or nothing where the move leads to memory, and
     /// puts it in force. Why here: both routes are closed before the first word is taken from the
     /// old place, which is the slot in an arrival and else a guest file, so that no store comes
@@ -88,7 +88,7 @@ impl<K: Kind> Move<K, Closing> {
             (λ next. MatchClosed next IsAtAims (IsInDrain (width fabric.new))) }
     {
         fabric.recall();
-        if self.step_in(Stage::Closing, fabric) {
+        if self.step_in(PlanPhase::Closing, fabric) {
             Turn::Stay(self)
         } else {
             Turn::On(self.closed())
@@ -96,7 +96,7 @@ impl<K: Kind> Move<K, Closing> {
     }
 }
 
-impl<K: Kind> Move<K, Aim> {
+impl<K: Direction> Move<K, Aim> {
     /// Aims the next passed source at the new place: the guest file, with the identity that it has
     /// there, or the notice hart, with the identity of the pass. It makes no access. Why here: the
     /// G-stage record leads to the new place, and no word is taken yet, so that no forward comes to
@@ -123,7 +123,7 @@ impl<K: Kind> Move<K, Aim> {
     }
 }
 
-impl<K: Kind> Move<K, Drain> {
+impl<K: Direction> Move<K, Drain> {
     /// Takes a word of the pending set from the old place, or puts it in the new one. Why here: no
     /// store reaches the old place any more, so that a word which is taken stays empty.
     pub fn step(mut self, fabric: &mut Fabric) -> Turn<Self, Move<K, Enable>>
@@ -134,7 +134,7 @@ impl<K: Kind> Move<K, Drain> {
         ensures phase { MatchTurn result (IsInDrain (width fabric.new))
             (IsIn EnablePhase (width fabric.new)) }
     {
-        if self.step_in(Stage::Drain, fabric) {
+        if self.step_in(PlanPhase::Drain, fabric) {
             Turn::Stay(self)
         } else {
             Turn::On(self.into_phase())
@@ -142,7 +142,7 @@ impl<K: Kind> Move<K, Drain> {
     }
 }
 
-impl<K: Kind> Move<K, Enable> {
+impl<K: Direction> Move<K, Enable> {
     /// Takes a word of the enabled set from the old place, or puts it in the new one. Why here: the
     /// new place has all that was pending before anything in it is enabled; where it is the slot,
     /// in a leave, a store to a word is told to the host from the word's enables on.
@@ -155,7 +155,7 @@ impl<K: Kind> Move<K, Enable> {
             (IsIn K.after (width fabric.new)) }
     {
         fabric.recall();
-        if self.step_in(Stage::Enable, fabric) {
+        if self.step_in(PlanPhase::Enable, fabric) {
             Turn::Stay(self)
         } else {
             Turn::On(self.into_phase())
@@ -163,7 +163,7 @@ impl<K: Kind> Move<K, Enable> {
     }
 }
 
-impl<K: Kind> Move<K, Look> {
+impl<K: Direction> Move<K, Look> {
     /// Looks at a word of both sets of the slot, in a leave alone. Why here: each word is watched,
     /// so that a look misses only what the host is told of; it finds what had come before.
     pub fn step(mut self, fabric: &mut Fabric) -> Turn<Self, Move<K, Last>>
@@ -174,7 +174,7 @@ impl<K: Kind> Move<K, Look> {
         ensures phase { MatchTurn result (IsIn LookPhase (width fabric.new))
             (IsIn LastPhase (width fabric.new)) }
     {
-        if self.step_in(Stage::Look, fabric) {
+        if self.step_in(PlanPhase::Look, fabric) {
             Turn::Stay(self)
         } else {
             Turn::On(self.into_phase())
@@ -182,7 +182,7 @@ impl<K: Kind> Move<K, Look> {
     }
 }
 
-impl<K: Kind> Move<K, Last> {
+impl<K: Direction> Move<K, Last> {
     /// Takes eithreshold of the file that is left, where one is. Then puts eithreshold and
     /// eidelivery in the file to which the move leads, or sends the notice where a look saw
     /// something. Why here: the file may signal only once it has both sets and the threshold; and
@@ -196,8 +196,8 @@ impl<K: Kind> Move<K, Last> {
             (IsIn LastPhase (width fabric.new)) (λ o. ⊤) }
     {
         fabric.recall();
-        if self.stays(fabric, Stage::Last) {
-            self.step_in(Stage::Last, fabric);
+        if self.stays(fabric, PlanPhase::Last) {
+            self.step_in(PlanPhase::Last, fabric);
             Turn::Stay(self)
         } else {
             self.access(fabric);
@@ -207,7 +207,7 @@ impl<K: Kind> Move<K, Last> {
 }
 
 /// What the phases share, and with them a plan, whose phase is a value.
-impl<K: Kind, P> Move<K, P> {
+impl<K: Direction, P> Move<K, P> {
     /// Begins, with this in the hand: no step is done.
     pub(crate) fn new(kind: K, who: Who, hand: Hand) -> Move<K, P>
         ensures { result ≡ begun who (K.way kind) hand }
@@ -224,7 +224,7 @@ impl<K: Kind, P> Move<K, P> {
 
     /// Makes the next step, an access that is not the last one of the plan, and tells whether the
     /// one after it is of its phase too.
-    fn step_in(&mut self, stage: Stage, fabric: &mut Fabric) -> bool
+    fn step_in(&mut self, stage: PlanPhase, fabric: &mut Fabric) -> bool
         requires fits { MoveFits fabric.old self.old }
         requires access { is_none (phase_at stage) ≡ false }
         requires phase { NextStepIsOf (phase_at stage) (width fabric.old) self.old }
@@ -240,7 +240,7 @@ impl<K: Kind, P> Move<K, P> {
     }
 
     /// Tells whether the next step is not the last one of this phase.
-    fn stays(&self, fabric: &Fabric, stage: Stage) -> bool
+    fn stays(&self, fabric: &Fabric, stage: PlanPhase) -> bool
         requires { steps_done self.now.home < begins (width fabric.now) self.now.home AllDone }
         ensures { result ≡ nat_lt (steps_done self.now.home + 1)
             (begins (width fabric.now) self.now.home (past_phase (phase_at stage))) }
@@ -325,12 +325,12 @@ impl<K: Kind, P> Move<K, P> {
 }
 
 /// What a plan makes of a move whose phase is a value.
-impl<K: Kind> Move<K, ()> {
+impl<K: Direction> Move<K, ()> {
     /// Makes the next step of the plan where it lies, but the last one, and comes to the next phase
     /// with the last step of its own; tells whether it made one.
     pub(crate) fn go_on<T: Targets>(
         &mut self,
-        stage: &mut Stage,
+        stage: &mut PlanPhase,
         fabric: &mut Fabric,
         targets: &mut T,
     ) -> bool
@@ -360,18 +360,18 @@ impl<K: Kind> Move<K, ()> {
     }
 
     /// Tells in which phase the plan is after a step of this one: in the same, where it stays.
-    fn next(&self, stage: Stage, stays: bool) -> Stage
+    fn next(&self, stage: PlanPhase, stays: bool) -> PlanPhase
         ensures { phase_at result
             ≡ (if stays then phase_at stage else next_phase self.now (phase_at stage)) }
     {
         match stage {
             _ if stays => stage,
-            Stage::First => Stage::Closing,
-            Stage::Closing | Stage::Aim if self.has_unaimed() => Stage::Aim,
-            Stage::Closing | Stage::Aim => Stage::Drain,
-            Stage::Drain => Stage::Enable,
-            Stage::Enable if self.kind.new_file().is_none() => Stage::Look,
-            Stage::Enable | Stage::Look | Stage::Last => Stage::Last,
+            PlanPhase::First => PlanPhase::Closing,
+            PlanPhase::Closing | PlanPhase::Aim if self.has_unaimed() => PlanPhase::Aim,
+            PlanPhase::Closing | PlanPhase::Aim => PlanPhase::Drain,
+            PlanPhase::Drain => PlanPhase::Enable,
+            PlanPhase::Enable if self.kind.new_file().is_none() => PlanPhase::Look,
+            PlanPhase::Enable | PlanPhase::Look | PlanPhase::Last => PlanPhase::Last,
         }
     }
 

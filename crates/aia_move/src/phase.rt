@@ -36,7 +36,7 @@ pub struct Last;
 
 /// The phase that a plan is in.
 #[derive(Clone, Copy, Debug, PartialEq, Eq)]
-pub enum Stage {
+pub enum PlanPhase {
     First,
     Closing,
     Aim,
@@ -46,19 +46,19 @@ pub enum Stage {
     Last,
 }
 
-impl Stage {
+impl PlanPhase {
     /// Tells whether its steps aim passed sources.
     pub(crate) fn aims(self) -> bool
         ensures { result ≡ is_none (phase_at self) }
     {
-        matches!(self, Stage::Aim)
+        matches!(self, PlanPhase::Aim)
     }
 
     /// Tells whether the next step is a plan's last one, by whether its phase goes on after it.
     pub(crate) fn ends(self, stays: bool) -> bool
         ensures { result ≡ (not stays && is_last (phase_at self)) }
     {
-        !stays && matches!(self, Stage::Last)
+        !stays && matches!(self, PlanPhase::Last)
     }
 
     /// Tells how many steps come before the phase that follows, in files of `words` words. The
@@ -69,12 +69,12 @@ impl Stage {
     {
         let entry = before_entry(from, to);
         match self {
-            Stage::First => entry + 2,
-            Stage::Closing | Stage::Aim => entry + 4,
-            Stage::Drain => entry + 4 + 2 * words,
-            Stage::Enable => entry + 4 + 4 * words,
-            Stage::Look => entry + 4 + word_steps(to, words),
-            Stage::Last => plan_steps(from, to, words),
+            PlanPhase::First => entry + 2,
+            PlanPhase::Closing | PlanPhase::Aim => entry + 4,
+            PlanPhase::Drain => entry + 4 + 2 * words,
+            PlanPhase::Enable => entry + 4 + 4 * words,
+            PlanPhase::Look => entry + 4 + word_steps(to, words),
+            PlanPhase::Last => plan_steps(from, to, words),
         }
     }
 }

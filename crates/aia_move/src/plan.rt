@@ -11,7 +11,7 @@ ghost use Rattle.aia_move_values.specs.Plan.{IsInPhase, MatchNext, StepsTo, Step
 
 use crate::kind::{ToFile, ToMemory, ToOtherFile};
 use crate::moves::Move;
-use crate::phase::{Aim, Closing, Drain, Enable, First, Last, Look, Stage};
+use crate::phase::{Aim, Closing, Drain, Enable, First, Last, Look, PlanPhase};
 use crate::{Arrive, Leave, Outcome, Shift, Targets};
 use aia_fabric::Fabric;
 use aia_move_values::Next;
@@ -21,7 +21,7 @@ use std::marker::Model;
 #[derive(Drop)]
 pub struct Plan {
     course: Course,
-    stage: Stage,
+    stage: PlanPhase,
 }
 
 /// A move, by what it leaves and where it leads.
@@ -128,7 +128,7 @@ impl Plan {
     }
 
     /// Tells the phase that the plan is in, and leaves it where it is.
-    pub fn phase(&self) -> Stage
+    pub fn phase(&self) -> PlanPhase
         ensures { phase_at result ≡ phase_of self.now }
     {
         self.stage
@@ -141,25 +141,29 @@ impl Plan {
         ensures phase { (words : ℕ) → IsInPhase words self → plan_of result ≡ self }
     {
         match (self.course, self.stage) {
-            (Course::Leave(m), Stage::First) => State::LeaveFirst(m.into_phase()),
-            (Course::Leave(m), Stage::Closing) => State::LeaveClosing(m.into_phase()),
-            (Course::Leave(m), Stage::Aim) => State::LeaveAim(m.into_phase()),
-            (Course::Leave(m), Stage::Drain) => State::LeaveDrain(m.into_phase()),
-            (Course::Leave(m), Stage::Enable) => State::LeaveEnable(m.into_phase()),
-            (Course::Leave(m), Stage::Look) => State::LeaveLook(m.into_phase()),
-            (Course::Leave(m), Stage::Last) => State::LeaveLast(m.into_phase()),
-            (Course::Arrive(m), Stage::First) => State::ArriveFirst(m.into_phase()),
-            (Course::Arrive(m), Stage::Closing) => State::ArriveClosing(m.into_phase()),
-            (Course::Arrive(m), Stage::Aim) => State::ArriveAim(m.into_phase()),
-            (Course::Arrive(m), Stage::Drain) => State::ArriveDrain(m.into_phase()),
-            (Course::Arrive(m), Stage::Enable) => State::ArriveEnable(m.into_phase()),
-            (Course::Arrive(m), Stage::Look | Stage::Last) => State::ArriveLast(m.into_phase()),
-            (Course::Shift(m), Stage::First) => State::ShiftFirst(m.into_phase()),
-            (Course::Shift(m), Stage::Closing) => State::ShiftClosing(m.into_phase()),
-            (Course::Shift(m), Stage::Aim) => State::ShiftAim(m.into_phase()),
-            (Course::Shift(m), Stage::Drain) => State::ShiftDrain(m.into_phase()),
-            (Course::Shift(m), Stage::Enable) => State::ShiftEnable(m.into_phase()),
-            (Course::Shift(m), Stage::Look | Stage::Last) => State::ShiftLast(m.into_phase()),
+            (Course::Leave(m), PlanPhase::First) => State::LeaveFirst(m.into_phase()),
+            (Course::Leave(m), PlanPhase::Closing) => State::LeaveClosing(m.into_phase()),
+            (Course::Leave(m), PlanPhase::Aim) => State::LeaveAim(m.into_phase()),
+            (Course::Leave(m), PlanPhase::Drain) => State::LeaveDrain(m.into_phase()),
+            (Course::Leave(m), PlanPhase::Enable) => State::LeaveEnable(m.into_phase()),
+            (Course::Leave(m), PlanPhase::Look) => State::LeaveLook(m.into_phase()),
+            (Course::Leave(m), PlanPhase::Last) => State::LeaveLast(m.into_phase()),
+            (Course::Arrive(m), PlanPhase::First) => State::ArriveFirst(m.into_phase()),
+            (Course::Arrive(m), PlanPhase::Closing) => State::ArriveClosing(m.into_phase()),
+            (Course::Arrive(m), PlanPhase::Aim) => State::ArriveAim(m.into_phase()),
+            (Course::Arrive(m), PlanPhase::Drain) => State::ArriveDrain(m.into_phase()),
+            (Course::Arrive(m), PlanPhase::Enable) => State::ArriveEnable(m.into_phase()),
+            (Course::Arrive(m), PlanPhase::Look | PlanPhase::Last) => State::ArriveLast(
+                m.into_phase(),
+            ),
+            (Course::Shift(m), PlanPhase::First) => State::ShiftFirst(m.into_phase()),
+            (Course::Shift(m), PlanPhase::Closing) => State::ShiftClosing(m.into_phase()),
+            (Course::Shift(m), PlanPhase::Aim) => State::ShiftAim(m.into_phase()),
+            (Course::Shift(m), PlanPhase::Drain) => State::ShiftDrain(m.into_phase()),
+            (Course::Shift(m), PlanPhase::Enable) => State::ShiftEnable(m.into_phase()),
+            (Course::Shift(m), PlanPhase::Look | PlanPhase::Last) => State::ShiftLast(
+                m.into_phase(),
+            ),
         }
     }
 
@@ -169,7 +173,7 @@ impl Plan {
     {
         Plan {
             course,
-            stage: Stage::First,
+            stage: PlanPhase::First,
         }
     }
 }
@@ -180,25 +184,25 @@ impl State {
         ensures { result ≡ plan_of self }
     {
         let (course, stage) = match self {
-            State::LeaveFirst(m) => (Course::Leave(m.into_phase()), Stage::First),
-            State::LeaveClosing(m) => (Course::Leave(m.into_phase()), Stage::Closing),
-            State::LeaveAim(m) => (Course::Leave(m.into_phase()), Stage::Aim),
-            State::LeaveDrain(m) => (Course::Leave(m.into_phase()), Stage::Drain),
-            State::LeaveEnable(m) => (Course::Leave(m.into_phase()), Stage::Enable),
-            State::LeaveLook(m) => (Course::Leave(m.into_phase()), Stage::Look),
-            State::LeaveLast(m) => (Course::Leave(m.into_phase()), Stage::Last),
-            State::ArriveFirst(m) => (Course::Arrive(m.into_phase()), Stage::First),
-            State::ArriveClosing(m) => (Course::Arrive(m.into_phase()), Stage::Closing),
-            State::ArriveAim(m) => (Course::Arrive(m.into_phase()), Stage::Aim),
-            State::ArriveDrain(m) => (Course::Arrive(m.into_phase()), Stage::Drain),
-            State::ArriveEnable(m) => (Course::Arrive(m.into_phase()), Stage::Enable),
-            State::ArriveLast(m) => (Course::Arrive(m.into_phase()), Stage::Last),
-            State::ShiftFirst(m) => (Course::Shift(m.into_phase()), Stage::First),
-            State::ShiftClosing(m) => (Course::Shift(m.into_phase()), Stage::Closing),
-            State::ShiftAim(m) => (Course::Shift(m.into_phase()), Stage::Aim),
-            State::ShiftDrain(m) => (Course::Shift(m.into_phase()), Stage::Drain),
-            State::ShiftEnable(m) => (Course::Shift(m.into_phase()), Stage::Enable),
-            State::ShiftLast(m) => (Course::Shift(m.into_phase()), Stage::Last),
+            State::LeaveFirst(m) => (Course::Leave(m.into_phase()), PlanPhase::First),
+            State::LeaveClosing(m) => (Course::Leave(m.into_phase()), PlanPhase::Closing),
+            State::LeaveAim(m) => (Course::Leave(m.into_phase()), PlanPhase::Aim),
+            State::LeaveDrain(m) => (Course::Leave(m.into_phase()), PlanPhase::Drain),
+            State::LeaveEnable(m) => (Course::Leave(m.into_phase()), PlanPhase::Enable),
+            State::LeaveLook(m) => (Course::Leave(m.into_phase()), PlanPhase::Look),
+            State::LeaveLast(m) => (Course::Leave(m.into_phase()), PlanPhase::Last),
+            State::ArriveFirst(m) => (Course::Arrive(m.into_phase()), PlanPhase::First),
+            State::ArriveClosing(m) => (Course::Arrive(m.into_phase()), PlanPhase::Closing),
+            State::ArriveAim(m) => (Course::Arrive(m.into_phase()), PlanPhase::Aim),
+            State::ArriveDrain(m) => (Course::Arrive(m.into_phase()), PlanPhase::Drain),
+            State::ArriveEnable(m) => (Course::Arrive(m.into_phase()), PlanPhase::Enable),
+            State::ArriveLast(m) => (Course::Arrive(m.into_phase()), PlanPhase::Last),
+            State::ShiftFirst(m) => (Course::Shift(m.into_phase()), PlanPhase::First),
+            State::ShiftClosing(m) => (Course::Shift(m.into_phase()), PlanPhase::Closing),
+            State::ShiftAim(m) => (Course::Shift(m.into_phase()), PlanPhase::Aim),
+            State::ShiftDrain(m) => (Course::Shift(m.into_phase()), PlanPhase::Drain),
+            State::ShiftEnable(m) => (Course::Shift(m.into_phase()), PlanPhase::Enable),
+            State::ShiftLast(m) => (Course::Shift(m.into_phase()), PlanPhase::Last),
         };
         Plan { course, stage }
     }

@@ -16,7 +16,7 @@ use Rattle.aia_file.specs.Mrif.{mrif_in, stored}
 use Rattle.aia_entry.specs.declared.table.Route.{Route}
 use Rattle.aia_entry.specs.Tables.{table_of, entry_in_force, leads_by, route_of}
 use Rattle.aia_entry.specs.Translation.{is_msi_address, file_number}
-use Rattle.aia_vcpu.specs.declared.place.Place.{Place}
+use Rattle.aia_vcpu.specs.declared.place.GuestPlace.{GuestPlace}
 use Rattle.aia_vcpu.specs.Vms.{Vcpu, is_vcpu_in, slot_of, notice_identity, notice_hart}
 use Rattle.aia_vcpu.specs.Home.{holds}
 use Rattle.aia_vcpu.specs.BySteps.{own_file, next_file}
@@ -50,7 +50,7 @@ use Rattle.aia_regs.specs.declared.address_map.TheConstants.{PAGE}
 
 -- ---- in a world of the same machine with other places
 
-own_machine : (w u : World) (g : Vcpu) (place : Option Place) → TouchesOwn w u g place → SameMachine w u
+own_machine : (w u : World) (g : Vcpu) (place : Option GuestPlace) → TouchesOwn w u g place → SameMachine w u
 own_machine w u g place t = record {
   n = ap (λ (x : World). x.n) t.rest;
   vms = ap (λ (x : World). x.vms) t.rest;
@@ -58,7 +58,7 @@ own_machine w u g place t = record {
   guests = ap (λ (x : World). x.imsic.guests) t.rest;
 }
 
-module _ (w u : World) (plan : PlanState) (reach : Option Place) (saw : Bool) (same : SameMachine w u) where
+module _ (w u : World) (plan : PlanState) (reach : Option GuestPlace) (saw : Bool) (same : SameMachine w u) where
   abbrev m : Moving
   m = moving_of plan
 
@@ -74,14 +74,14 @@ module _ (w u : World) (plan : PlanState) (reach : Option Place) (saw : Bool) (s
 -- ---- a store for the virtual hart that is moved
 
 -- where it lands: in a guest file, or in the slot
-abbrev Lands : World → World → Vcpu → Option Place → ℕ → ℕ → Type 0
+abbrev Lands : World → World → Vcpu → Option GuestPlace → ℕ → ℕ → Type 0
 Lands w u g (Some p) offset value = StoresIn w u (spot_of p) offset value
 Lands w u g None offset value = StoresInSlot w u (Some (slot_of w.vms g)) (SupervisorFile (notice_hart w.vms g)) (notice_identity w.vms g) offset value
 
-held_there : (w : World) (m : Moving) → MoveFits w m → (p : Place) → holds p m.home ≡ true → IsThere w.imsic (spot_of p)
+held_there : (w : World) (m : Moving) → MoveFits w m → (p : GuestPlace) → holds p m.home ≡ true → IsThere w.imsic (spot_of p)
 held_there w m fits p held = elim (either_file p m.home held) [ inl own ↦ fits.own p own | inr next ↦ fits.next p next ]
 
-module _ (w u : World) (plan : PlanState) (reach : Option Place) (file : InterruptFile) (saw : Bool) (offset value : ℕ) (whole : IsWhole w) (apart : AreApart (moving_of plan).home) (within : IsWithin w.n (width w) file) (knows : Knows w plan reach file saw) where
+module _ (w u : World) (plan : PlanState) (reach : Option GuestPlace) (file : InterruptFile) (saw : Bool) (offset value : ℕ) (whole : IsWhole w) (apart : AreApart (moving_of plan).home) (within : IsWithin w.n (width w) file) (knows : Knows w plan reach file saw) where
   abbrev mv : Moving
   mv = moving_of plan
 
@@ -93,7 +93,7 @@ module _ (w u : World) (plan : PlanState) (reach : Option Place) (file : Interru
   by_outcome Quiet same = ap (λ (x : World). places_of x (mover mv) mv.home) same
   by_outcome Discarded same = ap (λ (x : World). places_of x (mover mv) mv.home) same
 
-  shows : (place : Option Place) → MayLand (width w) mv.home place → Lands w u (mover mv) place offset value
+  shows : (place : Option GuestPlace) → MayLand (width w) mv.home place → Lands w u (mover mv) place offset value
       → (places_of u (mover mv) mv.home ≡ places_landed place mv.home offset value (places_of w (mover mv) mv.home)) × SameMachine w u
   shows (Some p) may stores =
       let held = landing_is_held (width w) mv.home (Some p) p may refl in
@@ -107,7 +107,7 @@ module _ (w u : World) (plan : PlanState) (reach : Option Place) (file : Interru
     own_machine w u (mover mv) None (touches_slot w u (mover mv) offset value whole knows.fits.there stores),
   )
 
-  lands_knows : (place : Option Place) → MayLand (width w) mv.home place → Lands w u (mover mv) place offset value → Knows u plan reach (landed offset value file) saw
+  lands_knows : (place : Option GuestPlace) → MayLand (width w) mv.home place → Lands w u (mover mv) place offset value → Knows u plan reach (landed offset value file) saw
   lands_knows place may stores =
       let both = shows place may stores in
       knows_by w u plan reach saw both.1 file (landed offset value file) knows (places_landed place mv.home offset value (places_of w (mover mv) mv.home)) both.0
@@ -115,7 +115,7 @@ module _ (w u : World) (plan : PlanState) (reach : Option Place) (file : Interru
       (file_in-size w (own_file mv.home) whole knows.fits.own) (file_in-size w (next_file mv.home) whole knows.fits.next) apart place may knows.holds)
 
   -- a device's, where its entry in force leads
-  entry_lands : (place : Option Place) → MayLand (width w) mv.home place → Reaches (leads_by (leads_to (slot_of w.vms (mover mv)) (notice_hart w.vms (mover mv)) place)) w u offset value
+  entry_lands : (place : Option GuestPlace) → MayLand (width w) mv.home place → Reaches (leads_by (leads_to (slot_of w.vms (mover mv)) (notice_hart w.vms (mover mv)) place)) w u offset value
       → Lands w u (mover mv) place offset value
   entry_lands (Some p) may reaches = subst (λ (s : Spot). StoresInGuestFile w u s offset value) (guest_spot w.imsic p whole.harts whole.guests (held_there w mv knows.fits p (landing_is_held (width w) mv.home (Some p) p may refl))) reaches
   entry_lands None may reaches =
@@ -135,7 +135,7 @@ module _ (w u : World) (plan : PlanState) (reach : Option Place) (file : Interru
       lands_knows reach may (entry_lands reach may (subst (λ (r : Route). Reaches r w u offset value) route reaches))
 
 -- one that was in flight, where the entry led as it was sent
-pub flight_knows : (w u : World) (plan : PlanState) (reach place : Option Place) (file : InterruptFile) (saw : Bool) (offset value : ℕ) → IsWhole w → AreApart (moving_of plan).home → IsWithin w.n (width w) file → Knows w plan reach file saw
+pub flight_knows : (w u : World) (plan : PlanState) (reach place : Option GuestPlace) (file : InterruptFile) (saw : Bool) (offset value : ℕ) → IsWhole w → AreApart (moving_of plan).home → IsWithin w.n (width w) file → Knows w plan reach file saw
     → MayReach (moving_of plan).home place → ReachesBy (leads_to (moving_of plan).who.found.slot (moving_of plan).who.found.notice place) w u offset value → Knows u plan reach (landed offset value file) saw
 flight_knows w u plan reach place file saw offset value whole apart within knows may reaches =
     let m = moving_of plan in
@@ -146,29 +146,29 @@ flight_knows w u plan reach place file saw offset value whole apart within knows
     (entry_lands w u plan reach file saw offset value whole apart within knows place land (by_entry place (slot_of w.vms (mover m)) (notice_hart w.vms (mover m)) w u offset value own))
 
 -- a peer's, where its G-stage record in force leads
-pub peer_knows : (w u : World) (plan : PlanState) (reach : Option Place) (file : InterruptFile) (saw : Bool) (value : ℕ) → IsWhole w → AreApart (moving_of plan).home → IsWithin w.n (width w) file → Knows w plan reach file saw
+pub peer_knows : (w u : World) (plan : PlanState) (reach : Option GuestPlace) (file : InterruptFile) (saw : Bool) (value : ℕ) → IsWhole w → AreApart (moving_of plan).home → IsWithin w.n (width w) file → Knows w plan reach file saw
     → ReachesByRecord (stage_of w (mover (moving_of plan))).in_force w u (mover (moving_of plan)) value → Knows u plan reach (landed 0 value file) saw
 peer_knows w u plan reach file saw value whole apart within knows relays =
     let m = moving_of plan in
     let may = peers_may (width w) m.home in
     lands_knows w u plan reach file saw 0 value whole apart within knows (peers_reach m.home) may
-    (relayed (peers_reach m.home) may (subst (λ (o : Option Place). ReachesByRecord o w u (mover m) value) knows.holds.routes.stage_in_force relays))
+    (relayed (peers_reach m.home) may (subst (λ (o : Option GuestPlace). ReachesByRecord o w u (mover m) value) knows.holds.routes.stage_in_force relays))
   where
-    relayed : (place : Option Place) → MayLand (width w) (moving_of plan).home place → ReachesByRecord place w u (mover (moving_of plan)) value → Lands w u (mover (moving_of plan)) place 0 value
+    relayed : (place : Option GuestPlace) → MayLand (width w) (moving_of plan).home place → ReachesByRecord place w u (mover (moving_of plan)) value → Lands w u (mover (moving_of plan)) place 0 value
     relayed (Some p) may relays = subst (λ (s : Spot). StoresInGuestFile w u s 0 value) (named_guest w.imsic p (held_there w (moving_of plan) knows.fits p (landing_is_held (width w) (moving_of plan).home (Some p) p may refl))) relays
     relayed None may relays = relays
 
 -- ---- a store for another virtual hart, and one of the host
 
-pub others_know : (w u : World) (plan : PlanState) (reach : Option Place) (file : InterruptFile) (saw : Bool) (g : Vcpu) (place : Option Place) → Knows w plan reach file saw
-    → is_vcpu_in w.vms g ≡ true → g ≢ mover (moving_of plan) → TouchesOwn w u g place → ((p : Place) → holds p (moving_of plan).home ≡ true → place ≢ Some p) → Knows u plan reach file saw
+pub others_know : (w u : World) (plan : PlanState) (reach : Option GuestPlace) (file : InterruptFile) (saw : Bool) (g : Vcpu) (place : Option GuestPlace) → Knows w plan reach file saw
+    → is_vcpu_in w.vms g ≡ true → g ≢ mover (moving_of plan) → TouchesOwn w u g place → ((p : GuestPlace) → holds p (moving_of plan).home ≡ true → place ≢ Some p) → Knows u plan reach file saw
 others_know w u plan reach file saw g place knows there other t elsewhere =
     let m = moving_of plan in
     knows_by w u plan reach saw (own_machine w u g place t) file file knows (places_of w (mover m) m.home)
     (others_stay w u g (mover m) place m.home there knows.fits.there (λ e. other (sym e)) t (λ p held. (held_there w m knows.fits p held, elsewhere p held))) knows.holds
 
-pub host_knows : (w u : World) (plan : PlanState) (reach : Option Place) (file : InterruptFile) (saw : Bool) (spot : Spot) (offset value : ℕ) → Knows w plan reach file saw
-    → IsThere w.imsic spot → ((p : Place) → spot ≢ spot_of p) → StoresIn w u spot offset value → Knows u plan reach file saw
+pub host_knows : (w u : World) (plan : PlanState) (reach : Option GuestPlace) (file : InterruptFile) (saw : Bool) (spot : Spot) (offset value : ℕ) → Knows w plan reach file saw
+    → IsThere w.imsic spot → ((p : GuestPlace) → spot ≢ spot_of p) → StoresIn w u spot offset value → Knows u plan reach file saw
 host_knows w u plan reach file saw spot offset value knows here no_guest s =
     knows_by w u plan reach saw machine file file knows (places_of w (mover (moving_of plan)) (moving_of plan).home) seen knows.holds
   where
@@ -180,7 +180,7 @@ host_knows w u plan reach file saw spot offset value knows here no_guest s =
       guests = ap (λ (i : ImsicState). i.guests) s.lands.others;
     }
 
-    kept : (o : Option Place) → ((p : Place) → o ≡ Some p → IsThere w.imsic (spot_of p)) → file_in u o ≡ file_in w o
+    kept : (o : Option GuestPlace) → ((p : GuestPlace) → o ≡ Some p → IsThere w.imsic (spot_of p)) → file_in u o ≡ file_in w o
     kept None inside = ap (λ (x : World). file_in x None) s.rest
     kept (Some p) inside = ap (λ (i : ImsicState). file_in (record w { imsic = i }) (Some p)) s.lands.others ∙ ap shown (kept_elsewhere w.imsic spot (spot_of p) (file_at u.imsic spot) here (inside p refl) (λ e. no_guest p (sym e)))
 

@@ -13,7 +13,7 @@ use Rattle.aia_file.specs.FileState.{FileState, shown}
 use Rattle.aia_file.specs.InterruptFile.{accessed, is_greatest_identity}
 use Rattle.aia_file.specs.Imsic.{IsThere, file_at}
 use Rattle.aia_file.specs.Mrif.{Mrif, pending_place, enable_place}
-use Rattle.aia_vcpu.specs.declared.place.Place.{Place}
+use Rattle.aia_vcpu.specs.declared.place.GuestPlace.{GuestPlace}
 use Rattle.aia_vcpu.specs.Vms.{Vcpu, vcpu, is_vcpu_in, slot_of}
 use Rattle.aia_vcpu.specs.Home.{Way, Home, Progress, left, led_to, is_file, end_at, old_end, is_place}
 use Rattle.aia_vcpu.specs.Home.Home.{OnWay}
@@ -40,21 +40,21 @@ use Rattle.aia_regs.specs.declared.limits.TheConstants.{IDENTITIES, WORDS_OF_SLO
 pub few_words : (n : ℕ) → is_greatest_identity n ≡ true → (n + 1) / 64 ≤ FILE_WORDS
 few_words n greatest = let few : n ≤ IDENTITIES = grind (arith, nat_tests) in omega arith
 
-pub other_way : (a b : Place) → is_place a b ≡ false → is_place b a ≡ false
+pub other_way : (a b : GuestPlace) → is_place a b ≡ false → is_place b a ≡ false
 other_way a b apart = grind (arith, nat_tests)
 
-no_file : (w : World) (p : Place) → IsNoFile w p None
+no_file : (w : World) (p : GuestPlace) → IsNoFile w p None
 no_file w p r e = absurd (cc)
 
-one_file : (w : World) (p r : Place) → IsThere w.imsic (spot_of r) → is_place r p ≡ false → IsNoFile w p (Some r)
-one_file w p r there apart s e = let same : r ≡ s = cc in subst (λ (x : Place). IsThere w.imsic (spot_of x) × (is_place x p ≡ false)) same (there, apart)
+one_file : (w : World) (p r : GuestPlace) → IsThere w.imsic (spot_of r) → is_place r p ≡ false → IsNoFile w p (Some r)
+one_file w p r there apart s e = let same : r ≡ s = cc in subst (λ (x : GuestPlace). IsThere w.imsic (spot_of x) × (is_place x p ≡ false)) same (there, apart)
 
 row_shows : (words : List ℕ) (k : ℕ) → Shows (get_or words k 0) k (is_in words)
 row_shows words k i e = ap (λ x. has_bit (get_or words x 0) (i % 64)) (sym e)
 
 -- ---- what a move does with its files, and with its slot
 
-module _ (w u : World) (g : Vcpu) (there : Home) (p : Place) (k v : ℕ) (whole : IsWhole w) (stands : IsThere w.imsic (spot_of p)) where
+module _ (w u : World) (g : Vcpu) (there : Home) (p : GuestPlace) (k v : ℕ) (whole : IsWhole w) (stands : IsThere w.imsic (spot_of p)) where
   abbrev was : FileState
   was = file_at w.imsic (spot_of p)
 
@@ -201,8 +201,8 @@ module _ (w u : World) (who : Who) (there : Home) (hand now : Hand) (whole : IsW
 -- ---- the ends of a move
 
 -- the two files of a move are apart
-apart_files : (way : Way) (f p : Place) → HasApart way → left way ≡ Some f → led_to way ≡ Some p → is_place f p ≡ false
-apart_files (Across from to) f p apart e too = let old : from ≡ f = cc in let new : to ≡ p = cc in ap (λ (x : Place). is_place x p) (sym old) ∙ ap (is_place from) (sym new) ∙ apart
+apart_files : (way : Way) (f p : GuestPlace) → HasApart way → left way ≡ Some f → led_to way ≡ Some p → is_place f p ≡ false
+apart_files (Across from to) f p apart e too = let old : from ≡ f = cc in let new : to ≡ p = cc in ap (λ (x : GuestPlace). is_place x p) (sym old) ∙ ap (is_place from) (sym new) ∙ apart
 apart_files way f p apart e too = absurd (cc)
 
 module _ (w u : World) (who : Who) (way : Way) (at : Progress) (hand now : Hand) (whole : IsWhole w) (fits : MoveFits w (record { who = who; home = OnWay way at; hand = hand })) (apart : HasApart way) where
@@ -222,59 +222,59 @@ module _ (w u : World) (who : Who) (way : Way) (at : Progress) (hand now : Hand)
   narrow k e = of_width w u who its hand now whole fits k e
 
   -- what it holds beside its own file
-  alone : (p : Place) → left way ≡ Some p → IsNoFile w p (next_of way)
+  alone : (p : GuestPlace) → left way ≡ Some p → IsNoFile w p (next_of way)
   alone p e = by_next (next_of way) refl
     where
-      by_next : (o : Option Place) → next_of way ≡ o → IsNoFile w p o
+      by_next : (o : Option GuestPlace) → next_of way ≡ o → IsNoFile w p o
       by_next None n = no_file w p
       by_next (Some r) n = one_file w p r (fits.next r n) (other_way p r (apart_files way p r apart e (next_is_led_to way r n)))
 
-  alone_there : (p : Place) → left way ≡ None → IsNoFile w p (next_of way)
+  alone_there : (p : GuestPlace) → left way ≡ None → IsNoFile w p (next_of way)
   alone_there p from = subst (IsNoFile w p) (sym (next_from_memory way from)) (no_file w p)
 
-  beside : (f p : Place) → left way ≡ Some f → led_to way ≡ Some p → IsNoFile w p (own_of way)
+  beside : (f p : GuestPlace) → left way ≡ Some f → led_to way ≡ Some p → IsNoFile w p (own_of way)
   beside f p e too = let own = left_is_own way f e in subst (IsNoFile w p) (sym own) (one_file w p f (fits.own f own) (apart_files way f p apart e too))
 
   -- a register of the old end, and of the new one
-  taken_register : (old : Option Place) (reg : FileReg) → left way ≡ old → is_file (end_at old) ≡ true → PutsRegister w u (spot_in old) reg 0 → after ≡ record view { own = accessed reg (ops.Write 0) view.own }
+  taken_register : (old : Option GuestPlace) (reg : FileReg) → left way ≡ old → is_file (end_at old) ≡ true → PutsRegister w u (spot_in old) reg 0 → after ≡ record view { own = accessed reg (ops.Write 0) view.own }
   taken_register None reg e has made = absurd (cc)
   taken_register (Some p) reg e has made = let own = left_is_own way p e in own-put w u moved its p reg 0 whole (fits.own p own) made own (alone p e)
 
-  put_register : (old new : Option Place) (reg : FileReg) (v : ℕ) → left way ≡ old → led_to way ≡ new → is_file (end_at new) ≡ true → PutsRegister w u (spot_in new) reg v → after ≡ with_end_file (end_at old) (end_at new) view (accessed reg (ops.Write v))
+  put_register : (old new : Option GuestPlace) (reg : FileReg) (v : ℕ) → left way ≡ old → led_to way ≡ new → is_file (end_at new) ≡ true → PutsRegister w u (spot_in new) reg v → after ≡ with_end_file (end_at old) (end_at new) view (accessed reg (ops.Write v))
   put_register None None reg v e too has made = absurd (cc)
   put_register (Some f) None reg v e too has made = absurd (cc)
   put_register None (Some p) reg v e too has made = let own = own_from_memory way p e too in own-put w u moved its p reg v whole (fits.own p own) made own (alone_there p e)
   put_register (Some f) (Some p) reg v e too has made = let next = next_from_file way f p e too in next-put w u moved its p reg v whole (fits.next p next) made next (beside f p e too)
 
-  carried_delivery : (old : Option Place) → left way ≡ old → is_file (end_at old) ≡ true → (file_at w.imsic (spot_in old)).delivery ≡ view.own.delivery
+  carried_delivery : (old : Option GuestPlace) → left way ≡ old → is_file (end_at old) ≡ true → (file_at w.imsic (spot_in old)).delivery ≡ view.own.delivery
   carried_delivery None e has = absurd (cc)
   carried_delivery (Some p) e has = ap (λ o. (file_in w o).delivery) (sym (left_is_own way p e))
 
-  carried_threshold : (old : Option Place) → left way ≡ old → is_file (end_at old) ≡ true → (file_at w.imsic (spot_in old)).threshold ≡ view.own.threshold
+  carried_threshold : (old : Option GuestPlace) → left way ≡ old → is_file (end_at old) ≡ true → (file_at w.imsic (spot_in old)).threshold ≡ view.own.threshold
   carried_threshold None e has = absurd (cc)
   carried_threshold (Some p) e has = ap (λ o. (file_in w o).threshold) (sym (left_is_own way p e))
 
   -- a word of the old end, and what is carried of it
-  taken_pending : (old : Option Place) (k : ℕ) → left way ≡ old → nat_lt k (width w) ≡ true → u ≡ with_pending w (place_at old who.found.slot) k 0
+  taken_pending : (old : Option GuestPlace) (k : ℕ) → left way ≡ old → nat_lt k (width w) ≡ true → u ≡ with_pending w (place_at old who.found.slot) k 0
       → after ≡ with_old_sets (end_at old) view (record (old_sets view (end_at old)) { pending = without_word k (old_sets view (end_at old)).pending })
   taken_pending None k e has made = slot-pending_taken w u moved its who.found.slot k hand.word whole fits.there fits.slot (narrow k has) made
   taken_pending (Some p) k e has made = let own = left_is_own way p e in own-pending_taken w u moved its p k hand.word whole (fits.own p own) own (alone p e) made
 
-  taken_enables : (old : Option Place) (k : ℕ) → left way ≡ old → nat_lt k (width w) ≡ true → u ≡ with_enable w (place_at old who.found.slot) k 0
+  taken_enables : (old : Option GuestPlace) (k : ℕ) → left way ≡ old → nat_lt k (width w) ≡ true → u ≡ with_enable w (place_at old who.found.slot) k 0
       → after ≡ with_old_sets (end_at old) view (record (old_sets view (end_at old)) { enabled = without_word k (old_sets view (end_at old)).enabled })
   taken_enables None k e has made = slot-enables_taken w u moved its who.found.slot k hand.word whole fits.there fits.slot (narrow k has) made
   taken_enables (Some p) k e has made = let own = left_is_own way p e in own-enables_taken w u moved its p k hand.word whole (fits.own p own) own (alone p e) made
 
-  shown_pending : (old : Option Place) (k : ℕ) → left way ≡ old → nat_lt k (width w) ≡ true → Shows (pending_at w (place_at old who.found.slot) k) k (old_sets view (end_at old)).pending
+  shown_pending : (old : Option GuestPlace) (k : ℕ) → left way ≡ old → nat_lt k (width w) ≡ true → Shows (pending_at w (place_at old who.found.slot) k) k (old_sets view (end_at old)).pending
   shown_pending None k e has = slot_pending-shows w u moved its who.found.slot k 0 whole fits.there fits.slot (narrow k has)
   shown_pending (Some p) k e has = subst (λ o. Shows (get_or (file_at w.imsic (spot_of p)).pending k 0) k (file_in w o).pending) (sym (left_is_own way p e)) (row_shows (file_at w.imsic (spot_of p)).pending k)
 
-  shown_enables : (old : Option Place) (k : ℕ) → left way ≡ old → nat_lt k (width w) ≡ true → Shows (enable_at w (place_at old who.found.slot) k) k (old_sets view (end_at old)).enabled
+  shown_enables : (old : Option GuestPlace) (k : ℕ) → left way ≡ old → nat_lt k (width w) ≡ true → Shows (enable_at w (place_at old who.found.slot) k) k (old_sets view (end_at old)).enabled
   shown_enables None k e has = slot_enables-shows w u moved its who.found.slot k 0 whole fits.there fits.slot (narrow k has)
   shown_enables (Some p) k e has = subst (λ o. Shows (get_or (file_at w.imsic (spot_of p)).enabled k 0) k (file_in w o).enabled) (sym (left_is_own way p e)) (row_shows (file_at w.imsic (spot_of p)).enabled k)
 
   -- a word of the new end
-  put_pending : (old new : Option Place) (k : ℕ) → left way ≡ old → led_to way ≡ new → nat_lt k (width w) ≡ true
+  put_pending : (old new : Option GuestPlace) (k : ℕ) → left way ≡ old → led_to way ≡ new → nat_lt k (width w) ≡ true
       → (k < pending_words w (place_at new who.found.slot)) × (u ≡ with_pending w (place_at new who.found.slot) k (bit_or (pending_at w (place_at new who.found.slot) k) hand.word))
       → after ≡ with_new_sets (end_at old) (end_at new) view (record (new_sets view (end_at old) (end_at new)) { pending = joined_by k hand.word (new_sets view (end_at old) (end_at new)).pending })
   put_pending None None k e too has made = slot-pending_joined w u moved its who.found.slot k hand.word whole fits.there fits.slot (narrow k has) made.1
@@ -282,7 +282,7 @@ module _ (w u : World) (who : Who) (way : Way) (at : Progress) (hand now : Hand)
   put_pending None (Some p) k e too has made = let own = own_from_memory way p e too in own-pending_joined w u moved its p k hand.word whole (fits.own p own) own (alone_there p e) made.0 made.1
   put_pending (Some f) (Some p) k e too has made = let next = next_from_file way f p e too in next-pending_joined w u moved its p k hand.word whole (fits.next p next) next (beside f p e too) made.0 made.1
 
-  put_enables : (old new : Option Place) (k : ℕ) → left way ≡ old → led_to way ≡ new → nat_lt k (width w) ≡ true
+  put_enables : (old new : Option GuestPlace) (k : ℕ) → left way ≡ old → led_to way ≡ new → nat_lt k (width w) ≡ true
       → (k < enable_words w (place_at new who.found.slot)) × (u ≡ with_enable w (place_at new who.found.slot) k hand.word)
       → after ≡ with_new_sets (end_at old) (end_at new) view (record (new_sets view (end_at old) (end_at new)) { enabled = replaced_by k hand.word (new_sets view (end_at old) (end_at new)).enabled })
   put_enables None None k e too has made = slot-enables_replaced w u moved its who.found.slot k hand.word whole fits.there fits.slot (narrow k has) made.1

@@ -3,7 +3,7 @@ use Rattle.std.proofs.Common.{◌≡◌, ℕ, ◌<◌, Bool, false, ◌||◌, Op
 use Rattle.aia_file.specs.InterruptFile.{InterruptFile, empty_file}
 use Rattle.aia_file.specs.FileState.{shown}
 use Rattle.aia_file.specs.Imsic.{IsThere, file_at}
-use Rattle.aia_vcpu.specs.declared.place.Place.{Place}
+use Rattle.aia_vcpu.specs.declared.place.GuestPlace.{GuestPlace}
 use Rattle.aia_vcpu.specs.Vms.{Vcpu, vcpu}
 use Rattle.aia_vcpu.specs.Home.{Home, ended, one_more}
 use Rattle.aia_vcpu.specs.Home.Home.{OnWay}
@@ -35,7 +35,7 @@ use Rattle.aia_regs.specs.declared.limits.TheConstants.{HARTS, SLOTS}
 
 -- ---- what is known of the world
 
-pub file_in-size : (w : World) (o : Option Place) → IsWhole w → ((p : Place) → o ≡ Some p → IsThere w.imsic (spot_of p)) → (file_in w o).n ≡ w.n
+pub file_in-size : (w : World) (o : Option GuestPlace) → IsWhole w → ((p : GuestPlace) → o ≡ Some p → IsThere w.imsic (spot_of p)) → (file_in w o).n ≡ w.n
 file_in-size w None whole there = refl
 file_in-size w (Some p) whole there = width_at w (spot_of p) whole (there p refl)
 
@@ -66,7 +66,7 @@ at_end n w g (OnWay (Outward from) at) e = ap (λ x. record (places_of w g (OnWa
 at_end n w g (OnWay (Across from to) at) e = ap (λ x. record (places_of w g (OnWay (Across from to) at)) { own = (places_of w g (OnWay (Across from to) at)).next; next = empty_file x }) e
 at_end n w g there e = refl
 
-module _ (w u : World) (m : Moving) (whole : IsWhole w) (fits : MoveFits w m) (apart : AreApart m.home) (reach : Option Place) (file : InterruptFile) (saw : Bool) where
+module _ (w u : World) (m : Moving) (whole : IsWhole w) (fits : MoveFits w m) (apart : AreApart m.home) (reach : Option GuestPlace) (file : InterruptFile) (saw : Bool) where
   -- a step is done, and it is not the last one
   pub goes_kept : (t : Moving) → Goes w m u t → IsWithin w.n (width w) file → Holds (width w) m.who.found.slot m.who.found.notice reach (places_of w (mover m) m.home) m.home m.hand file saw
       → Holds (width w) t.who.found.slot t.who.found.notice (reach_stepped m.home reach) (places_of u (mover t) t.home) t.home t.hand file (saw || sees (width w) m.home file)
@@ -90,20 +90,20 @@ module _ (w u : World) (m : Moving) (whole : IsWhole w) (fits : MoveFits w m) (a
       ends.step.is_next ends.last (made_view w u m hand whole fits apart ends.step) h)
 
   -- the file that it leaves is empty
-  pub ends_empty : (hand : Hand) (p : Place) → Ends w m u hand → old_file m.home ≡ Some p → Holds (width w) m.who.found.slot m.who.found.notice reach (places_of w (mover m) m.home) m.home m.hand file saw
+  pub ends_empty : (hand : Hand) (p : GuestPlace) → Ends w m u hand → old_file m.home ≡ Some p → Holds (width w) m.who.found.slot m.who.found.notice reach (places_of w (mover m) m.home) m.home m.hand file saw
       → IsEmpty (shown (file_at u.imsic (spot_of p)))
   ends_empty hand p ends leaves h =
       subst (λ (f : InterruptFile). IsEmpty f) (ap (λ o. file_in u o) (old_is_own m.home p leaves))
       (left_empty (width w) m.who.found.slot m.who.found.notice reach ends.step.access m.home (places_of w (mover m) m.home) m.hand (places_of u (mover m) m.home) hand file saw p leaves
       ends.step.is_next ends.last (made_view w u m hand whole fits apart ends.step) h)
     where
-      old_is_own : (there : Home) (p : Place) → old_file there ≡ Some p → own_file there ≡ Some p
+      old_is_own : (there : Home) (p : GuestPlace) → old_file there ≡ Some p → own_file there ≡ Some p
       old_is_own (OnWay (Outward from) at) p e = e
       old_is_own (OnWay (Across from to) at) p e = e
       old_is_own there p e = absurd (cc)
 
 -- a passed source is aimed
-pub aims_kept : (w u : World) (m t : Moving) (reach : Option Place) (file : InterruptFile) (saw : Bool) → GoesAiming w m u t → Holds (width w) m.who.found.slot m.who.found.notice reach (places_of w (mover m) m.home) m.home m.hand file saw
+pub aims_kept : (w u : World) (m t : Moving) (reach : Option GuestPlace) (file : InterruptFile) (saw : Bool) → GoesAiming w m u t → Holds (width w) m.who.found.slot m.who.found.notice reach (places_of w (mover m) m.home) m.home m.hand file saw
     → Holds (width u) t.who.found.slot t.who.found.notice reach (places_of u (mover t) t.home) t.home t.hand file saw
 aims_kept w u m t reach file saw goes h =
     let kept = aimed_kept (width w) m.who.found.slot m.who.found.notice reach (places_of w (mover m) m.home) m.home m.hand file saw h in

@@ -21,7 +21,7 @@ use Rattle.aia_entry.specs.declared.entry.Entry.{Entry}
 use Rattle.aia_entry.specs.declared.table.Route.{Route}
 use Rattle.aia_entry.specs.Tables.{table_of, entry_in_force, leads_by, route_of}
 use Rattle.aia_entry.specs.Translation.{is_msi_address, file_number}
-use Rattle.aia_vcpu.specs.declared.place.Place.{Place}
+use Rattle.aia_vcpu.specs.declared.place.GuestPlace.{GuestPlace}
 use Rattle.aia_vcpu.specs.Vms.{Vcpu, vcpu, is_vcpu_in, slot_of, notice_identity, notice_hart}
 use Rattle.aia_vcpu.specs.Home.{Home, holds}
 use Rattle.aia_vcpu.specs.BySteps.{own_file, next_file}
@@ -43,7 +43,7 @@ use Rattle.aia_fabric_values.proofs.WholeLemmas.{notice_hart_there}
 
 -- ---- a world as it was
 
-pub touches_none : (w u : World) (g : Vcpu) (reach : Option Place) → u ≡ w → TouchesOwn w u g reach
+pub touches_none : (w u : World) (g : Vcpu) (reach : Option GuestPlace) → u ≡ w → TouchesOwn w u g reach
 touches_none w u g reach e = record {
   rest = none_rest w u e;
   guest_files = λ p there other. ap (λ (x : World). file_at x.imsic (spot_of p)) e;
@@ -56,7 +56,7 @@ touches_none w u g reach e = record {
 
 -- ---- a guest file
 
-module _ (w u : World) (g : Vcpu) (p : Place) (offset value : ℕ) (whole : IsWhole w) (there : is_vcpu_in w.vms g ≡ true) (here : IsThere w.imsic (spot_of p)) (s : StoresIn w u (spot_of p) offset value) where
+module _ (w u : World) (g : Vcpu) (p : GuestPlace) (offset value : ℕ) (whole : IsWhole w) (there : is_vcpu_in w.vms g ≡ true) (here : IsThere w.imsic (spot_of p)) (s : StoresIn w u (spot_of p) offset value) where
   file_kept : (spot : Spot) → IsThere w.imsic spot → spot ≢ spot_of p → file_at u.imsic spot ≡ file_at w.imsic spot
   file_kept spot inside other = ap (λ (i : ImsicState). file_at i spot) s.lands.others ∙ kept_elsewhere w.imsic (spot_of p) spot (file_at u.imsic (spot_of p)) here inside other
 
@@ -131,19 +131,19 @@ module _ (w u : World) (g : Vcpu) (offset value : ℕ) (whole : IsWhole w) (ther
 
 -- ---- a device's store
 
-pub guest_spot : (i : ImsicState) (p : Place) → i.harts ≤ HARTS → i.guests ≤ GUEST_FILES → IsThere i (spot_of p) → page_spot i (guest_page p.hart p.file / PAGE) ≡ spot_of p
+pub guest_spot : (i : ImsicState) (p : GuestPlace) → i.harts ≤ HARTS → i.guests ≤ GUEST_FILES → IsThere i (spot_of p) → page_spot i (guest_page p.hart p.file / PAGE) ≡ spot_of p
 guest_spot i p few eight there =
     let page : guest_page p.hart p.file / PAGE * PAGE ≡ guest_page p.hart p.file = omega arith in
     spot_of_guest i.harts i.guests (guest_page p.hart p.file / PAGE * PAGE) p.hart p.file few eight there.0 there.1 there.2
     (in_page (guest_page p.hart p.file) (guest_page p.hart p.file / PAGE * PAGE) (omega arith) (omega arith))
 
 -- an entry leads a store, and is the route of one
-pub by_entry : (place : Option Place) (q hart : ℕ) (w u : World) (offset value : ℕ) → ReachesBy (leads_to q hart place) w u offset value → Reaches (leads_by (leads_to q hart place)) w u offset value
+pub by_entry : (place : Option GuestPlace) (q hart : ℕ) (w u : World) (offset value : ℕ) → ReachesBy (leads_to q hart place) w u offset value → Reaches (leads_by (leads_to q hart place)) w u offset value
 by_entry None q hart w u offset value reaches = reaches
 by_entry (Some p) q hart w u offset value reaches = reaches
 
 -- an entry that leads a virtual hart's stores to its own
-pub own_entry : (w u : World) (g : Vcpu) (reach : Option Place) (offset value : ℕ) → IsWhole w → is_vcpu_in w.vms g ≡ true → ((p : Place) → reach ≡ Some p → IsThere w.imsic (spot_of p))
+pub own_entry : (w u : World) (g : Vcpu) (reach : Option GuestPlace) (offset value : ℕ) → IsWhole w → is_vcpu_in w.vms g ≡ true → ((p : GuestPlace) → reach ≡ Some p → IsThere w.imsic (spot_of p))
     → Reaches (leads_by (leads_to (slot_of w.vms g) (notice_hart w.vms g) reach)) w u offset value → TouchesOwn w u g reach
 own_entry w u g (Some p) offset value whole there inside reaches =
     touches_file w u g p offset value whole there (inside p refl) (subst (λ (s : Spot). StoresInGuestFile w u s offset value) (guest_spot w.imsic p whole.harts whole.guests (inside p refl)) reaches)
@@ -152,7 +152,7 @@ own_entry w u g None offset value whole there inside reaches =
     touches_slot w u g offset value whole there (subst (λ (s : Spot). StoresInSlot w u (Some (slot_of w.vms g)) s (slot_of w.vms g + 1) offset value) (host_page w.imsic (notice_hart w.vms g) hart whole.harts)
     (subst (λ (o : Option ℕ). StoresInSlot w u o (page_spot w.imsic (supervisor_page (notice_hart w.vms g) / PAGE)) (slot_of w.vms g + 1) offset value) (slot_found (slot_of w.vms g) (slot_low w g whole there)) reaches))
 
-one_of : (w u : World) (g : Vcpu) (offset value : ℕ) (reach : Vcpu → Option Place) → IsWhole w → LeadsToOwn w g.vm reach → Reaches (leads_by (entry_in_force (table_of w.tables g.vm) g.number)) w u offset value → (u ≡ w) ⊎ TouchesOneOf w u g.vm reach
+one_of : (w u : World) (g : Vcpu) (offset value : ℕ) (reach : Vcpu → Option GuestPlace) → IsWhole w → LeadsToOwn w g.vm reach → Reaches (leads_by (entry_in_force (table_of w.tables g.vm) g.number)) w u offset value → (u ≡ w) ⊎ TouchesOneOf w u g.vm reach
 one_of w u g offset value reach whole leads at = elim (cases_Bool (is_vcpu_in w.vms g)) [
   | inl there ↦ inr (record {
     g = g;
@@ -163,7 +163,7 @@ one_of w u g offset value reach whole leads at = elim (cases_Bool (is_vcpu_in w.
   | inr none ↦ inl (subst (λ (entry : Entry). Reaches (leads_by entry) w u offset value) (leads.no_other g refl none) at)
 ]
 
-pub device_touches : (w u : World) (v addr value : ℕ) (reach : Vcpu → Option Place) → IsWhole w → LeadsToOwn w v reach → Reaches (route_of (table_of w.tables v) addr) w u (addr % PAGE) value → (u ≡ w) ⊎ TouchesOneOf w u v reach
+pub device_touches : (w u : World) (v addr value : ℕ) (reach : Vcpu → Option GuestPlace) → IsWhole w → LeadsToOwn w v reach → Reaches (route_of (table_of w.tables v) addr) w u (addr % PAGE) value → (u ≡ w) ⊎ TouchesOneOf w u v reach
 device_touches w u v addr value reach whole leads reaches = elim (cases_Bool (is_msi_address (table_of w.tables v).mask addr)) [
   | inl is ↦ one_of w u (vcpu v (file_number (table_of w.tables v).mask addr)) (addr % PAGE) value reach whole leads (subst (λ (r : Route). Reaches r w u (addr % PAGE) value) (cond-true _ _ _ is) reaches)
   | inr none ↦ inl (subst (λ (r : Route). Reaches r w u (addr % PAGE) value) (cond-false _ _ _ none) reaches)
@@ -171,7 +171,7 @@ device_touches w u v addr value reach whole leads reaches = elim (cases_Bool (is
 
 -- ---- a virtual hart's store
 
-pub peer_touches : (w u : World) (g : Vcpu) (named : Option Place) (value : ℕ) → IsWhole w → is_vcpu_in w.vms g ≡ true → ReachesByRecord named w u g value → TouchesOwn w u g named
+pub peer_touches : (w u : World) (g : Vcpu) (named : Option GuestPlace) (value : ℕ) → IsWhole w → is_vcpu_in w.vms g ≡ true → ReachesByRecord named w u g value → TouchesOwn w u g named
 peer_touches w u g None value whole there relays = touches_slot w u g 0 value whole there relays
 peer_touches w u g (Some p) value whole there relays = elim (cases_Bool (nat_lt p.hart w.imsic.harts && is_in_range 1 w.imsic.guests p.file)) [
   | inl named ↦
@@ -182,12 +182,12 @@ peer_touches w u g (Some p) value whole there relays = elim (cases_Bool (nat_lt 
 
 -- ---- the places of another virtual hart
 
-file_stays : (w u : World) (g : Vcpu) (reach o : Option Place) → TouchesOwn w u g reach → ((p : Place) → o ≡ Some p → IsThere w.imsic (spot_of p) × (reach ≢ Some p)) → file_in u o ≡ file_in w o
+file_stays : (w u : World) (g : Vcpu) (reach o : Option GuestPlace) → TouchesOwn w u g reach → ((p : GuestPlace) → o ≡ Some p → IsThere w.imsic (spot_of p) × (reach ≢ Some p)) → file_in u o ≡ file_in w o
 file_stays w u g reach None t kept = ap (λ (x : World). empty_file x.n) t.rest
 file_stays w u g reach (Some p) t kept = let inside = kept p refl in ap shown (t.guest_files p inside.0 inside.1)
 
-pub others_stay : (w u : World) (g x : Vcpu) (reach : Option Place) (there : Home) → is_vcpu_in w.vms g ≡ true → is_vcpu_in w.vms x ≡ true → x ≢ g → TouchesOwn w u g reach
-    → ((p : Place) → holds p there ≡ true → IsThere w.imsic (spot_of p) × (reach ≢ Some p)) → places_of u x there ≡ places_of w x there
+pub others_stay : (w u : World) (g x : Vcpu) (reach : Option GuestPlace) (there : Home) → is_vcpu_in w.vms g ≡ true → is_vcpu_in w.vms x ≡ true → x ≢ g → TouchesOwn w u g reach
+    → ((p : GuestPlace) → holds p there ≡ true → IsThere w.imsic (spot_of p) × (reach ≢ Some p)) → places_of u x there ≡ places_of w x there
 others_stay w u g x reach there standing inside other t held =
     let own = file_stays w u g reach (own_file there) t (λ p e. held p (own_is_held there p e)) in
     let next = file_stays w u g reach (next_file there) t (λ p e. held p (next_is_held there p e)) in

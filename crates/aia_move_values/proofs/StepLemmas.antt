@@ -5,7 +5,7 @@ use Rattle.aia_word.specs.Sets.{has_bit}
 use Rattle.aia_regs.specs.declared.file_registers.FileReg.{FileReg}
 use Rattle.aia_file.specs.declared.spot.Spot.{Spot}
 use Rattle.aia_file.specs.Imsic.{ImsicState, IsThere}
-use Rattle.aia_vcpu.specs.declared.place.Place.{Place}
+use Rattle.aia_vcpu.specs.declared.place.GuestPlace.{GuestPlace}
 use Rattle.aia_vcpu.specs.declared.vm.Vm.{Vm}
 use Rattle.aia_vcpu.specs.Vms.{is_vcpu_in, slot_of, notice_hart}
 use Rattle.aia_vcpu.specs.declared.end.End.{End}
@@ -90,7 +90,7 @@ record HaveNoZero (w : World) (m t : Moving) : Type 0 where
   pub pending : steps_done m.home ≡ pending_step m.home 0 → has_bit t.hand.word 0 ≡ false
   pub enabled : steps_done m.home ≡ enables_step (width w) m.home 0 → has_bit t.hand.word 0 ≡ false
 
-pub file_stays : (w u : World) (p : Place) → SameMachine w u → IsThere w.imsic (spot_of p) → IsThere u.imsic (spot_of p)
+pub file_stays : (w u : World) (p : GuestPlace) → SameMachine w u → IsThere w.imsic (spot_of p) → IsThere u.imsic (spot_of p)
 file_stays w u p kept is = (omega (arith, is.0, kept.harts), is.1, omega (arith, is.2, kept.guests))
 
 one_step : (w u : World) (m t : Moving) (access : Access) → MoveFits w m → IsNext (width w) m.home access → Makes access m w u

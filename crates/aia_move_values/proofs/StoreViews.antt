@@ -13,7 +13,7 @@ use Rattle.aia_file.proofs.FileLemmas.{same_file}
 use Rattle.aia_file.specs.Imsic.{ImsicState, IsThere, file_at}
 use Rattle.aia_file.specs.Mrif.{mrif_in, pending_place, after_store}
 use Rattle.aia_file.specs.Words.{words_after_store}
-use Rattle.aia_vcpu.specs.declared.place.Place.{Place}
+use Rattle.aia_vcpu.specs.declared.place.GuestPlace.{GuestPlace}
 use Rattle.aia_vcpu.specs.Vms.{Vcpu, slot_of}
 use Rattle.aia_vcpu.proofs.HomeLemmas.{same_place, either_file}
 use Rattle.aia_vcpu.specs.Home.{Home, is_place, holds}
@@ -32,7 +32,7 @@ use Rattle.aia_move_values.proofs.ViewLemmas.{IsNoFile, own-replaced, next-repla
 
 -- ---- in a guest file
 
-module _ (w u : World) (g : Vcpu) (p : Place) (offset value : ℕ) (whole : IsWhole w) (stands : IsThere w.imsic (spot_of p)) (stores : StoresIn w u (spot_of p) offset value) where
+module _ (w u : World) (g : Vcpu) (p : GuestPlace) (offset value : ℕ) (whole : IsWhole w) (stands : IsThere w.imsic (spot_of p)) (stores : StoresIn w u (spot_of p) offset value) where
   one_state : u ≡ with_state w (spot_of p) (file_at u.imsic (spot_of p))
   one_state = stores.rest ∙ ap (λ (j : ImsicState). record w { imsic = j }) stores.lands.others
 
@@ -51,20 +51,20 @@ module _ (w u : World) (g : Vcpu) (p : Place) (offset value : ℕ) (whole : IsWh
   no_next : IsNoFile w p None
   no_next r e = absurd (cc)
 
-  one_file : (q r : Place) → IsThere w.imsic (spot_of q) → is_place q p ≡ false → q ≡ r → IsThere w.imsic (spot_of r) × (is_place r p ≡ false)
-  one_file q r there apart same = subst (λ (x : Place). IsThere w.imsic (spot_of x) × (is_place x p ≡ false)) same (there, apart)
+  one_file : (q r : GuestPlace) → IsThere w.imsic (spot_of q) → is_place q p ≡ false → q ≡ r → IsThere w.imsic (spot_of r) × (is_place r p ≡ false)
+  one_file q r there apart same = subst (λ (x : GuestPlace). IsThere w.imsic (spot_of x) × (is_place x p ≡ false)) same (there, apart)
 
-  other_way : (a b : Place) → is_place a b ≡ false → is_place b a ≡ false
+  other_way : (a b : GuestPlace) → is_place a b ≡ false → is_place b a ≡ false
   other_way a b apart = grind (arith, nat_tests)
 
   -- of the home that holds it
-  pub file_store-places : (there : Home) → holds p there ≡ true → AreApart there → ((r : Place) → own_file there ≡ Some r → IsThere w.imsic (spot_of r)) → ((r : Place) → next_file there ≡ Some r → IsThere w.imsic (spot_of r))
+  pub file_store-places : (there : Home) → holds p there ≡ true → AreApart there → ((r : GuestPlace) → own_file there ≡ Some r → IsThere w.imsic (spot_of r)) → ((r : GuestPlace) → next_file there ≡ Some r → IsThere w.imsic (spot_of r))
       → places_of u g there ≡ places_landed (Some p) there offset value (places_of w g there)
   file_store-places (InMemory rest) held apart own next = absurd (cc)
   file_store-places (OnWay (Across from to) at) held apart own next = elim (cases_Bool (is_place p to)) [
     | inl second ↦
         let same : p ≡ to = same_place p to second in
-        let not_from : is_place from p ≡ false = ap (λ (x : Place). is_place from x) same ∙ apart in
+        let not_from : is_place from p ≡ false = ap (λ (x : GuestPlace). is_place from x) same ∙ apart in
         next-landed (OnWay (Across from to) at) (ap Some (sym same)) (λ r e. let is : from ≡ r = cc in one_file from r (own from refl) not_from is) ∙ sym (rw second refl)
     | inr first ↦
         let same : p ≡ from = same_place p from (either (is_place p from) (is_place p to) held first) in
@@ -79,7 +79,7 @@ module _ (w u : World) (g : Vcpu) (p : Place) (offset value : ℕ) (whole : IsWh
   file_store-places there held apart own next = elim (either_file p there held) [ inl is ↦ own-landed there is no_next | inr none ↦ absurd (cc) ]
 
   -- of every other one
-  pub file_store-others : (there : Home) → ((r : Place) → own_file there ≡ Some r → IsThere w.imsic (spot_of r) × (is_place r p ≡ false)) → ((r : Place) → next_file there ≡ Some r → IsThere w.imsic (spot_of r) × (is_place r p ≡ false))
+  pub file_store-others : (there : Home) → ((r : GuestPlace) → own_file there ≡ Some r → IsThere w.imsic (spot_of r) × (is_place r p ≡ false)) → ((r : GuestPlace) → next_file there ≡ Some r → IsThere w.imsic (spot_of r) × (is_place r p ≡ false))
       → places_of u g there ≡ places_of w g there
   file_store-others there own next =
       let e = file_in-other w p (file_at u.imsic (spot_of p)) (own_file there) stands own in

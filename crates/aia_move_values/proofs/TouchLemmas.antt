@@ -13,7 +13,7 @@ use Rattle.aia_file.specs.Mrif.{mrif_in, pending_place, enable_place}
 use Rattle.aia_file.proofs.SlotLemmas.{other_words}
 use Rattle.aia_entry.specs.Tables.{table_of, entry_in_force}
 use Rattle.aia_entry.proofs.TableLemmas.{fenced_elsewhere, fenced_mask, fenced_start, fenced_count}
-use Rattle.aia_vcpu.specs.declared.place.Place.{Place}
+use Rattle.aia_vcpu.specs.declared.place.GuestPlace.{GuestPlace}
 use Rattle.aia_vcpu.specs.Vms.{Vcpu, vcpu, is_vcpu_in, slot_of}
 use Rattle.aia_vcpu.specs.Home.{Way, Home, Progress, left, led_to, is_file, end_at, holds}
 use Rattle.aia_vcpu.specs.Home.Home.{OnWay}
@@ -68,10 +68,10 @@ module _ (w u : World) (m : Moving) where
     stages = λ q other. refl;
   })
 
-  held_apart : (there : Home) (r p : Place) → holds r there ≡ false → holds p there ≡ true → spot_of r ≢ spot_of p
-  held_apart there r p none some e = let no : false ≡ true = sym none ∙ ap (λ (x : Place). holds x there) (same_place r p e) ∙ some in absurd (cc)
+  held_apart : (there : Home) (r p : GuestPlace) → holds r there ≡ false → holds p there ≡ true → spot_of r ≢ spot_of p
+  held_apart there r p none some e = let no : false ≡ true = sym none ∙ ap (λ (x : GuestPlace). holds x there) (same_place r p e) ∙ some in absurd (cc)
 
-  pub touches_file : (p : Place) (f : FileState) → IsThere w.imsic (spot_of p) → holds p m.home ≡ true → u ≡ with_state w (spot_of p) f → Touches false w u m
+  pub touches_file : (p : GuestPlace) (f : FileState) → IsThere w.imsic (spot_of p) → holds p m.home ≡ true → u ≡ with_state w (spot_of p) f → Touches false w u m
   touches_file p f stands held e = subst TouchesOwn (sym e) (record {
     rest = refl;
     tables = refl;
@@ -206,8 +206,8 @@ module _ (w u : World) (who : Who) (way : Way) (at : Progress) (hand : Hand) (wh
   slot_few = let small = slot_low w (vcpu who.found.vm who.found.number) whole fits.there in omega (arith, small, fits.slot)
 
   -- an end of the move, if it is a guest file, is there, and the move holds it
-  abbrev IsEnd : Option Place → Type 0
-  IsEnd end = (p : Place) → end ≡ Some p → IsThere w.imsic (spot_of p) × (holds p (OnWay way at) ≡ true)
+  abbrev IsEnd : Option GuestPlace → Type 0
+  IsEnd end = (p : GuestPlace) → end ≡ Some p → IsThere w.imsic (spot_of p) × (holds p (OnWay way at) ≡ true)
 
   old_is : IsEnd (left way)
   old_is p e = (fits.own p (left_is_own way p e), origin_is_held (OnWay way at) p e)
@@ -216,15 +216,15 @@ module _ (w u : World) (who : Who) (way : Way) (at : Progress) (hand : Hand) (wh
   new_is p e = (elim (led_to_is_held way p e) [ inl own ↦ fits.own p own | inr next ↦ fits.next p next ], new_is_held (OnWay way at) p e)
 
   -- a register of an end, a word of its pending set, of its enabled set
-  touches_register : (end : Option Place) → IsEnd end → is_file (end_at end) ≡ true → u ≡ with_state w (spot_in end) (file_at u.imsic (spot_in end)) → Touches false w u it
+  touches_register : (end : Option GuestPlace) → IsEnd end → is_file (end_at end) ≡ true → u ≡ with_state w (spot_in end) (file_at u.imsic (spot_in end)) → Touches false w u it
   touches_register None is has e = absurd (cc)
   touches_register (Some p) is has e = let there = is p refl in touches_file w u it p (file_at u.imsic (spot_of p)) there.0 there.1 e
 
-  touches_pending : (end : Option Place) (k v : ℕ) → IsEnd end → nat_lt k (width w) ≡ true → u ≡ with_pending w (place_at end who.found.slot) k v → Touches false w u it
+  touches_pending : (end : Option GuestPlace) (k v : ℕ) → IsEnd end → nat_lt k (width w) ≡ true → u ≡ with_pending w (place_at end who.found.slot) k v → Touches false w u it
   touches_pending None k v is has e = let few = of_width w k whole has in touches_slot w u it whole fits.there (pending_place who.found.slot k) (2 * k) v (omega arith) slot_few (omega arith) e
   touches_pending (Some p) k v is has e = let there = is p refl in touches_file w u it p (record (file_at w.imsic (spot_of p)) { pending = set (file_at w.imsic (spot_of p)).pending k v }) there.0 there.1 e
 
-  touches_enables : (end : Option Place) (k v : ℕ) → IsEnd end → nat_lt k (width w) ≡ true → u ≡ with_enable w (place_at end who.found.slot) k v → Touches false w u it
+  touches_enables : (end : Option GuestPlace) (k v : ℕ) → IsEnd end → nat_lt k (width w) ≡ true → u ≡ with_enable w (place_at end who.found.slot) k v → Touches false w u it
   touches_enables None k v is has e = let few = of_width w k whole has in touches_slot w u it whole fits.there (enable_place who.found.slot k) (2 * k + 1) v (omega arith) slot_few (omega arith) e
   touches_enables (Some p) k v is has e = let there = is p refl in touches_file w u it p (record (file_at w.imsic (spot_of p)) { enabled = set (file_at w.imsic (spot_of p)).enabled k v }) there.0 there.1 e
 
@@ -257,12 +257,12 @@ step_touches w u m hand whole fits step = touches_at step.access w u m.who m.hom
 
 -- ---- so the places of others stay
 
-file_stays : (sent : Bool) (w u : World) (m : Moving) (o : Option Place) → Touches sent w u m → ((p : Place) → o ≡ Some p → IsThere w.imsic (spot_of p) × (holds p m.home ≡ false)) → file_in u o ≡ file_in w o
+file_stays : (sent : Bool) (w u : World) (m : Moving) (o : Option GuestPlace) → Touches sent w u m → ((p : GuestPlace) → o ≡ Some p → IsThere w.imsic (spot_of p) × (holds p m.home ≡ false)) → file_in u o ≡ file_in w o
 file_stays sent w u m None t others = ap (λ n. empty_file n) (ap (λ (x : World). x.n) t.rest)
 file_stays sent w u m (Some p) t others = let other = others p refl in ap shown (t.guest_files p other.0 other.1)
 
 pub view_stays : (sent : Bool) (w u : World) (m : Moving) (g : Vcpu) (there : Home) → IsWhole w → MoveFits w m → Touches sent w u m → is_vcpu_in w.vms g ≡ true → g ≢ mover m
-    → ((p : Place) → holds p there ≡ true → IsThere w.imsic (spot_of p) × (holds p m.home ≡ false)) → places_of u g there ≡ places_of w g there
+    → ((p : GuestPlace) → holds p there ≡ true → IsThere w.imsic (spot_of p) × (holds p m.home ≡ false)) → places_of u g there ≡ places_of w g there
 view_stays sent w u m g there whole fits t stands other theirs =
     let own = file_stays sent w u m (own_file there) t (λ p e. theirs p (own_is_held there p e)) in
     let next = file_stays sent w u m (next_file there) t (λ p e. theirs p (next_is_held there p e)) in
@@ -275,5 +275,5 @@ view_stays sent w u m g there whole fits t stands other theirs =
     λ k. record { own = own k; next = next k; slot = slot k; word0 = words.0 k; word1 = words.1 k; in_force = entry k; stage = (stage k).written; stage_in_force = (stage k).in_force }
 
 -- the virtual hart that is moved has its slot and notice hart still, and its files are there
-pub there_still : (sent : Bool) (w u : World) (m : Moving) (p : Place) → Touches sent w u m → IsThere w.imsic (spot_of p) → IsThere u.imsic (spot_of p)
+pub there_still : (sent : Bool) (w u : World) (m : Moving) (p : GuestPlace) → Touches sent w u m → IsThere w.imsic (spot_of p) → IsThere u.imsic (spot_of p)
 there_still sent w u m p t stands = (omega (arith, stands.0, ap (λ (x : World). x.imsic.harts) t.rest), stands.1, omega (arith, stands.2, ap (λ (x : World). x.imsic.guests) t.rest))

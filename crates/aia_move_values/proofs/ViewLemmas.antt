@@ -26,7 +26,7 @@ pub use Rattle.aia_file.proofs.SlotLemmas.{place_shows}
 use Rattle.aia_entry.specs.Format.{decoded}
 use Rattle.aia_entry.specs.Tables.{table_of, entry_byte}
 use Rattle.aia_entry.proofs.TableLemmas.{fenced_here}
-use Rattle.aia_vcpu.specs.declared.place.Place.{Place}
+use Rattle.aia_vcpu.specs.declared.place.GuestPlace.{GuestPlace}
 use Rattle.aia_vcpu.specs.Vms.{Vcpu, is_vcpu_in, slot_of}
 use Rattle.aia_vcpu.specs.Home.{Home, is_place}
 use Rattle.aia_vcpu.specs.BySteps.{own_file, next_file}
@@ -44,11 +44,11 @@ use Rattle.aia_fabric_values.proofs.WholeLemmas.{vcpu_entry, entry_at}
 
 -- ---- a file
 
-pub same_place : (a b : Place) → spot_of a ≡ spot_of b → a ≡ b
+pub same_place : (a b : GuestPlace) → spot_of a ≡ spot_of b → a ≡ b
 same_place a b e = let hart : a.hart ≡ b.hart = cc in let file : a.file ≡ b.file = cc in λ k. record { hart = hart k; file = file k }
 
-pub spots_apart : (a b : Place) → is_place a b ≡ false → spot_of a ≢ spot_of b
-spots_apart a b apart e = let no : true ≡ false = sym (is_itself_place a) ∙ ap (λ (p : Place). is_place a p) (same_place a b e) ∙ apart in absurd (cc)
+pub spots_apart : (a b : GuestPlace) → is_place a b ≡ false → spot_of a ≢ spot_of b
+spots_apart a b apart e = let no : true ≡ false = sym (is_itself_place a) ∙ ap (λ (p : GuestPlace). is_place a p) (same_place a b e) ∙ apart in absurd (cc)
 
 pub within_files : (w : World) (spot : Spot) → IsWhole w → IsThere w.imsic spot → place_of w.imsic spot < length w.imsic.files
 within_files w spot whole there = let low = place_within w.imsic spot there in omega (arith, low, whole.files)
@@ -57,17 +57,17 @@ pub here : (w : World) (spot : Spot) (f : FileState) → IsWhole w → IsThere w
 here w spot f whole there = replaced_here w.imsic spot f (within_files w spot whole there)
 
 -- it is no file of a home
-abbrev pub IsNoFile : World → Place → Option Place → Type 0
-IsNoFile w p o = (r : Place) → o ≡ Some r → IsThere w.imsic (spot_of r) × (is_place r p ≡ false)
+abbrev pub IsNoFile : World → GuestPlace → Option GuestPlace → Type 0
+IsNoFile w p o = (r : GuestPlace) → o ≡ Some r → IsThere w.imsic (spot_of r) × (is_place r p ≡ false)
 
-pub file_in-other : (w : World) (p : Place) (f : FileState) (o : Option Place) → IsThere w.imsic (spot_of p) → IsNoFile w p o → file_in (with_state w (spot_of p) f) o ≡ file_in w o
+pub file_in-other : (w : World) (p : GuestPlace) (f : FileState) (o : Option GuestPlace) → IsThere w.imsic (spot_of p) → IsNoFile w p o → file_in (with_state w (spot_of p) f) o ≡ file_in w o
 file_in-other w p f None there none = refl
 file_in-other w p f (Some r) there none = let other = none r refl in ap shown (kept_elsewhere w.imsic (spot_of p) (spot_of r) f there other.0 (spots_apart r p other.1))
 
-file_in-here : (w : World) (p : Place) (f : FileState) (o : Option Place) → IsWhole w → IsThere w.imsic (spot_of p) → o ≡ Some p → file_in (with_state w (spot_of p) f) o ≡ shown f
+file_in-here : (w : World) (p : GuestPlace) (f : FileState) (o : Option GuestPlace) → IsWhole w → IsThere w.imsic (spot_of p) → o ≡ Some p → file_in (with_state w (spot_of p) f) o ≡ shown f
 file_in-here w p f o whole there e = ap (λ x. file_in (with_state w (spot_of p) f) x) e ∙ ap shown (here w (spot_of p) f whole there)
 
-module _ (w : World) (g : Vcpu) (there : Home) (p : Place) (f : FileState) (whole : IsWhole w) (stands : IsThere w.imsic (spot_of p)) where
+module _ (w : World) (g : Vcpu) (there : Home) (p : GuestPlace) (f : FileState) (whole : IsWhole w) (stands : IsThere w.imsic (spot_of p)) where
   pub own-replaced : own_file there ≡ Some p → IsNoFile w p (next_file there) → places_of (with_state w (spot_of p) f) g there ≡ record (places_of w g there) { own = shown f }
   own-replaced own next =
       let e = file_in-here w p f (own_file there) whole stands own in
@@ -81,7 +81,7 @@ module _ (w : World) (g : Vcpu) (there : Home) (p : Place) (f : FileState) (whol
       λ k. record (places_of w g there) { own = o k; next = e k }
 
 -- a register of it is written
-module _ (w u : World) (g : Vcpu) (there : Home) (p : Place) (reg : FileReg) (v : ℕ) (whole : IsWhole w) (stands : IsThere w.imsic (spot_of p)) (puts : PutsRegister w u (spot_of p) reg v) where
+module _ (w u : World) (g : Vcpu) (there : Home) (p : GuestPlace) (reg : FileReg) (v : ℕ) (whole : IsWhole w) (stands : IsThere w.imsic (spot_of p)) (puts : PutsRegister w u (spot_of p) reg v) where
   pub own-put : own_file there ≡ Some p → IsNoFile w p (next_file there) → places_of u g there ≡ record (places_of w g there) { own = accessed reg (ops.Write v) (places_of w g there).own }
   own-put own next =
       ap (λ (x : World). places_of x g there) puts.others ∙ own-replaced w g there p (file_at u.imsic (spot_of p)) whole stands own next
@@ -213,7 +213,7 @@ module _ (w : World) (g : Vcpu) (there : Home) (whole : IsWhole w) (stands : is_
   pub stage-places : (s : Stage) → places_of (with_stage w g s) g there ≡ record (places_of w g there) { stage = s.written; stage_in_force = s.in_force }
   stage-places s = let new = stage_here s in λ t. record (places_of w g there) { stage = (new t).written; stage_in_force = (new t).in_force }
 
-  pub map-places : (to : Option Place) → places_of (with_map w g to) g there ≡ record (places_of w g there) { stage = to }
+  pub map-places : (to : Option GuestPlace) → places_of (with_map w g to) g there ≡ record (places_of w g there) { stage = to }
   map-places to = stage-places (record (stage_of w g) { written = to })
 
   pub gfence-places : places_of (with_gfence w g) g there ≡ record (places_of w g there) { stage_in_force = (places_of w g there).stage }
@@ -221,12 +221,12 @@ module _ (w : World) (g : Vcpu) (there : Home) (whole : IsWhole w) (stands : is_
 
 -- ---- a notice
 
-file_in-posted : (w : World) (hart : ℕ) (f : FileState) (notices : ℕ) (o : Option Place) → hart < w.imsic.harts → ((r : Place) → o ≡ Some r → IsThere w.imsic (spot_of r))
+file_in-posted : (w : World) (hart : ℕ) (f : FileState) (notices : ℕ) (o : Option GuestPlace) → hart < w.imsic.harts → ((r : GuestPlace) → o ≡ Some r → IsThere w.imsic (spot_of r))
     → file_in (record w { imsic = with_file w.imsic (SupervisorFile hart) f; notices = notices }) o ≡ file_in w o
 file_in-posted w hart f notices None low stands = refl
 file_in-posted w hart f notices (Some r) low stands = ap shown (kept_elsewhere w.imsic (SupervisorFile hart) (spot_of r) f low (stands r refl) (λ e. absurd (cc)))
 
-pub posts-places : (w u : World) (g : Vcpu) (there : Home) (hart identity : ℕ) → hart < w.imsic.harts → ((r : Place) → own_file there ≡ Some r → IsThere w.imsic (spot_of r)) → ((r : Place) → next_file there ≡ Some r → IsThere w.imsic (spot_of r))
+pub posts-places : (w u : World) (g : Vcpu) (there : Home) (hart identity : ℕ) → hart < w.imsic.harts → ((r : GuestPlace) → own_file there ≡ Some r → IsThere w.imsic (spot_of r)) → ((r : GuestPlace) → next_file there ≡ Some r → IsThere w.imsic (spot_of r))
     → Posts w u (SupervisorFile hart) identity → places_of u g there ≡ places_of w g there
 posts-places w u g there hart identity low own next p =
     let f = file_at u.imsic (SupervisorFile hart) in

@@ -4,7 +4,7 @@ use Rattle.std.proofs.lemmas.Bool.{eqb-true}
 use Rattle.aia_regs.specs.declared.limits.TheConstants.{HARTS, GUEST_FILES, VCPUS}
 use Rattle.aia_file.specs.declared.spot.Spot.TheVariants.{SupervisorFile}
 use Rattle.aia_file.specs.Imsic.{IsThere}
-use Rattle.aia_vcpu.specs.declared.place.Place.{Place}
+use Rattle.aia_vcpu.specs.declared.place.GuestPlace.{GuestPlace}
 use Rattle.aia_vcpu.specs.Home.{Way, left, led_to, Home, is_moving, at_first}
 use Rattle.aia_vcpu.specs.Home.Home.{OnWay}
 use Rattle.aia_vcpu.specs.BySteps.{first_file, own_file, next_file}
@@ -27,7 +27,7 @@ small_who w who whole is =
     let hart = notice_hart_there w (vcpu who.found.vm who.found.number) whole is.there in
     (omega (arith, slot, below), omega (arith, slot, below, whole.vcpus), omega (arith, is.notice, hart, whole.harts))
 
-pub small_file : (w : World) (to : Option Place) → IsWhole w → ((p : Place) → to ≡ Some p → IsThere w.imsic (spot_of p)) → IfSome to (λ p. (p.hart < HARTS) × (p.file ≤ GUEST_FILES))
+pub small_file : (w : World) (to : Option GuestPlace) → IsWhole w → ((p : GuestPlace) → to ≡ Some p → IsThere w.imsic (spot_of p)) → IfSome to (λ p. (p.hart < HARTS) × (p.file ≤ GUEST_FILES))
 small_file w None whole there = search
 small_file w (Some p) whole there =
     let is = there p refl in
@@ -49,28 +49,28 @@ slot_there w m s seen whole fits =
 -- ---- the places of a move are there
 
 -- at either end of a way: a file, or the slot
-end_there : (w : World) (slot : ℕ) (o : Option Place) → slot < VCPUS → ((p : Place) → o ≡ Some p → IsThere w.imsic (spot_of p)) → IsPlaceThere w (place_at o slot)
+end_there : (w : World) (slot : ℕ) (o : Option GuestPlace) → slot < VCPUS → ((p : GuestPlace) → o ≡ Some p → IsThere w.imsic (spot_of p)) → IsPlaceThere w (place_at o slot)
 end_there w slot None low there = low
 end_there w slot (Some p) low there = there p refl
 
 pub old_there : (w : World) (m : Moving) → IsWhole w → MoveFits w m → is_moving m.home ≡ true → IsPlaceThere w (old_at m)
 old_there w m whole fits moves = by_home m.home fits.own moves
   where
-    by_home : (there : Home) → ((p : Place) → own_file there ≡ Some p → IsThere w.imsic (spot_of p)) → is_moving there ≡ true → IsPlaceThere w (old_by there m.who.found.slot)
+    by_home : (there : Home) → ((p : GuestPlace) → own_file there ≡ Some p → IsThere w.imsic (spot_of p)) → is_moving there ≡ true → IsPlaceThere w (old_by there m.who.found.slot)
     by_home (OnWay way at) own moves = end_there w m.who.found.slot (left way) (slot_there w m m refl whole fits) (λ p e. own p (left_is_own way p e))
     by_home there own moves = absurd (cc)
 
 pub new_there : (w : World) (m : Moving) → IsWhole w → MoveFits w m → is_moving m.home ≡ true → IsPlaceThere w (new_at m)
 new_there w m whole fits moves = by_home m.home fits.own fits.next moves
   where
-    by_home : (there : Home) → ((p : Place) → own_file there ≡ Some p → IsThere w.imsic (spot_of p)) → ((p : Place) → next_file there ≡ Some p → IsThere w.imsic (spot_of p)) → is_moving there ≡ true → IsPlaceThere w (new_by there m.who.found.slot)
+    by_home : (there : Home) → ((p : GuestPlace) → own_file there ≡ Some p → IsThere w.imsic (spot_of p)) → ((p : GuestPlace) → next_file there ≡ Some p → IsThere w.imsic (spot_of p)) → is_moving there ≡ true → IsPlaceThere w (new_by there m.who.found.slot)
     by_home (OnWay way at) own next moves = end_there w m.who.found.slot (led_to way) (slot_there w m m refl whole fits) (λ p e. elim (led_to_is_held way p e) [ inl same ↦ own p same | inr same ↦ next p same ])
     by_home there own next moves = absurd (cc)
 
 -- ---- a move begins
 
-some_there : (w : World) (o : Option Place) (p : Place) → o ≡ Some p → IfSome o (λ x. IsThere w.imsic (spot_of x)) → IsThere w.imsic (spot_of p)
-some_there w o p e there = subst (λ (o : Option Place). IfSome o (λ x. IsThere w.imsic (spot_of x))) e there
+some_there : (w : World) (o : Option GuestPlace) (p : GuestPlace) → o ≡ Some p → IfSome o (λ x. IsThere w.imsic (spot_of x)) → IsThere w.imsic (spot_of p)
+some_there w o p e there = subst (λ (o : Option GuestPlace). IfSome o (λ x. IsThere w.imsic (spot_of x))) e there
 
 pub begins_fit : (w : World) (m : Moving) (way : Way) → m.home ≡ OnWay way at_first → IsWho w m.who → IfSome (left way) (λ p. IsThere w.imsic (spot_of p)) → IfSome (led_to way) (λ p. IsThere w.imsic (spot_of p)) → MoveFits w m
 begins_fit w m way home who old new = record {
@@ -83,6 +83,6 @@ begins_fit w m way home who old new = record {
   no_enabled_zero = λ e. absurd (omega (arith, eqb-true _ _ e, ap steps_done home));
 }
   where
-    own_there : (from to : Option Place) (p : Place) → IfSome from (λ p. IsThere w.imsic (spot_of p)) → IfSome to (λ p. IsThere w.imsic (spot_of p)) → first_file from to ≡ Some p → IsThere w.imsic (spot_of p)
+    own_there : (from to : Option GuestPlace) (p : GuestPlace) → IfSome from (λ p. IsThere w.imsic (spot_of p)) → IfSome to (λ p. IsThere w.imsic (spot_of p)) → first_file from to ≡ Some p → IsThere w.imsic (spot_of p)
     own_there (Some q) to p old new e = some_there w (Some q) p e old
     own_there None to p old new e = some_there w to p e new

@@ -5,7 +5,7 @@ use Rattle.aia_regs.specs.declared.file_registers.FileReg.TheVariants.{Delivery,
 use Rattle.aia_file.specs.declared.spot.Spot.{Spot}
 use Rattle.aia_file.specs.declared.spot.Spot.TheVariants.{SupervisorFile, Nowhere}
 use Rattle.aia_file.specs.Imsic.{IsThere, file_at}
-use Rattle.aia_vcpu.specs.declared.place.Place.{Place}
+use Rattle.aia_vcpu.specs.declared.place.GuestPlace.{GuestPlace}
 use Rattle.aia_vcpu.specs.Vms.{Vcpu, vcpu, is_vcpu_in, slot_of, notice_hart}
 use Rattle.aia_vcpu.specs.Home.{Home, left, led_to, one_more}
 use Rattle.aia_vcpu.specs.Plans.{is_at_last, IsNext, next_access, is_last_made}
@@ -40,13 +40,13 @@ width w = (w.n + 1) / 64
 -- ---- its places
 
 -- Where a guest file is among all files, where there is one.
-abbrev pub spot_in : Option Place → Spot
+abbrev pub spot_in : Option GuestPlace → Spot
 spot_in None = Nowhere
 spot_in (Some p) = spot_of p
 
 -- The old place and the new place of a move, of the virtual hart of a slot: a guest file, or that
 -- slot of memory.
-abbrev pub place_at : Option Place → ℕ → At
+abbrev pub place_at : Option GuestPlace → ℕ → At
 place_at None slot = Slot slot
 place_at (Some p) slot = File (spot_of p)
 
@@ -127,8 +127,8 @@ pub record MoveFits (w : World) (m : Moving) : Type 0 where
   pub there : is_vcpu_in w.vms (mover m) ≡ true
   pub slot : m.who.found.slot ≡ slot_of w.vms (mover m)
   pub notice : m.who.found.notice ≡ notice_hart w.vms (mover m)
-  pub own : (p : Place) → own_file m.home ≡ Some p → IsThere w.imsic (spot_of p)
-  pub next : (p : Place) → next_file m.home ≡ Some p → IsThere w.imsic (spot_of p)
+  pub own : (p : GuestPlace) → own_file m.home ≡ Some p → IsThere w.imsic (spot_of p)
+  pub next : (p : GuestPlace) → next_file m.home ≡ Some p → IsThere w.imsic (spot_of p)
   pub no_pending_zero : is_last_made (width w) m.home (TakePending 0) ≡ true
       → has_bit m.hand.word 0 ≡ false
   pub no_enabled_zero : is_last_made (width w) m.home (TakeEnables 0) ≡ true

@@ -8,7 +8,7 @@ use Rattle.aia_file.specs.Imsic.{IsThere, file_at}
 use Rattle.aia_file.specs.Mrif.{mrif_in}
 use Rattle.aia_entry.specs.declared.entry.Entry.TheVariants.{NotValid}
 use Rattle.aia_entry.specs.Tables.{table_of, entry_in_force}
-use Rattle.aia_vcpu.specs.declared.place.Place.{Place}
+use Rattle.aia_vcpu.specs.declared.place.GuestPlace.{GuestPlace}
 use Rattle.aia_vcpu.specs.Vms.{Vcpu, is_vcpu_in, slot_of, notice_identity, notice_hart}
 use Rattle.aia_vcpu_places.specs.Places.{leads_to}
 use Rattle.aia_fabric_values.specs.World.{World, OnlyStores}
@@ -17,11 +17,11 @@ use Rattle.aia_fabric_values.specs.Changes.{spot_of}
 
 -- A store for a virtual hart, which is led to a guest file or, with None, to its slot, touches that
 -- virtual hart's own alone.
-pub record TouchesOwn (w u : World) (g : Vcpu) (reach : Option Place) : Type 0 where
+pub record TouchesOwn (w u : World) (g : Vcpu) (reach : Option GuestPlace) : Type 0 where
   -- the machine, its VMs, all that is in force in their tables, and the G-stage records stay
   pub rest : OnlyStores w u
   -- guest files: the one to which it is led is all that it touches
-  pub guest_files : (p : Place) → IsThere w.imsic (spot_of p) → reach ≢ Some p
+  pub guest_files : (p : GuestPlace) → IsThere w.imsic (spot_of p) → reach ≢ Some p
       → file_at u.imsic (spot_of p) ≡ file_at w.imsic (spot_of p)
   -- files of the host: none but that of the notice hart, where it may ask for the notice identity
   pub machine_files : (hart : ℕ) → hart < w.imsic.harts
@@ -44,17 +44,17 @@ pub record TouchesOwn (w u : World) (g : Vcpu) (reach : Option Place) : Type 0 w
 -- The entries of a VM that are in force lead to its own: that of each virtual hart to the guest
 -- file at which stores are to reach it, which is there, or to its slot, with its notice; and there
 -- is no other entry.
-pub record LeadsToOwn (w : World) (v : ℕ) (reach : Vcpu → Option Place) : Type 0 where
+pub record LeadsToOwn (w : World) (v : ℕ) (reach : Vcpu → Option GuestPlace) : Type 0 where
   pub own : (g : Vcpu) → g.vm ≡ v → is_vcpu_in w.vms g ≡ true
       → entry_in_force (table_of w.tables g.vm) g.number
       ≡ leads_to (slot_of w.vms g) (notice_hart w.vms g) (reach g)
-  pub there : (g : Vcpu) (p : Place) → g.vm ≡ v → is_vcpu_in w.vms g ≡ true → reach g ≡ Some p
+  pub there : (g : Vcpu) (p : GuestPlace) → g.vm ≡ v → is_vcpu_in w.vms g ≡ true → reach g ≡ Some p
       → IsThere w.imsic (spot_of p)
   pub no_other : (g : Vcpu) → g.vm ≡ v → is_vcpu_in w.vms g ≡ false
       → entry_in_force (table_of w.tables g.vm) g.number ≡ NotValid
 
 -- A store touches one virtual hart of a VM, and its own alone.
-pub record TouchesOneOf (w u : World) (v : ℕ) (reach : Vcpu → Option Place) : Type 0 where
+pub record TouchesOneOf (w u : World) (v : ℕ) (reach : Vcpu → Option GuestPlace) : Type 0 where
   pub g : Vcpu
   pub its : g.vm ≡ v
   pub there : is_vcpu_in w.vms g ≡ true

@@ -13,7 +13,7 @@ use Rattle.aia_fabric_values.specs.World.{World}
 use Rattle.aia_move_values.specs.declared.who.Who.{Who}
 use Rattle.aia_move_values.specs.declared.who.KeptNumbers.{KeptNumbers}
 use Rattle.aia_move_values.specs.Move.{Moving, width, MoveFits, Goes}
-use Rattle.aia_move_values.specs.Targets.{Aim, aims, has_unaimed, next_aim, one_aimed}
+use Rattle.aia_move_values.specs.Targets.{PassAim, aims, has_unaimed, next_aim, one_aimed}
 use Rattle.aia_move_values.specs.Landings.{OnceLanded}
 use Rattle.aia_move_values.specs.Turns.{IsIn, IsAtAims, GoesOn, EndsAs}
 use Rattle.aia_move_values.specs.PlanState.{PlanState, moving_of, phase_of}
@@ -58,7 +58,7 @@ Advances w m u next = MatchNext next (λ p. Goes w m u (moving_of p)) (λ o. End
 
 -- What a step makes of the world and of a move: where it aims, a passed source is aimed, and the
 -- move goes on; elsewhere it makes the next access of the plan, once what lands before it has.
-abbrev pub StepsTo : Option Aim → World → Moving → World → Next PlanState → Type 0
+abbrev pub StepsTo : Option PassAim → World → Moving → World → Next PlanState → Type 0
 StepsTo None w m u next = OnceLanded w m (λ landed. Advances landed m u next)
 StepsTo (Some aim) w m u next = MatchNext next (λ p. GoesAiming w m u (moving_of p)) (λ o. ⊥)
 
@@ -127,7 +127,7 @@ next_phase m (Some phase) = Some LastPhase
 
 -- A step of a move that goes on: where it aims, a passed source is aimed; elsewhere its next access
 -- is made, once what lands before it has.
-abbrev pub GoesTo : Option Aim → World → Moving → World → Moving → Type 0
+abbrev pub GoesTo : Option PassAim → World → Moving → World → Moving → Type 0
 GoesTo None w m u t = OnceLanded w m (λ landed. Goes landed m u t)
 GoesTo (Some aim) w m u t = GoesAiming w m u t
 

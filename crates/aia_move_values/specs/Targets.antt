@@ -45,7 +45,7 @@ pass_in who r = slice_index_or who.passes.items r no_pass
 -- ---- the aims of a move
 
 -- Which source is aimed, and at which target.
-pub record Aim : Type 0 where
+pub record PassAim : Type 0 where
   pub source : ℕ
   pub target : ℕ
 
@@ -61,17 +61,17 @@ has_unaimed m = nat_lt (aims_done m.home) (pass_count m.who)
 abbrev pub next_pass : Moving → Pass
 next_pass m = pass_in m.who (aims_done m.home)
 
-abbrev pub aim_of : Moving → Aim
+abbrev pub aim_of : Moving → PassAim
 aim_of m = record {
   source = (next_pass m).source;
   target = target_to m.who.found.notice (next_pass m).number (next_pass m).identity
       (new_file m.home);
 }
 
-abbrev pub aim_if : Bool → Moving → Option Aim
+abbrev pub aim_if : Bool → Moving → Option PassAim
 aim_if aims m = if aims then Some (aim_of m) else None
 
-abbrev pub next_aim : Moving → Option Aim
+abbrev pub next_aim : Moving → Option PassAim
 next_aim m = aim_if (aims m) m
 
 -- One passed source more is aimed.
@@ -79,6 +79,6 @@ abbrev pub one_aimed : Moving → Moving
 one_aimed m = record m { home = aimed m.home }
 
 -- What is made of targets by an aim, or by none.
-abbrev pub AimsAs : {T : Type 0} → (T → ℕ → ℕ → T → Type 0) → Option Aim → T → T → Type 0
+abbrev pub AimsAs : {T : Type 0} → (T → ℕ → ℕ → T → Type 0) → Option PassAim → T → T → Type 0
 AimsAs aimed None old new = new ≡ old
 AimsAs aimed (Some aim) old new = aimed old aim.source aim.target new

@@ -6,7 +6,7 @@ use Rattle.aia_file.specs.declared.spot.Spot.TheVariants.{MachineFile, Superviso
 use Rattle.aia_file.specs.Imsic.{IsThere, file_at}
 use Rattle.aia_file.specs.Mrif.{mrif_in}
 use Rattle.aia_entry.specs.Tables.{table_of, entry_in_force}
-use Rattle.aia_vcpu.specs.declared.place.Place.{Place}
+use Rattle.aia_vcpu.specs.declared.place.GuestPlace.{GuestPlace}
 use Rattle.aia_vcpu.specs.Vms.{Vcpu, is_vcpu_in, slot_of}
 use Rattle.aia_vcpu.specs.Home.{holds}
 use Rattle.aia_vcpu.specs.declared.access.Access.{Access}
@@ -50,7 +50,7 @@ pub record Touches (sent : Bool) (w u : World) (m : Moving) : Type 0 where
   pub masks : (v : ℕ) → (table_of u.tables v).mask ≡ (table_of w.tables v).mask
   pub starts : (v : ℕ) → (table_of u.tables v).start ≡ (table_of w.tables v).start
   -- files: those that the move holds, and that of the notice hart, are all that it touches
-  pub guest_files : (p : Place) → IsThere w.imsic (spot_of p) → holds p m.home ≡ false
+  pub guest_files : (p : GuestPlace) → IsThere w.imsic (spot_of p) → holds p m.home ≡ false
       → file_at u.imsic (spot_of p) ≡ file_at w.imsic (spot_of p)
   pub machine_files : (hart : ℕ) → hart < w.imsic.harts
       → file_at u.imsic (MachineFile hart) ≡ file_at w.imsic (MachineFile hart)

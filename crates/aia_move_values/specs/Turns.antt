@@ -4,7 +4,7 @@ use Rattle.aia_vcpu.specs.Phases.{Phase, following, begins}
 use Rattle.aia_file.specs.InterruptFile.{InterruptFile}
 use Rattle.aia_file.specs.FileState.{shown}
 use Rattle.aia_file.specs.Imsic.{file_at}
-use Rattle.aia_vcpu.specs.declared.place.Place.{Place}
+use Rattle.aia_vcpu.specs.declared.place.GuestPlace.{GuestPlace}
 use Rattle.aia_vcpu.specs.Home.{Home}
 use Rattle.aia_vcpu.specs.Home.Home.{OnWay}
 use Rattle.aia_vcpu.specs.Home.Way.{Outward, Inward, Across}
@@ -65,7 +65,7 @@ pub record EndsAs (w : World) (m : Moving) (u : World) (outcome : Outcome) : Typ
 -- The file that the move leaves, where it leaves one, is empty after its last step, where the
 -- places of the virtual hart held an interrupt file before it.
 abbrev pub LeavesEmpty : World → Moving → World → Type 0
-LeavesEmpty w m u = (reach : Option Place) (file : InterruptFile) (saw : Bool) (p : Place)
+LeavesEmpty w m u = (reach : Option GuestPlace) (file : InterruptFile) (saw : Bool) (p : GuestPlace)
     → old_file m.home ≡ Some p
     → Holds (width w) m.who.found.slot m.who.found.notice reach (places_of w (mover m) m.home)
     m.home m.hand file saw

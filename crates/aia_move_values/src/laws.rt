@@ -5,7 +5,7 @@ ghost use Rattle.std.specs.Prelude.{◌≡◌, ◌≢◌, ◌⊎◌, ℕ, ◌%�
 ghost use Rattle.aia_regs.specs.declared.address_map.TheConstants.{PAGE};
 ghost use Rattle.aia_file.specs.Imsic.{IsThere};
 ghost use Rattle.aia_entry.specs.Tables.{table_of, route_of};
-ghost use Rattle.aia_vcpu.specs.declared.place.Place.{Place};
+ghost use Rattle.aia_vcpu.specs.declared.place.GuestPlace.{GuestPlace};
 ghost use Rattle.aia_vcpu.specs.Home.{Home, holds};
 ghost use Rattle.aia_vcpu.specs.Vms.{Vcpu, is_vcpu_in};
 ghost use Rattle.aia_fabric_values.specs.World.{World, stage_of};
@@ -21,16 +21,16 @@ ghost use Rattle.aia_fabric_values.specs.Stores.{Reaches, ReachesByRecord};
 /// those of all other VMs, stay as they are, whatever its home is, if it does not hold that guest
 /// file. Of a device it is so wherever the entries of its VM lead to the VM's own.
 pub fn a_store_touches_one_virtual_hart_alone()
-    ensures devices { (w u : World) (v addr value : ℕ) (reach : Vcpu → Option Place) → IsWhole w
-        → LeadsToOwn w v reach
+    ensures devices { (w u : World) (v addr value : ℕ) (reach : Vcpu → Option GuestPlace)
+        → IsWhole w → LeadsToOwn w v reach
         → Reaches (route_of (table_of w.tables v) addr) w u (addr % PAGE) value
         → (u ≡ w) ⊎ TouchesOneOf w u v reach }
     ensures peers { (w u : World) (g : Vcpu) (value : ℕ) → IsWhole w
         → is_vcpu_in w.vms g ≡ true → ReachesByRecord (stage_of w g).in_force w u g value
         → TouchesOwn w u g (stage_of w g).in_force }
-    ensures others { (w u : World) (g x : Vcpu) (reach : Option Place) (there : Home)
+    ensures others { (w u : World) (g x : Vcpu) (reach : Option GuestPlace) (there : Home)
         → is_vcpu_in w.vms g ≡ true → is_vcpu_in w.vms x ≡ true → x ≢ g
         → TouchesOwn w u g reach
-        → ((p : Place) → holds p there ≡ true → IsThere w.imsic (spot_of p) × (reach ≢ Some p))
+        → ((p : GuestPlace) → holds p there ≡ true → IsThere w.imsic (spot_of p) × (reach ≢ Some p))
         → places_of u x there ≡ places_of w x there }
 {}

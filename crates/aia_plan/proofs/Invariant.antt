@@ -7,25 +7,25 @@ use Rattle.std.proofs.lemmas.Bool.{false≢true}
 use Rattle.aia_plan.specs.declared.step.Step.TheVariants.{Word0, Fence, GFence, TakeP, TakeE}
 use Rattle.aia_plan.specs.Plan.{Plan}
 use Rattle.aia_plan.specs.Rule.{is_record, names, stands}
-use Rattle.aia_plan.specs.Transit.{Side, Flight, Transit, Happening, is_identity, landed, all_landed, all_but, one_landed, happened}
-use Rattle.aia_plan.specs.Transit.Side.{Old, New}
+use Rattle.aia_plan.specs.Transit.{TransitSide, Flight, Transit, Happening, is_identity, landed, all_landed, all_but, one_landed, happened}
+use Rattle.aia_plan.specs.Transit.TransitSide.{Old, New}
 use Rattle.aia_plan.specs.Transit.Happening.{Does, Stores, Sends, Lands, Refetches, PeerStores}
 use Rattle.aia_plan.proofs.BoolLaws.{or_together, land_law}
 
 -- Where a route leads, given whether the step that turns it is still to come.
-abbrev pub side_if : Bool → Side
+abbrev pub side_if : Bool → TransitSide
 side_if true = Old
 side_if false = New
 
 -- Where the entry in force, or a store in flight, may lead, given whether the fence and word 0 are
 -- still to come.
-abbrev pub MayLead : Bool → Bool → Side → Type 0
+abbrev pub MayLead : Bool → Bool → TransitSide → Type 0
 MayLead true word0 s = (s ≡ Old) ⊎ (s ≡ side_if word0)
 MayLead false word0 s = s ≡ New
 
 -- The routes, given which steps are still to come: word 0, the fence, one that writes the record,
 -- the G fence.
-pub record Routed (word0 fence record_step gfence : Bool) (entry_as_written entry : Side) (record_as_written stage : Side) (flying : List Flight) : Type 0 where
+pub record Routed (word0 fence record_step gfence : Bool) (entry_as_written entry : TransitSide) (record_as_written stage : TransitSide) (flying : List Flight) : Type 0 where
   pub entry_written : entry_as_written ≡ side_if word0
   pub entry_in_force : MayLead fence word0 entry
   pub record_written : record_as_written ≡ side_if record_step
@@ -57,17 +57,17 @@ pub record Between (words : ℕ) (first : ℕ → Bool) (c e : Option ℕ) (rest
 -- ---- a store lands
 
 -- A store may land on a side: no word is taken from there yet.
-abbrev pub MayLand : ℕ → Plan → Side → Type 0
+abbrev pub MayLand : ℕ → Plan → TransitSide → Type 0
 MayLand words rest s = (w : ℕ) → w < words → stands (TakeP w) rest ≡ false → s ≡ New
 
 old_is_new : Old ≡ New → ⊥
 old_is_new e = false≢true (ap is_new e)
   where
-    is_new : Side → Bool
+    is_new : TransitSide → Bool
     is_new Old = false
     is_new New = true
 
-pub lands : (words : ℕ) (first : ℕ → Bool) (c e : Option ℕ) (rest : Plan) (s : Side) (x : ℕ) (z : Transit) → MayLand words rest s → Between words first c e rest z → Between words first c e rest (landed s x z)
+pub lands : (words : ℕ) (first : ℕ → Bool) (c e : Option ℕ) (rest : Plan) (s : TransitSide) (x : ℕ) (z : Transit) → MayLand words rest s → Between words first c e rest z → Between words first c e rest (landed s x z)
 lands words first c e rest Old x z may v = record {
   routed = v.routed;
   pended = record {
@@ -88,11 +88,11 @@ lands words first c e rest New x z may v = record {
 }
 
 -- what may lead somewhere may land there
-led_new : (fence word0 : Bool) (s : Side) → MayLead fence word0 s → fence ≡ false → s ≡ New
+led_new : (fence word0 : Bool) (s : TransitSide) → MayLead fence word0 s → fence ≡ false → s ≡ New
 led_new true word0 s led none = absurd (false≢true (sym none))
 led_new false word0 s led none = led
 
-pub may_land : (words : ℕ) (first : ℕ → Bool) (c e : Option ℕ) (rest : Plan) (s : Side) (z : Transit) → MayLead (stands Fence rest) (stands Word0 rest) s → Between words first c e rest z → MayLand words rest s
+pub may_land : (words : ℕ) (first : ℕ → Bool) (c e : Option ℕ) (rest : Plan) (s : TransitSide) (z : Transit) → MayLead (stands Fence rest) (stands Word0 rest) s → Between words first c e rest z → MayLand words rest s
 may_land words first c e rest s z led v = λ w inside taken. led_new (stands Fence rest) (stands Word0 rest) s led (v.pended.late w inside taken).0
 
 peers_may_land : (words : ℕ) (first : ℕ → Bool) (c e : Option ℕ) (rest : Plan) (z : Transit) → Between words first c e rest z → MayLand words rest z.record_in_force
@@ -100,15 +100,15 @@ peers_may_land words first c e rest z v = λ w inside taken. v.routed.record_in_
 
 -- ---- lists of stores in flight
 
-pub all_changed : (P Q : Side → Type 0) → ((s : Side) → P s → Q s) → (fs : List Flight) → AllByRecursion (λ (f : Flight). P f.side) fs → AllByRecursion (λ (f : Flight). Q f.side) fs
+pub all_changed : (P Q : TransitSide → Type 0) → ((s : TransitSide) → P s → Q s) → (fs : List Flight) → AllByRecursion (λ (f : Flight). P f.side) fs → AllByRecursion (λ (f : Flight). Q f.side) fs
 all_changed P Q h [] all = tt
 all_changed P Q h (f ∷ later) all = (h f.side all.0, all_changed P Q h later all.1)
 
-all_with : (P : Side → Type 0) (fs : List Flight) (f : Flight) → AllByRecursion (λ (f : Flight). P f.side) fs → P f.side → AllByRecursion (λ (f : Flight). P f.side) (fs ++ f ∷ [])
+all_with : (P : TransitSide → Type 0) (fs : List Flight) (f : Flight) → AllByRecursion (λ (f : Flight). P f.side) fs → P f.side → AllByRecursion (λ (f : Flight). P f.side) (fs ++ f ∷ [])
 all_with P [] f all last = (last, tt)
 all_with P (g ∷ later) f all last = (all.0, all_with P later f all.1 last)
 
-all_without : (P : Side → Type 0) (k : ℕ) (fs : List Flight) → AllByRecursion (λ (f : Flight). P f.side) fs → AllByRecursion (λ (f : Flight). P f.side) (all_but k fs)
+all_without : (P : TransitSide → Type 0) (k : ℕ) (fs : List Flight) → AllByRecursion (λ (f : Flight). P f.side) fs → AllByRecursion (λ (f : Flight). P f.side) (all_but k fs)
 all_without P k [] all = tt
 all_without P zero (f ∷ later) all = all.1
 all_without P (suc k) (f ∷ later) all = (all.0, all_without P k later all.1)
@@ -134,7 +134,7 @@ reflown words first c e rest fs z all v = record {
   enabled = v.enabled;
 }
 
-refetched : (fence word0 : Bool) (s : Side) → s ≡ side_if word0 → (fence ≡ false → word0 ≡ false) → MayLead fence word0 s
+refetched : (fence word0 : Bool) (s : TransitSide) → s ≡ side_if word0 → (fence ≡ false → word0 ≡ false) → MayLead fence word0 s
 refetched true word0 s e order = inr e
 refetched false word0 s e order = e ∙ ap side_if (order refl)
 

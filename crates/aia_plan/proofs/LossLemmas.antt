@@ -6,7 +6,7 @@ use Rattle.aia_plan.specs.Plan.{Plan, is_step}
 use Rattle.aia_plan.specs.Rule.{stands}
 use Rattle.aia_plan.specs.declared.step.Step.TheVariants.{Fence, GFence, TakeP, TakeE}
 use Rattle.aia_plan.specs.Transit.{Flight, no_bits}
-use Rattle.aia_plan.specs.Transit.Side.{Old}
+use Rattle.aia_plan.specs.Transit.TransitSide.{Old}
 use Rattle.aia_plan.specs.Safe.{IsStart, IsMoved, IsSafe}
 use Rattle.aia_plan.specs.Losses.{RunOf, end_of, Loses, Doubles, LosesEnable, begun, only, all_steps, fence_too_early, fence_too_early_run, gfence_too_early, gfence_too_early_run, taken_before_fence, taken_before_fence_run, taken_before_gfence, taken_before_gfence_run, taken_together, enables_put_twice, leave_without_notice, leave_by_remap, taken_again}
 use Rattle.aia_plan.proofs.Behind.{Before}

@@ -6,8 +6,8 @@ use Rattle.aia_plan.specs.declared.step.Step.{Step}
 use Rattle.aia_plan.specs.declared.step.Step.TheVariants.{Word0, Fence, GFence, TakeP, TakeE}
 use Rattle.aia_plan.specs.Plan.{Plan}
 use Rattle.aia_plan.specs.Rule.{stands, takes_pending, takes_enables, puts_enables, is_record}
-use Rattle.aia_plan.specs.Transit.{Side, Flight, Transit, Happening, is_identity, stepped, all_happened, steps_in}
-use Rattle.aia_plan.specs.Transit.Side.{Old, New}
+use Rattle.aia_plan.specs.Transit.{TransitSide, Flight, Transit, Happening, is_identity, stepped, all_happened, steps_in}
+use Rattle.aia_plan.specs.Transit.TransitSide.{Old, New}
 use Rattle.aia_plan.specs.Transit.Happening.{Does, Stores, Sends, Lands, Refetches, PeerStores}
 use Rattle.aia_plan.specs.Safe.{IsStart, IsMoved, IsSafe}
 use Rattle.aia_plan.proofs.Throughout.{by_recursion, by_place}
@@ -45,7 +45,7 @@ pub record HoldsAll (words : ℕ) (plan : Plan) : Type 0 where
   pub pending : (w : ℕ) → w < words → stands (TakeP w) plan ≡ true
   pub enables : (w : ℕ) → w < words → stands (TakeE w) plan ≡ true
 
-old_leads : (fence word0 : Bool) (s : Side) → fence ≡ true → s ≡ Old → MayLead fence word0 s
+old_leads : (fence word0 : Bool) (s : TransitSide) → fence ≡ true → s ≡ Old → MayLead fence word0 s
 old_leads true word0 s e old = inl old
 old_leads false word0 s e old = absurd (false≢true e)
 

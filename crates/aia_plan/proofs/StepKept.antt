@@ -7,8 +7,8 @@ use Rattle.aia_plan.specs.declared.step.Step.{Step}
 use Rattle.aia_plan.specs.declared.step.Step.TheVariants.{Word0, Fence, Map, Unmap, Remap, GFence, TakeP, PutP, TakeE, PutE}
 use Rattle.aia_plan.specs.Plan.{Plan}
 use Rattle.aia_plan.specs.Rule.{stands, takes_pending, puts_pending, takes_enables, puts_enables, is_record}
-use Rattle.aia_plan.specs.Transit.{Side, Flight, Transit, is_identity, all_landed, stepped, word_bits, without_word, of_word, no_bits}
-use Rattle.aia_plan.specs.Transit.Side.{New}
+use Rattle.aia_plan.specs.Transit.{TransitSide, Flight, Transit, is_identity, all_landed, stepped, word_bits, without_word, of_word, no_bits}
+use Rattle.aia_plan.specs.Transit.TransitSide.{New}
 use Rattle.aia_plan.proofs.BoolLaws.{take_law, put_law, replace_law, drain_law, fresh_law}
 use Rattle.aia_plan.proofs.Invariant.{side_if, MayLead, Routed, Pended, Enabled, Between, all_changed, all_land, flights_may_land}
 
@@ -26,12 +26,12 @@ Guard step rest = ⊤
 
 -- ---- the routes
 
-word0_leads : (fence word0 : Bool) (s : Side) → MayLead fence true s → MayLead fence word0 s
+word0_leads : (fence word0 : Bool) (s : TransitSide) → MayLead fence true s → MayLead fence word0 s
 word0_leads true word0 s (inl e) = inl e
 word0_leads true word0 s (inr e) = inl e
 word0_leads false word0 s e = e
 
-word0_written : (word0 fence record_step gfence : Bool) (entry_as_written entry record_as_written stage : Side) (flying : List Flight) → word0 ≡ false → Routed true fence record_step gfence entry_as_written entry record_as_written stage flying → Routed word0 fence record_step gfence New entry record_as_written stage flying
+word0_written : (word0 fence record_step gfence : Bool) (entry_as_written entry record_as_written stage : TransitSide) (flying : List Flight) → word0 ≡ false → Routed true fence record_step gfence entry_as_written entry record_as_written stage flying → Routed word0 fence record_step gfence New entry record_as_written stage flying
 word0_written word0 fence record_step gfence entry_as_written entry record_as_written stage flying none r = record {
   entry_written = sym (ap side_if none);
   entry_in_force = word0_leads fence word0 entry r.entry_in_force;
@@ -41,7 +41,7 @@ word0_written word0 fence record_step gfence entry_as_written entry record_as_wr
   order = λ e. none;
 }
 
-record_written : (word0 fence record_step gfence : Bool) (entry_as_written entry record_as_written stage : Side) (flying : List Flight) → record_step ≡ false → Routed word0 fence true gfence entry_as_written entry record_as_written stage flying → Routed word0 fence record_step gfence entry_as_written entry New stage flying
+record_written : (word0 fence record_step gfence : Bool) (entry_as_written entry record_as_written stage : TransitSide) (flying : List Flight) → record_step ≡ false → Routed word0 fence true gfence entry_as_written entry record_as_written stage flying → Routed word0 fence record_step gfence entry_as_written entry New stage flying
 record_written word0 fence record_step gfence entry_as_written entry record_as_written stage flying none r = record {
   entry_written = r.entry_written;
   entry_in_force = r.entry_in_force;
@@ -51,7 +51,7 @@ record_written word0 fence record_step gfence entry_as_written entry record_as_w
   order = r.order;
 }
 
-fence_leads : (fence word0 : Bool) (s : Side) → fence ≡ false → word0 ≡ false → s ≡ side_if word0 → MayLead fence word0 s
+fence_leads : (fence word0 : Bool) (s : TransitSide) → fence ≡ false → word0 ≡ false → s ≡ side_if word0 → MayLead fence word0 s
 fence_leads true word0 s f w e = absurd (false≢true (sym f))
 fence_leads false word0 s f w e = e ∙ ap side_if w
 

@@ -6,7 +6,7 @@ use Rattle.aia_plan.specs.Plan.{Plan}
 use Rattle.aia_plan.specs.Rule.{parts_kept}
 use Rattle.aia_plan.specs.declared.step.Kind.{Kind}
 use Rattle.aia_plan.specs.Transit.{Transit, Happening, is_identity, no_bits, all_happened, steps_in}
-use Rattle.aia_plan.specs.Transit.Side.{Old}
+use Rattle.aia_plan.specs.Transit.TransitSide.{Old}
 use Rattle.aia_plan.specs.Transit.Happening.{Does, Stores, PeerStores}
 use Rattle.aia_plan.specs.Safe.{IsStart}
 use Rattle.aia_plan.specs.declared.step.Step.TheVariants.{Quiet, Word1, Word0, Fence, Map, Unmap, Remap, GFence, TakeP, PutP, TakeE, PutE, TakeT, PutT, Post, Wake}

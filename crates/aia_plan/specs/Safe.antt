@@ -2,11 +2,11 @@
 -- devices and other virtual harts do, and wherever between its steps. Profile.
 use Rattle.std.specs.Prelude.{◌≡◌, ℕ, ◌/◌, ◌<◌, false, ◌&&◌, List, All}
 use Rattle.aia_plan.specs.Plan.{Plan}
-use Rattle.aia_plan.specs.Transit.{Side, Flight, Transit, Happening, is_identity, all_happened, steps_in}
-use Rattle.aia_plan.specs.Transit.Side.{Old, New}
+use Rattle.aia_plan.specs.Transit.{TransitSide, Flight, Transit, Happening, is_identity, all_happened, steps_in}
+use Rattle.aia_plan.specs.Transit.TransitSide.{Old, New}
 
 -- All routes, written and in force, and all stores in flight lead to one place.
-pub record AllLeadTo (side : Side) (z : Transit) : Type 0 where
+pub record AllLeadTo (side : TransitSide) (z : Transit) : Type 0 where
   pub entry_written : z.entry_written ≡ side
   pub entry_in_force : z.entry_in_force ≡ side
   pub record_written : z.record_written ≡ side

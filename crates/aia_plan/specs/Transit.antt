@@ -6,13 +6,13 @@ use Rattle.aia_plan.specs.declared.step.Step.{Step}
 use Rattle.aia_plan.specs.declared.step.Step.TheVariants.{Word0, Fence, Map, Unmap, Remap, GFence, TakeP, PutP, TakeE, PutE}
 
 -- One of the two places.
-pub data Side : Type 0 where
-  Old : Side
-  New : Side
+pub data TransitSide : Type 0 where
+  Old : TransitSide
+  New : TransitSide
 
 -- A store in flight: where it leads, and the identity that it asks for.
 pub record Flight : Type 0 where
-  pub side : Side
+  pub side : TransitSide
   pub identity : ℕ
 
 -- A set of identities is a test. What is carried is a word, and so a test of bits.
@@ -25,11 +25,11 @@ pub record Transit : Type 0 where
   pub carried_pending : ℕ → Bool
   pub carried_enables : ℕ → Bool
   -- where the entry of the MSI page table leads stores of devices: as it is written, and in force
-  pub entry_written : Side
-  pub entry_in_force : Side
+  pub entry_written : TransitSide
+  pub entry_in_force : TransitSide
   -- where the G-stage record leads stores of other virtual harts
-  pub record_written : Side
-  pub record_in_force : Side
+  pub record_written : TransitSide
+  pub record_in_force : TransitSide
   -- the stores of devices that are in flight, the one first that was sent first
   pub flights : List Flight
   -- what was pending in the old place at the start, and what was asked for since: what must not be
@@ -47,7 +47,7 @@ abbrev pub with_one : ℕ → (ℕ → Bool) → ℕ → Bool
 with_one x members i = members i || (is_identity i && nat_eq x i)
 
 -- A store lands in a place: its identity is pending there, and is due.
-abbrev pub landed : Side → ℕ → Transit → Transit
+abbrev pub landed : TransitSide → ℕ → Transit → Transit
 landed Old x z = record z { old_pending = with_one x z.old_pending; due = with_one x z.due }
 landed New x z = record z { new_pending = with_one x z.new_pending; due = with_one x z.due }
 

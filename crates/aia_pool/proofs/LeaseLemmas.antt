@@ -3,23 +3,23 @@ use Rattle.std.proofs.Common.{◌≡◌, ◌+◌, ◌-◌, ◌*◌, ◌<◌, ◌
 use Rattle.std.proofs.lemmas.Bool.{eq-eqb, false≢true}
 use Rattle.std.proofs.lemmas.List.{get_or-set_same, get_or-set_other}
 use Rattle.std.proofs.lemmas.Nat.{same_from_place, mul-add-lt}
-use Rattle.aia_vcpu.specs.declared.place.Place.{Place}
+use Rattle.aia_vcpu.specs.declared.place.GuestPlace.{GuestPlace}
 use Rattle.aia_vcpu.specs.Home.{is_place}
 use Rattle.aia_pool.specs.Leases.{Leases, IsFileThere, lease_place, is_out, with_out}
 
 -- ---- where they stand
 
-placed : (l : Leases) (p : Place) → 1 ≤ p.file → lease_place l p ≡ p.hart * l.guests + (p.file - 1)
+placed : (l : Leases) (p : GuestPlace) → 1 ≤ p.file → lease_place l p ≡ p.hart * l.guests + (p.file - 1)
 placed l p low = omega (arith, low)
 
-pub lease_within : (l : Leases) (p : Place) → IsFileThere l p → lease_place l p < l.harts * l.guests
+pub lease_within : (l : Leases) (p : GuestPlace) → IsFileThere l p → lease_place l p < l.harts * l.guests
 lease_within l p there =
     let low = there.1 in
     let high = there.2 in
     let within = mul-add-lt p.hart l.guests (p.file - 1) l.harts there.0 (omega (arith, low, high)) in
     omega (arith, placed l p low, within)
 
-pub same_lease : (l : Leases) (p q : Place) → IsFileThere l p → IsFileThere l q → lease_place l p ≡ lease_place l q → is_place p q ≡ true
+pub same_lease : (l : Leases) (p q : GuestPlace) → IsFileThere l p → IsFileThere l q → lease_place l p ≡ lease_place l q → is_place p q ≡ true
 same_lease l p q here there e =
     let low = here.1 in
     let high = here.2 in
@@ -31,10 +31,10 @@ same_lease l p q here there e =
 
 -- ---- one is handed out, or comes back
 
-pub out_here : (l : Leases) (p : Place) (b : Bool) → IsFileThere l p → length l.out ≡ l.harts * l.guests → is_out (with_out l p b) p ≡ b
+pub out_here : (l : Leases) (p : GuestPlace) (b : Bool) → IsFileThere l p → length l.out ≡ l.harts * l.guests → is_out (with_out l p b) p ≡ b
 out_here l p b there long =
     let within = lease_within l p there in
     get_or-set_same l.out (lease_place l p) b false (omega (arith, within, long))
 
-pub out_elsewhere : (l : Leases) (p q : Place) (b : Bool) → IsFileThere l p → IsFileThere l q → is_place q p ≡ false → is_out (with_out l p b) q ≡ is_out l q
+pub out_elsewhere : (l : Leases) (p q : GuestPlace) (b : Bool) → IsFileThere l p → IsFileThere l q → is_place q p ≡ false → is_out (with_out l p b) q ≡ is_out l q
 out_elsewhere l p q b here there apart = get_or-set_other l.out (lease_place l p) (lease_place l q) b false (λ e. false≢true (sym apart ∙ same_lease l q p there here e))

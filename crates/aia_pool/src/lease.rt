@@ -1,26 +1,26 @@
 ghost use Rattle.std.specs.Prelude.{◌≡◌};
 
-use aia_vcpu::Place;
+use aia_vcpu::GuestPlace;
 use std::marker::Model;
 
 /// A guest file of a hart that is handed out. It can't be copied: nobody else has the file until it
 /// is given back. A lease that is dropped is lost to its pool.
 #[derive(Drop)]
 pub struct FileLease {
-    place: Place,
+    place: GuestPlace,
 }
 
 impl Model for FileLease {
-    ghost use Rattle.aia_vcpu.specs.declared.place.Place.{Place};
+    ghost use Rattle.aia_vcpu.specs.declared.place.GuestPlace.{GuestPlace};
 
-    ghost Value = { Place };
+    ghost Value = { GuestPlace };
 
     ghost view = { λ l. l.place };
 }
 
 impl FileLease {
     /// Makes the lease of a guest file.
-    pub(crate) fn new(place: Place) -> FileLease
+    pub(crate) fn new(place: GuestPlace) -> FileLease
         ensures { result ≡ place }
     {
         FileLease { place }
@@ -41,7 +41,7 @@ impl FileLease {
     }
 
     /// Gives the place of the file.
-    pub fn place(&self) -> Place
+    pub fn place(&self) -> GuestPlace
         ensures { result ≡ self.now }
     {
         self.place

@@ -4,7 +4,7 @@ ghost use Rattle.aia_regs.specs.declared.limits.TheConstants.{HARTS, GUEST_FILES
 ghost use Rattle.aia_pool.specs.Leases.{IsFileThere, is_out, least_free, with_out};
 
 use crate::FileLease;
-use aia_vcpu::Place;
+use aia_vcpu::GuestPlace;
 use std::alloc::{AllocError, Global};
 use std::marker::Model;
 
@@ -60,7 +60,7 @@ impl Pool {
         let first = (hart * self.guests) as usize;
         let file = least_free(&self.out, first, self.guests)?;
         self.out[first + file as usize - 1] = true;
-        Some(FileLease::new(Place { hart, file }))
+        Some(FileLease::new(GuestPlace { hart, file }))
     }
 
     /// Takes back a guest file that is out, whichever pool handed out its lease. It can be handed

@@ -13,7 +13,7 @@ use Rattle.aia_entry.specs.declared.table.Route.TheVariants.{Other, Fault, To}
 use Rattle.aia_entry.specs.Format.{decoded}
 use Rattle.aia_entry.specs.Tables.{table_of, route_of}
 use Rattle.aia_entry.proofs.TableLemmas.{fenced_elsewhere}
-use Rattle.aia_vcpu.specs.declared.place.Place.{Place}
+use Rattle.aia_vcpu.specs.declared.place.GuestPlace.{GuestPlace}
 use Rattle.aia_vcpu.specs.declared.rest.Rest.TheVariants.{Parked}
 use Rattle.aia_vcpu.specs.Home.Home.{InMemory}
 use Rattle.aia_vcpu.specs.Vms.{Vcpu, vcpu, is_vcpu_in, slot_of, notice_identity, notice_hart}
@@ -37,9 +37,9 @@ use Rattle.aia_rehearsal.specs.declared.place.Place as ends
 use Rattle.aia_rehearsal.specs.declared.place.Place.TheVariants.{File, Slot}
 use Rattle.aia_rehearsal.specs.Rehearsed.{Passage, Rehearsed, mover_of, at_of, IsOf}
 use Rattle.aia_rehearsal.specs.Steps.{Puts, Makes}
-use Rattle.aia_rehearsal.specs.Stands.{Routes, routes_of, side_of}
-use Rattle.aia_rehearsal.specs.Events.{Event, Happens, IsAlone, NamesElsewhere}
-use Rattle.aia_rehearsal.specs.Events.Event.{Steps, DeviceStores, PeerStores, DeviceSends, StoreLands, EntryRead}
+use Rattle.aia_rehearsal.specs.Stands.{RoutesSeen, routes_of, side_of}
+use Rattle.aia_rehearsal.specs.Events.{RehearsedEvent, Happens, IsAlone, NamesElsewhere}
+use Rattle.aia_rehearsal.specs.Events.RehearsedEvent.{Steps, DeviceStores, PeerStores, DeviceSends, StoreLands, EntryRead}
 use Rattle.aia_move_values.proofs.WhoLemmas.{small_who}
 use Rattle.aia_move_values.proofs.TouchLemmas.{one_entry}
 use Rattle.aia_rehearsal.proofs.PlaceSteps.{pending_routes, enabled_routes}
@@ -55,7 +55,7 @@ pub record OthersKept (w u : World) (p : Passage) : Type 0 where
   routes : (g : Vcpu) → is_vcpu_in w.vms g ≡ true → g ≢ mover_of p → routes_of u g ≡ routes_of w g
 
 all_kept : (w u : World) (p : Passage) → ((g : Vcpu) → routes_of u g ≡ routes_of w g) → OthersKept w u p
-all_kept w u p same = record { in_force = λ g other. ap (λ (x : Routes). x.in_force) (same g); routes = λ g there other. same g }
+all_kept w u p same = record { in_force = λ g other. ap (λ (x : RoutesSeen). x.in_force) (same g); routes = λ g there other. same g }
 
 equal_kept : (w u : World) (p : Passage) → u ≡ w → OthersKept w u p
 equal_kept w u p e = all_kept w u p (λ g. ap (λ (x : World). routes_of x g) e)
@@ -63,8 +63,8 @@ equal_kept w u p e = all_kept w u p (λ g. ap (λ (x : World). routes_of x g) e)
 alone_by : (w u : World) (p : Passage) → SameMachine w u → OthersKept w u p → IsAlone w p → IsAlone u p
 alone_by w u p same kept alone = record {
   in_force = λ g other. side_now (routes_of u g).in_force ∙ ap (side_of w.imsic p) (kept.in_force g other) ∙ alone.in_force g other;
-  written = λ g there other. let is = there_before g there in side_now (decoded (routes_of u g).word0 (routes_of u g).word1) ∙ ap (λ (x : Routes). side_of w.imsic p (decoded x.word0 x.word1)) (kept.routes g is other) ∙ alone.written g is other;
-  records = λ g there other. let is = there_before g there in subst (λ (x : Routes). NamesElsewhere p x.stage.in_force) (sym (kept.routes g is other)) (alone.records g is other);
+  written = λ g there other. let is = there_before g there in side_now (decoded (routes_of u g).word0 (routes_of u g).word1) ∙ ap (λ (x : RoutesSeen). side_of w.imsic p (decoded x.word0 x.word1)) (kept.routes g is other) ∙ alone.written g is other;
+  records = λ g there other. let is = there_before g there in subst (λ (x : RoutesSeen). NamesElsewhere p x.stage.in_force) (sym (kept.routes g is other)) (alone.records g is other);
 }
   where
     side_now : (entry : Entry) → side_of u.imsic p entry ≡ side_of w.imsic p entry
@@ -88,7 +88,7 @@ module _ (w u : World) (p : Passage) (whole : IsWhole w) where
   reaches_kept Other offset value e g = ap (λ (x : World). routes_of x g) e
   reaches_kept (Fault entry) offset value e g = ap (λ (x : World). routes_of x g) e
 
-  relays_kept : (to : Vcpu) (named : Option Place) (value : ℕ) → is_vcpu_in w.vms to ≡ true → ReachesByRecord named w u to value → (g : Vcpu) → routes_of u g ≡ routes_of w g
+  relays_kept : (to : Vcpu) (named : Option GuestPlace) (value : ℕ) → is_vcpu_in w.vms to ≡ true → ReachesByRecord named w u to value → (g : Vcpu) → routes_of u g ≡ routes_of w g
   relays_kept to (Some a) value there relays g = (at_spot w u (of_other p g) 0 value whole (named_spot w.imsic a) (named_spot_there w a) relays).routes
   relays_kept to None value there relays g =
       (at_slot w u (of_other p g) 0 value whole (Some (slot_of w.vms to)) (SupervisorFile (notice_hart w.vms to)) (notice_identity w.vms to) (λ n e. let same : slot_of w.vms to ≡ n = cc in let low = slot_low w to whole there in omega (arith, low, same)) (λ some. notice_hart_there w to whole there) relays).routes
@@ -169,7 +169,7 @@ step_kept steps.Word0 w u r whole of e = kept_by w u _ r.passage e (word_kept w 
 step_kept steps.Fence w u r whole of f =
     let landed = all_landed_kept (length (flight_of w r.passage.who.found.vm)) w f.landed r.passage r.passage.who.found.vm f.lands in
     kept_by w u _ r.passage f.fenced (record {
-      in_force = λ g other. fenced_elsewhere f.landed.tables r.passage.who.found.vm r.passage.who.found.number f.landed.memory g.vm g.number (elsewhere g (mover_of r.passage) other) ∙ ap (λ (x : Routes). x.in_force) (landed g);
+      in_force = λ g other. fenced_elsewhere f.landed.tables r.passage.who.found.vm r.passage.who.found.number f.landed.memory g.vm g.number (elsewhere g (mover_of r.passage) other) ∙ ap (λ (x : RoutesSeen). x.in_force) (landed g);
       routes = λ g there other. let e = fenced_elsewhere f.landed.tables r.passage.who.found.vm r.passage.who.found.number f.landed.memory g.vm g.number (elsewhere g (mover_of r.passage) other) in
           let fenced : routes_of (with_fence f.landed r.passage.who.found.vm r.passage.who.found.number) g ≡ routes_of f.landed g = λ k. record (routes_of f.landed g) { in_force = e k } in fenced ∙ landed g;
     })
@@ -215,7 +215,7 @@ read_alone w p vm file whole there alone = record {
       | inr ne ↦ ap (side_of w.imsic p) (fenced_elsewhere w.tables vm file w.memory g.vm g.number (inl ne)) ∙ alone.in_force g other
     ]
 
-pub alone_stays : (event : Event) (w u : World) (r t : Rehearsed) → IsWhole w → IsOf w r.passage → Happens event w r u t → IsAlone w r.passage → IsAlone u r.passage
+pub alone_stays : (event : RehearsedEvent) (w u : World) (r t : Rehearsed) → IsWhole w → IsOf w r.passage → Happens event w r u t → IsAlone w r.passage → IsAlone u r.passage
 alone_stays (Steps step) w u r t whole of (inside, makes, e) alone = alone_by w u r.passage (step_same step w u r makes) (step_kept step w u r whole of makes) alone
 alone_stays (DeviceStores vm addr value) w u r t whole of (low, reaches, e) alone = alone_by w u r.passage (event_same (DeviceStores vm addr value) w r u t (low, reaches, e)) (all_kept w u r.passage (reaches_kept w u r.passage whole (route_of (table_of w.tables vm) addr) (addr % PAGE) value reaches)) alone
 alone_stays (PeerStores vm to value) w u r t whole of (there, relays, e) alone = alone_by w u r.passage (event_same (PeerStores vm to value) w r u t (there, relays, e)) (all_kept w u r.passage (relays_kept w u r.passage whole (vcpu vm to) (stage_of w (vcpu vm to)).in_force value there relays)) alone

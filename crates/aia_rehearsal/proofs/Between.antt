@@ -12,7 +12,7 @@ use Rattle.aia_entry.specs.declared.table.Route.TheVariants.{Other, Fault, To}
 use Rattle.aia_entry.specs.Tables.{table_of, entry_in_force, leads_by, route_of}
 use Rattle.aia_entry.specs.Translation.{is_msi_address, file_number}
 use Rattle.aia_entry.proofs.TableLemmas.{fenced_elsewhere}
-use Rattle.aia_vcpu.specs.declared.place.Place.{Place}
+use Rattle.aia_vcpu.specs.declared.place.GuestPlace.{GuestPlace}
 use Rattle.aia_vcpu.specs.Home.{is_place}
 use Rattle.aia_vcpu.specs.Vms.{Vcpu, is_vcpu_in, slot_of, notice_identity, notice_hart}
 use Rattle.aia_vcpu.proofs.HomeLemmas.{same_place, is_itself_place}
@@ -28,8 +28,8 @@ use Rattle.aia_move_values.proofs.OwnLemmas.{guest_spot}
 use Rattle.aia_fabric_values.proofs.PlaceLemmas.{slot_found}
 use Rattle.aia_fabric_values.proofs.WholeLemmas.{notice_hart_there}
 use Rattle.aia_move_values.proofs.ViewLemmas.{slot_low}
-use Rattle.aia_plan.specs.Transit.{Side, Flight, Transit, landed, happened}
-use Rattle.aia_plan.specs.Transit.Side.{Old, New}
+use Rattle.aia_plan.specs.Transit.{TransitSide, Flight, Transit, landed, happened}
+use Rattle.aia_plan.specs.Transit.TransitSide.{Old, New}
 use Rattle.aia_plan.specs.Transit.{Happening as happenings}
 use Rattle.aia_rehearsal.specs.declared.place.Place as ends
 use Rattle.aia_rehearsal.specs.declared.place.Place.TheVariants.{File, Slot}
@@ -48,7 +48,7 @@ LeadsElsewhere w p route = Unit {0}
 
 -- ---- on which side
 
-side_is : (hits : ends.Place → Bool) (p : Passage) (side : Side) → hits (on side p) ≡ true → (hits p.old ≡ true → hits p.new ≡ false) → side_by hits p ≡ Some side
+side_is : (hits : ends.Place → Bool) (p : Passage) (side : TransitSide) → hits (on side p) ≡ true → (hits p.old ≡ true → hits p.new ≡ false) → side_by hits p ≡ Some side
 side_is hits p Old led one = cond-true _ _ _ led
 side_is hits p New led one = elim (cases_Bool (hits p.old)) [
   | inl old ↦ let not_new = one old in absurd (cc)
@@ -65,7 +65,7 @@ module _ (w : World) (r : Rehearsed) (z : Transit) (whole : IsWhole w) (s : Stan
   abbrev q : ℕ
   q = r.passage.who.found.slot
 
-  there_on : (side : Side) → IsFileThere w (on side p)
+  there_on : (side : TransitSide) → IsFileThere w (on side p)
   there_on Old = s.of.old
   there_on New = s.of.new
 
@@ -74,7 +74,7 @@ module _ (w : World) (r : Rehearsed) (z : Transit) (whole : IsWhole w) (s : Stan
   led_there hart (File a) inside = ap (is_file_at a) (guest_spot w.imsic a whole.harts whole.guests inside) ∙ is_itself_place a
   led_there hart Slot inside = ap (λ o. names o q) (slot_found q (small_who w p.who whole s.of.who).1) ∙ eq-eqb q q refl
 
-  own_side : (side : Side) → side_of w.imsic p (leads_to q p.who.found.notice (names_on side p)) ≡ Some side
+  own_side : (side : TransitSide) → side_of w.imsic p (leads_to q p.who.found.notice (names_on side p)) ≡ Some side
   own_side side = side_is (λ b. leads w.imsic q b (leads_to q p.who.found.notice (names_on side p))) p side (led_there p.who.found.notice (on side p) (there_on side)) (one_led w w r z 0 0 whole s (leads_to q p.who.found.notice (names_on side p)))
 
   -- so it is of the entry in force
@@ -86,7 +86,7 @@ module _ (w : World) (r : Rehearsed) (z : Transit) (whole : IsWhole w) (s : Stan
       cond-true _ _ _ msi ∙ ap (λ n. leads_by (entry_in_force (table_of w.tables vm) n)) file ∙ ap (λ v. leads_by (entry_in_force (table_of w.tables v) p.who.found.number)) here
       ∙ ap leads_by s.routes.entry_in_force ∙ to_place (names_on z.entry_in_force p)
     where
-      to_place : (o : Option Place) → leads_by (leads_to q p.who.found.notice o) ≡ To (leads_to q p.who.found.notice o)
+      to_place : (o : Option GuestPlace) → leads_by (leads_to q p.who.found.notice o) ≡ To (leads_to q p.who.found.notice o)
       to_place None = refl
       to_place (Some a) = refl
 
@@ -106,11 +106,11 @@ module _ (w : World) (r : Rehearsed) (z : Transit) (whole : IsWhole w) (s : Stan
   -- ---- stores of peers
 
   -- a file that is there is named as it is
-  named_there : (a : Place) → IsThere w.imsic (spot_of a) → named_spot w.imsic a ≡ spot_of a
+  named_there : (a : GuestPlace) → IsThere w.imsic (spot_of a) → named_spot w.imsic a ≡ spot_of a
   named_there a there = let named : (nat_lt a.hart w.imsic.harts && is_in_range 1 w.imsic.guests a.file) ≡ true = grind (arith, nat_tests) in cond-true _ _ _ named
 
   module _ (u : World) (value : ℕ) where
-    own_relay : (b : ends.Place) (side : Side) → b ≡ on side p → ReachesByRecord (file_of b) w u (mover_of p) value → StandsFor u r (landed side (identity_asked 0 value) z)
+    own_relay : (b : ends.Place) (side : TransitSide) → b ≡ on side p → ReachesByRecord (file_of b) w u (mover_of p) value → StandsFor u r (landed side (identity_asked 0 value) z)
     own_relay (File a) side is relays =
         let inside : IsFileThere w (File a) = subst (IsFileThere w) (sym is) (there_on side) in
         let seen = at_spot w u p 0 value whole (spot_of a) (λ some. inside) (subst (λ x. StoresInGuestFile w u x 0 value) (named_there a inside) relays) in
@@ -129,13 +129,13 @@ module _ (w : World) (r : Rehearsed) (z : Transit) (whole : IsWhole w) (s : Stan
     pub own_peer : ReachesByRecord (stage_of w (mover_of p)).in_force w u (mover_of p) value → StandsFor u r (happened (happenings.PeerStores (identity_asked 0 value)) z)
     own_peer relays = own_relay (on z.record_in_force p) z.record_in_force refl (subst (λ o. ReachesByRecord o w u (mover_of p) value) s.routes.record_in_force relays)
 
-    pub other_peer : (g : Vcpu) (named : Option Place) → is_vcpu_in w.vms g ≡ true → g ≢ mover_of p → NamesElsewhere p named → ReachesByRecord named w u g value → StandsFor u r z
+    pub other_peer : (g : Vcpu) (named : Option GuestPlace) → is_vcpu_in w.vms g ≡ true → g ≢ mover_of p → NamesElsewhere p named → ReachesByRecord named w u g value → StandsFor u r z
     other_peer g (Some a) there other none relays =
         let seen = at_spot w u p 0 value whole (named_spot w.imsic a) (named_spot_there w a) relays in
         let one = one_file_hit (named_spot w.imsic a) p.old p.new s.two in
         subst (λ o. StandsFor u r (landed_on o (identity_asked 0 value) z)) (side_none (file_hit (named_spot w.imsic a)) p (missed p.old (λ b e. none Old b (ap file_of e))) (missed p.new (λ b e. none New b (ap file_of e)))) (store_lands w u r z (file_hit (named_spot w.imsic a)) 0 value s seen one)
       where
-        missed : (x : ends.Place) → ((b : Place) → x ≡ File b → Some a ≢ Some b) → file_hit (named_spot w.imsic a) x ≡ false
+        missed : (x : ends.Place) → ((b : GuestPlace) → x ≡ File b → Some a ≢ Some b) → file_hit (named_spot w.imsic a) x ≡ false
         missed Slot apart = refl
         missed (File b) apart = elim (cases_Bool (nat_lt a.hart w.imsic.harts && is_in_range 1 w.imsic.guests a.file)) [
           | inl named ↦ ap (is_file_at b) (cond-true _ _ _ named) ∙ elim (cases_Bool (is_place b a)) [
@@ -160,7 +160,7 @@ module _ (w : World) (r : Rehearsed) (z : Transit) (whole : IsWhole w) (s : Stan
   flights_after i [] store = refl
   flights_after i (y ∷ later) store = ap (onto_flights (side_of i p y.entry) y) (flights_after i later store) ∙ front (side_of i p y.entry)
     where
-      front : (o : Option Side) → onto_flights o y (flights_in i p later ++ onto_flights (side_of i p store.entry) store []) ≡ onto_flights o y (flights_in i p later) ++ onto_flights (side_of i p store.entry) store []
+      front : (o : Option TransitSide) → onto_flights o y (flights_in i p later ++ onto_flights (side_of i p store.entry) store []) ≡ onto_flights o y (flights_in i p later) ++ onto_flights (side_of i p store.entry) store []
       front None = refl
       front (Some side) = refl
 
@@ -185,7 +185,7 @@ module _ (w : World) (r : Rehearsed) (z : Transit) (whole : IsWhole w) (s : Stan
     others_same : (v : ℕ) → v ≢ vm → flight_of (with_flight w vm (flight_of w vm ++ store ∷ [])) v ≡ flight_of w v
     others_same v other = get_or-set_other w.flights vm v (flight_of w vm ++ store ∷ []) [] other
 
-    sent : (o : Option Side) → side_of w.imsic p store.entry ≡ o → flights_in w.imsic p (flight_of (with_flight w vm (flight_of w vm ++ store ∷ [])) vm) ≡ flights_in w.imsic p (flight_of w vm) ++ onto_flights o store []
+    sent : (o : Option TransitSide) → side_of w.imsic p store.entry ≡ o → flights_in w.imsic p (flight_of (with_flight w vm (flight_of w vm ++ store ∷ [])) vm) ≡ flights_in w.imsic p (flight_of w vm) ++ onto_flights o store []
     sent o is = ap (flights_in w.imsic p) more_here ∙ flights_after w.imsic (flight_of w vm) store ∙ ap (λ x. flights_in w.imsic p (flight_of w vm) ++ onto_flights x store []) is
 
     pub own_sent : vm ≡ p.who.found.vm → side_of w.imsic p store.entry ≡ Some z.entry_in_force → StandsFor (with_flight w vm (flight_of w vm ++ store ∷ [])) r (happened (happenings.Sends (identity_asked store.offset store.value)) z)

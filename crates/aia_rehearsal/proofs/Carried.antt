@@ -14,7 +14,7 @@ use Rattle.aia_move_values.specs.declared.who.Who.{Who}
 use Rattle.aia_move_values.specs.Move.{IsWho, width}
 use Rattle.aia_move_values.specs.Touches.{SameMachine}
 use Rattle.aia_plan.specs.Transit.{Transit}
-use Rattle.aia_plan.specs.Transit.Side.{Old, New}
+use Rattle.aia_plan.specs.Transit.TransitSide.{Old, New}
 use Rattle.aia_rehearsal.specs.declared.place.Place as ends
 use Rattle.aia_rehearsal.specs.declared.place.Place.TheVariants.{File, Slot}
 use Rattle.aia_rehearsal.specs.Rehearsed.{Passage, Carried, Rehearsed, mover_of, at, IsFileThere, IsOf}

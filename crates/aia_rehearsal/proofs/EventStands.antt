@@ -16,19 +16,19 @@ use Rattle.aia_fabric_values.specs.Whole.{IsWhole}
 use Rattle.aia_fabric_values.specs.Stores.{ReachesByRecord}
 use Rattle.aia_fabric_values.specs.Flights.{Lands}
 use Rattle.aia_fabric_values.specs.Changes.{with_fence}
-use Rattle.aia_plan.specs.Transit.{Side, Transit, Happening, happened, all_happened}
+use Rattle.aia_plan.specs.Transit.{TransitSide, Transit, Happening, happened, all_happened}
 use Rattle.aia_plan.specs.Transit.{Happening as happenings}
 use Rattle.aia_rehearsal.specs.Rehearsed.{Passage, Rehearsed, mover_of}
 use Rattle.aia_rehearsal.specs.Stands.{identity_asked, side_of, StandsFor}
-use Rattle.aia_rehearsal.specs.Events.{Event, Happens, IsAlone, NamesElsewhere, is_for_moved, landing_by, landing_seen, seen}
-use Rattle.aia_rehearsal.specs.Events.Event.{Steps, DeviceStores, PeerStores, DeviceSends, StoreLands, EntryRead}
+use Rattle.aia_rehearsal.specs.Events.{RehearsedEvent, Happens, IsAlone, NamesElsewhere, is_for_moved, landing_by, landing_seen, seen}
+use Rattle.aia_rehearsal.specs.Events.RehearsedEvent.{Steps, DeviceStores, PeerStores, DeviceSends, StoreLands, EntryRead}
 use Rattle.aia_rehearsal.proofs.StepStands.{rehearsed}
 use Rattle.aia_rehearsal.proofs.RouteSteps.{refetched}
 use Rattle.aia_rehearsal.proofs.FlightSteps.{place_among, landed_state, own_store_landed, other_store_landed}
 use Rattle.aia_rehearsal.proofs.Between.{LeadsElsewhere, own_route, own_store, other_store, own_peer, other_peer, own_send, other_send, other_refetched}
 
 -- what is for another virtual hart does not come to the places
-abbrev KeepsAway : Event → World → Passage → Type 0
+abbrev KeepsAway : RehearsedEvent → World → Passage → Type 0
 KeepsAway (DeviceStores vm addr value) w p = is_for_moved w p vm addr ≡ false → LeadsElsewhere w p (route_of (table_of w.tables vm) addr)
 KeepsAway (PeerStores vm to value) w p = is_vcpu (vcpu vm to) (mover_of p) ≡ false → NamesElsewhere p (stage_of w (vcpu vm to)).in_force
 KeepsAway (DeviceSends vm addr value) w p = is_for_moved w p vm addr ≡ false → LeadsElsewhere w p (route_of (table_of w.tables vm) addr)
@@ -53,7 +53,7 @@ module _ (w u : World) (r : Rehearsed) (z : Transit) (whole : IsWhole w) (s : St
     | inr ne ↦ subst (λ x. StandsFor u r (all_happened x z)) (sym (cond-false _ _ _ (ne_eqb vm p.who.found.vm ne))) (other_store_landed w u r z vm k whole s l ne)
   ]
     where
-      by_side : (o : Option Side) → StandsFor u r (landed_state o (place_among w.imsic p (flight_of w p.who.found.vm) k) z) → StandsFor u r (all_happened (landing_by o (place_among w.imsic p (flight_of w p.who.found.vm) k)) z)
+      by_side : (o : Option TransitSide) → StandsFor u r (landed_state o (place_among w.imsic p (flight_of w p.who.found.vm) k) z) → StandsFor u r (all_happened (landing_by o (place_among w.imsic p (flight_of w p.who.found.vm) k)) z)
       by_side None t = t
       by_side (Some side) t = t
 
@@ -69,7 +69,7 @@ module _ (w u : World) (r : Rehearsed) (z : Transit) (whole : IsWhole w) (s : St
         | inr ne ↦ inl ne
       ]
 
-  between : (event : Event) (t : Rehearsed) → Happens event w r u t → KeepsAway event w p → StandsFor u t (all_happened (seen event w p) z)
+  between : (event : RehearsedEvent) (t : Rehearsed) → Happens event w r u t → KeepsAway event w p → StandsFor u t (all_happened (seen event w p) z)
   between (Steps step) t (inside, makes, e) away = rehearsed w u r t step whole inside makes e z s
   between (DeviceStores vm addr value) t (low, reaches, e) away = subst (λ (x : Rehearsed). StandsFor u x (all_happened (seen (DeviceStores vm addr value) w p) z)) (sym e)
       (one_or_none u r z (is_for_moved w p vm addr) (happenings.Stores (identity_asked (addr % PAGE) value))
@@ -103,7 +103,7 @@ route_elsewhere w p vm addr alone not = elim (cases_Bool (is_msi_address (table_
   | inr none ↦ subst (LeadsElsewhere w p) (sym (cond-false _ _ _ none)) tt
 ]
 
-keeps_away : (event : Event) (w u : World) (r t : Rehearsed) → IsAlone w r.passage → Happens event w r u t → KeepsAway event w r.passage
+keeps_away : (event : RehearsedEvent) (w u : World) (r t : Rehearsed) → IsAlone w r.passage → Happens event w r u t → KeepsAway event w r.passage
 keeps_away (Steps step) w u r t alone happens = tt
 keeps_away (DeviceStores vm addr value) w u r t alone happens = route_elsewhere w r.passage vm addr alone
 keeps_away (PeerStores vm to value) w u r t alone happens = λ not. alone.records (vcpu vm to) happens.0 (other_vcpu (vcpu vm to) (mover_of r.passage) not)
@@ -111,5 +111,5 @@ keeps_away (DeviceSends vm addr value) w u r t alone happens = route_elsewhere w
 keeps_away (StoreLands vm k) w u r t alone happens = tt
 keeps_away (EntryRead vm file) w u r t alone happens = tt
 
-pub event_stands : (w u : World) (r t : Rehearsed) (event : Event) → IsWhole w → IsAlone w r.passage → Happens event w r u t → (z : Transit) → StandsFor w r z → StandsFor u t (all_happened (seen event w r.passage) z)
+pub event_stands : (w u : World) (r t : Rehearsed) (event : RehearsedEvent) → IsWhole w → IsAlone w r.passage → Happens event w r u t → (z : Transit) → StandsFor w r z → StandsFor u t (all_happened (seen event w r.passage) z)
 event_stands w u r t event whole alone happens z s = between w u r z whole s event t happens (keeps_away event w u r t alone happens)

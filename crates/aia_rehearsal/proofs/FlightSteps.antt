@@ -14,8 +14,8 @@ use Rattle.aia_fabric_values.proofs.FlightLemmas.{fence_leaves_none}
 use Rattle.aia_fabric_values.proofs.WholeLemmas.{vcpu_entry}
 use Rattle.aia_rehearsal.proofs.RouteSteps.{refetched}
 use Rattle.aia_plan.specs.declared.step.Step.TheVariants.{Fence}
-use Rattle.aia_plan.specs.Transit.{Side, Flight, Transit, landed, all_landed, one_landed, all_but, stepped, happened}
-use Rattle.aia_plan.specs.Transit.Side.{Old, New}
+use Rattle.aia_plan.specs.Transit.{TransitSide, Flight, Transit, landed, all_landed, one_landed, all_but, stepped, happened}
+use Rattle.aia_plan.specs.Transit.TransitSide.{Old, New}
 use Rattle.aia_plan.specs.Transit.Happening.{Lands as lands}
 use Rattle.aia_rehearsal.specs.declared.place.Place as ends
 use Rattle.aia_rehearsal.specs.declared.place.Place.TheVariants.{File, Slot}
@@ -27,7 +27,7 @@ use Rattle.aia_rehearsal.proofs.Landings.{landed_on, entry_lands}
 -- ---- the lists
 
 -- the store that a side and a flying store make, if it leads to a place
-abbrev flight_by : Option Side → Flying → Option Flight
+abbrev flight_by : Option TransitSide → Flying → Option Flight
 flight_by None store = None
 flight_by (Some side) store = Some (record { side = side; identity = identity_asked store.offset store.value })
 
@@ -41,7 +41,7 @@ module _ (i : ImsicState) (p : Passage) where
   removed_none (y ∷ later) zero store is none = let same : y ≡ store = cc in sym (ap (λ (f : Flying). onto_flights (side_of i p f.entry) y (flights_in i p later)) same ∙ ap (λ o. onto_flights o y (flights_in i p later)) none)
   removed_none (y ∷ later) (suc k) store is none = ap (onto_flights (side_of i p y.entry) y) (removed_none later k store is none)
 
-  pub removed_one : (stores : List Flying) (k : ℕ) (store : Flying) (side : Side) → slice_get stores k ≡ Some store → side_of i p store.entry ≡ Some side → (flights_in i p (remove stores k) ≡ all_but (place_among stores k) (flights_in i p stores)) × (slice_get (flights_in i p stores) (place_among stores k) ≡ Some (record { side = side; identity = identity_asked store.offset store.value }))
+  pub removed_one : (stores : List Flying) (k : ℕ) (store : Flying) (side : TransitSide) → slice_get stores k ≡ Some store → side_of i p store.entry ≡ Some side → (flights_in i p (remove stores k) ≡ all_but (place_among stores k) (flights_in i p stores)) × (slice_get (flights_in i p stores) (place_among stores k) ≡ Some (record { side = side; identity = identity_asked store.offset store.value }))
   removed_one [] k store side is led = absurd (cc)
   removed_one (y ∷ later) zero store side is led =
       let same : y ≡ store = cc in
@@ -50,7 +50,7 @@ module _ (i : ImsicState) (p : Passage) where
       (sym (ap (all_but 0) first), ap (λ l. slice_get l 0) first)
   removed_one (y ∷ later) (suc k) store side is led = further (side_of i p y.entry) (removed_one later k store side is led)
     where
-      further : (o : Option Side) → (flights_in i p (remove later k) ≡ all_but (place_among later k) (flights_in i p later)) × (slice_get (flights_in i p later) (place_among later k) ≡ Some (record { side = side; identity = identity_asked store.offset store.value }))
+      further : (o : Option TransitSide) → (flights_in i p (remove later k) ≡ all_but (place_among later k) (flights_in i p later)) × (slice_get (flights_in i p later) (place_among later k) ≡ Some (record { side = side; identity = identity_asked store.offset store.value }))
           → (onto_flights o y (flights_in i p (remove later k)) ≡ all_but (length (onto_flights o y (flights_in i p (take k later)))) (onto_flights o y (flights_in i p later))) × (slice_get (onto_flights o y (flights_in i p later)) (length (onto_flights o y (flights_in i p (take k later)))) ≡ Some (record { side = side; identity = identity_asked store.offset store.value }))
       further None so = so
       further (Some other) so = (ap (λ l. record { side = other; identity = identity_asked y.offset y.value } ∷ l) so.0, so.1)
@@ -59,19 +59,19 @@ module _ (i : ImsicState) (p : Passage) where
   none_leads [] k store is none = absurd (cc)
   none_leads (y ∷ later) zero store is none = let same : y ≡ store = cc in subst (λ (f : Flying). side_of i p f.entry ≡ None) same (first (side_of i p y.entry) none)
     where
-      first : (o : Option Side) → onto_flights o y (flights_in i p later) ≡ [] → o ≡ None
+      first : (o : Option TransitSide) → onto_flights o y (flights_in i p later) ≡ [] → o ≡ None
       first None e = refl
       first (Some side) e = absurd (cc)
   none_leads (y ∷ later) (suc k) store is none = none_leads later k store is (rest (side_of i p y.entry) none)
     where
-      rest : (o : Option Side) → onto_flights o y (flights_in i p later) ≡ [] → flights_in i p later ≡ []
+      rest : (o : Option TransitSide) → onto_flights o y (flights_in i p later) ≡ [] → flights_in i p later ≡ []
       rest None e = e
       rest (Some side) e = absurd (cc)
 
 -- ---- one lands
 
 -- the state after the k-th store of a VM has landed, given where it leads
-abbrev pub landed_state : Option Side → ℕ → Transit → Transit
+abbrev pub landed_state : Option TransitSide → ℕ → Transit → Transit
 landed_state None k z = z
 landed_state (Some side) k z = happened (lands k) z
 
@@ -119,7 +119,7 @@ module _ (w u : World) (r : Rehearsed) (z : Transit) (vm k : ℕ) (whole : IsWho
   }) stand
 
   -- it is one of its VM: it leads to a place or not
-  own_landed : vm ≡ p.who.found.vm → (o : Option Side) → side_of w.imsic p l.store.entry ≡ o → StandsFor l.stored r (landed_on o (identity_asked l.store.offset l.store.value) z) → StandsFor u r (landed_state o (place_among w.imsic p (flight_of w p.who.found.vm) k) z)
+  own_landed : vm ≡ p.who.found.vm → (o : Option TransitSide) → side_of w.imsic p l.store.entry ≡ o → StandsFor l.stored r (landed_on o (identity_asked l.store.offset l.store.value) z) → StandsFor u r (landed_state o (place_among w.imsic p (flight_of w p.who.found.vm) k) z)
   own_landed is None none t = with_others z z.flights t (record {
     own = s.flights.own ∙ sym (same_leads (flight_of u p.who.found.vm) ∙ ap (λ v. flights_in w.imsic p (flight_of u v)) (sym is) ∙ ap (flights_in w.imsic p) left_here ∙ removed_none w.imsic p (flight_of w vm) k l.store l.is none ∙ ap (λ v. flights_in w.imsic p (flight_of w v)) is);
     others = λ v other. same_leads (flight_of u v) ∙ ap (flights_in w.imsic p) (left_there v (λ e. other (e ∙ is))) ∙ s.flights.others v other;
@@ -171,7 +171,7 @@ same_landed : (stores : List Flight) (z y : Transit) → emptied z ≡ emptied y
 same_landed [] z y e = e
 same_landed (store ∷ later) z y e = same_landed later (landed store.side store.identity z) (landed store.side store.identity y) (one store.side)
   where
-    one : (side : Side) → emptied (landed side store.identity z) ≡ emptied (landed side store.identity y)
+    one : (side : TransitSide) → emptied (landed side store.identity z) ≡ emptied (landed side store.identity y)
     one Old = ap (landed Old store.identity) e
     one New = ap (landed New store.identity) e
 
@@ -185,7 +185,7 @@ all_have (suc count) (store ∷ later) z none =
     let step = first ∙ ap (landed_times count) lands_first in
     step ∙ all_have count later (landed store.side store.identity z) (sym (ap (λ (y : Transit). y.flights) step) ∙ none)
   where
-    one : (side : Side) → record (landed side store.identity (record z { flights = store ∷ later })) { flights = later } ≡ record (landed side store.identity z) { flights = later }
+    one : (side : TransitSide) → record (landed side store.identity (record z { flights = store ∷ later })) { flights = later } ≡ record (landed side store.identity z) { flights = later }
     one Old = refl
     one New = refl
 
@@ -200,7 +200,7 @@ oldest_landed (suc more) w u r z whole s (mid, before, whole_mid, l) =
     let so_far = oldest_landed more w mid r z whole s before in
     one_more so_far.count (side_of mid.imsic r.passage l.store.entry) (own_store_landed mid u r (landed_times so_far.count z) r.passage.who.found.vm 0 whole_mid so_far.stands l refl)
   where
-    one_more : (done : ℕ) (o : Option Side) → StandsFor u r (landed_state o 0 (landed_times done z)) → HaveLanded w u r z
+    one_more : (done : ℕ) (o : Option TransitSide) → StandsFor u r (landed_state o 0 (landed_times done z)) → HaveLanded w u r z
     one_more done None t = record { count = done; stands = t }
     one_more done (Some side) t = record { count = suc done; stands = t }
 
@@ -208,7 +208,7 @@ entry_stays : (stores : List Flight) (z : Transit) → (all_landed stores z).ent
 entry_stays [] z = refl
 entry_stays (store ∷ later) z = entry_stays later (landed store.side store.identity z) ∙ one store.side
   where
-    one : (side : Side) → (landed side store.identity z).entry_written ≡ z.entry_written
+    one : (side : TransitSide) → (landed side store.identity z).entry_written ≡ z.entry_written
     one Old = refl
     one New = refl
 

@@ -10,7 +10,7 @@ use Rattle.aia_file.proofs.MapLemmas.{machine_of_spot, host_of_spot, guest_of_sp
 use Rattle.aia_regs.specs.declared.address_map.TheConstants.{PAGE}
 use Rattle.aia_entry.specs.declared.entry.Entry.{Entry}
 use Rattle.aia_entry.specs.declared.entry.Entry.TheVariants.{Basic, Mrif, NotValid, Custom, Misconfigured}
-use Rattle.aia_vcpu.specs.declared.place.Place.{Place}
+use Rattle.aia_vcpu.specs.declared.place.GuestPlace.{GuestPlace}
 use Rattle.aia_fabric_values.specs.World.{World, OnlyStores}
 use Rattle.aia_fabric_values.specs.Whole.{IsWhole}
 use Rattle.std.specs.Int.{is_in_range}
@@ -18,8 +18,8 @@ use Rattle.aia_fabric_values.specs.Stores.{ReachesBy, page_spot, named_spot, slo
 use Rattle.aia_fabric_values.specs.Changes.{spot_of}
 use Rattle.aia_fabric_values.proofs.PlaceLemmas.{slot_begins}
 use Rattle.aia_move_values.specs.Touches.{SameMachine}
-use Rattle.aia_plan.specs.Transit.{Side, Transit, landed}
-use Rattle.aia_plan.specs.Transit.Side.{Old, New}
+use Rattle.aia_plan.specs.Transit.{TransitSide, Transit, landed}
+use Rattle.aia_plan.specs.Transit.TransitSide.{Old, New}
 use Rattle.aia_rehearsal.specs.declared.place.Place as ends
 use Rattle.aia_rehearsal.specs.declared.place.Place.TheVariants.{File, Slot}
 use Rattle.aia_rehearsal.specs.Rehearsed.{Passage, Rehearsed, mover_of, AreTwo}
@@ -30,11 +30,11 @@ use Rattle.aia_rehearsal.proofs.SameMachine.{stored_same}
 
 -- ---- on which side
 
-abbrev pub side_by : (ends.Place → Bool) → Passage → Option Side
+abbrev pub side_by : (ends.Place → Bool) → Passage → Option TransitSide
 side_by hits p = cond (hits p.old) (Some Old) (cond (hits p.new) (Some New) None)
 
 -- a store lands on a side, or on none
-abbrev pub landed_on : Option Side → ℕ → Transit → Transit
+abbrev pub landed_on : Option TransitSide → ℕ → Transit → Transit
 landed_on None x z = z
 landed_on (Some side) x z = landed side x z
 
@@ -118,7 +118,7 @@ page_there w page some = by_spot (page_spot w.imsic page) refl
     by_spot (GuestFile hart file) is = let found = guest_of_spot w.imsic.harts w.imsic.guests (page * PAGE) hart file is in subst (IsThere w.imsic) (sym is) (found.0, found.1, found.2)
     by_spot Nowhere is = absurd (some is)
 
-pub named_spot_there : (w : World) (a : Place) → named_spot w.imsic a ≢ Nowhere → IsThere w.imsic (named_spot w.imsic a)
+pub named_spot_there : (w : World) (a : GuestPlace) → named_spot w.imsic a ≢ Nowhere → IsThere w.imsic (named_spot w.imsic a)
 named_spot_there w a some = elim (cases_Bool (nat_lt a.hart w.imsic.harts && is_in_range 1 w.imsic.guests a.file)) [
   | inl named ↦ let inside : IsThere w.imsic (spot_of a) = (grind (arith, nat_tests), grind (arith, nat_tests), grind (arith, nat_tests)) in subst (IsThere w.imsic) (sym (cond-true _ _ _ named)) inside
   | inr past ↦ absurd (some (cond-false _ _ _ past))

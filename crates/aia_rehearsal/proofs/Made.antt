@@ -7,7 +7,7 @@ use Rattle.std.proofs.lemmas.List.{get_or-replicate}
 use Rattle.std.proofs.lemmas.List.Elements.{All-nil}
 use Rattle.aia_file.specs.Imsic.{ImsicState, IsThere, file_at}
 use Rattle.aia_entry.specs.Tables.{table_of, entry_in_force}
-use Rattle.aia_vcpu.specs.declared.place.Place.{Place}
+use Rattle.aia_vcpu.specs.declared.place.GuestPlace.{GuestPlace}
 use Rattle.aia_vcpu.specs.declared.vm.Vm.{Vm}
 use Rattle.aia_vcpu.specs.Vms.{Vcpu, vcpu, is_vcpu_in, slot_of, notice_hart, vcpus_in}
 use Rattle.aia_fabric_values.specs.declared.flying.Flying.{Flying}
@@ -27,8 +27,8 @@ use Rattle.aia_file.specs.InterruptFile.{SameFile, empty_file}
 use Rattle.aia_fabric_values.specs.Changes.{spot_of}
 use Rattle.aia_move_values.specs.declared.who.Who.{Who}
 use Rattle.aia_move_values.specs.Move.{IsWho}
-use Rattle.aia_plan.specs.Transit.{Side}
-use Rattle.aia_plan.specs.Transit.Side.{Old, New}
+use Rattle.aia_plan.specs.Transit.{TransitSide}
+use Rattle.aia_plan.specs.Transit.TransitSide.{Old, New}
 use Rattle.aia_rehearsal.specs.declared.place.Place as ends
 use Rattle.aia_rehearsal.specs.declared.place.Place.TheVariants.{File, Slot}
 use Rattle.aia_rehearsal.specs.Rehearsed.{Passage, Rehearsed, on, names_on, empty_hand}
@@ -82,7 +82,7 @@ module _ (files : ImsicState) (w : World) (n harts guests : ℕ) (vm : Vm) (who 
       none zero = refl
       none (suc v) = refl
 
-  none_leads : (p : Passage) (side : Side) (v : ℕ) → NoneLeads w p side v
+  none_leads : (p : Passage) (side : TransitSide) (v : ℕ) → NoneLeads w p side v
   none_leads p side v = subst (λ l. All (λ (store : Flying). leads w.imsic p.who.found.slot (on side p) store.entry ≡ false) l) (sym (none_flies v)) (All-nil _)
 
   -- all leads to the slot
@@ -90,7 +90,7 @@ module _ (files : ImsicState) (w : World) (n harts guests : ℕ) (vm : Vm) (who 
     abbrev p : Passage
     p = record { who = who; old = old; new = place }
 
-    led : (side : Side) → names_on side p ≡ None → LeadsTo w p side
+    led : (side : TransitSide) → names_on side p ≡ None → LeadsTo w p side
     led side none = record {
       word0 = ap (λ v. get_or w.memory (entry_word_place v who.found.number) 0) first ∙ makes.word0 who.found.number vcpu_low ∙ ap (λ q. mrif_word (slot_address q)) none_before ∙ ap (entry_word who.found.slot) (sym none);
       word1 = ap (λ v. get_or w.memory (entry_word_place v who.found.number + 1) 0) first ∙ makes.word1 who.found.number vcpu_low ∙ ap (λ q. notice_word (notice_page vm) (q + 1)) none_before ∙ ap (λ hart. notice_word (supervisor_page hart / PAGE) (who.found.slot + 1)) notice_is;
@@ -101,7 +101,7 @@ module _ (files : ImsicState) (w : World) (n harts guests : ℕ) (vm : Vm) (who 
     }
 
   -- the entries and records of the others lead to their own slots
-  module _ (a : Place) where
+  module _ (a : GuestPlace) where
     abbrev arrival : Passage
     arrival = record { who = who; old = Slot; new = File a }
 
@@ -164,12 +164,12 @@ module _ (files : ImsicState) (w : World) (n harts guests : ℕ) (vm : Vm) (who 
           let empty : None ≡ Some b = sym (ap (λ (y : Stage). y.in_force) none) ∙ e in absurd (cc);
     }
 
-  file_empty : (a : Place) → IsThere w.imsic (spot_of a) → SameFile (shown (file_at w.imsic (spot_of a))) (empty_file n)
+  file_empty : (a : GuestPlace) → IsThere w.imsic (spot_of a) → SameFile (shown (file_at w.imsic (spot_of a))) (empty_file n)
   file_empty a there =
       let same : w.imsic ≡ files = ap (λ (x : World). x.imsic) makes.rest in
       subst (λ (i : ImsicState). SameFile (shown (file_at i (spot_of a))) (empty_file n)) (sym same) (new.files.each (spot_of a) (subst (λ (i : ImsicState). IsThere i (spot_of a)) same there))
 
-  arrives : (a : Place) → IsThere w.imsic (spot_of a) → IsBegun w (record { passage = record { who = who; old = Slot; new = File a }; hand = empty_hand })
+  arrives : (a : GuestPlace) → IsThere w.imsic (spot_of a) → IsBegun w (record { passage = record { who = who; old = Slot; new = File a }; hand = empty_hand })
   arrives a there = record {
     of = record { who = is; old = tt; new = there };
     two = tt;
@@ -183,7 +183,7 @@ module _ (files : ImsicState) (w : World) (n harts guests : ℕ) (vm : Vm) (who 
   }
 
   -- as a leave has ended
-  leaves : (a : Place) → IsThere w.imsic (spot_of a) → StandsFor w (record { passage = record { who = who; old = File a; new = Slot }; hand = empty_hand }) (state_at New w (record { passage = record { who = who; old = File a; new = Slot }; hand = empty_hand }))
+  leaves : (a : GuestPlace) → IsThere w.imsic (spot_of a) → StandsFor w (record { passage = record { who = who; old = File a; new = Slot }; hand = empty_hand }) (state_at New w (record { passage = record { who = who; old = File a; new = Slot }; hand = empty_hand }))
   leaves a there =
       let r : Rehearsed = record { passage = record { who = who; old = File a; new = Slot }; hand = empty_hand } in
       led_stands w r New (record { who = is; old = there; new = tt }) tt (led (File a) Slot New refl) (λ v other. none_leads r.passage Old v) (λ v other. none_leads r.passage New v)
@@ -196,14 +196,14 @@ module _ (before w : World) (n harts guests : ℕ) (vm : Vm) (who : Who) (new : 
   makes_here : MakesVm (new_world before.imsic n) w vm
   makes_here = subst (λ (x : World). MakesVm x w vm) new.world makes
 
-  pub may_arrive : (a : Place) → IsThere w.imsic (spot_of a) → IsBegun w (record { passage = record { who = who; old = Slot; new = File a }; hand = empty_hand })
+  pub may_arrive : (a : GuestPlace) → IsThere w.imsic (spot_of a) → IsBegun w (record { passage = record { who = who; old = Slot; new = File a }; hand = empty_hand })
   may_arrive a there = arrives before.imsic w n harts guests vm who new_here whole makes_here is first a there
 
-  pub has_left : (a : Place) → IsThere w.imsic (spot_of a) → StandsFor w (record { passage = record { who = who; old = File a; new = Slot }; hand = empty_hand }) (state_at New w (record { passage = record { who = who; old = File a; new = Slot }; hand = empty_hand }))
+  pub has_left : (a : GuestPlace) → IsThere w.imsic (spot_of a) → StandsFor w (record { passage = record { who = who; old = File a; new = Slot }; hand = empty_hand }) (state_at New w (record { passage = record { who = who; old = File a; new = Slot }; hand = empty_hand }))
   has_left a there = leaves before.imsic w n harts guests vm who new_here whole makes_here is first a there
 
   -- once the entry and the record were written for a file and put in force, it may shift to another one
-  pub may_shift : (a b : Place) → IsThere w.imsic (spot_of a) → IsThere w.imsic (spot_of b) → is_place a b ≡ false → (x y v u : World) → IsWhole x → IsWhole y → IsWhole v
+  pub may_shift : (a b : GuestPlace) → IsThere w.imsic (spot_of a) → IsThere w.imsic (spot_of b) → is_place a b ≡ false → (x y v u : World) → IsWhole x → IsWhole y → IsWhole v
       → x ≡ with_entry_word w who.found.vm who.found.number 0 (entry_word who.found.slot (Some a)) → y ≡ with_fence x who.found.vm who.found.number → v ≡ with_map y (vcpu who.found.vm who.found.number) (Some a) → u ≡ with_gfence v (vcpu who.found.vm who.found.number)
       → StandsFor u (record { passage = record { who = who; old = File a; new = File b }; hand = empty_hand }) (state_at Old u (record { passage = record { who = who; old = File a; new = File b }; hand = empty_hand }))
   may_shift a b there too apart x y v u whole_x whole_y whole_v e1 e2 e3 e4 =
@@ -222,7 +222,7 @@ module _ (before w : World) (n harts guests : ℕ) (vm : Vm) (who : Who) (new : 
       (record { word0 = s4.routes.entry_written; word1 = s4.routes.notice; in_force = s4.routes.entry_in_force; record_written = s4.routes.record_written; record_in_force = s4.routes.record_in_force })
       (λ k other. none_in_flight u p Old k lists) (λ k other. none_in_flight u p New k lists)
     where
-      none_in_flight : (u : World) (p : Passage) (side : Side) (k : ℕ) → u.flights ≡ w.flights → NoneLeads u p side k
+      none_in_flight : (u : World) (p : Passage) (side : TransitSide) (k : ℕ) → u.flights ≡ w.flights → NoneLeads u p side k
       none_in_flight u p side k lists =
           let none : flight_of u k ≡ [] = ap (λ l. slice_index_or l k []) lists ∙ none_flies before.imsic w n harts guests vm who new_here whole makes_here is first k in
           subst (λ l. All (λ (store : Flying). leads u.imsic p.who.found.slot (on side p) store.entry ≡ false) l) (sym none) (All-nil _)

@@ -15,7 +15,7 @@ use Rattle.aia_file.specs.declared.spot.Spot.TheVariants.{SupervisorFile}
 use Rattle.aia_file.specs.Imsic.{ImsicState, IsThere, file_at, with_file}
 use Rattle.aia_file.proofs.PlaceLemmas.{kept_elsewhere}
 use Rattle.aia_entry.specs.Format.{decoded}
-use Rattle.aia_vcpu.specs.declared.place.Place.{Place}
+use Rattle.aia_vcpu.specs.declared.place.GuestPlace.{GuestPlace}
 use Rattle.aia_vcpu.specs.Home.{is_place}
 use Rattle.aia_vcpu.specs.declared.rest.Rest.TheVariants.{Parked}
 use Rattle.aia_vcpu.specs.Home.Home.{InMemory}
@@ -30,13 +30,13 @@ use Rattle.aia_fabric_values.proofs.WholeLemmas.{notice_hart_there}
 use Rattle.aia_move_values.specs.Move.{PostsIf, width}
 use Rattle.aia_move_values.specs.Touches.{SameMachine}
 use Rattle.aia_plan.specs.declared.step.Step.TheVariants.{Word0, Map, GFence, TakeP, PutP, TakeE, PutE}
-use Rattle.aia_plan.specs.Transit.{Side, Transit, stepped}
-use Rattle.aia_plan.specs.Transit.Side.{Old, New}
+use Rattle.aia_plan.specs.Transit.{TransitSide, Transit, stepped}
+use Rattle.aia_plan.specs.Transit.TransitSide.{Old, New}
 use Rattle.aia_rehearsal.specs.declared.place.Place as ends
 use Rattle.aia_rehearsal.specs.declared.place.Place.TheVariants.{File, Slot}
 use Rattle.aia_rehearsal.specs.Rehearsed.{Passage, Carried, Rehearsed, mover_of, on, at_of, at, file_of, names_on, IsFileThere}
 use Rattle.aia_rehearsal.specs.Steps.{identities_in, Puts}
-use Rattle.aia_rehearsal.specs.Stands.{sets_at, Routes, routes_of, SetsStand, RoutesStand, StandsFor}
+use Rattle.aia_rehearsal.specs.Stands.{sets_at, RoutesSeen, routes_of, SetsStand, RoutesStand, StandsFor}
 use Rattle.aia_move_values.proofs.WhoLemmas.{small_who}
 use Rattle.aia_rehearsal.proofs.Places.{file_in_map}
 use Rattle.aia_rehearsal.proofs.SetSteps.{pending_taken, enables_taken, pending_put, enables_put}
@@ -45,7 +45,7 @@ use Rattle.aia_rehearsal.proofs.Carried.{stand_on, same_machine}
 use Rattle.aia_vcpu.proofs.HomeLemmas.{same_place}
 
 -- what the places of a virtual hart show of its routes
-abbrev routes_in : Places → Routes
+abbrev routes_in : Places → RoutesSeen
 routes_in v = record { word0 = v.word0; word1 = v.word1; in_force = v.in_force; stage = record { written = v.stage; in_force = v.stage_in_force } }
 
 module _ (w : World) (r : Rehearsed) (z : Transit) (whole : IsWhole w) (s : StandsFor w r z) where
@@ -156,7 +156,7 @@ module _ (w : World) (r : Rehearsed) (z : Transit) (whole : IsWhole w) (s : Stan
   seen_more hand pending enables = all_kept w hand (same_machine w) refl refl refl refl pending enables
 
   -- a file has the same sets after a register of its numbers was written
-  file_kept : (a : Place) (f : FileState) → of_file (shown f) ≡ of_file (shown (file_at w.imsic (spot_of a))) → IsThere w.imsic (spot_of a) → (b : ends.Place) → IsFileThere w b → sets_at (with_state w (spot_of a) f) (at_of q b) ≡ sets_at w (at_of q b)
+  file_kept : (a : GuestPlace) (f : FileState) → of_file (shown f) ≡ of_file (shown (file_at w.imsic (spot_of a))) → IsThere w.imsic (spot_of a) → (b : ends.Place) → IsFileThere w b → sets_at (with_state w (spot_of a) f) (at_of q b) ≡ sets_at w (at_of q b)
   file_kept a f same there Slot inside = refl
   file_kept a f same there (File b) inside = elim (cases_Bool (is_place b a)) [
     | inl e ↦ let is : b ≡ a = same_place b a e in subst (λ x. of_file (shown (file_at (with_state w (spot_of a) f).imsic (spot_of x))) ≡ of_file (shown (file_at w.imsic (spot_of x)))) (sym is) (ap (λ x. of_file (shown x)) (here w (spot_of a) f whole there) ∙ same)
@@ -229,10 +229,10 @@ module _ (w : World) (r : Rehearsed) (z : Transit) (whole : IsWhole w) (s : Stan
       (subst (λ x. RoutesStand p x (stepped GFence z)) (sym (ap routes_in seen)) (record { entry_written = s.routes.entry_written; notice = s.routes.notice; entry_in_force = s.routes.entry_in_force; record_written = s.routes.record_written; record_in_force = s.routes.record_written })) s
 
   -- the entry is put in force
-  named_in_map : (side : Side) (a : Place) → names_on side p ≡ Some a → IsInMap a
+  named_in_map : (side : TransitSide) (a : GuestPlace) → names_on side p ≡ Some a → IsInMap a
   named_in_map side a e = in_map (on side p) e (there side)
     where
-      there : (side : Side) → IsFileThere w (on side p)
+      there : (side : TransitSide) → IsFileThere w (on side p)
       there Old = s.of.old
       there New = s.of.new
 

@@ -16,12 +16,12 @@ use Rattle.aia_entry.specs.Tables.{table_of, route_of}
 use Rattle.aia_vcpu.specs.Vms.{vcpu}
 use Rattle.aia_fabric_values.specs.World.{stage_of}
 use Rattle.aia_fabric_values.specs.Flights.{Sends}
-use Rattle.aia_rehearsal.specs.Events.{Event, Happens}
-use Rattle.aia_rehearsal.specs.Events.Event.{Steps, DeviceStores, PeerStores, DeviceSends, StoreLands, EntryRead}
+use Rattle.aia_rehearsal.specs.Events.{RehearsedEvent, Happens}
+use Rattle.aia_rehearsal.specs.Events.RehearsedEvent.{Steps, DeviceStores, PeerStores, DeviceSends, StoreLands, EntryRead}
 use Rattle.aia_move_values.specs.Touches.{SameMachine}
 use Rattle.aia_plan.specs.declared.step.Step.{Step}
 use Rattle.aia_plan.specs.declared.step.Step.TheVariants as steps
-use Rattle.aia_plan.specs.Transit.Side.{Old, New}
+use Rattle.aia_plan.specs.Transit.TransitSide.{Old, New}
 use Rattle.aia_rehearsal.specs.declared.place.Place as ends
 use Rattle.aia_rehearsal.specs.declared.place.Place.TheVariants.{File, Slot}
 use Rattle.aia_rehearsal.specs.Rehearsed.{Rehearsed, at, IsOf}
@@ -75,7 +75,7 @@ sends_same (To entry) w u vm offset value e = same_by w u _ e (record { n = refl
 sends_same Other w u vm offset value e = same_by w u w e (same_machine w)
 sends_same (Fault entry) w u vm offset value e = same_by w u w e (same_machine w)
 
-pub event_same : (event : Event) (w : World) (r : Rehearsed) (u : World) (t : Rehearsed) → Happens event w r u t → SameMachine w u
+pub event_same : (event : RehearsedEvent) (w : World) (r : Rehearsed) (u : World) (t : Rehearsed) → Happens event w r u t → SameMachine w u
 event_same (Steps step) w r u t (inside, makes, e) = step_same step w u r makes
 event_same (DeviceStores vm addr value) w r u t (low, reaches, e) = stored_same w u (reaches_rest (route_of (table_of w.tables vm) addr) w u (addr % PAGE) value reaches)
 event_same (PeerStores vm to value) w r u t (there, relays, e) = stored_same w u (record_rest (stage_of w (vcpu vm to)).in_force w u (vcpu vm to) value relays)

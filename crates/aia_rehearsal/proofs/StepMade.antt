@@ -6,7 +6,7 @@ use Rattle.std.proofs.lemmas.Nat.Bits.{bit_at_clear_same}
 use Rattle.aia_word.specs.Sets.{has_bit}
 use Rattle.aia_regs.specs.declared.file_registers.FileReg.TheVariants.{Delivery, Threshold}
 use Rattle.aia_file.specs.Imsic.{file_at}
-use Rattle.aia_vcpu.specs.declared.place.Place.{Place}
+use Rattle.aia_vcpu.specs.declared.place.GuestPlace.{GuestPlace}
 use Rattle.aia_vcpu.specs.declared.access.Access.{Access}
 use Rattle.aia_vcpu.specs.declared.access.Access.TheVariants as accesses
 use Rattle.aia_vcpu.specs.Home.{Way, Progress, left, led_to, at_first}
@@ -47,7 +47,7 @@ way_leads (File p) Slot two = refl
 way_leads Slot (File q) two = refl
 way_leads Slot Slot two = absurd two
 
-place_is : (slot : ℕ) (place : ends.Place) (file : Option Place) → file ≡ file_of place → place_at file slot ≡ at_of slot place
+place_is : (slot : ℕ) (place : ends.Place) (file : Option GuestPlace) → file ≡ file_of place → place_at file slot ≡ at_of slot place
 place_is slot (File p) file e = ap (λ x. place_at x slot) e
 place_is slot Slot file e = ap (λ x. place_at x slot) e
 
@@ -161,7 +161,7 @@ module _ (w u : World) (r : Rehearsed) (way : Way) (hand : Hand) (leaves : left 
 
 -- s is the rehearsal r by its parts; the executor was given their files and what is carried
 pub step_made : (w u : World) (s r : Rehearsed) → s ≡ r → NotBothSlots s.passage.old s.passage.new → (step : Step) (found : Option Access) (access : Access) → found ≡ access_made step r.passage → found ≡ Some access
-    → (given hand : Hand) → given ≡ hand_for access r.hand → (old new : Option Place) → old ≡ file_of s.passage.old → new ≡ file_of s.passage.new
+    → (given hand : Hand) → given ≡ hand_for access r.hand → (old new : Option GuestPlace) → old ≡ file_of s.passage.old → new ≡ file_of s.passage.new
     → ((way : Way) (at : Progress) → left way ≡ old → led_to way ≡ new → Executes access (moved s.passage.who way at given) w u hand)
     → Makes step r w u × (record r { hand = carried_after access hand r.hand } ≡ after step r w)
 step_made w u s r same two step found access finds is given hand gives old new is_old is_new executes =

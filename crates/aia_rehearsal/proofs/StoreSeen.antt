@@ -19,7 +19,7 @@ use Rattle.aia_file.specs.declared.stored.Stored.{Stored}
 use Rattle.aia_file.specs.declared.stored.Stored.TheVariants.{Discarded, Quiet, Notice}
 use Rattle.aia_file.specs.Mrif.{mrif_in, stored}
 use Rattle.aia_entry.specs.Tables.{table_of, entry_in_force}
-use Rattle.aia_vcpu.specs.declared.place.Place.{Place}
+use Rattle.aia_vcpu.specs.declared.place.GuestPlace.{GuestPlace}
 use Rattle.aia_vcpu.proofs.HomeLemmas.{same_place}
 use Rattle.aia_vcpu_places.specs.Places.{TwoSets, of_file, of_slot}
 use Rattle.aia_fabric_values.specs.World.{World, OnlyStores, stage_of}
@@ -116,7 +116,7 @@ module _ (w u : World) (p : Passage) (offset value : ℕ) (whole : IsWhole w) wh
 
   -- ---- in a guest file
 
-  in_file : (a : Place) → IsThere w.imsic (spot_of a) → StoresIn w u (spot_of a) offset value → Seen w u p (file_hit (spot_of a)) offset value
+  in_file : (a : GuestPlace) → IsThere w.imsic (spot_of a) → StoresIn w u (spot_of a) offset value → Seen w u p (file_hit (spot_of a)) offset value
   in_file a there stores = record {
     rest = stores_rest w u (spot_of a) offset value stores;
     routes = ap (λ (x : World). routes_of x (mover_of p)) one_state;
@@ -136,13 +136,13 @@ module _ (w u : World) (p : Passage) (offset value : ℕ) (whole : IsWhole w) wh
 
       hit : (b : ends.Place) → IsFileThere w b → file_hit (spot_of a) b ≡ true → Adds (width w) (sets_at w (at_of p.who.found.slot b)) (sets_at u (at_of p.who.found.slot b)) (identity_asked offset value)
       hit Slot standing led = absurd (cc)
-      hit (File b) standing led = subst (λ (x : Place). Adds (width w) (of_file (shown (file_at w.imsic (spot_of x)))) (of_file (shown (file_at u.imsic (spot_of x)))) (identity_asked offset value)) (sym (same_place b a led)) here
+      hit (File b) standing led = subst (λ (x : GuestPlace). Adds (width w) (of_file (shown (file_at w.imsic (spot_of x)))) (of_file (shown (file_at u.imsic (spot_of x)))) (identity_asked offset value)) (sym (same_place b a led)) here
 
       missed : (b : ends.Place) → IsFileThere w b → file_hit (spot_of a) b ≡ false → sets_at u (at_of p.who.found.slot b) ≡ sets_at w (at_of p.who.found.slot b)
       missed Slot standing none = ap (λ (x : World). of_slot (mrif_in x.memory p.who.found.slot)) one_state
       missed (File b) standing none = ap (λ (x : World). of_file (shown (file_at x.imsic (spot_of b)))) one_state ∙ ap (λ f. of_file (shown f)) (kept_elsewhere w.imsic (spot_of a) (spot_of b) (file_at u.imsic (spot_of a)) there standing (spots_apart b a none))
 
-  no_file : (spot : Spot) → ((b : Place) → is_file_at b spot ≡ false) → (b : ends.Place) → file_hit spot b ≡ false
+  no_file : (spot : Spot) → ((b : GuestPlace) → is_file_at b spot ≡ false) → (b : ends.Place) → file_hit spot b ≡ false
   no_file spot none (File b) = none b
   no_file spot none Slot = refl
 
@@ -157,7 +157,7 @@ module _ (w u : World) (p : Passage) (offset value : ℕ) (whole : IsWhole w) wh
   -- the notice leaves memory and guest files as they were
   record Noticed (s : ℕ) : Type 0 where
     memory : u.memory ≡ (with_store w s offset value).memory
-    files : (b : Place) → IsThere w.imsic (spot_of b) → file_at u.imsic (spot_of b) ≡ file_at w.imsic (spot_of b)
+    files : (b : GuestPlace) → IsThere w.imsic (spot_of b) → file_at u.imsic (spot_of b) ≡ file_at w.imsic (spot_of b)
 
   module _ (s : ℕ) (spot : Spot) (identity : ℕ) (there : spot ≢ Nowhere → IsThere w.imsic spot) where
     abbrev mid : World
@@ -166,7 +166,7 @@ module _ (w u : World) (p : Passage) (offset value : ℕ) (whole : IsWhole w) wh
     noticed_none : u ≡ mid → Noticed s
     noticed_none e = record { memory = ap (λ (x : World). x.memory) e; files = λ b inside. ap (λ (x : World). file_at x.imsic (spot_of b)) e }
 
-    noticed_posts : (host : Spot) → IsThere w.imsic host → ((b : Place) → spot_of b ≢ host) → Posts mid u host identity → Noticed s
+    noticed_posts : (host : Spot) → IsThere w.imsic host → ((b : GuestPlace) → spot_of b ≢ host) → Posts mid u host identity → Noticed s
     noticed_posts host standing other posts = record {
       memory = ap (λ (x : World). x.memory) posts.rest;
       files = λ b inside. ap (λ (i : ImsicState). file_at i (spot_of b)) posts.lands.others ∙ kept_elsewhere w.imsic host (spot_of b) (file_at u.imsic host) standing inside (other b);

@@ -16,12 +16,12 @@ use Rattle.aia_plan.specs.Plan.{IsInside}
 use Rattle.aia_plan.specs.Rule.{failing}
 use Rattle.aia_plan.specs.Safe.{IsStart, IsMoved}
 use Rattle.aia_plan.specs.declared.step.Kind.{Kind}
-use Rattle.aia_plan.specs.Transit.{Side, Flight, Transit, is_identity, all_happened}
-use Rattle.aia_plan.specs.Transit.Side.{Old, New}
+use Rattle.aia_plan.specs.Transit.{TransitSide, Flight, Transit, is_identity, all_happened}
+use Rattle.aia_plan.specs.Transit.TransitSide.{Old, New}
 use Rattle.aia_plan.proofs.RuleIsSafe.{rule_is_safe}
 use Rattle.aia_rehearsal.specs.Rehearsed.{Passage, Carried, Rehearsed, at, names_on, empty_hand, AreTwo, IsOf}
 use Rattle.aia_rehearsal.specs.Stands.{sets_at, leads, side_of, identity_asked, onto_flights, flights_in, StandsFor}
-use Rattle.aia_rehearsal.specs.Events.{Event, IsAlone}
+use Rattle.aia_rehearsal.specs.Events.{RehearsedEvent, IsAlone}
 use Rattle.aia_rehearsal.specs.Runs.{Runs, steps_in, asked_in, LeadsTo, NoneLeads, state_at, IsBegun, IsOver}
 use Rattle.aia_rehearsal.proofs.RunMoves.{all_seen, run_stands, run_steps, run_passage, run_due, run_width}
 
@@ -31,7 +31,7 @@ use Rattle.aia_rehearsal.proofs.RunMoves.{all_seen, run_stands, run_steps, run_p
 abbrev NoneTo : ImsicState → ℕ → ends.Place → List Flying → Type 0
 NoneTo i slot place stores = AllByRecursion (λ (store : Flying). leads i slot place store.entry ≡ false) stores
 
-abbrev AllOn : Side → List Flight → Type 0
+abbrev AllOn : TransitSide → List Flight → Type 0
 AllOn side flights = AllByRecursion (λ (f : Flight). f.side ≡ side) flights
 
 none_of : (i : ImsicState) (p : Passage) (stores : List Flying) → NoneTo i p.who.found.slot p.old stores → NoneTo i p.who.found.slot p.new stores → flights_in i p stores ≡ []
@@ -53,7 +53,7 @@ none_old i p (store ∷ later) all = elim (cases_Bool (leads i p.who.found.slot 
   | inr not ↦ (not, none_old i p later (rest (side_of i p store.entry) all))
 ]
   where
-    rest : (o : Option Side) → AllOn New (onto_flights o store (flights_in i p later)) → AllOn New (flights_in i p later)
+    rest : (o : Option TransitSide) → AllOn New (onto_flights o store (flights_in i p later)) → AllOn New (flights_in i p later)
     rest None all = all
     rest (Some side) all = all.1
 
@@ -72,7 +72,7 @@ neither_new i p (store ∷ later) none = elim (cases_Bool (leads i p.who.found.s
 ]
 
 -- a fabric whose routes all lead to one side
-pub led_stands : (w : World) (r : Rehearsed) (side : Side) → IsOf w r.passage → AreTwo r.passage.old r.passage.new → LeadsTo w r.passage side → ((vm : ℕ) → vm ≢ r.passage.who.found.vm → NoneLeads w r.passage Old vm) → ((vm : ℕ) → vm ≢ r.passage.who.found.vm → NoneLeads w r.passage New vm)
+pub led_stands : (w : World) (r : Rehearsed) (side : TransitSide) → IsOf w r.passage → AreTwo r.passage.old r.passage.new → LeadsTo w r.passage side → ((vm : ℕ) → vm ≢ r.passage.who.found.vm → NoneLeads w r.passage Old vm) → ((vm : ℕ) → vm ≢ r.passage.who.found.vm → NoneLeads w r.passage New vm)
     → StandsFor w r (state_at side w r)
 led_stands w r side of two routes old new = record {
   of = of;
@@ -102,7 +102,7 @@ shared : (is a b : Bool) → ((is && a) || (is && b)) ≡ (is && (a || b))
 shared true a b = refl
 shared false a b = refl
 
-pub accepted_moves : (kind : Kind) (w u : World) (r t : Rehearsed) (events : List Event) (run : Runs events w r u t) → IsBegun w r → All (IsInside (width w)) (steps_in events) → failing kind (width w) (steps_in events) ≡ None
+pub accepted_moves : (kind : Kind) (w u : World) (r t : Rehearsed) (events : List RehearsedEvent) (run : Runs events w r u t) → IsBegun w r → All (IsInside (width w)) (steps_in events) → failing kind (width w) (steps_in events) ≡ None
     → IsOver w r (asked_in events w r u t run) u
 accepted_moves kind w u r t events run b inside accepted =
     let start = state_at Old w r in

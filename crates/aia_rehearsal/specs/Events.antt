@@ -4,7 +4,7 @@ use Rattle.std.specs.Prelude.{◌≡◌, ◌≢◌, ℕ, ◌%◌, ◌<◌, Bool,
 use Rattle.aia_regs.specs.declared.address_map.TheConstants.{PAGE}
 use Rattle.aia_entry.specs.Tables.{table_of, route_of}
 use Rattle.aia_entry.specs.Translation.{is_msi_address, file_number}
-use Rattle.aia_vcpu.specs.declared.place.Place.{Place}
+use Rattle.aia_vcpu.specs.declared.place.GuestPlace.{GuestPlace}
 use Rattle.aia_entry.specs.Format.{decoded}
 use Rattle.aia_vcpu.specs.Vms.{Vcpu, vcpu, is_vcpu, is_vcpu_in}
 use Rattle.aia_fabric_values.specs.declared.flying.Flying.{Flying}
@@ -15,7 +15,7 @@ use Rattle.aia_fabric_values.specs.Changes.{with_fence}
 use Rattle.aia_move_values.specs.Move.{width}
 use Rattle.aia_plan.specs.Plan.{IsInside}
 use Rattle.aia_plan.specs.declared.step.Step.{Step}
-use Rattle.aia_plan.specs.Transit.{Side, Happening}
+use Rattle.aia_plan.specs.Transit.{TransitSide, Happening}
 use Rattle.aia_plan.specs.Transit.{Happening as happenings}
 use Rattle.aia_rehearsal.specs.Rehearsed.{Passage, Rehearsed, mover_of, names_on}
 use Rattle.aia_rehearsal.specs.Steps.{Makes, after}
@@ -24,18 +24,18 @@ use Rattle.aia_rehearsal.specs.Stands.{routes_of, identity_asked, side_of, fligh
 -- The rehearsal makes a step; a device of a VM stores a value at an address; a virtual hart of a VM
 -- stores one for another; a device of a VM sends a store; the K-th store in flight of a VM lands,
 -- counted from 0; the entry of a virtual hart is read again.
-pub data Event : Type 0 where
-  Steps : (step : Step) → Event
-  DeviceStores : (vm addr value : ℕ) → Event
-  PeerStores : (vm to value : ℕ) → Event
-  DeviceSends : (vm addr value : ℕ) → Event
-  StoreLands : (vm k : ℕ) → Event
-  EntryRead : (vm file : ℕ) → Event
+pub data RehearsedEvent : Type 0 where
+  Steps : (step : Step) → RehearsedEvent
+  DeviceStores : (vm addr value : ℕ) → RehearsedEvent
+  PeerStores : (vm to value : ℕ) → RehearsedEvent
+  DeviceSends : (vm addr value : ℕ) → RehearsedEvent
+  StoreLands : (vm k : ℕ) → RehearsedEvent
+  EntryRead : (vm file : ℕ) → RehearsedEvent
 
 -- ---- what it does
 
 -- What the calls of the fabric and of the rehearsal make of both.
-abbrev pub Happens : Event → World → Rehearsed → World → Rehearsed → Type 0
+abbrev pub Happens : RehearsedEvent → World → Rehearsed → World → Rehearsed → Type 0
 Happens (Steps step) w r u t =
     IsInside (width w) step × Makes step r w u × (t ≡ after step r w)
 Happens (DeviceStores vm addr value) w r u t = (vm < length w.vms)
@@ -59,8 +59,9 @@ is_for_moved w p vm addr =
 -- ---- what is not its own
 
 -- A record names neither place.
-abbrev pub NamesElsewhere : Passage → Option Place → Type 0
-NamesElsewhere p named = (side : Side) (a : Place) → names_on side p ≡ Some a → named ≢ Some a
+abbrev pub NamesElsewhere : Passage → Option GuestPlace → Type 0
+NamesElsewhere p named =
+    (side : TransitSide) (a : GuestPlace) → names_on side p ≡ Some a → named ≢ Some a
 
 -- Both places are its own: no entry of another virtual hart, in force or as it is written, leads to
 -- one of them, and no record of another that is in force names one. What such a record says as it
@@ -76,7 +77,7 @@ pub record IsAlone (w : World) (p : Passage) : Type 0 where
 
 -- The K-th store in flight of the VM lands: where it leads to one of the two places, that is the
 -- landing of a store by its number among those that do; else it is nothing.
-abbrev pub landing_by : Option Side → ℕ → List Happening
+abbrev pub landing_by : Option TransitSide → ℕ → List Happening
 landing_by None k = []
 landing_by (Some side) k = happenings.Lands k ∷ []
 
@@ -86,7 +87,7 @@ landing_seen w p k (Some store) = landing_by (side_of w.imsic p store.entry)
     (length (flights_in w.imsic p (take k (flight_of w p.who.found.vm))))
 
 -- What is for the virtual hart that is moved is one happening; what is for others is none.
-abbrev pub seen : Event → World → Passage → List Happening
+abbrev pub seen : RehearsedEvent → World → Passage → List Happening
 seen (Steps step) w p = happenings.Does step ∷ []
 seen (DeviceStores vm addr value) w p =
     if is_for_moved w p vm addr then happenings.Stores (identity_asked (addr % PAGE) value) ∷ [] else []

@@ -1,7 +1,7 @@
 -- What is rehearsed: whose interrupts go from which place to which, and what is carried between
 -- steps. Profile.
 use Rattle.std.specs.Prelude.{◌≡◌, ℕ, ⊤, Bool, false, Option, Some, None}
-use Rattle.aia_vcpu.specs.declared.place.Place.{Place}
+use Rattle.aia_vcpu.specs.declared.place.GuestPlace.{GuestPlace}
 use Rattle.aia_vcpu.specs.Vms.{Vcpu, vcpu}
 use Rattle.aia_vcpu.specs.Home.{is_place}
 use Rattle.aia_fabric_values.specs.declared.at.At.{At}
@@ -11,8 +11,8 @@ use Rattle.aia_file.specs.Imsic.{IsThere}
 use Rattle.aia_fabric_values.specs.Changes.{spot_of}
 use Rattle.aia_move_values.specs.declared.who.Who.{Who}
 use Rattle.aia_move_values.specs.Move.{IsWho}
-use Rattle.aia_plan.specs.Transit.{Side}
-use Rattle.aia_plan.specs.Transit.Side.{Old, New}
+use Rattle.aia_plan.specs.Transit.{TransitSide}
+use Rattle.aia_plan.specs.Transit.TransitSide.{Old, New}
 use Rattle.aia_rehearsal.specs.declared.place.Place as ends
 use Rattle.aia_rehearsal.specs.declared.place.Place.TheVariants.{File, Slot}
 
@@ -55,7 +55,7 @@ abbrev pub mover_of : Passage → Vcpu
 mover_of p = vcpu p.who.found.vm p.who.found.number
 
 -- The place on one of its sides.
-abbrev pub on : Side → Passage → ends.Place
+abbrev pub on : TransitSide → Passage → ends.Place
 on Old p = p.old
 on New p = p.new
 
@@ -64,15 +64,15 @@ abbrev pub at_of : ℕ → ends.Place → At
 at_of slot (File p) = ats.File (spot_of p)
 at_of slot Slot = ats.Slot slot
 
-abbrev pub at : Side → Passage → At
+abbrev pub at : TransitSide → Passage → At
 at side p = at_of p.who.found.slot (on side p)
 
 -- The guest file that a place is, None where it is the slot: what the entry and the record name.
-abbrev pub file_of : ends.Place → Option Place
+abbrev pub file_of : ends.Place → Option GuestPlace
 file_of (File p) = Some p
 file_of Slot = None
 
-abbrev pub names_on : Side → Passage → Option Place
+abbrev pub names_on : TransitSide → Passage → Option GuestPlace
 names_on side p = file_of (on side p)
 
 -- Not both places are the slot.

@@ -12,23 +12,23 @@ use Rattle.aia_fabric_values.specs.Whole.{IsWhole}
 use Rattle.aia_move_values.specs.Move.{width}
 use Rattle.aia_plan.specs.Plan.{Plan}
 use Rattle.aia_plan.specs.declared.step.Step.TheVariants as steps
-use Rattle.aia_plan.specs.Transit.{Side, Flight, Transit, is_identity}
-use Rattle.aia_plan.specs.Transit.Side.{Old, New}
+use Rattle.aia_plan.specs.Transit.{TransitSide, Flight, Transit, is_identity}
+use Rattle.aia_plan.specs.Transit.TransitSide.{Old, New}
 use Rattle.aia_rehearsal.specs.Rehearsed.{Passage, Rehearsed, mover_of, on, at, names_on, AreTwo, IsOf, empty_hand}
 use Rattle.aia_rehearsal.specs.Stands.{sets_at, routes_of, leads, side_of, identity_asked, flights_in}
-use Rattle.aia_rehearsal.specs.Events.{Event, Happens, IsAlone, is_for_moved}
-use Rattle.aia_rehearsal.specs.Events.Event.{Steps, DeviceStores, PeerStores, StoreLands}
+use Rattle.aia_rehearsal.specs.Events.{RehearsedEvent, Happens, IsAlone, is_for_moved}
+use Rattle.aia_rehearsal.specs.Events.RehearsedEvent.{Steps, DeviceStores, PeerStores, StoreLands}
 
 -- ---- a run
 
 -- Events come one after the other; before each of them the fabric is whole, as all fabrics are.
-abbrev pub Runs : List Event → World → Rehearsed → World → Rehearsed → Type 0
+abbrev pub Runs : List RehearsedEvent → World → Rehearsed → World → Rehearsed → Type 0
 Runs [] w r u t = (u ≡ w) × (t ≡ r)
 Runs (event ∷ later) w r u t = (x : World) × (y : Rehearsed) × IsWhole w
     × Happens event w r x y × Runs later x y u t
 
 -- The steps of the plan among them.
-abbrev pub steps_in : List Event → Plan
+abbrev pub steps_in : List RehearsedEvent → Plan
 steps_in [] = []
 steps_in (Steps step ∷ later) = step ∷ steps_in later
 steps_in (event ∷ later) = steps_in later
@@ -43,7 +43,7 @@ lands_for w p i (Some store) =
 
 -- Whether an event asks for identity i at the virtual hart that is moved, so that it is to be
 -- pending: a store of a device or of a peer, or one that lands, by itself or in a fence.
-abbrev pub asks : Event → World → Passage → ℕ → Bool
+abbrev pub asks : RehearsedEvent → World → Passage → ℕ → Bool
 asks (Steps steps.Fence) w p i =
     list_any (λ (f : Flight). nat_eq f.identity i)
     (flights_in w.imsic p (flight_of w p.who.found.vm))
@@ -56,8 +56,8 @@ asks (StoreLands vm k) w p i =
 asks event w p i = false
 
 -- Whether one of the events of a run does.
-abbrev pub asked_in : (events : List Event) (w : World) (r : Rehearsed) (u : World) (t : Rehearsed)
-    → Runs events w r u t → ℕ → Bool
+abbrev pub asked_in : (events : List RehearsedEvent) (w : World) (r : Rehearsed) (u : World)
+    (t : Rehearsed) → Runs events w r u t → ℕ → Bool
 asked_in [] w r u t run i = false
 asked_in (event ∷ later) w r u t (x, y, whole, happens, rest) i =
     asks event w r.passage i || asked_in later x y u t rest i
@@ -66,7 +66,7 @@ asked_in (event ∷ later) w r u t (x, y, whole, happens, rest) i =
 
 -- All routes, as they are written and in force, lead to a side, and the entry says where notices
 -- go.
-pub record LeadsTo (w : World) (p : Passage) (side : Side) : Type 0 where
+pub record LeadsTo (w : World) (p : Passage) (side : TransitSide) : Type 0 where
   pub word0 : (routes_of w (mover_of p)).word0 ≡ entry_word p.who.found.slot (names_on side p)
   pub word1 : (routes_of w (mover_of p)).word1 ≡ second_word p.who.found.slot p.who.found.notice
   pub in_force : (routes_of w (mover_of p)).in_force
@@ -75,12 +75,12 @@ pub record LeadsTo (w : World) (p : Passage) (side : Side) : Type 0 where
   pub record_in_force : (routes_of w (mover_of p)).stage.in_force ≡ names_on side p
 
 -- No store in flight of a VM leads to a side.
-abbrev pub NoneLeads : World → Passage → Side → ℕ → Type 0
+abbrev pub NoneLeads : World → Passage → TransitSide → ℕ → Type 0
 NoneLeads w p side vm = All (λ (store : Flying).
     leads w.imsic p.who.found.slot (on side p) store.entry ≡ false) (flight_of w vm)
 
 -- The state for which a fabric stands whose routes all lead to one side.
-abbrev pub state_at : Side → World → Rehearsed → Transit
+abbrev pub state_at : TransitSide → World → Rehearsed → Transit
 state_at side w r = record {
   old_pending = (sets_at w (at Old r.passage)).pending;
   old_enabled = (sets_at w (at Old r.passage)).enabled;

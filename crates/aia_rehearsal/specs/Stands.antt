@@ -14,7 +14,7 @@ use Rattle.aia_file.specs.Mrif.{mrif_in}
 use Rattle.aia_entry.specs.declared.entry.Entry.{Entry}
 use Rattle.aia_entry.specs.declared.entry.Entry.TheVariants.{Basic, Mrif}
 use Rattle.aia_entry.specs.Tables.{table_of, entry_in_force}
-use Rattle.aia_vcpu.specs.declared.place.Place.{Place}
+use Rattle.aia_vcpu.specs.declared.place.GuestPlace.{GuestPlace}
 use Rattle.aia_vcpu.specs.Home.{is_place}
 use Rattle.aia_vcpu.specs.Vms.{Vcpu}
 use Rattle.aia_vcpu_places.specs.Places.{TwoSets, of_file, of_slot, leads_to, entry_word, second_word}
@@ -26,8 +26,8 @@ use Rattle.aia_fabric_values.specs.World.{World, flight_of, stage_of}
 use Rattle.aia_fabric_values.specs.Making.{entry_word_place}
 use Rattle.aia_fabric_values.specs.Stores.{page_spot, slot_at}
 use Rattle.aia_move_values.specs.Move.{width}
-use Rattle.aia_plan.specs.Transit.{Side, Flight, Transit}
-use Rattle.aia_plan.specs.Transit.Side.{Old, New}
+use Rattle.aia_plan.specs.Transit.{TransitSide, Flight, Transit}
+use Rattle.aia_plan.specs.Transit.TransitSide.{Old, New}
 use Rattle.aia_rehearsal.specs.declared.place.Place as ends
 use Rattle.aia_rehearsal.specs.declared.place.Place.TheVariants.{File, Slot}
 use Rattle.aia_rehearsal.specs.Rehearsed.{Passage, Carried, Rehearsed, mover_of, at, names_on, AreTwo, IsOf}
@@ -52,13 +52,13 @@ pub record SetsStand (words : ℕ) (old new : TwoSets) (hand : Carried) (z : Tra
 -- ---- the routes
 
 -- Both words of a virtual hart's entry as they are written, the entry in force, and its record.
-pub record Routes : Type 0 where
+pub record RoutesSeen : Type 0 where
   pub word0 : ℕ
   pub word1 : ℕ
   pub in_force : Entry
   pub stage : Stage
 
-abbrev pub routes_of : World → Vcpu → Routes
+abbrev pub routes_of : World → Vcpu → RoutesSeen
 routes_of w g = record {
   word0 = slice_index w.memory (entry_word_place g.vm g.number);
   word1 = slice_index w.memory (entry_word_place g.vm g.number + 1);
@@ -68,7 +68,7 @@ routes_of w g = record {
 
 -- The entry and the record, as they are written and in force, lead where those of a state do; and
 -- the entry says from the VM's making on where notices go.
-pub record RoutesStand (p : Passage) (routes : Routes) (z : Transit) : Type 0 where
+pub record RoutesStand (p : Passage) (routes : RoutesSeen) (z : Transit) : Type 0 where
   pub entry_written : routes.word0 ≡ entry_word p.who.found.slot (names_on z.entry_written p)
   pub notice : routes.word1 ≡ second_word p.who.found.slot p.who.found.notice
   pub entry_in_force : routes.in_force
@@ -79,7 +79,7 @@ pub record RoutesStand (p : Passage) (routes : Routes) (z : Transit) : Type 0 wh
 -- ---- the stores in flight
 
 -- Whether a spot is that of a guest file.
-abbrev pub is_file_at : Place → Spot → Bool
+abbrev pub is_file_at : GuestPlace → Spot → Bool
 is_file_at p (GuestFile hart file) = is_place p (record { hart = hart; file = file })
 is_file_at p spot = false
 
@@ -90,7 +90,7 @@ leads i slot Slot (Mrif addr page identity) = names (slot_at addr) slot
 leads i slot place entry = false
 
 -- On which side it leads to a place, if it leads to one of the two.
-abbrev pub side_of : ImsicState → Passage → Entry → Option Side
+abbrev pub side_of : ImsicState → Passage → Entry → Option TransitSide
 side_of i p entry =
     if leads i p.who.found.slot p.old entry then Some Old
     else (if leads i p.who.found.slot p.new entry then Some New
@@ -102,7 +102,7 @@ abbrev pub identity_asked : ℕ → ℕ → ℕ
 identity_asked offset value = unwrap_or (requested IDENTITIES offset value) 0
 
 -- The stores in flight that lead to one of its places, in their order.
-abbrev pub onto_flights : Option Side → Flying → List Flight → List Flight
+abbrev pub onto_flights : Option TransitSide → Flying → List Flight → List Flight
 onto_flights None store later = later
 onto_flights (Some side) store later =
     record { side = side; identity = identity_asked store.offset store.value } ∷ later

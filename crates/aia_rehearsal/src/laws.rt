@@ -6,9 +6,9 @@ ghost use Rattle.aia_plan.specs.Plan.{IsInside};
 ghost use Rattle.aia_plan.specs.Rule.{failing};
 ghost use Rattle.aia_plan.specs.Safe.{IsStart};
 ghost use Rattle.aia_plan.specs.Transit.{Transit, all_happened};
-ghost use Rattle.aia_plan.specs.Transit.Side.{Old, New};
+ghost use Rattle.aia_plan.specs.Transit.TransitSide.{Old, New};
 ghost use Rattle.aia_file.specs.Imsic.{IsThere};
-ghost use Rattle.aia_vcpu.specs.declared.place.Place.{Place};
+ghost use Rattle.aia_vcpu.specs.declared.place.GuestPlace.{GuestPlace};
 ghost use Rattle.aia_vcpu.specs.declared.vm.Vm.{Vm};
 ghost use Rattle.aia_vcpu.specs.Home.{is_place};
 ghost use Rattle.aia_vcpu.specs.Vms.{vcpu};
@@ -23,7 +23,7 @@ ghost use Rattle.aia_rehearsal.specs.declared.place.Place as ends;
 ghost use Rattle.aia_rehearsal.specs.declared.place.Place.TheVariants as places;
 ghost use Rattle.aia_rehearsal.specs.Rehearsed.{Rehearsed, IsOf, AreTwo, at, from_to};
 ghost use Rattle.aia_rehearsal.specs.Stands.{StandsFor, sets_at};
-ghost use Rattle.aia_rehearsal.specs.Events.{Event, Happens, IsAlone, seen};
+ghost use Rattle.aia_rehearsal.specs.Events.{RehearsedEvent, Happens, IsAlone, seen};
 ghost use Rattle.aia_rehearsal.specs.Runs.{Runs, steps_in, asked_in, IsBegun, IsOver, NoneLeads, state_at};
 
 use aia_plan::Kind;
@@ -33,10 +33,10 @@ use aia_plan::Kind;
 /// state after what that is on the machine of the proof: the same, for the virtual hart that is
 /// moved; nothing, for any other. Its own steps too are what they are there.
 pub fn what_happens_is_what_happens_there()
-    ensures stands { (w u : World) (r t : Rehearsed) (event : Event) → IsWhole w
+    ensures stands { (w u : World) (r t : Rehearsed) (event : RehearsedEvent) → IsWhole w
         → IsAlone w r.passage → Happens event w r u t → (z : Transit) → StandsFor w r z
         → StandsFor u t (all_happened (seen event w r.passage) z) }
-    ensures alone { (w u : World) (r t : Rehearsed) (event : Event) → IsWhole w
+    ensures alone { (w u : World) (r t : Rehearsed) (event : RehearsedEvent) → IsWhole w
         → IsOf w r.passage → Happens event w r u t → IsAlone w r.passage → IsAlone u r.passage }
 {}
 
@@ -45,7 +45,7 @@ pub fn what_happens_is_what_happens_there()
 /// or was asked for since, is pending in the new one, and no other is; the enables there are those
 /// of the old place; the old place is empty, and no route and no store in flight leads to it.
 pub fn an_accepted_plan_moves_all()
-    ensures { (kind : Kind) (w u : World) (r t : Rehearsed) (events : List Event)
+    ensures { (kind : Kind) (w u : World) (r t : Rehearsed) (events : List RehearsedEvent)
         → (run : Runs events w r u t) → IsBegun w r
         → All (IsInside (width w)) (steps_in events)
         → failing kind (width w) (steps_in events) ≡ None
@@ -61,18 +61,18 @@ pub fn an_accepted_plan_moves_all()
 pub fn rehearsals_stand_for_something()
     ensures arrival { (before w : World) (n harts guests : ℕ) (vm : Vm) (who : Who)
         → IsNew before harts guests n → IsWhole w → MakesVm before w vm → IsWho w who
-        → who.found.vm ≡ 0 → (file : Place) → IsThere w.imsic (spot_of file)
+        → who.found.vm ≡ 0 → (file : GuestPlace) → IsThere w.imsic (spot_of file)
         → IsBegun w (from_to who places.Slot (places.File file)) }
     ensures begun { (w : World) (r : Rehearsed) → IsBegun w r
         → StandsFor w r (state_at Old w r) × IsStart (width w) (state_at Old w r) }
     ensures leave { (before w : World) (n harts guests : ℕ) (vm : Vm) (who : Who)
         → IsNew before harts guests n → IsWhole w → MakesVm before w vm → IsWho w who
-        → who.found.vm ≡ 0 → (file : Place) → IsThere w.imsic (spot_of file)
+        → who.found.vm ≡ 0 → (file : GuestPlace) → IsThere w.imsic (spot_of file)
         → StandsFor w (from_to who (places.File file) places.Slot)
         (state_at New w (from_to who (places.File file) places.Slot)) }
     ensures shift { (before w : World) (n harts guests : ℕ) (vm : Vm) (who : Who)
         → IsNew before harts guests n → IsWhole w → MakesVm before w vm → IsWho w who
-        → who.found.vm ≡ 0 → (a b : Place) → IsThere w.imsic (spot_of a)
+        → who.found.vm ≡ 0 → (a b : GuestPlace) → IsThere w.imsic (spot_of a)
         → IsThere w.imsic (spot_of b) → is_place a b ≡ false
         → (x y v u : World) → IsWhole x → IsWhole y → IsWhole v
         → x ≡ with_entry_word w who.found.vm who.found.number 0 (entry_word who.found.slot (Some a))

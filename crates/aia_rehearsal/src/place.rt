@@ -1,6 +1,6 @@
 ghost use Rattle.std.specs.Prelude.{◌≡◌, option_map};
 ghost use Rattle.std.specs.Borrow.{Bor};
-ghost use Rattle.aia_vcpu.specs.declared.place.Place as files;
+ghost use Rattle.aia_vcpu.specs.declared.place.GuestPlace as files;
 ghost use Rattle.aia_rehearsal.specs.Rehearsed.{file_of};
 
 use aia_pool::FileLease;

@@ -16,7 +16,7 @@ use Rattle.aia_model.specs.Event.Event.{Accepted, Began, Stepped, Delivered, Lan
 use Rattle.aia_model.specs.Act.{Act, Past}
 use Rattle.aia_model.specs.Act.Act.{Aimed}
 use Rattle.aia_model.specs.SourceOf.{is_source, is_active_in, delivers_by_msis, keeps_delivery}
-use Rattle.aia_model.specs.Passes.{Pass, no_pass, passes_of, nth_pass, passes_for, own_pass, has_passes}
+use Rattle.aia_model.specs.Passes.{PassedSource, no_pass, passes_of, nth_pass, passes_for, own_pass, has_passes}
 use Rattle.aia_model.specs.Aim.{aimed_by, aim_of}
 use Rattle.aia_model.specs.HomeOf.{home}
 use Rattle.aia_model.specs.Flight.{flight}
@@ -53,7 +53,7 @@ use Rattle.aia_model.specs.declared.domain_name.DomainName.TheVariants.{Child}
 
 -- ---- passed sources are there
 
-abbrev IsThere : History → Pass → Type 0
+abbrev IsThere : History → PassedSource → Type 0
 IsThere h pass = is_in_range 1 (sources_of h) pass.source ≡ true
 
 sources_there : (h : History) → IsHistory h → AllByRecursion (IsThere h) (passes_of h)

@@ -6,11 +6,11 @@ use Rattle.aia_move_values.specs.declared.turn.Next.{Next}
 use Rattle.aia_move_values.specs.declared.turn.Next.TheVariants.{Again, Finished}
 use Rattle.aia_move_values.specs.declared.who.Who.{Who}
 use Rattle.aia_move_values.specs.Move.{Moving, width, MoveFits}
-use Rattle.aia_move_values.specs.Targets.{Aim, next_aim}
+use Rattle.aia_move_values.specs.Targets.{PassAim, next_aim}
 use Rattle.aia_move_values.specs.PlanState.{PlanState, moving_of}
 use Rattle.aia_move_values.specs.Plan.{IsInPhase, MatchNext, StepsTo, StepsInPlace}
 
-pub none_still : (aim : Option Aim) (w u : World) (m : Moving) (next : Next PlanState) → StepsTo aim w m u next → m.who.passes.items ≡ [] → MatchNext next (λ p. (moving_of p).who.passes.items ≡ []) (λ o. ⊤)
+pub none_still : (aim : Option PassAim) (w u : World) (m : Moving) (next : Next PlanState) → StepsTo aim w m u next → m.who.passes.items ≡ [] → MatchNext next (λ p. (moving_of p).who.passes.items ≡ []) (λ o. ⊤)
 none_still None w u m (Again p) steps none = ap (λ (who : Who). who.passes.items) steps.then.same_who ∙ none
 none_still None w u m (Finished o) steps none = tt
 none_still (Some aim) w u m (Again p) steps none = ap (λ (x : Moving). x.who.passes.items) steps.moved ∙ none

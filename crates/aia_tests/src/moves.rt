@@ -19,7 +19,7 @@ use aia_move::{KeptNumbers, Next, Plan, Targets, Who};
 use aia_pool::{FileLease, Pool};
 use aia_regs::Op;
 use aia_regs::limits::{GUEST_FILES, HARTS};
-use aia_vcpu::Place;
+use aia_vcpu::GuestPlace;
 use arrayvec::ArrayVec;
 use std::alloc::{AllocError, Global};
 use std::process::Abort;
@@ -38,7 +38,7 @@ pub(crate) fn one_vm(alloc: Global) -> Result<Fabric, AllocError> {
 fn a_file_is_handed_out_and_comes_back(rt: HostRuntime) -> Result<(), Fail> {
     let mut pool = Pool::new(rt.alloc(), 2, 2)?;
     let lease = pool.take(1).expect(&rt, "a file of hart 1 is free");
-    same!(rt; lease.place(), Place { hart: 1, file: 1 });
+    same!(rt; lease.place(), GuestPlace { hart: 1, file: 1 });
     same!(rt; (lease.hart(), lease.file()), (1, 1));
     pool.give(lease);
     Ok(())
@@ -47,11 +47,11 @@ fn a_file_is_handed_out_and_comes_back(rt: HostRuntime) -> Result<(), Fail> {
 #[test]
 fn the_least_file_of_a_hart_is_handed_out_while_one_is_left(rt: HostRuntime) -> Result<(), Fail> {
     let mut pool = Pool::new(rt.alloc(), 2, 2)?;
-    same!(rt; taken(&mut pool, 1), Some(Place { hart: 1, file: 1 }));
-    same!(rt; taken(&mut pool, 0), Some(Place { hart: 0, file: 1 }));
-    same!(rt; taken(&mut pool, 1), Some(Place { hart: 1, file: 2 }));
+    same!(rt; taken(&mut pool, 1), Some(GuestPlace { hart: 1, file: 1 }));
+    same!(rt; taken(&mut pool, 0), Some(GuestPlace { hart: 0, file: 1 }));
+    same!(rt; taken(&mut pool, 1), Some(GuestPlace { hart: 1, file: 2 }));
     same!(rt; taken(&mut pool, 1), None);
-    same!(rt; taken(&mut pool, 0), Some(Place { hart: 0, file: 2 }));
+    same!(rt; taken(&mut pool, 0), Some(GuestPlace { hart: 0, file: 2 }));
     same!(rt; taken(&mut pool, 0), None);
     Ok(())
 }
@@ -71,12 +71,12 @@ fn take_files(rt: &impl Abort, pool: &mut Pool, hart: u32)
     ensures { pool.new.harts ≡ pool.old.harts }
 {
     for file in 1..GUEST_FILES + 1 {
-        same!(*rt; taken(pool, hart), Some(Place { hart, file }); file);
+        same!(*rt; taken(pool, hart), Some(GuestPlace { hart, file }); file);
     }
 }
 
 /// Takes a guest file of a hart, which stays out.
-fn taken(pool: &mut Pool, hart: u32) -> Option<Place>
+fn taken(pool: &mut Pool, hart: u32) -> Option<GuestPlace>
     requires { hart < pool.old.harts }
     ensures { pool.new.harts ≡ pool.old.harts }
 {

@@ -4,7 +4,7 @@ use Rattle.std.specs.Prelude.{◌≡◌, ◌⊎◌, ℕ, true, [], ◌∷◌}
 use Rattle.aia_regs.specs.BitUpdate.BitUpdate.{Ask}
 use Rattle.aia_vcpu.specs.Vms.{Vcpu}
 use Rattle.aia_vcpu.specs.Home.{is_resident}
-use Rattle.aia_model.specs.Move.Move.{Leaves}
+use Rattle.aia_model.specs.Move.WantedMove.{Leaves}
 use Rattle.aia_model.specs.Event.{Event, History}
 use Rattle.aia_model.specs.Event.Event.{Began}
 use Rattle.aia_model.specs.HomeOf.{home}

@@ -8,7 +8,7 @@ use Rattle.aia_vcpu.specs.Plans.{plan_step, plan_steps}
 use Rattle.aia_vcpu.specs.Vms.{vcpu}
 use Rattle.aia_model.specs.declared.line.Line.TheVariants as lines
 use Rattle.aia_model.specs.declared.msi.Msi.{Msi}
-use Rattle.aia_model.specs.Move.Move.{Arrives, Leaves}
+use Rattle.aia_model.specs.Move.WantedMove.{Arrives, Leaves}
 use Rattle.aia_model.specs.Event.{History}
 use Rattle.aia_model.specs.Event.Event.{Accepted, Began, Stepped}
 

@@ -9,7 +9,7 @@ ghost use Rattle.aia_model.specs.declared.msi.Msi.{Msi};
 ghost use Rattle.aia_model.specs.declared.part.Part.{Part};
 ghost use Rattle.aia_model.specs.Event.{History, greatest_identity_of, file_words};
 ghost use Rattle.aia_model.specs.Event.Event.{Accepted, Began, Stepped, Delivered, Landed, Relayed};
-ghost use Rattle.aia_model.specs.Move.{Move};
+ghost use Rattle.aia_model.specs.Move.{WantedMove};
 ghost use Rattle.aia_model.specs.Flight.{Sending, flying};
 ghost use Rattle.aia_model.specs.Passes.{nth_pass};
 ghost use Rattle.aia_model.specs.HomeOf.{home};
@@ -51,7 +51,8 @@ pub fn what_a_notice_tells()
         → (i : ℕ) × ((nth_pass h p).to ≡ g)
         × (requested (greatest_identity_of h) 0 (nth_pass h p).identity ≡ Some i)
         × ((guest_file h g).enabled i ≡ true) }
-    ensures began { (h : History) (move : Move) (g : Vcpu) → ¬ (noticed h (Began move) ≡ Some g) }
+    ensures began { (h : History) (move : WantedMove) (g : Vcpu)
+        → ¬ (noticed h (Began move) ≡ Some g) }
     ensures delivered { (h : History) (msi : Msi) (g : Vcpu)
         → ¬ (noticed h (Delivered msi) ≡ Some g) }
     ensures entered { (h : History) (vm number : ℕ) (g : Vcpu)
@@ -62,7 +63,7 @@ pub fn what_a_notice_tells()
 
 /// What is no cause of a notice. This stands by itself, on the definitions.
 pub fn what_is_no_cause()
-    ensures began { (h : History) (move : Move) (g : Vcpu) → ¬ IsCause h (Began move) g }
+    ensures began { (h : History) (move : WantedMove) (g : Vcpu) → ¬ IsCause h (Began move) g }
     ensures delivered { (h : History) (msi : Msi) (g : Vcpu) → ¬ IsCause h (Delivered msi) g }
     ensures entered { (h : History) (vm number : ℕ) (g : Vcpu)
         → ¬ IsCause h (Accepted (lines.Enter vm number)) g }

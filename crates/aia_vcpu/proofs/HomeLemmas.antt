@@ -2,7 +2,7 @@
 use Rattle.std.proofs.Common.{◌≡◌, ◌⊎◌, ℕ, ◌+◌, ◌*◌, ◌<◌, Bool, true, false, ◌||◌, nat_eq, Option, Some, None, refl, inl, inr, sym, ap, subst, ◌∙◌, arith}
 use Rattle.std.proofs.lemmas.Bool.{cases_Bool, and_parts, eqb-true, or_left, or_right, false≢true}
 use Rattle.std.proofs.lemmas.Bool.Decides.{nat_tests}
-use Rattle.aia_vcpu.specs.declared.place.Place.{Place}
+use Rattle.aia_vcpu.specs.declared.place.GuestPlace.{GuestPlace}
 use Rattle.aia_vcpu.specs.Home.{Way, Home, left, led_to, old_end, new_end, is_place, holds, resting}
 use Rattle.aia_vcpu.specs.declared.rest.Rest.{Rest}
 use Rattle.aia_vcpu.specs.Home.Home.{InMemory, Resident, OnWay}
@@ -14,16 +14,16 @@ use Rattle.aia_vcpu.specs.Routes.{origin, MayLand}
 
 -- ---- two files that are the same
 
-pub same_place : (p q : Place) → is_place p q ≡ true → p ≡ q
+pub same_place : (p q : GuestPlace) → is_place p q ≡ true → p ≡ q
 same_place p q e =
     let both = and_parts (nat_eq p.hart q.hart) (nat_eq p.file q.file) e in
     ap (λ hart. record { hart = hart; file = p.file }) (eqb-true p.hart q.hart both.0) ∙ ap (λ file. record { hart = q.hart; file = file }) (eqb-true p.file q.file both.1)
 
-pub is_itself_place : (p : Place) → is_place p p ≡ true
+pub is_itself_place : (p : GuestPlace) → is_place p p ≡ true
 is_itself_place p = grind (arith, nat_tests)
 
-pub some_same : (p q : Place) → Some p ≡ Some q → is_place q p ≡ true
-some_same p q e = let same : p ≡ q = cc in subst (λ (r : Place). is_place r p ≡ true) same (is_itself_place p)
+pub some_same : (p q : GuestPlace) → Some p ≡ Some q → is_place q p ≡ true
+some_same p q e = let same : p ≡ q = cc in subst (λ (r : GuestPlace). is_place r p ≡ true) same (is_itself_place p)
 
 -- ---- an end of a way is a file, so the access after both sets is not the last one
 
@@ -34,19 +34,19 @@ not_the_last (Across from to) words = omega arith
 
 -- ---- it holds the files that it has
 
-pub own_is_held : (there : Home) (p : Place) → own_file there ≡ Some p → holds p there ≡ true
+pub own_is_held : (there : Home) (p : GuestPlace) → own_file there ≡ Some p → holds p there ≡ true
 own_is_held (Resident q) p e = some_same q p e
 own_is_held (OnWay (Outward from) at) p e = some_same from p e
 own_is_held (OnWay (Inward to) at) p e = some_same to p e
 own_is_held (OnWay (Across from to) at) p e = or_left (is_place p from) (is_place p to) (some_same from p e)
 own_is_held there p e = absurd (cc)
 
-pub next_is_held : (there : Home) (p : Place) → next_file there ≡ Some p → holds p there ≡ true
+pub next_is_held : (there : Home) (p : GuestPlace) → next_file there ≡ Some p → holds p there ≡ true
 next_is_held (OnWay (Across from to) at) p e = or_right (is_place p from) (is_place p to) (some_same to p e)
 next_is_held there p e = absurd (cc)
 
 -- and no others: each is its own file or the next
-pub either_file : (p : Place) (there : Home) → holds p there ≡ true → (own_file there ≡ Some p) ⊎ (next_file there ≡ Some p)
+pub either_file : (p : GuestPlace) (there : Home) → holds p there ≡ true → (own_file there ≡ Some p) ⊎ (next_file there ≡ Some p)
 either_file p (Resident q) e = inl (ap Some (sym (same_place p q e)))
 either_file p (OnWay (Outward from) at) e = inl (ap Some (sym (same_place p from e)))
 either_file p (OnWay (Inward to) at) e = inl (ap Some (sym (same_place p to e)))
@@ -61,17 +61,17 @@ either_file p (OnWay (Across from to) at) e = elim (cases_Bool (is_place p from)
 either_file p there e = absurd (false≢true e)
 
 -- the file that a way leaves is its own, and the one to which it leads its own or the next
-pub left_is_own : (way : Way) (p : Place) → left way ≡ Some p → own_of way ≡ Some p
+pub left_is_own : (way : Way) (p : GuestPlace) → left way ≡ Some p → own_of way ≡ Some p
 left_is_own (Outward from) p e = e
 left_is_own (Inward to) p e = absurd (cc)
 left_is_own (Across from to) p e = e
 
-pub led_to_is_held : (way : Way) (p : Place) → led_to way ≡ Some p → (own_of way ≡ Some p) ⊎ (next_of way ≡ Some p)
+pub led_to_is_held : (way : Way) (p : GuestPlace) → led_to way ≡ Some p → (own_of way ≡ Some p) ⊎ (next_of way ≡ Some p)
 led_to_is_held (Outward from) p e = absurd (cc)
 led_to_is_held (Inward to) p e = inl e
 led_to_is_held (Across from to) p e = inr e
 
-pub own_from_memory : (way : Way) (p : Place) → left way ≡ None → led_to way ≡ Some p → own_of way ≡ Some p
+pub own_from_memory : (way : Way) (p : GuestPlace) → left way ≡ None → led_to way ≡ Some p → own_of way ≡ Some p
 own_from_memory (Inward to) p from e = e
 own_from_memory way p from e = absurd (cc)
 
@@ -79,26 +79,26 @@ pub next_from_memory : (way : Way) → left way ≡ None → next_of way ≡ Non
 next_from_memory (Inward to) from = refl
 next_from_memory way from = absurd (cc)
 
-pub next_from_file : (way : Way) (f p : Place) → left way ≡ Some f → led_to way ≡ Some p → next_of way ≡ Some p
+pub next_from_file : (way : Way) (f p : GuestPlace) → left way ≡ Some f → led_to way ≡ Some p → next_of way ≡ Some p
 next_from_file (Across from to) f p e too = too
 next_from_file way f p e too = absurd (cc)
 
-pub next_is_led_to : (way : Way) (p : Place) → next_of way ≡ Some p → led_to way ≡ Some p
+pub next_is_led_to : (way : Way) (p : GuestPlace) → next_of way ≡ Some p → led_to way ≡ Some p
 next_is_led_to (Across from to) p e = e
 next_is_led_to way p e = absurd (cc)
 
 -- and those to which stores may be led
-pub origin_is_held : (there : Home) (p : Place) → origin there ≡ Some p → holds p there ≡ true
+pub origin_is_held : (there : Home) (p : GuestPlace) → origin there ≡ Some p → holds p there ≡ true
 origin_is_held (Resident q) p e = some_same q p e
 origin_is_held (OnWay way at) p e = own_is_held (OnWay way at) p (left_is_own way p e)
 origin_is_held there p e = absurd (cc)
 
-pub new_is_held : (there : Home) (p : Place) → new_file there ≡ Some p → holds p there ≡ true
+pub new_is_held : (there : Home) (p : GuestPlace) → new_file there ≡ Some p → holds p there ≡ true
 new_is_held (OnWay (Inward to) at) p e = some_same to p e
 new_is_held (OnWay (Across from to) at) p e = or_right (is_place p from) (is_place p to) (some_same to p e)
 new_is_held there p e = absurd (cc)
 
-pub landing_is_held : (words : ℕ) (there : Home) (reach : Option Place) (p : Place) → MayLand words there reach → reach ≡ Some p → holds p there ≡ true
+pub landing_is_held : (words : ℕ) (there : Home) (reach : Option GuestPlace) (p : GuestPlace) → MayLand words there reach → reach ≡ Some p → holds p there ≡ true
 landing_is_held words there reach p (inl m) e = origin_is_held there p (sym m.0 ∙ e)
 landing_is_held words there reach p (inr m) e = new_is_held there p (sym m.0 ∙ e)
 

@@ -2,7 +2,7 @@
 use Rattle.std.proofs.Common.{◌≡◌, ◌⊎◌, ℕ, ◌+◌, Bool, true, false, ◌&&◌, if◌then◌else◌, nat_eq, nat_lt, nat_le, Option, Some, None, refl, sym, ap, ◌∙◌, inl, inr, arith}
 use Rattle.std.proofs.lemmas.Bool.{cases_Bool, and_parts, and_from}
 use Rattle.std.proofs.lemmas.Bool.Decides.{nat_tests}
-use Rattle.aia_vcpu.specs.declared.place.Place.{Place}
+use Rattle.aia_vcpu.specs.declared.place.GuestPlace.{GuestPlace}
 use Rattle.aia_vcpu.specs.Home.{Home, left, led_to, is_moving, at_rest, ended, one_more, leaving, arriving, shifting}
 use Rattle.aia_vcpu.specs.declared.rest.Rest.TheVariants.{Parked}
 use Rattle.aia_vcpu.specs.Home.Home.{InMemory, Resident, OnWay}
@@ -22,7 +22,7 @@ aim_is_closed : (passes : ℕ) (there : Home) → is_aiming passes there ≡ tru
 aim_is_closed passes (OnWay way at) e = let here : nat_eq at.steps (aims_step (OnWay way at)) ≡ true = (and_parts _ _ e).0 in grind (arith, nat_tests)
 aim_is_closed passes there e = absurd (cc)
 
-pub aimed_reach : (there : Home) (place : Option Place) → MayReach there place → MayReach (aimed there) place
+pub aimed_reach : (there : Home) (place : Option GuestPlace) → MayReach there place → MayReach (aimed there) place
 aimed_reach (OnWay way at) place m = m
 aimed_reach there place m = m
 
@@ -30,14 +30,14 @@ aimed_by_table : (there : Home) (r : Bool) → devices_by r (aimed there) ≡ de
 aimed_by_table (OnWay way at) r = refl
 aimed_by_table there r = refl
 
-pub further_kept : (passes words : ℕ) (there : Home) (place : Option Place) → MayReach there place → MayReach (further passes words there) (reach_stepped there place)
+pub further_kept : (passes words : ℕ) (there : Home) (place : Option GuestPlace) → MayReach there place → MayReach (further passes words there) (reach_stepped there place)
 further_kept passes words there place m = by_aim (is_aiming passes there) refl
   where
     by_aim : (b : Bool) → is_aiming passes there ≡ b → MayReach (further passes words there) (reach_stepped there place)
     by_aim true e = rw e (rw (aim_is_no_fence passes there e) (aimed_reach there place m))
     by_aim false e = rw e (reach_kept words there place m)
 
-pub further_by : (passes words : ℕ) (there : Home) (r : Bool) (reach : Option Place) → reach ≡ devices_by r there → reach_stepped there reach ≡ devices_by false (further passes words there)
+pub further_by : (passes words : ℕ) (there : Home) (r : Bool) (reach : Option GuestPlace) → reach ≡ devices_by r there → reach_stepped there reach ≡ devices_by false (further passes words there)
 further_by passes words there r reach e = by_aim (is_aiming passes there) refl
   where
     by_aim : (b : Bool) → is_aiming passes there ≡ b → reach_stepped there reach ≡ devices_by false (further passes words there)
@@ -76,11 +76,11 @@ pub leaving_aimed : (passes : ℕ) (there : Home) → AreAimed passes there → 
 leaving_aimed passes (Resident p) a = record { late = λ e. absurd (cc); all = λ e. absurd (cc) }
 leaving_aimed passes there a = a
 
-pub arriving_aimed : (passes : ℕ) (q : Place) (there : Home) → AreAimed passes there → AreAimed passes (arriving q there)
+pub arriving_aimed : (passes : ℕ) (q : GuestPlace) (there : Home) → AreAimed passes there → AreAimed passes (arriving q there)
 arriving_aimed passes q (InMemory Parked) a = record { late = λ e. absurd (cc); all = λ e. absurd (cc) }
 arriving_aimed passes q there a = a
 
-pub shifting_aimed : (passes : ℕ) (q : Place) (there : Home) → AreAimed passes there → AreAimed passes (shifting q there)
+pub shifting_aimed : (passes : ℕ) (q : GuestPlace) (there : Home) → AreAimed passes there → AreAimed passes (shifting q there)
 shifting_aimed passes q (Resident p) a = record { late = λ e. absurd (cc); all = λ e. absurd (cc) }
 shifting_aimed passes q there a = a
 
@@ -108,7 +108,7 @@ count_aim passes t k a here = let at : nat_eq k t ≡ true = (and_parts _ _ here
   all = λ e. let no : true ≡ false = grind (arith, nat_tests) in absurd (cc);
 }
 
-rests_unmoved : (to : Option Place) → is_moving (at_rest to) ≡ false
+rests_unmoved : (to : Option GuestPlace) → is_moving (at_rest to) ≡ false
 rests_unmoved None = refl
 rests_unmoved (Some p) = refl
 
@@ -138,7 +138,7 @@ further_aimed passes words there a = by_aim (is_aiming passes there) refl
 -- ---- where a pass leads, a store may land
 
 -- d is the first take
-over : (passes r t d k a : ℕ) (old new : Option Place) → nat_lt r passes ≡ true → nat_lt 0 t ≡ true → nat_le t d ≡ true → Counts passes t k a
+over : (passes r t d k a : ℕ) (old new : Option GuestPlace) → nat_lt r passes ≡ true → nat_lt 0 t ≡ true → nat_le t d ≡ true → Counts passes t k a
     → (((if nat_lt r a then new else old) ≡ old) × (nat_lt d k ≡ false)) ⊎ (((if nat_lt r a then new else old) ≡ new) × (nat_lt 0 k ≡ true))
 over passes r t d k a old new below first low c = elim (cases_Bool (nat_lt r a)) [
   | inl e ↦ let one : nat_lt 0 a ≡ true = grind (arith, nat_tests) in let begun = c.late one in inr (ap (λ b. if b then new else old) e, grind (arith, nat_tests))

@@ -1,7 +1,7 @@
 -- What a move has made that has come to a phase.
 use Rattle.std.proofs.Common.{◌≡◌, ℕ, ◌+◌, ◌*◌, ◌<◌, ◌≤◌, true, false, Option, sym, ◌∙◌, inl, inr, arith}
 use Rattle.std.proofs.lemmas.Bool.Decides.{nat_tests}
-use Rattle.aia_vcpu.specs.declared.place.Place.{Place}
+use Rattle.aia_vcpu.specs.declared.place.GuestPlace.{GuestPlace}
 use Rattle.aia_vcpu.specs.declared.end.End.{End}
 use Rattle.aia_vcpu.specs.Home.{Home, old_end, new_end, is_moving}
 use Rattle.aia_vcpu.specs.Home.Home.{OnWay}
@@ -23,7 +23,7 @@ carried_enables words w (OnWay way at) e = grind (arith, nat_tests)
 carried_enables words w there e = absurd (cc)
 
 -- where the entry is closed, what may be in force leads to the new place
-pub closed_reach : (there : Home) (place : Option Place) → is_closed there ≡ true → MayReach there place → place ≡ new_file there
+pub closed_reach : (there : Home) (place : Option GuestPlace) → is_closed there ≡ true → MayReach there place → place ≡ new_file there
 closed_reach there place closed (inl p) = let no : true ≡ false = sym closed ∙ p.1 in absurd (cc)
 closed_reach there place closed (inr p) = p.0
 

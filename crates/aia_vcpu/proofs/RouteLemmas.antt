@@ -2,7 +2,7 @@
 use Rattle.std.proofs.Common.{◌≡◌, ◌⊎◌, ℕ, ◌+◌, Bool, true, false, ◌&&◌, ◌||◌, if◌then◌else◌, nat_eq, nat_lt, Option, Some, None, refl, sym, ap, ◌∙◌, inl, inr, arith}
 use Rattle.std.proofs.lemmas.Bool.{cases_Bool, and_right, or_right, and_parts, and_from, eqb-true, eq-eqb, false≢true}
 use Rattle.std.proofs.lemmas.Bool.Decides.{nat_tests}
-use Rattle.aia_vcpu.specs.declared.place.Place.{Place}
+use Rattle.aia_vcpu.specs.declared.place.GuestPlace.{GuestPlace}
 use Rattle.aia_vcpu.specs.Home.{Home, left, led_to, old_end, new_end, is_moving, at_rest, ended, one_more, leaving, arriving, shifting}
 use Rattle.aia_vcpu.specs.Plans.{is_at_last, stepped, has_access, step_of, steps_done, IsNext, is_begun, plan_step}
 use Rattle.aia_vcpu.specs.declared.access.Access.{Access}
@@ -15,27 +15,27 @@ use Rattle.aia_vcpu.specs.Routes.{origin, is_written, is_closed, entry_names, pe
 
 -- ---- over plain numbers: a step w writes the entry, and the next one fences it
 
-abbrev May : Option Place → Option Place → ℕ → ℕ → Option Place → Type 0
+abbrev May : Option GuestPlace → Option GuestPlace → ℕ → ℕ → Option GuestPlace → Type 0
 May old new w k place = ((place ≡ old) × (nat_lt (w + 1) k ≡ false)) ⊎ ((place ≡ new) × (nat_lt w k ≡ true))
 
-names_may : (old new : Option Place) (w k : ℕ) → May old new w k (if nat_lt w k then new else old)
+names_may : (old new : Option GuestPlace) (w k : ℕ) → May old new w k (if nat_lt w k then new else old)
 names_may old new w k = elim (cases_Bool (nat_lt w k)) [
   | inl e ↦ inr (ap (λ b. if b then new else old) e, e)
   | inr e ↦ inl (ap (λ b. if b then new else old) e, grind (arith, nat_tests))
 ]
 
-may_on : (old new : Option Place) (w k : ℕ) (place : Option Place) → nat_eq k (w + 1) ≡ false → May old new w k place → May old new w (k + 1) place
+may_on : (old new : Option GuestPlace) (w k : ℕ) (place : Option GuestPlace) → nat_eq k (w + 1) ≡ false → May old new w k place → May old new w (k + 1) place
 may_on old new w k place other (inl p) = inl (p.0, grind (arith, nat_tests, p.1))
 may_on old new w k place other (inr p) = inr (p.0, grind (arith, nat_tests, p.1))
 
-may_fence : (old new : Option Place) (w k : ℕ) (place : Option Place) → nat_eq k (w + 1) ≡ true → May old new w (k + 1) place → place ≡ (if nat_lt w k then new else old)
+may_fence : (old new : Option GuestPlace) (w k : ℕ) (place : Option GuestPlace) → nat_eq k (w + 1) ≡ true → May old new w (k + 1) place → place ≡ (if nat_lt w k then new else old)
 may_fence old new w k place here (inl p) = let no : true ≡ false = grind (arith, nat_tests, p.1) in absurd (cc)
 may_fence old new w k place here (inr p) = let written : nat_lt w k ≡ true = grind (arith, nat_tests) in p.0 ∙ sym (ap (λ b. if b then new else old) written)
 
-may_fenced : (old new : Option Place) (w k : ℕ) → nat_eq k (w + 1) ≡ true → May old new w (k + 1) (if nat_lt w k then new else old)
+may_fenced : (old new : Option GuestPlace) (w k : ℕ) → nat_eq k (w + 1) ≡ true → May old new w (k + 1) (if nat_lt w k then new else old)
 may_fenced old new w k here = let written : nat_lt w k ≡ true = grind (arith, nat_tests) in inr (ap (λ b. if b then new else old) written, grind (arith, nat_tests))
 
-may_late : (old new : Option Place) (w k : ℕ) (place : Option Place) → nat_lt (w + 1) k ≡ true → May old new w k place → place ≡ new
+may_late : (old new : Option GuestPlace) (w k : ℕ) (place : Option GuestPlace) → nat_lt (w + 1) k ≡ true → May old new w k place → place ≡ new
 may_late old new w k place late (inl p) = let no : true ≡ false = sym late ∙ p.1 in absurd (cc)
 may_late old new w k place late (inr p) = p.0
 
@@ -45,11 +45,11 @@ pub names_reach : (there : Home) → MayReach there (entry_names there)
 names_reach (OnWay way at) = names_may (left way) (led_to way) (plan_step (old_end way) (new_end way) 0 WriteEntry) at.steps
 names_reach there = inl (refl, refl)
 
-pub reach_on : (there : Home) (place : Option Place) → is_at_fence there ≡ false → MayReach there place → MayReach (one_more there) place
+pub reach_on : (there : Home) (place : Option GuestPlace) → is_at_fence there ≡ false → MayReach there place → MayReach (one_more there) place
 reach_on (OnWay way at) place other m = may_on (left way) (led_to way) (plan_step (old_end way) (new_end way) 0 WriteEntry) at.steps place other m
 reach_on there place other m = m
 
-pub reach_fence : (there : Home) (place : Option Place) → is_at_fence there ≡ true → MayReach (one_more there) place → place ≡ entry_names there
+pub reach_fence : (there : Home) (place : Option GuestPlace) → is_at_fence there ≡ true → MayReach (one_more there) place → place ≡ entry_names there
 reach_fence (OnWay way at) place here m = may_fence (left way) (led_to way) (plan_step (old_end way) (new_end way) 0 WriteEntry) at.steps place here m
 reach_fence there place here m = absurd (cc)
 
@@ -58,23 +58,23 @@ reach_fenced (OnWay way at) here = may_fenced (left way) (led_to way) (plan_step
 reach_fenced there here = absurd (cc)
 
 -- where a move has led is where it rests
-rests_at : (to : Option Place) → origin (at_rest to) ≡ to
+rests_at : (to : Option GuestPlace) → origin (at_rest to) ≡ to
 rests_at None = refl
 rests_at (Some p) = refl
 
-rests_open : (to : Option Place) → is_closed (at_rest to) ≡ false
+rests_open : (to : Option GuestPlace) → is_closed (at_rest to) ≡ false
 rests_open None = refl
 rests_open (Some p) = refl
 
-rests_reached : (to : Option Place) → devices_by false (at_rest to) ≡ to
+rests_reached : (to : Option GuestPlace) → devices_by false (at_rest to) ≡ to
 rests_reached None = refl
 rests_reached (Some p) = refl
 
-rests_mapped : (to : Option Place) → peers_reach (at_rest to) ≡ to
+rests_mapped : (to : Option GuestPlace) → peers_reach (at_rest to) ≡ to
 rests_mapped None = refl
 rests_mapped (Some p) = refl
 
-pub reach_ended : (words : ℕ) (there : Home) (place : Option Place) → is_at_last words there ≡ true → MayReach there place → MayReach (ended there) place
+pub reach_ended : (words : ℕ) (there : Home) (place : Option GuestPlace) → is_at_last words there ≡ true → MayReach there place → MayReach (ended there) place
 reach_ended words (OnWay way at) place last m =
     inl (may_late (left way) (led_to way) (plan_step (old_end way) (new_end way) 0 WriteEntry) at.steps place (grind (arith, nat_tests)) m ∙ sym (rests_at (led_to way)), rests_open (led_to way))
 reach_ended words there place last m = m
@@ -89,14 +89,14 @@ begun : (there : Home) → is_written there ≡ true → is_begun there ≡ true
 begun (OnWay way at) e = grind (arith, nat_tests)
 begun there e = absurd (cc)
 
-pub reach_lands : (words : ℕ) (there : Home) (place : Option Place) → MayReach there place → MayLand words there place
+pub reach_lands : (words : ℕ) (there : Home) (place : Option GuestPlace) → MayReach there place → MayLand words there place
 reach_lands words there place (inl p) = inl (p.0, unclosed words there p.1)
 reach_lands words there place (inr p) = inr (p.0, begun there p.1)
 
-abbrev Lands : Option Place → Option Place → ℕ → ℕ → Option Place → Type 0
+abbrev Lands : Option GuestPlace → Option GuestPlace → ℕ → ℕ → Option GuestPlace → Type 0
 Lands old new t k place = ((place ≡ old) × (nat_lt t k ≡ false)) ⊎ ((place ≡ new) × (nat_lt 0 k ≡ true))
 
-peers_land : (old new : Option Place) (s t k : ℕ) → nat_lt s t ≡ true → Lands old new t k (if nat_lt s k then new else old)
+peers_land : (old new : Option GuestPlace) (s t k : ℕ) → nat_lt s t ≡ true → Lands old new t k (if nat_lt s k then new else old)
 peers_land old new s t k before = elim (cases_Bool (nat_lt s k)) [
   | inl e ↦ inr (ap (λ b. if b then new else old) e, grind (arith, nat_tests))
   | inr e ↦ inl (ap (λ b. if b then new else old) e, grind (arith, nat_tests))
@@ -106,7 +106,7 @@ pub peers_may : (words : ℕ) (there : Home) → MayLand words there (peers_reac
 peers_may words (OnWay way at) = peers_land (left way) (led_to way) (plan_step (old_end way) (new_end way) 0 GFence) (plan_step (old_end way) (new_end way) 0 (TakePending 0)) at.steps (grind (arith, nat_tests))
 peers_may words there = inl (refl, refl)
 
-pub reach_drained : (words w : ℕ) (there : Home) (place : Option Place) → is_moving there ≡ true → is_drained words there w ≡ true → MayReach there place → place ≡ new_file there
+pub reach_drained : (words w : ℕ) (there : Home) (place : Option GuestPlace) → is_moving there ≡ true → is_drained words there w ≡ true → MayReach there place → place ≡ new_file there
 reach_drained words w (OnWay way at) place moves drained m = may_late (left way) (led_to way) (plan_step (old_end way) (new_end way) 0 WriteEntry) at.steps place (grind (arith, nat_tests)) m
 reach_drained words w there place moves drained m = absurd (cc)
 
@@ -116,7 +116,7 @@ abbrev pub is_fence : Access → Bool
 is_fence Fence = true
 is_fence access = false
 
-abbrev pub reach_after : Access → Home → Option Place → Option Place
+abbrev pub reach_after : Access → Home → Option GuestPlace → Option GuestPlace
 reach_after access there was = if is_fence access then entry_names there else was
 
 -- how many words a file has is nothing to the fence
@@ -141,7 +141,7 @@ fence_is_next words there access next = elim (cases_Bool (is_at_fence there)) [
   | inr other ↦ no_fence words there access next other ∙ sym other
 ]
 
-pub reach_next : (words : ℕ) (there : Home) (access : Access) (was : Option Place) → IsNext words there access → reach_after access there was ≡ reach_stepped there was
+pub reach_next : (words : ℕ) (there : Home) (access : Access) (was : Option GuestPlace) → IsNext words there access → reach_after access there was ≡ reach_stepped there was
 reach_next words there access was next = ap (λ b. if b then entry_names there else was) (fence_is_next words there access next)
 
 -- ---- a step, whichever it is, and a move that begins
@@ -150,7 +150,7 @@ pub unlast : (words : ℕ) (there : Home) → is_at_fence there ≡ true → is_
 unlast words (OnWay way at) here = grind (arith, nat_tests)
 unlast words there here = absurd (cc)
 
-pub reach_kept : (words : ℕ) (there : Home) (place : Option Place) → MayReach there place → MayReach (stepped words there) (reach_stepped there place)
+pub reach_kept : (words : ℕ) (there : Home) (place : Option GuestPlace) → MayReach there place → MayReach (stepped words there) (reach_stepped there place)
 reach_kept words there place m = elim (cases_Bool (is_at_fence there)) [
   | inl here ↦ rw (here, unlast words there here) (reach_fenced there here)
   | inr other ↦ rw other (either (is_at_last words there) refl other)
@@ -160,27 +160,27 @@ reach_kept words there place m = elim (cases_Bool (is_at_fence there)) [
     either true last other = reach_ended words there place last m
     either false on other = reach_on there place other m
 
-pub leaving_reach : (there : Home) (place : Option Place) → MayReach there place → MayReach (leaving there) place
+pub leaving_reach : (there : Home) (place : Option GuestPlace) → MayReach there place → MayReach (leaving there) place
 leaving_reach (Resident p) place (inl m) = inl (m.0, refl)
 leaving_reach (Resident p) place (inr m) = absurd (cc)
 leaving_reach there place m = m
 
-pub arriving_reach : (to : Place) (there : Home) (place : Option Place) → MayReach there place → MayReach (arriving to there) place
+pub arriving_reach : (to : GuestPlace) (there : Home) (place : Option GuestPlace) → MayReach there place → MayReach (arriving to there) place
 arriving_reach to (InMemory Parked) place (inl m) = inl (m.0, refl)
 arriving_reach to (InMemory Parked) place (inr m) = absurd (cc)
 arriving_reach to there place m = m
 
-pub shifting_reach : (to : Place) (there : Home) (place : Option Place) → MayReach there place → MayReach (shifting to there) place
+pub shifting_reach : (to : GuestPlace) (there : Home) (place : Option GuestPlace) → MayReach there place → MayReach (shifting to there) place
 shifting_reach to (Resident p) place (inl m) = inl (m.0, refl)
 shifting_reach to (Resident p) place (inr m) = absurd (cc)
 shifting_reach to there place m = m
 
 -- ---- the table: where it leads, by whether it was fetched again since the newest step
 
-abbrev By : Option Place → Option Place → ℕ → ℕ → Bool → Option Place
+abbrev By : Option GuestPlace → Option GuestPlace → ℕ → ℕ → Bool → Option GuestPlace
 By old new w k fetched = if nat_lt (w + 1) k || (nat_lt w k && fetched) then new else old
 
-by_step : (old new : Option Place) (w k : ℕ) (fetched : Bool) (place : Option Place) → place ≡ By old new w k fetched → (if nat_eq k (w + 1) then (if nat_lt w k then new else old) else place) ≡ By old new w (k + 1) false
+by_step : (old new : Option GuestPlace) (w k : ℕ) (fetched : Bool) (place : Option GuestPlace) → place ≡ By old new w k fetched → (if nat_eq k (w + 1) then (if nat_lt w k then new else old) else place) ≡ By old new w (k + 1) false
 by_step old new w k fetched place e = elim (cases_Bool (nat_eq k (w + 1))) [
   | inl here ↦
       let written : nat_lt w k ≡ true = grind (arith, nat_tests) in
@@ -198,27 +198,27 @@ by_step old new w k fetched place e = elim (cases_Bool (nat_eq k (w + 1))) [
   ]
 ]
 
-by_last : (old new : Option Place) (w k : ℕ) (fetched : Bool) (place : Option Place) → nat_lt (w + 1) k ≡ true → place ≡ By old new w k fetched → (if nat_eq k (w + 1) then (if nat_lt w k then new else old) else place) ≡ new
+by_last : (old new : Option GuestPlace) (w k : ℕ) (fetched : Bool) (place : Option GuestPlace) → nat_lt (w + 1) k ≡ true → place ≡ By old new w k fetched → (if nat_eq k (w + 1) then (if nat_lt w k then new else old) else place) ≡ new
 by_last old new w k fetched place late e =
     let other : nat_eq k (w + 1) ≡ false = grind (arith, nat_tests) in
     rw other (e ∙ ap (λ b. if b || (nat_lt w k && fetched) then new else old) late)
 
-by_fetch : (old new : Option Place) (w k : ℕ) → (if nat_lt w k then new else old) ≡ By old new w k true
+by_fetch : (old new : Option GuestPlace) (w k : ℕ) → (if nat_lt w k then new else old) ≡ By old new w k true
 by_fetch old new w k = elim (cases_Bool (nat_lt w k)) [
   | inl written ↦ rw written (sym (ap (λ b. if b then new else old) (or_right (nat_lt (w + 1) k) true refl)))
   | inr unwritten ↦ let unclosed : nat_lt (w + 1) k ≡ false = grind (arith, nat_tests) in rw (unwritten, unclosed) refl
 ]
 
-step_by : (there : Home) (fetched : Bool) (place : Option Place) → place ≡ devices_by fetched there → reach_stepped there place ≡ devices_by false (one_more there)
+step_by : (there : Home) (fetched : Bool) (place : Option GuestPlace) → place ≡ devices_by fetched there → reach_stepped there place ≡ devices_by false (one_more there)
 step_by (OnWay way at) fetched place e = by_step (left way) (led_to way) (plan_step (old_end way) (new_end way) 0 WriteEntry) at.steps fetched place e
 step_by there fetched place e = e
 
-last_by : (words : ℕ) (there : Home) (fetched : Bool) (place : Option Place) → is_at_last words there ≡ true → place ≡ devices_by fetched there → reach_stepped there place ≡ devices_by false (ended there)
+last_by : (words : ℕ) (there : Home) (fetched : Bool) (place : Option GuestPlace) → is_at_last words there ≡ true → place ≡ devices_by fetched there → reach_stepped there place ≡ devices_by false (ended there)
 last_by words (OnWay way at) fetched place last e =
     by_last (left way) (led_to way) (plan_step (old_end way) (new_end way) 0 WriteEntry) at.steps fetched place (grind (arith, nat_tests)) e ∙ sym (rests_reached (led_to way))
 last_by words there fetched place last e = e
 
-pub stepped_by : (words : ℕ) (there : Home) (fetched : Bool) (place : Option Place) → place ≡ devices_by fetched there → reach_stepped there place ≡ devices_by false (stepped words there)
+pub stepped_by : (words : ℕ) (there : Home) (fetched : Bool) (place : Option GuestPlace) → place ≡ devices_by fetched there → reach_stepped there place ≡ devices_by false (stepped words there)
 stepped_by words there fetched place e = either (is_at_last words there) refl
   where
     either : (b : Bool) → is_at_last words there ≡ b → reach_stepped there place ≡ devices_by false (if b then ended there else one_more there)
@@ -233,27 +233,27 @@ pub leaving_by : (fetched : Bool) (there : Home) → devices_by fetched (leaving
 leaving_by fetched (OnWay way at) = refl
 leaving_by fetched there = refl
 
-pub arriving_by : (to : Place) (fetched : Bool) (there : Home) → devices_by fetched (arriving to there) ≡ devices_by fetched there
+pub arriving_by : (to : GuestPlace) (fetched : Bool) (there : Home) → devices_by fetched (arriving to there) ≡ devices_by fetched there
 arriving_by to fetched (InMemory Parked) = refl
 arriving_by to fetched (OnWay way at) = refl
 arriving_by to fetched there = refl
 
-pub shifting_by : (to : Place) (fetched : Bool) (there : Home) → devices_by fetched (shifting to there) ≡ devices_by fetched there
+pub shifting_by : (to : GuestPlace) (fetched : Bool) (there : Home) → devices_by fetched (shifting to there) ≡ devices_by fetched there
 shifting_by to fetched (OnWay way at) = refl
 shifting_by to fetched there = refl
 
 -- ---- the G-stage record, likewise: a step w writes it, and the next one fences it
 
-by_fence : (old new : Option Place) (w k : ℕ) → nat_eq k (w + 1) ≡ true → (if nat_lt w k then new else old) ≡ (if nat_lt (w + 1) (k + 1) then new else old)
+by_fence : (old new : Option GuestPlace) (w k : ℕ) → nat_eq k (w + 1) ≡ true → (if nat_lt w k then new else old) ≡ (if nat_lt (w + 1) (k + 1) then new else old)
 by_fence old new w k here =
     let written : nat_lt w k ≡ true = grind (arith, nat_tests) in
     let closed : nat_lt (w + 1) (k + 1) ≡ true = grind (arith, nat_tests) in
     ap (λ b. if b then new else old) (written ∙ sym closed)
 
-by_other : (old new : Option Place) (w k : ℕ) → nat_eq k (w + 1) ≡ false → (if nat_lt (w + 1) k then new else old) ≡ (if nat_lt (w + 1) (k + 1) then new else old)
+by_other : (old new : Option GuestPlace) (w k : ℕ) → nat_eq k (w + 1) ≡ false → (if nat_lt (w + 1) k then new else old) ≡ (if nat_lt (w + 1) (k + 1) then new else old)
 by_other old new w k other = ap (λ b. if b then new else old) (grind (arith, nat_tests))
 
-by_late : (old new : Option Place) (w k : ℕ) → nat_lt (w + 1) k ≡ true → (if nat_lt (w + 1) k then new else old) ≡ new
+by_late : (old new : Option GuestPlace) (w k : ℕ) → nat_lt (w + 1) k ≡ true → (if nat_lt (w + 1) k then new else old) ≡ new
 by_late old new w k late = ap (λ b. if b then new else old) late
 
 stage_fenced : (there : Home) → is_at_gfence there ≡ true → stage_names there ≡ peers_reach (one_more there)
@@ -286,11 +286,11 @@ pub leaving_stage : (there : Home) → peers_reach (leaving there) ≡ peers_rea
 leaving_stage (OnWay way at) = refl
 leaving_stage there = refl
 
-pub arriving_stage : (to : Place) (there : Home) → peers_reach (arriving to there) ≡ peers_reach there
+pub arriving_stage : (to : GuestPlace) (there : Home) → peers_reach (arriving to there) ≡ peers_reach there
 arriving_stage to (InMemory Parked) = refl
 arriving_stage to (OnWay way at) = refl
 arriving_stage to there = refl
 
-pub shifting_stage : (to : Place) (there : Home) → peers_reach (shifting to there) ≡ peers_reach there
+pub shifting_stage : (to : GuestPlace) (there : Home) → peers_reach (shifting to there) ≡ peers_reach there
 shifting_stage to (OnWay way at) = refl
 shifting_stage to there = refl

@@ -3,7 +3,7 @@
 -- Profile: passes.
 use Rattle.std.specs.Prelude.{◌≡◌, ℕ, ◌+◌, ◌*◌, ◌^◌, Bool, true, false, ◌&&◌, nat_eq, nat_lt, nat_le, if◌then◌else◌, Option, Some, None}
 use Rattle.aia_regs.specs.declared.limits.TheConstants.{FIRST_PASS_IDENTITY}
-use Rattle.aia_vcpu.specs.declared.place.Place.{Place}
+use Rattle.aia_vcpu.specs.declared.place.GuestPlace.{GuestPlace}
 use Rattle.aia_vcpu.specs.Home.{Home, Progress, is_moving}
 use Rattle.aia_vcpu.specs.Home.Home.{OnWay}
 use Rattle.aia_vcpu.specs.Plans.{step_of, steps_done, stepped}
@@ -46,7 +46,7 @@ further passes words there = if is_aiming passes there then aimed there else ste
 
 -- The guest file that the r-th of the sources passed to it reaches, counted from 0; None: its slot
 -- of memory. It is where it was until the move aims that source.
-abbrev pub pass_reaches : ℕ → Home → Option Place
+abbrev pub pass_reaches : ℕ → Home → Option GuestPlace
 pass_reaches r there = if nat_lt r (aims_done there) then new_file there else origin there
 
 -- What the two counts keep to, where so many sources are passed to it: one is aimed only once the
@@ -71,6 +71,6 @@ target_of hart guest identity = hart * 2 ^ 18 + guest * 2 ^ 12 + identity
 
 -- The target of a pass of a number, an identity and a notice hart: the guest file, with that
 -- identity; or the notice hart's own file, with the identity by which the pass is known there.
-abbrev pub target_to : ℕ → ℕ → ℕ → Option Place → ℕ
+abbrev pub target_to : ℕ → ℕ → ℕ → Option GuestPlace → ℕ
 target_to notice_hart p identity None = target_of notice_hart 0 (host_identity p)
 target_to notice_hart p identity (Some q) = target_of q.hart q.file identity

@@ -1,7 +1,7 @@
 -- Where each part of the interrupts of a virtual hart is kept, by what its move has made. Profile:
 -- the plans of moves.
 use Rattle.std.specs.Prelude.{ℕ, ◌-◌, Bool, true, false, not, ◌&&◌, if◌then◌else◌, Option, Some, None}
-use Rattle.aia_vcpu.specs.declared.place.Place.{Place}
+use Rattle.aia_vcpu.specs.declared.place.GuestPlace.{GuestPlace}
 use Rattle.aia_vcpu.specs.Home.{is_file, Way, Home, left, led_to, old_end, new_end}
 use Rattle.aia_vcpu.specs.Home.Home.{InMemory, Resident, OnWay}
 use Rattle.aia_vcpu.specs.declared.end.End.TheVariants.{File, Memory}
@@ -12,37 +12,37 @@ use Rattle.aia_vcpu.specs.declared.access.Access.TheVariants.{TakeDelivery, Take
 
 -- Of what a move leaves and what it leads to: the guest file that it leaves, or to which it leads
 -- from memory; and the other one, where both are guest files.
-abbrev pub first_file : Option Place → Option Place → Option Place
+abbrev pub first_file : Option GuestPlace → Option GuestPlace → Option GuestPlace
 first_file None to = to
 first_file (Some p) to = Some p
 
-abbrev pub second_file : Option Place → Option Place → Option Place
+abbrev pub second_file : Option GuestPlace → Option GuestPlace → Option GuestPlace
 second_file None to = None
 second_file (Some p) to = to
 
-abbrev pub own_of : Way → Option Place
+abbrev pub own_of : Way → Option GuestPlace
 own_of way = first_file (left way) (led_to way)
 
-abbrev pub next_of : Way → Option Place
+abbrev pub next_of : Way → Option GuestPlace
 next_of way = second_file (left way) (led_to way)
 
 -- The guest file that it is in, leaves or arrives in; the other file of a shift.
-abbrev pub own_file : Home → Option Place
+abbrev pub own_file : Home → Option GuestPlace
 own_file (InMemory rest) = None
 own_file (Resident p) = Some p
 own_file (OnWay way at) = own_of way
 
-abbrev pub next_file : Home → Option Place
+abbrev pub next_file : Home → Option GuestPlace
 next_file (OnWay way at) = next_of way
 next_file there = None
 
 -- The guest file that a move leaves; None where it leaves memory.
-abbrev pub old_file : Home → Option Place
+abbrev pub old_file : Home → Option GuestPlace
 old_file (OnWay way at) = left way
 old_file there = None
 
 -- The guest file that a move leads to; None where it leads to memory.
-abbrev pub new_file : Home → Option Place
+abbrev pub new_file : Home → Option GuestPlace
 new_file (OnWay way at) = led_to way
 new_file there = None
 

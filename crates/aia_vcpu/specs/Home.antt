@@ -1,13 +1,13 @@
 -- The home of a virtual hart: where its interrupts are kept, and what a move makes of it. Profile.
 use Rattle.std.specs.Prelude.{ℕ, ◌+◌, Bool, true, false, ◌&&◌, ◌||◌, nat_eq, Option, Some, None}
-use Rattle.aia_vcpu.specs.declared.place.Place.{Place}
+use Rattle.aia_vcpu.specs.declared.place.GuestPlace.{GuestPlace}
 use Rattle.aia_vcpu.specs.declared.end.End.{End}
 use Rattle.aia_vcpu.specs.declared.end.End.TheVariants.{File, Memory}
 use Rattle.aia_vcpu.specs.declared.rest.Rest.{Rest}
 use Rattle.aia_vcpu.specs.declared.rest.Rest.TheVariants.{Parked, Entered}
 
 -- Whether two guest files are the same.
-abbrev pub is_place : Place → Place → Bool
+abbrev pub is_place : GuestPlace → GuestPlace → Bool
 is_place p q = nat_eq p.hart q.hart && nat_eq p.file q.file
 
 -- How far a move has come: so many of its steps are done, those that aim a passed source aside, and
@@ -23,15 +23,15 @@ at_first = record { steps = 0; aims = 0 }
 -- The way of a move: from a guest file to memory, from memory to a guest file, or from one guest
 -- file to another.
 pub data Way : Type 0 where
-  Outward : (from : Place) → Way
-  Inward : (to : Place) → Way
-  Across : (from to : Place) → Way
+  Outward : (from : GuestPlace) → Way
+  Inward : (to : GuestPlace) → Way
+  Across : (from to : GuestPlace) → Way
 
 -- The interrupts of the virtual hart rest in memory, and it is parked or runs from there (`Rest`);
 -- or it is resident in a guest file; or it is moved.
 pub data Home : Type 0 where
   InMemory : (rest : Rest) → Home
-  Resident : (in_file : Place) → Home
+  Resident : (in_file : GuestPlace) → Home
   OnWay : (way : Way) (at : Progress) → Home
 
 -- ---- the ends of a move
@@ -41,18 +41,18 @@ is_file File = true
 is_file Memory = false
 
 -- The guest file that a way leaves, and the one to which it leads; None: its slot of memory.
-abbrev pub left : Way → Option Place
+abbrev pub left : Way → Option GuestPlace
 left (Outward from) = Some from
 left (Inward to) = None
 left (Across from to) = Some from
 
-abbrev pub led_to : Way → Option Place
+abbrev pub led_to : Way → Option GuestPlace
 led_to (Outward from) = None
 led_to (Inward to) = Some to
 led_to (Across from to) = Some to
 
 -- Its two ends.
-abbrev pub end_at : Option Place → End
+abbrev pub end_at : Option GuestPlace → End
 end_at None = Memory
 end_at (Some p) = File
 
@@ -86,13 +86,13 @@ rests_in_memory (InMemory rest) = true
 rests_in_memory there = false
 
 -- Whether a way leaves a guest file, or leads to it.
-abbrev pub is_end_of : Place → Way → Bool
+abbrev pub is_end_of : GuestPlace → Way → Bool
 is_end_of p (Outward from) = is_place p from
 is_end_of p (Inward to) = is_place p to
 is_end_of p (Across from to) = is_place p from || is_place p to
 
 -- Whether it holds a guest file: a move holds those at its ends until its last step is done.
-abbrev pub holds : Place → Home → Bool
+abbrev pub holds : GuestPlace → Home → Bool
 holds p (InMemory rest) = false
 holds p (Resident q) = is_place p q
 holds p (OnWay way at) = is_end_of p way
@@ -112,17 +112,17 @@ abbrev pub leaving : Home → Home
 leaving (Resident p) = OnWay (Outward p) at_first
 leaving there = there
 
-abbrev pub arriving : Place → Home → Home
+abbrev pub arriving : GuestPlace → Home → Home
 arriving to (InMemory Parked) = OnWay (Inward to) at_first
 arriving to there = there
 
-abbrev pub shifting : Place → Home → Home
+abbrev pub shifting : GuestPlace → Home → Home
 shifting to (Resident p) = OnWay (Across p to) at_first
 shifting to there = there
 
 -- Its move ends: it is in the guest file to which that led, or its interrupts rest in memory and it
 -- is parked.
-abbrev pub at_rest : Option Place → Home
+abbrev pub at_rest : Option GuestPlace → Home
 at_rest None = InMemory Parked
 at_rest (Some to) = Resident to
 

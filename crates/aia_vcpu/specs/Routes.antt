@@ -1,7 +1,7 @@
 -- Where stores for a virtual hart go, and which of its interrupts in memory the host is told of, by
 -- what its move has made. Profile: the plans of moves.
 use Rattle.std.specs.Prelude.{◌≡◌, ◌⊎◌, ℕ, ◌/◌, Bool, true, false, not, ◌&&◌, nat_lt, if◌then◌else◌, Option, Some, None, ◌||◌}
-use Rattle.aia_vcpu.specs.declared.place.Place.{Place}
+use Rattle.aia_vcpu.specs.declared.place.GuestPlace.{GuestPlace}
 use Rattle.aia_vcpu.specs.declared.end.End.{End}
 use Rattle.aia_vcpu.specs.Home.{Home, left, old_end, new_end}
 use Rattle.aia_vcpu.specs.Home.Home.{InMemory, Resident, OnWay}
@@ -11,7 +11,7 @@ use Rattle.aia_vcpu.specs.declared.access.Access.TheVariants.{WriteEntry, Fence,
 use Rattle.aia_vcpu.specs.BySteps.{new_file, is_drained}
 
 -- The guest file where it is, or that its move leaves; None: its slot of memory.
-abbrev pub origin : Home → Option Place
+abbrev pub origin : Home → Option GuestPlace
 origin (InMemory rest) = None
 origin (Resident p) = Some p
 origin (OnWay way at) = left way
@@ -31,7 +31,7 @@ abbrev pub is_stage_closed : Home → Bool
 is_stage_closed there = is_early_made there GFence
 
 -- The guest file that the entry of the MSI page table names as it is written; None: its slot.
-abbrev pub entry_names : Home → Option Place
+abbrev pub entry_names : Home → Option GuestPlace
 entry_names there = if is_written there then new_file there else origin there
 
 -- Whether its next step is the fence of the entry.
@@ -42,23 +42,23 @@ is_at_fence there = is_early_next there Fence
 -- leads, once the entry is written. The entry in force leads to such a place: a law says so.
 -- Answers don't turn on this, laws and contracts do. AIA 1.0, IOMMU Support for MSIs to Virtual
 -- Machines: an entry may be fetched before it is fenced.
-abbrev pub MayReach : Home → Option Place → Type 0
+abbrev pub MayReach : Home → Option GuestPlace → Type 0
 MayReach there place = ((place ≡ origin there) × (is_closed there ≡ false))
     ⊎ ((place ≡ new_file there) × (is_written there ≡ true))
 
 -- What the entry in force leads to after a step of its move, given what it led to before: a fence
 -- puts in force what the entry names.
-abbrev pub reach_stepped : Home → Option Place → Option Place
+abbrev pub reach_stepped : Home → Option GuestPlace → Option GuestPlace
 reach_stepped there was = if is_at_fence there then entry_names there else was
 
 -- The same in one table, by whether the entry was fetched again since the newest step: where it was
 -- until the fence, or until such a fetch once the entry is written.
-abbrev pub devices_by : Bool → Home → Option Place
+abbrev pub devices_by : Bool → Home → Option GuestPlace
 devices_by refetched there =
     if is_closed there || (is_written there && refetched) then new_file there else origin there
 
 -- The guest file that its G-stage record names as it is written; None: nothing.
-abbrev pub stage_names : Home → Option Place
+abbrev pub stage_names : Home → Option GuestPlace
 stage_names there = if is_stage_written there then new_file there else origin there
 
 -- Whether its next step is the fence of the record; and what the record in force names after a step
@@ -66,18 +66,18 @@ stage_names there = if is_stage_written there then new_file there else origin th
 abbrev pub is_at_gfence : Home → Bool
 is_at_gfence there = is_early_next there GFence
 
-abbrev pub stage_stepped : Home → Option Place → Option Place
+abbrev pub stage_stepped : Home → Option GuestPlace → Option GuestPlace
 stage_stepped there was = if is_at_gfence there then stage_names there else was
 
 -- The guest file that stores of the virtual harts of its VM reach, its own too, as its record in
 -- force says; None: its slot of memory.
 -- The hypervisor extension 1.0: address translation.
-abbrev pub peers_reach : Home → Option Place
+abbrev pub peers_reach : Home → Option GuestPlace
 peers_reach there = if is_stage_closed there then new_file there else origin there
 
 -- Where a store may land, of files with so many words: where it was, as long as no word was taken
 -- there; and where its move leads, once a step of the move is done.
-abbrev pub MayLand : ℕ → Home → Option Place → Type 0
+abbrev pub MayLand : ℕ → Home → Option GuestPlace → Type 0
 MayLand words there place = ((place ≡ origin there) × (is_drained words there 0 ≡ false))
     ⊎ ((place ≡ new_file there) × (is_begun there ≡ true))
 

@@ -16,7 +16,7 @@ ghost use Rattle.aia_vcpu.specs.BySteps.{old_file, new_file, is_drained, is_enab
 ghost use Rattle.aia_vcpu.specs.Routes.{entry_names, stage_names, peers_reach, is_closed, is_stage_closed, is_watched, is_at_fence, MayReach, MayLand};
 ghost use Rattle.aia_vcpu.specs.Aims.{is_aiming, further, pass_reaches, AreAimed};
 
-use crate::{Place, Rest, Vm};
+use crate::{GuestPlace, Rest, Vm};
 
 /// The slots of virtual harts are apart, and no slot is past the number of all virtual harts.
 #[tactic(auto, using(crate::proofs::VmLemmas::same_slot, crate::proofs::VmLemmas::slot_below))]
@@ -63,10 +63,10 @@ pub fn a_step_makes_one_access()
 pub fn routes_change_at_their_steps()
     ensures entry { (words : ℕ) (there : Home) → is_moving there ≡ true → entry_names there
         ≡ (if is_made words there WriteEntry then new_file there else old_file there) }
-    ensures devices_before { (words : ℕ) (there : Home) (place : Option Place)
+    ensures devices_before { (words : ℕ) (there : Home) (place : Option GuestPlace)
         → is_moving there ≡ true → is_made words there WriteEntry ≡ false
         → MayReach there place → place ≡ old_file there }
-    ensures devices_after { (words : ℕ) (there : Home) (place : Option Place)
+    ensures devices_after { (words : ℕ) (there : Home) (place : Option GuestPlace)
         → is_moving there ≡ true → is_made words there Fence ≡ true
         → MayReach there place → place ≡ new_file there }
     ensures stage { (words : ℕ) (there : Home) → is_moving there ≡ true → stage_names there
@@ -80,18 +80,18 @@ pub fn routes_change_at_their_steps()
 /// was taken from the old place it leads there no more.
 pub fn the_entry_leads_where_it_may()
     ensures named { (there : Home) → MayReach there (entry_names there) }
-    ensures other_step { (there : Home) (place : Option Place) → is_at_fence there ≡ false
+    ensures other_step { (there : Home) (place : Option GuestPlace) → is_at_fence there ≡ false
         → MayReach there place → MayReach (one_more there) place }
-    ensures fence { (there : Home) (place : Option Place) → is_at_fence there ≡ true
+    ensures fence { (there : Home) (place : Option GuestPlace) → is_at_fence there ≡ true
         → MayReach (one_more there) place → place ≡ entry_names there }
     ensures fenced { (there : Home) → is_at_fence there ≡ true
         → MayReach (one_more there) (entry_names there) }
-    ensures last { (words : ℕ) (there : Home) (place : Option Place)
+    ensures last { (words : ℕ) (there : Home) (place : Option GuestPlace)
         → is_at_last words there ≡ true → MayReach there place → MayReach (ended there) place }
-    ensures lands { (words : ℕ) (there : Home) (place : Option Place)
+    ensures lands { (words : ℕ) (there : Home) (place : Option GuestPlace)
         → MayReach there place → MayLand words there place }
     ensures peers { (words : ℕ) (there : Home) → MayLand words there (peers_reach there) }
-    ensures drained { (words w : ℕ) (there : Home) (place : Option Place)
+    ensures drained { (words w : ℕ) (there : Home) (place : Option GuestPlace)
         → is_moving there ≡ true → is_drained words there w ≡ true
         → MayReach there place → place ≡ new_file there }
 {}
@@ -114,10 +114,10 @@ pub fn passes_lead_where_they_may()
 /// The host is told of the identities of a word while the slot has the word's enables: in a leave
 /// from the step on that puts them there, in an arrival until the one that takes them.
 pub fn a_word_is_watched_with_its_enables()
-    ensures leave { (words : ℕ) (from : Place) (at : Progress) (w : ℕ)
+    ensures leave { (words : ℕ) (from : GuestPlace) (at : Progress) (w : ℕ)
         → is_watched words (OnWay (Outward from) at) w
         ≡ is_made words (OnWay (Outward from) at) (PutEnables w) }
-    ensures arrive { (words : ℕ) (to : Place) (at : Progress) (w : ℕ)
+    ensures arrive { (words : ℕ) (to : GuestPlace) (at : Progress) (w : ℕ)
         → is_watched words (OnWay (Inward to) at) w
         ≡ not (is_made words (OnWay (Inward to) at) (TakeEnables w)) }
 {}
@@ -125,7 +125,7 @@ pub fn a_word_is_watched_with_its_enables()
 /// Whoever comes to rest in memory another way, as one that begins to run from there or ceases to,
 /// has stores led where they went, and the host is told of the same words.
 pub fn running_from_memory_moves_nothing()
-    ensures devices { (rest : Rest) (there : Home) (place : Option Place)
+    ensures devices { (rest : Rest) (there : Home) (place : Option GuestPlace)
         → MayReach there place → MayReach (resting rest there) place }
     ensures peers { (rest : Rest) (there : Home)
         → peers_reach (resting rest there) ≡ peers_reach there }
@@ -141,7 +141,7 @@ pub fn words_move_at_their_steps()
         → pending_step there w ≡ step_of words there (TakePending w) }
     ensures enables { (words : ℕ) (there : Home) (w : ℕ) → is_moving there ≡ true
         → enables_step words there w ≡ step_of words there (TakeEnables w) }
-    ensures looks { (words : ℕ) (from : Place) (at : Progress) (w : ℕ)
+    ensures looks { (words : ℕ) (from : GuestPlace) (at : Progress) (w : ℕ)
         → look_step words w ≡ step_of words (OnWay (Outward from) at) (Look w) }
 {}
 
@@ -150,16 +150,16 @@ pub fn numbers_move_at_their_steps()
     ensures delivery { (words : ℕ) (there : Home) → is_moving there ≡ true
         → delivery_in_own there ≡ (has_access words there TakeDelivery
         && not (is_made words there TakeDelivery)) }
-    ensures leave { (words : ℕ) (from : Place) (at : Progress)
+    ensures leave { (words : ℕ) (from : GuestPlace) (at : Progress)
         → threshold_in_own words (OnWay (Outward from) at)
         ≡ not (is_made words (OnWay (Outward from) at) TakeThreshold) }
-    ensures arrive { (words : ℕ) (to : Place) (at : Progress)
+    ensures arrive { (words : ℕ) (to : GuestPlace) (at : Progress)
         → threshold_in_own words (OnWay (Inward to) at)
         ≡ is_made words (OnWay (Inward to) at) PutThreshold }
-    ensures shift_old { (words : ℕ) (from to : Place) (at : Progress)
+    ensures shift_old { (words : ℕ) (from to : GuestPlace) (at : Progress)
         → threshold_in_own words (OnWay (Across from to) at)
         ≡ not (is_made words (OnWay (Across from to) at) TakeThreshold) }
-    ensures shift_new { (words : ℕ) (from to : Place) (at : Progress)
+    ensures shift_new { (words : ℕ) (from to : GuestPlace) (at : Progress)
         → threshold_in_next words (OnWay (Across from to) at)
         ≡ is_made words (OnWay (Across from to) at) PutThreshold }
 {}

@@ -1,7 +1,7 @@
 -- An access of a move keeps what the places hold; and the files keep their sizes.
 use Rattle.std.proofs.Common.{◌≡◌, Option, ℕ, ◌<◌, Bool, true, false, ◌||◌, refl, sym, ◌∙◌, subst}
 use Rattle.aia_file.specs.InterruptFile.{InterruptFile}
-use Rattle.aia_vcpu.specs.declared.place.Place.{Place}
+use Rattle.aia_vcpu.specs.declared.place.GuestPlace.{GuestPlace}
 use Rattle.aia_vcpu.specs.Home.{Home, one_more}
 use Rattle.aia_vcpu.specs.Plans.{is_at_last, IsNext}
 use Rattle.aia_vcpu.specs.declared.access.Access.{Access}
@@ -46,14 +46,14 @@ sizes_kept n q hart access there v hand u now own next made = subst (λ (x : Pla
 
 -- ---- what they hold
 
-moved_kept : (n words q hart : ℕ) (reach : Option Place) (access : Access) (there : Home) (v : Places) (hand : Hand) (u : Places) (now : Hand) (file : InterruptFile) (saw : Bool) → IsWithin n words file → v.own.n ≡ n → v.next.n ≡ n
+moved_kept : (n words q hart : ℕ) (reach : Option GuestPlace) (access : Access) (there : Home) (v : Places) (hand : Hand) (u : Places) (now : Hand) (file : InterruptFile) (saw : Bool) → IsWithin n words file → v.own.n ≡ n → v.next.n ≡ n
     → FilesFit there → q < SLOTS → hart < HARTS → IsNext words there access → is_at_last words there ≡ false → StepMade q hart access there v hand u now → Holds words q hart reach v there hand file saw
     → Holds words q hart (reach_after access there reach) (places_after q hart access there v hand) (one_more there) now file (saw || sees words there file)
 moved_kept n words q hart reach access (OnWay way at) v hand u now file saw within own next fits low few step more made h = kept_by words q hart reach way at n v hand now file saw within own next fits low few access step more made.carried h
 moved_kept n words q hart reach access there v hand u now file saw within own next fits low few step more made h = let no : false ≡ true = step.has in absurd (cc)
 
 -- the last step of a move ends it: MoveEnds
-pub access_kept : (n words q hart : ℕ) (reach : Option Place) (access : Access) (there : Home) (v : Places) (hand : Hand) (u : Places) (now : Hand) (file : InterruptFile) (saw : Bool) → IsWithin n words file → v.own.n ≡ n → v.next.n ≡ n
+pub access_kept : (n words q hart : ℕ) (reach : Option GuestPlace) (access : Access) (there : Home) (v : Places) (hand : Hand) (u : Places) (now : Hand) (file : InterruptFile) (saw : Bool) → IsWithin n words file → v.own.n ≡ n → v.next.n ≡ n
     → FilesFit there → q < SLOTS → hart < HARTS → IsNext words there access → is_at_last words there ≡ false → StepMade q hart access there v hand u now → Holds words q hart reach v there hand file saw
     → Holds words q hart (reach_stepped there reach) u (one_more there) now file (saw || sees words there file)
 access_kept n words q hart reach access there v hand u now file saw within own next fits low few step more made h =

@@ -9,7 +9,7 @@ use Rattle.aia_file.specs.InterruptFile.{InterruptFile, SameFile, top_of, signal
 use Rattle.aia_file.proofs.FileLemmas.{same_file}
 use Rattle.aia_vcpu.specs.declared.access.Access.TheVariants.{TakeEnables, TakeThreshold, PutThreshold}
 use Rattle.aia_vcpu.specs.Plans.{step_of, first_take, is_made}
-use Rattle.aia_vcpu.specs.declared.place.Place.{Place}
+use Rattle.aia_vcpu.specs.declared.place.GuestPlace.{GuestPlace}
 use Rattle.aia_vcpu.specs.Home.{is_file, Home, old_end, rests_in_memory}
 use Rattle.aia_vcpu.specs.Home.Home.{InMemory, Resident, OnWay}
 use Rattle.aia_vcpu.specs.BySteps.{delivery_in_own}
@@ -36,7 +36,7 @@ at_beginning words first enables done word old new file h e fresh i l =
     untaken : (j : ℕ) → nat_lt (enables + 2 * j) done ≡ false
     untaken j = grind (arith, nat_tests)
 
-module _ (n words q hart : ℕ) (reach : Option Place) (v : Places) (hand : Hand) (file : InterruptFile) (saw : Bool) (within : IsWithin n words file) (size : v.own.n ≡ n) where
+module _ (n words q hart : ℕ) (reach : Option GuestPlace) (v : Places) (hand : Hand) (file : InterruptFile) (saw : Bool) (within : IsWithin n words file) (size : v.own.n ≡ n) where
   all_same : (there : Home) → Holds words q hart reach v there hand file saw → ((i : ℕ) → i / 64 < words → (v.own.pending i ≡ file.pending i) × (v.own.enabled i ≡ file.enabled i))
       → v.own.delivery ≡ file.delivery → v.own.threshold ≡ file.threshold → SameFile v.own file
   all_same there h sets delivery threshold = record {
@@ -66,7 +66,7 @@ module _ (n words q hart : ℕ) (reach : Option Place) (v : Places) (hand : Hand
       (h.numbers.own_threshold ∙ ap (λ b. if (if b then not (is_made words (OnWay way at) TakeThreshold) else is_made words (OnWay way at) PutThreshold) then file.threshold else 0) both.0 ∙ ap (λ b. if b then file.threshold else 0) in_own)
   own_whole there h here = absurd (cc)
 
-  pub resident : (p : Place) → Holds words q hart reach v (Resident p) hand file saw → SameFile v.own file
+  pub resident : (p : GuestPlace) → Holds words q hart reach v (Resident p) hand file saw → SameFile v.own file
   resident p h = own_whole (Resident p) h refl
 
   -- ---- signals
@@ -79,12 +79,12 @@ module _ (n words q hart : ℕ) (reach : Option Place) (v : Places) (hand : Hand
         ap (λ d. nat_eq d 1 && is_some (top_of v.own)) quiet ∙ ap (λ b. b && signals file) (sym off)
   ]
 
-pub next_signals : (words q hart : ℕ) (reach : Option Place) (v : Places) (there : Home) (hand : Hand) (file : InterruptFile) (saw : Bool) → Holds words q hart reach v there hand file saw → signals v.next ≡ false
+pub next_signals : (words q hart : ℕ) (reach : Option GuestPlace) (v : Places) (there : Home) (hand : Hand) (file : InterruptFile) (saw : Bool) → Holds words q hart reach v there hand file saw → signals v.next ≡ false
 next_signals words q hart reach v there hand file saw h = ap (λ d. nat_eq d 1 && is_some (top_of v.next)) h.numbers.next_delivery
 
 -- ---- a resident file is replaced
 
-pub resident_replaced : (n words q hart : ℕ) (reach : Option Place) (v : Places) (p : Place) (hand : Hand) (file after : InterruptFile) (saw : Bool) → IsWithin n words after → Holds words q hart reach v (Resident p) hand file saw
+pub resident_replaced : (n words q hart : ℕ) (reach : Option GuestPlace) (v : Places) (p : GuestPlace) (hand : Hand) (file after : InterruptFile) (saw : Bool) → IsWithin n words after → Holds words q hart reach v (Resident p) hand file saw
     → Holds words q hart reach (record v { own = after }) (Resident p) hand after saw
 resident_replaced n words q hart reach v p hand file after saw within h = record {
   sets = to_sets words hand.word (record v { own = after }) (Resident p) after (stand-holds words hand.word (of_file after) after (λ i l. (refl, refl))) (λ z i l. refl) h.sets.spare
@@ -103,7 +103,7 @@ resident_replaced n words q hart reach v p hand file after saw within h = record
 
 -- ---- one whose interrupts rest in memory
 
-module _ (n words q hart : ℕ) (reach : Option Place) (v : Places) (hand : Hand) (file : InterruptFile) (saw : Bool) where
+module _ (n words q hart : ℕ) (reach : Option GuestPlace) (v : Places) (hand : Hand) (file : InterruptFile) (saw : Bool) where
   pub memory-pending : (there : Home) → rests_in_memory there ≡ true → Holds words q hart reach v there hand file saw → (i : ℕ) → i / 64 < words → v.slot.pending i ≡ file.pending i
   memory-pending (InMemory rest) rests h i l = sym (old_has_all words hand.word (of_slot v.slot) file (of_sets words hand.word v (InMemory rest) file h.sets) i l).0
   memory-pending there rests h i l = absurd (cc)

@@ -5,7 +5,7 @@ use Rattle.std.proofs.lemmas.Bool.Decides.{nat_tests}
 use Rattle.aia_regs.specs.declared.access.Op.TheVariants as ops
 use Rattle.aia_regs.specs.declared.file_registers.FileReg.TheVariants.{Delivery, Threshold}
 use Rattle.aia_file.specs.InterruptFile.{InterruptFile, accessed}
-use Rattle.aia_vcpu.specs.declared.place.Place.{Place}
+use Rattle.aia_vcpu.specs.declared.place.GuestPlace.{GuestPlace}
 use Rattle.aia_vcpu.specs.Home.{Way, left, led_to, old_end, new_end, Home, Progress, one_further}
 use Rattle.aia_vcpu.specs.Home.Home.{OnWay}
 use Rattle.aia_vcpu.specs.Home.Way.{Outward, Inward, Across}
@@ -92,7 +92,7 @@ moving-numbers words (Outward from) at some low = record { delivery = grind (ari
 moving-numbers words (Inward to) at some low = record { delivery = refl; own = grind (arith, nat_tests); next = refl }
 moving-numbers words (Across from to) at some low = record { delivery = grind (arith, nat_tests); own = grind (arith, nat_tests); next = grind (arith, nat_tests) }
 
-chosen : (m k : ℕ) (x y : Option Place) → nat_eq k m ≡ false → (if nat_lt m (k + 1) then x else y) ≡ (if nat_lt m k then x else y)
+chosen : (m k : ℕ) (x y : Option GuestPlace) → nat_eq k m ≡ false → (if nat_lt m (k + 1) then x else y) ≡ (if nat_lt m k then x else y)
 chosen m k x y other = ap (λ b. if b then x else y) (grind (arith, nat_tests))
 
 -- whether the next step writes or fences no route
@@ -148,7 +148,7 @@ with_new-routes (Across from to) at v sets = record { word0 = refl; word1 = refl
 
 -- ---- each access
 
-module _ (words q hart : ℕ) (reach : Option Place) (way : Way) (at : Progress) (n : ℕ) (v : Places) (hand now : Hand) (file : InterruptFile) (saw : Bool)
+module _ (words q hart : ℕ) (reach : Option GuestPlace) (way : Way) (at : Progress) (n : ℕ) (v : Places) (hand now : Hand) (file : InterruptFile) (saw : Bool)
     (within : IsWithin n words file) (own : v.own.n ≡ n) (next : v.next.n ≡ n) (fits : FilesFit (OnWay way at)) (low : q < SLOTS) (few : hart < HARTS) where
   abbrev there : Home
   there = OnWay way at

@@ -13,7 +13,7 @@ use Rattle.aia_word.proofs.LeastLemmas.{least_of-none, least_of-some}
 use Rattle.aia_file.specs.InterruptFile.{InterruptFile, is_live}
 use Rattle.aia_vcpu.specs.declared.access.Access.TheVariants.{Look, TakePending, TakeEnables}
 use Rattle.aia_vcpu.specs.Plans.{plan_step, is_next}
-use Rattle.aia_vcpu.specs.declared.place.Place.{Place}
+use Rattle.aia_vcpu.specs.declared.place.GuestPlace.{GuestPlace}
 use Rattle.aia_vcpu.specs.Home.{Progress}
 use Rattle.aia_vcpu.specs.Home.Home.{OnWay}
 use Rattle.aia_vcpu.specs.declared.end.End.TheVariants.{File, Memory}
@@ -50,7 +50,7 @@ meets-and p e small = elim (cases_eq (bit_and p e) 0) [
 ]
 
 -- the next step of a leave is the look at word w; p and e are both words of the slot
-pub look_meets : (words w word p e : ℕ) (from : Place) (at : Progress) (old new : TwoSets) (file : InterruptFile) → HoldsAt words (plan_step File Memory 0 (TakePending 0)) (plan_step File Memory words (TakeEnables 0)) at.steps word old new file → at.steps ≡ plan_step File Memory words (Look w) → w < words
+pub look_meets : (words w word p e : ℕ) (from : GuestPlace) (at : Progress) (old new : TwoSets) (file : InterruptFile) → HoldsAt words (plan_step File Memory 0 (TakePending 0)) (plan_step File Memory words (TakeEnables 0)) at.steps word old new file → at.steps ≡ plan_step File Memory words (Look w) → w < words
     → Shows p w new.pending → Shows e w new.enabled → meets p e ≡ sees words (OnWay (Outward from) at) file
 look_meets words w word p e from at old new file h step low pending enabled =
     some_same (λ b. has_bit p b && has_bit e b) (λ i. file.pending i && file.enabled i) 0 (64 * w) 64 same ∙ ap (is_live file) here ∙ sym (rw next refl)

@@ -4,7 +4,7 @@ use Rattle.std.proofs.Math.Nat.{mod-eq_of_lt}
 use Rattle.std.proofs.lemmas.Bool.{eqb-true, false≢true}
 use Rattle.std.proofs.lemmas.Bool.Decides.{nat_tests}
 use Rattle.aia_file.specs.InterruptFile.{InterruptFile}
-use Rattle.aia_vcpu.specs.declared.place.Place.{Place}
+use Rattle.aia_vcpu.specs.declared.place.GuestPlace.{GuestPlace}
 use Rattle.aia_vcpu.specs.declared.end.End.{End}
 use Rattle.aia_vcpu.specs.Home.{is_file, end_at, Way, left, led_to, old_end, new_end, Home, Progress, at_first, at_rest, ended}
 use Rattle.aia_vcpu.specs.declared.rest.Rest.{Rest}
@@ -37,19 +37,19 @@ takes_nothing Memory there v hand now e = e
 
 -- ---- it ends
 
-unchosen : (k m : ℕ) (x y : Option Place) → m < k → y ≡ (if nat_lt m k then y else x)
+unchosen : (k m : ℕ) (x y : Option GuestPlace) → m < k → y ≡ (if nat_lt m k then y else x)
 unchosen k m x y high = let late : nat_lt m k ≡ true = grind (arith, nat_tests) in sym (ap (λ b. if b then y else x) late)
 
 -- where it has led is where it rests, and nothing is looked at there
-rests_named : (to : Option Place) → (entry_names (at_rest to) ≡ to) × (stage_names (at_rest to) ≡ to) × (peers_reach (at_rest to) ≡ to)
+rests_named : (to : Option GuestPlace) → (entry_names (at_rest to) ≡ to) × (stage_names (at_rest to) ≡ to) × (peers_reach (at_rest to) ≡ to)
 rests_named None = (refl, refl, refl)
 rests_named (Some p) = (refl, refl, refl)
 
-rests_unseen : (to : Option Place) (seen : Bool) → (is_leaving (at_rest to) && seen) ≡ (is_leaving (at_rest to) && false)
+rests_unseen : (to : Option GuestPlace) (seen : Bool) → (is_leaving (at_rest to) && seen) ≡ (is_leaving (at_rest to) && false)
 rests_unseen None seen = refl
 rests_unseen (Some p) seen = refl
 
-module _ (n words q hart : ℕ) (reach : Option Place) (at : Progress) (v : Places) (hand : Hand) (file : InterruptFile) (saw : Bool) (within : IsWithin n words file) where
+module _ (n words q hart : ℕ) (reach : Option GuestPlace) (at : Progress) (v : Places) (hand : Hand) (file : InterruptFile) (saw : Bool) (within : IsWithin n words file) where
   -- the places after it
   abbrev after : Way → Places
   after way = places_ended n (OnWay way at) (places_after q hart (last_access (new_end way)) (OnWay way at) v hand)
@@ -117,10 +117,10 @@ module _ (n words q hart : ℕ) (reach : Option Place) (at : Progress) (v : Plac
         looks = rests_unseen (led_to way) hand.seen;
       }
 
-unfenced : (there : Home) (was : Option Place) → is_at_fence there ≡ false → reach_stepped there was ≡ was
+unfenced : (there : Home) (was : Option GuestPlace) → is_at_fence there ≡ false → reach_stepped there was ≡ was
 unfenced there was other = ap (λ b. if b then entry_names there else was) other
 
-pub move_ended : (n words q hart : ℕ) (reach : Option Place) (access : Access) (there : Home) (v : Places) (hand : Hand) (u : Places) (now : Hand) (file : InterruptFile) (saw : Bool) → IsWithin n words file
+pub move_ended : (n words q hart : ℕ) (reach : Option GuestPlace) (access : Access) (there : Home) (v : Places) (hand : Hand) (u : Places) (now : Hand) (file : InterruptFile) (saw : Bool) → IsWithin n words file
     → IsNext words there access → is_at_last words there ≡ true → StepMade q hart access there v hand u now → Holds words q hart reach v there hand file saw
     → Holds words q hart (reach_stepped there reach) (places_ended n there u) (ended there) now file false
 move_ended n words q hart reach access (OnWay way at) v hand u now file saw within next last made h =
@@ -136,7 +136,7 @@ move_ended n words q hart reach access there v hand u now file saw within next l
 -- ---- the file that is left
 
 -- the last access is not made there
-left_alone : (q hart : ℕ) (way : Way) (at : Progress) (v : Places) (hand : Hand) (p : Place) → left way ≡ Some p → (places_after q hart (last_access (new_end way)) (OnWay way at) v hand).own ≡ v.own
+left_alone : (q hart : ℕ) (way : Way) (at : Progress) (v : Places) (hand : Hand) (p : GuestPlace) → left way ≡ Some p → (places_after q hart (last_access (new_end way)) (OnWay way at) v hand).own ≡ v.own
 left_alone q hart (Outward from) at v hand p e = refl
 left_alone q hart (Inward to) at v hand p e = absurd (cc)
 left_alone q hart (Across from to) at v hand p e = refl
@@ -147,7 +147,7 @@ threshold_first File File words e = omega arith
 threshold_first File Memory words e = omega arith
 threshold_first Memory to words e = absurd (cc)
 
-pub left_empty : (words q hart : ℕ) (reach : Option Place) (access : Access) (there : Home) (v : Places) (hand : Hand) (u : Places) (now : Hand) (file : InterruptFile) (saw : Bool) (p : Place) → old_file there ≡ Some p
+pub left_empty : (words q hart : ℕ) (reach : Option GuestPlace) (access : Access) (there : Home) (v : Places) (hand : Hand) (u : Places) (now : Hand) (file : InterruptFile) (saw : Bool) (p : GuestPlace) → old_file there ≡ Some p
     → IsNext words there access → is_at_last words there ≡ true → StepMade q hart access there v hand u now → Holds words q hart reach v there hand file saw
     → IsEmpty u.own
 left_empty words q hart reach access (OnWay way at) v hand u now file saw p leaves next last made h =
@@ -163,12 +163,12 @@ left_empty words q hart reach access there v hand u now file saw p leaves next l
 
 -- ---- it begins
 
-resting_may : (there later : Home) (place : Option Place) → origin later ≡ origin there → is_closed later ≡ false → is_written there ≡ false → MayReach there place → MayReach later place
+resting_may : (there later : Home) (place : Option GuestPlace) → origin later ≡ origin there → is_closed later ≡ false → is_written there ≡ false → MayReach there place → MayReach later place
 resting_may there later place same unclosed unwritten (inl p) = inl (p.0 ∙ sym same, unclosed)
 resting_may there later place same unclosed unwritten (inr p) = let no : true ≡ false = sym p.1 ∙ unwritten in absurd (cc)
 
 -- at rest nothing is written yet
-begin-routes : (q hart : ℕ) (reach : Option Place) (v u : Places) (there : Home) (way : Way) → steps_done there ≡ 0 → origin there ≡ left way → SameRoutes v u → HoldsRoutes q hart reach v there → HoldsRoutes q hart reach u (OnWay way at_first)
+begin-routes : (q hart : ℕ) (reach : Option GuestPlace) (v u : Places) (there : Home) (way : Way) → steps_done there ≡ 0 → origin there ≡ left way → SameRoutes v u → HoldsRoutes q hart reach v there → HoldsRoutes q hart reach u (OnWay way at_first)
 begin-routes q hart reach v u there way rests same routes h = routes_stay q hart reach v u there (OnWay way at_first) (record {
   entry = unwritten WriteEntry;
   may = λ place m. resting_may there (OnWay way at_first) place (sym same) (grind (arith, nat_tests)) (grind (arith, nat_tests)) m;
@@ -182,7 +182,7 @@ begin-routes q hart reach v u there way rests same routes h = routes_stay q hart
         let none : is_early_made (OnWay way at_first) access ≡ false = grind (arith, nat_tests) in
         ap (λ b. if b then led_to way else left way) none ∙ sym same ∙ sym (ap (λ b. if b then new_file there else origin there) early)
 
-module _ (n words q hart : ℕ) (reach : Option Place) (v : Places) (hand now : Hand) (file : InterruptFile) (saw : Bool) where
+module _ (n words q hart : ℕ) (reach : Option GuestPlace) (v : Places) (hand now : Hand) (file : InterruptFile) (saw : Bool) where
   -- what the old place has stays, and the new place is empty
   begin-sets : (way : Way) (u : Places) → HoldsAt words 0 0 0 hand.word (old_place u (OnWay way at_first)) no_sets file → ((i : ℕ) → i / 64 < words → ((new_place u (OnWay way at_first)).pending i ≡ false) × ((new_place u (OnWay way at_first)).enabled i ≡ false))
       → IsSpare words u (OnWay way at_first) → IsPast words u → HoldsSets words u (OnWay way at_first) now.word file
@@ -205,7 +205,7 @@ module _ (n words q hart : ℕ) (reach : Option Place) (v : Places) (hand now : 
       }
 
   -- nothing was seen yet
-  pub leave_begins : (p : Place) → now.seen ≡ false → Holds words q hart reach v (Resident p) hand file saw → Holds words q hart reach v (OnWay (Outward p) at_first) now file false
+  pub leave_begins : (p : GuestPlace) → now.seen ≡ false → Holds words q hart reach v (Resident p) hand file saw → Holds words q hart reach v (OnWay (Outward p) at_first) now file false
   leave_begins p unseen h = record {
     sets = begin-sets (Outward p) v (of_sets words hand.word v (Resident p) file h.sets) h.sets.spare (λ i l. (refl, refl)) h.sets.past;
     numbers = begin-numbers (Outward p) v refl h.numbers.own_delivery h.numbers.own_threshold h.numbers.next_delivery h.numbers.next_threshold;
@@ -214,7 +214,7 @@ module _ (n words q hart : ℕ) (reach : Option Place) (v : Places) (hand now : 
   }
 
   -- the new file is empty; all else of the places is as it was
-  pub shift_begins : (p to : Place) (u : Places) → u ≡ record v { next = u.next } → IsEmpty u.next → Holds words q hart reach v (Resident p) hand file saw → Holds words q hart reach u (OnWay (Across p to) at_first) now file false
+  pub shift_begins : (p to : GuestPlace) (u : Places) → u ≡ record v { next = u.next } → IsEmpty u.next → Holds words q hart reach v (Resident p) hand file saw → Holds words q hart reach u (OnWay (Across p to) at_first) now file false
   shift_begins p to u same empty h = subst (λ (x : Places). Holds words q hart reach x (OnWay (Across p to) at_first) now file false) (sym same) (record {
     sets = begin-sets (Across p to) (record v { next = u.next }) (of_sets words hand.word v (Resident p) file h.sets) (λ i l. (empty.pending i, empty.enabled i)) h.sets.spare (λ i l. let p = h.sets.past i l in (p.0, p.1, empty.pending i, empty.enabled i, p.4));
     numbers = begin-numbers (Across p to) (record v { next = u.next }) refl h.numbers.own_delivery h.numbers.own_threshold empty.delivery empty.threshold;
@@ -223,7 +223,7 @@ module _ (n words q hart : ℕ) (reach : Option Place) (v : Places) (hand now : 
   })
 
   -- the numbers that were kept are carried
-  pub arrive_begins : {rest : Rest} (to : Place) (u : Places) → u ≡ record v { own = u.own } → IsEmpty u.own → now.delivery ≡ hand.delivery → now.threshold ≡ hand.threshold → Holds words q hart reach v (InMemory rest) hand file saw
+  pub arrive_begins : {rest : Rest} (to : GuestPlace) (u : Places) → u ≡ record v { own = u.own } → IsEmpty u.own → now.delivery ≡ hand.delivery → now.threshold ≡ hand.threshold → Holds words q hart reach v (InMemory rest) hand file saw
       → Holds words q hart reach u (OnWay (Inward to) at_first) now file false
   arrive_begins {rest = rest} to u same empty delivery threshold h = subst (λ (x : Places). Holds words q hart reach x (OnWay (Inward to) at_first) now file false) (sym same) (record {
     sets = begin-sets (Inward to) (record v { own = u.own }) (of_sets words hand.word v (InMemory rest) file h.sets) (λ i l. (empty.pending i, empty.enabled i)) (λ i l. (refl, refl)) (λ i l. let p = h.sets.past i l in (empty.pending i, empty.enabled i, p.2, p.3, p.4));

@@ -3,7 +3,7 @@ use Rattle.std.proofs.Common.{◌≡◌, ◌≢◌, ℕ, ◌/◌, ◌%◌, ◌<�
 use Rattle.std.proofs.lemmas.Bool.{cases_lt}
 use Rattle.std.proofs.lemmas.Bool.Decides.{nat_tests}
 use Rattle.aia_file.specs.InterruptFile.{InterruptFile}
-use Rattle.aia_vcpu.specs.declared.place.Place.{Place}
+use Rattle.aia_vcpu.specs.declared.place.GuestPlace.{GuestPlace}
 use Rattle.aia_vcpu.proofs.HomeLemmas.{is_itself_place}
 use Rattle.aia_vcpu.specs.Home.{is_file, end_at, old_end, Home, is_moving, is_place}
 use Rattle.aia_vcpu.specs.Home.Home.{OnWay}
@@ -26,7 +26,7 @@ pub two_ends : (there : Home) → is_moving there ≡ true → AreApart there �
 two_ends (OnWay (Across from to) at) moves apart = λ e. let same : to ≡ from = cc in let itself : is_place from to ≡ true = rw same (is_itself_place from) in let no : true ≡ false = sym itself ∙ apart in absurd (cc)
 two_ends there moves apart = λ e. absurd (cc)
 
-module _ (words q hart : ℕ) (reach : Option Place) (v : Places) (there : Home) (hand : Hand) (file : InterruptFile) (saw : Bool) (moves : is_moving there ≡ true) (h : Holds words q hart reach v there hand file saw) where
+module _ (words q hart : ℕ) (reach : Option GuestPlace) (v : Places) (there : Home) (hand : Hand) (file : InterruptFile) (saw : Bool) (moves : is_moving there ≡ true) (h : Holds words q hart reach v there hand file saw) where
   pub closing_knows : has_come words there ClosingPhase ≡ true → v.in_force ≡ leads_to q hart (new_file there)
   closing_knows come = h.routes.in_force ∙ ap (leads_to q hart) (closed_reach there reach (closing_closed words there moves come) h.routes.may)
 
@@ -61,7 +61,7 @@ module _ (words q hart : ℕ) (reach : Option Place) (v : Places) (there : Home)
       (h.sets.old_enables i low ∙ ap (λ b. not b && file.enabled i) both.0, h.sets.new_enables i low ∙ ap (λ b. b && file.enabled i) both.1)
 
 -- the file that is left, once only its threshold may be there
-pub last_knows : (words q hart : ℕ) (reach : Option Place) (v : Places) (there : Home) (hand : Hand) (file : InterruptFile) (saw : Bool) (p : Place) → old_file there ≡ Some p
+pub last_knows : (words q hart : ℕ) (reach : Option GuestPlace) (v : Places) (there : Home) (hand : Hand) (file : InterruptFile) (saw : Bool) (p : GuestPlace) → old_file there ≡ Some p
     → has_come words there LastPhase ≡ true → Holds words q hart reach v there hand file saw
     → IsEmpty (record v.own { threshold = 0 }) × (v.own.threshold ≡ (if is_made words there TakeThreshold then 0 else file.threshold))
 last_knows words q hart reach v (OnWay way at) hand file saw p old come h =

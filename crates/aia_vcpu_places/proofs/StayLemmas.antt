@@ -2,7 +2,7 @@
 use Rattle.std.proofs.Common.{◌≡◌, ℕ, ◌+◌, ◌*◌, ◌/◌, ◌<◌, ◌≤◌, Bool, true, false, ◌||◌, if◌then◌else◌, nat_eq, nat_lt, Option, refl, sym, ap, ◌∙◌, arith}
 use Rattle.std.proofs.lemmas.Bool.Decides.{nat_tests}
 use Rattle.aia_file.specs.InterruptFile.{InterruptFile}
-use Rattle.aia_vcpu.specs.declared.place.Place.{Place}
+use Rattle.aia_vcpu.specs.declared.place.GuestPlace.{GuestPlace}
 use Rattle.aia_vcpu.specs.declared.end.End.{End}
 use Rattle.aia_vcpu.specs.Home.{is_file, Home, Progress}
 use Rattle.aia_vcpu.specs.Home.Home.{OnWay}
@@ -128,11 +128,11 @@ pub record SameRoutes (v u : Places) : Type 0 where
 
 pub record RoutesStay (there later : Home) : Type 0 where
   pub entry : entry_names later ≡ entry_names there
-  pub may : (place : Option Place) → MayReach there place → MayReach later place
+  pub may : (place : Option GuestPlace) → MayReach there place → MayReach later place
   pub stage : stage_names later ≡ stage_names there
   pub peers : peers_reach later ≡ peers_reach there
 
-pub routes_stay : (q hart : ℕ) (reach : Option Place) (v u : Places) (there later : Home) → RoutesStay there later → SameRoutes v u → HoldsRoutes q hart reach v there → HoldsRoutes q hart reach u later
+pub routes_stay : (q hart : ℕ) (reach : Option GuestPlace) (v u : Places) (there later : Home) → RoutesStay there later → SameRoutes v u → HoldsRoutes q hart reach v there → HoldsRoutes q hart reach u later
 routes_stay q hart reach v u there later stay same p = record {
   word0 = same.word0 ∙ p.word0 ∙ ap (entry_word q) (sym stay.entry);
   word1 = same.word1 ∙ p.word1;
@@ -148,10 +148,10 @@ pub or_false : (b : Bool) → (b || false) ≡ b
 or_false true = refl
 or_false false = refl
 
-pub unseen-before : (words : ℕ) (from : Place) (at : Progress) (file : InterruptFile) → at.steps < plan_step File Memory words (Look 0) → sees words (OnWay (Outward from) at) file ≡ false
+pub unseen-before : (words : ℕ) (from : GuestPlace) (at : Progress) (file : InterruptFile) → at.steps < plan_step File Memory words (Look 0) → sees words (OnWay (Outward from) at) file ≡ false
 unseen-before words from at file low = let none : is_next words (OnWay (Outward from) at) (Look (look_word words (OnWay (Outward from) at))) ≡ false = grind (arith, nat_tests) in rw none refl
 
-pub unseen-after : (words : ℕ) (from : Place) (at : Progress) (file : InterruptFile) → plan_step File Memory words TakeThreshold ≤ at.steps → sees words (OnWay (Outward from) at) file ≡ false
+pub unseen-after : (words : ℕ) (from : GuestPlace) (at : Progress) (file : InterruptFile) → plan_step File Memory words TakeThreshold ≤ at.steps → sees words (OnWay (Outward from) at) file ≡ false
 unseen-after words from at file high = let none : is_next words (OnWay (Outward from) at) (Look (look_word words (OnWay (Outward from) at))) ≡ false = grind (arith, nat_tests) in rw none refl
 
 pub seen_stays : (words : ℕ) (there : Home) (file : InterruptFile) (had has saw : Bool) → has ≡ had → sees words there file ≡ false → had ≡ saw → has ≡ (saw || sees words there file)

@@ -6,7 +6,7 @@ use Rattle.aia_regs.specs.declared.access.Op.TheVariants as ops
 use Rattle.aia_regs.specs.declared.file_registers.FileReg.TheVariants.{Delivery, Threshold}
 use Rattle.aia_file.specs.InterruptFile.{InterruptFile, accessed}
 use Rattle.aia_entry.specs.Format.{decoded}
-use Rattle.aia_vcpu.specs.declared.place.Place.{Place}
+use Rattle.aia_vcpu.specs.declared.place.GuestPlace.{GuestPlace}
 use Rattle.aia_vcpu.specs.Home.{Home}
 use Rattle.aia_vcpu.specs.Routes.{entry_names, stage_names, peers_reach, MayReach}
 use Rattle.aia_vcpu.specs.BySteps.{delivery_in_own, threshold_in_own, threshold_in_next}
@@ -75,8 +75,8 @@ module _ (words : ℕ) (v : Places) (there later : Home) (hand now : Hand) (file
 
 -- ---- the routes
 
-module _ (q hart : ℕ) (reach : Option Place) (v : Places) (there later : Home) (to : Option Place) (p : HoldsRoutes q hart reach v there) where
-  pub write_entry-routes : entry_names later ≡ to → ((place : Option Place) → MayReach there place → MayReach later place) → stage_names later ≡ stage_names there → peers_reach later ≡ peers_reach there
+module _ (q hart : ℕ) (reach : Option GuestPlace) (v : Places) (there later : Home) (to : Option GuestPlace) (p : HoldsRoutes q hart reach v there) where
+  pub write_entry-routes : entry_names later ≡ to → ((place : Option GuestPlace) → MayReach there place → MayReach later place) → stage_names later ≡ stage_names there → peers_reach later ≡ peers_reach there
       → HoldsRoutes q hart reach (record v { word0 = entry_word q to }) later
   write_entry-routes entry devices stage peers = record {
     word0 = ap (entry_word q) (sym entry);
@@ -87,7 +87,7 @@ module _ (q hart : ℕ) (reach : Option Place) (v : Places) (there later : Home)
     stage_in_force = p.stage_in_force ∙ sym peers;
   }
 
-  pub map-routes : entry_names later ≡ entry_names there → ((place : Option Place) → MayReach there place → MayReach later place) → stage_names later ≡ to → peers_reach later ≡ peers_reach there
+  pub map-routes : entry_names later ≡ entry_names there → ((place : Option GuestPlace) → MayReach there place → MayReach later place) → stage_names later ≡ to → peers_reach later ≡ peers_reach there
       → HoldsRoutes q hart reach (record v { stage = to }) later
   map-routes entry devices stage peers = record {
     word0 = p.word0 ∙ ap (entry_word q) (sym entry);
@@ -99,7 +99,7 @@ module _ (q hart : ℕ) (reach : Option Place) (v : Places) (there later : Home)
   }
 
   pub fence-routes : entry_names there ≡ to → entry_names later ≡ to → MayReach later (entry_names there) → stage_names later ≡ stage_names there → peers_reach later ≡ peers_reach there
-      → q < SLOTS → hart < HARTS → ((f : Place) → to ≡ Some f → IsInMap f) → HoldsRoutes q hart (entry_names there) (record v { in_force = decoded v.word0 v.word1 }) later
+      → q < SLOTS → hart < HARTS → ((f : GuestPlace) → to ≡ Some f → IsInMap f) → HoldsRoutes q hart (entry_names there) (record v { in_force = decoded v.word0 v.word1 }) later
   fence-routes entry entry_later devices stage peers low few fits = record {
     word0 = p.word0 ∙ ap (entry_word q) (entry ∙ sym entry_later);
     word1 = p.word1;
@@ -109,7 +109,7 @@ module _ (q hart : ℕ) (reach : Option Place) (v : Places) (there later : Home)
     stage_in_force = p.stage_in_force ∙ sym peers;
   }
 
-  pub gfence-routes : entry_names later ≡ entry_names there → ((place : Option Place) → MayReach there place → MayReach later place) → stage_names there ≡ to → stage_names later ≡ to → peers_reach later ≡ to
+  pub gfence-routes : entry_names later ≡ entry_names there → ((place : Option GuestPlace) → MayReach there place → MayReach later place) → stage_names there ≡ to → stage_names later ≡ to → peers_reach later ≡ to
       → HoldsRoutes q hart reach (record v { stage_in_force = v.stage }) later
   gfence-routes entry devices stage stage_later peers = record {
     word0 = p.word0 ∙ ap (entry_word q) (sym entry);

@@ -11,7 +11,7 @@ use Rattle.aia_file.specs.InterruptFile.{InterruptFile, landed}
 use Rattle.aia_file.specs.Mrif.{after_store}
 use Rattle.aia_vcpu.specs.declared.access.Access.TheVariants.{TakePending, TakeEnables}
 use Rattle.aia_vcpu.specs.Plans.{plan_step, step_of, steps_done, first_take}
-use Rattle.aia_vcpu.specs.declared.place.Place.{Place}
+use Rattle.aia_vcpu.specs.declared.place.GuestPlace.{GuestPlace}
 use Rattle.aia_vcpu.proofs.HomeLemmas.{is_itself_place, left_is_own}
 use Rattle.aia_vcpu.specs.Home.{Way, left, led_to, old_end, new_end, Home, Progress, is_place}
 use Rattle.aia_vcpu.specs.declared.rest.Rest.{Rest}
@@ -57,7 +57,7 @@ past_names (Some x) n i high = elim (cases_eq x i) [
 
 -- ---- where it lands
 
-module _ (n words q hart offset value : ℕ) (reach : Option Place) (v : Places) (hand : Hand) (file : InterruptFile) (saw : Bool) (within : IsWithin n words file) (few : words ≤ FILE_WORDS) where
+module _ (n words q hart offset value : ℕ) (reach : Option GuestPlace) (v : Places) (hand : Hand) (file : InterruptFile) (saw : Bool) (within : IsWithin n words file) (few : words ≤ FILE_WORDS) where
   -- what it asks for, of this file
   abbrev wanted : ℕ → Bool
   wanted i = names (requested file.n offset value) i
@@ -128,13 +128,13 @@ module _ (n words q hart offset value : ℕ) (reach : Option Place) (v : Places)
     in_new : ((i : ℕ) → i / 64 < words → after i ≡ (wanted i || (new_place v there).pending i)) → AsSets there (old_place v there) (record (new_place v there) { pending = after })
     in_new asks = lands_in_new-holds words (first_take there) (step_of words there (TakeEnables 0)) (steps_done there) hand.word (old_place v there) (new_place v there) file (of_sets words hand.word v there file h.sets) wanted after (landed offset value file).pending in_file asks
 
-  abbrev Kept : Option Place → Home → Type 0
+  abbrev Kept : Option GuestPlace → Home → Type 0
   Kept place there = Lands there (places_landed place there offset value v)
 
   parked-lands : (rest : Rest) → Kept None (InMemory rest)
   parked-lands rest h = memory-lands (InMemory rest) (in_old (InMemory rest) h in_memory.slot.pending (omega arith) in_slot) (λ z i l. refl) (λ i l. (refl, refl)) h
 
-  resident-lands : (p : Place) → v.own.n ≡ n → Kept (Some p) (Resident p)
+  resident-lands : (p : GuestPlace) → v.own.n ≡ n → Kept (Some p) (Resident p)
   resident-lands p size h = own-lands (Resident p) size (in_old (Resident p) h in_own_file.own.pending (omega arith) (in_own size)) (λ z i l. refl) h.sets.spare h
 
   old-lands : (way : Way) (at : Progress) → v.own.n ≡ n → HasApart way → at.steps ≤ plan_step (old_end way) (new_end way) 0 (TakePending 0) → Kept (left way) (OnWay way at)
@@ -148,7 +148,7 @@ module _ (n words q hart offset value : ℕ) (reach : Option Place) (v : Places)
   new-lands (Across from to) at size next_size some h = let there = OnWay (Across from to) at in rw (is_itself_place to) (next-lands there next_size (in_new there h in_next_file.next.pending (in_next next_size)) (λ z i l. absurd (omega arith)) h.sets.spare h)
 
   -- wherever a store may land
-  pub lands : (there : Home) → v.own.n ≡ n → v.next.n ≡ n → AreApart there → (place : Option Place) → MayLand words there place → Kept place there
+  pub lands : (there : Home) → v.own.n ≡ n → v.next.n ≡ n → AreApart there → (place : Option GuestPlace) → MayLand words there place → Kept place there
   lands (InMemory rest) size next_size apart place (inl p) = subst (λ o. Kept o (InMemory rest)) (sym p.0) (parked-lands rest)
   lands (InMemory rest) size next_size apart place (inr p) = absurd (cc)
   lands (Resident in_file) size next_size apart place (inl p) = subst (λ o. Kept o (Resident in_file)) (sym p.0) (resident-lands in_file size)
@@ -160,14 +160,14 @@ module _ (n words q hart offset value : ℕ) (reach : Option Place) (v : Places)
   pub device_lands : (there : Home) → v.own.n ≡ n → v.next.n ≡ n → AreApart there → Kept reach there
   device_lands there size next_size apart h = lands there size next_size apart reach (reach_lands words there reach h.routes.may) h
 
-  pub flying_lands : (there : Home) → v.own.n ≡ n → v.next.n ≡ n → AreApart there → (place : Option Place) → MayReach there place → Kept place there
+  pub flying_lands : (there : Home) → v.own.n ≡ n → v.next.n ≡ n → AreApart there → (place : Option GuestPlace) → MayReach there place → Kept place there
   flying_lands there size next_size apart place may = lands there size next_size apart place (reach_lands words there place may)
 
   pub peer_lands : (there : Home) → v.own.n ≡ n → v.next.n ≡ n → AreApart there → Kept (peers_reach there) there
   peer_lands there size next_size apart = lands there size next_size apart (peers_reach there) (peers_may words there)
 
 -- an entry is fetched before its fence
-pub refetch_kept : (words q hart : ℕ) (reach : Option Place) (v : Places) (there : Home) (hand : Hand) (file : InterruptFile) (saw : Bool) → FilesFit there → q < SLOTS → hart < HARTS
+pub refetch_kept : (words q hart : ℕ) (reach : Option GuestPlace) (v : Places) (there : Home) (hand : Hand) (file : InterruptFile) (saw : Bool) → FilesFit there → q < SLOTS → hart < HARTS
     → Holds words q hart reach v there hand file saw → Holds words q hart (entry_names there) (record v { in_force = decoded v.word0 v.word1 }) there hand file saw
 refetch_kept words q hart reach v there hand file saw fits low few h = record {
   sets = to_sets words hand.word (record v { in_force = decoded v.word0 v.word1 }) there file (of_sets words hand.word v there file h.sets) (is_fresh words hand.word v there file h.sets) h.sets.spare h.sets.past;
@@ -190,17 +190,17 @@ refetch_kept words q hart reach v there hand file saw fits low few h = record {
   looks = h.looks;
 }
   where
-    chosen_fits : (b : Bool) (x y : Option Place) → ((p : Place) → x ≡ Some p → IsInMap p) → ((p : Place) → y ≡ Some p → IsInMap p) → (p : Place) → (if b then x else y) ≡ Some p → IsInMap p
+    chosen_fits : (b : Bool) (x y : Option GuestPlace) → ((p : GuestPlace) → x ≡ Some p → IsInMap p) → ((p : GuestPlace) → y ≡ Some p → IsInMap p) → (p : GuestPlace) → (if b then x else y) ≡ Some p → IsInMap p
     chosen_fits true x y f g = f
     chosen_fits false x y f g = g
 
-    names_fit : (there : Home) → FilesFit there → (p : Place) → entry_names there ≡ Some p → IsInMap p
+    names_fit : (there : Home) → FilesFit there → (p : GuestPlace) → entry_names there ≡ Some p → IsInMap p
     names_fit (Resident r) fits p e = fits.own p e
     names_fit (OnWay way at) fits p e = chosen_fits (is_written (OnWay way at)) (led_to way) (left way) (new_fits way at fits) (λ f z. fits.own f (left_is_own way f z)) p e
     names_fit there fits p e = absurd (cc)
 
 -- the files keep their sizes
-pub places_landed-sizes : (n offset value : ℕ) (reach : Option Place) (there : Home) (v : Places) → v.own.n ≡ n → v.next.n ≡ n
+pub places_landed-sizes : (n offset value : ℕ) (reach : Option GuestPlace) (there : Home) (v : Places) → v.own.n ≡ n → v.next.n ≡ n
     → ((places_landed reach there offset value v).own.n ≡ n) × ((places_landed reach there offset value v).next.n ≡ n)
 places_landed-sizes n offset value None there v own next = (own, next)
 places_landed-sizes n offset value (Some p) (OnWay (Across from to) at) v own next = either (is_place p to)

@@ -9,7 +9,7 @@ use Rattle.aia_file.specs.InterruptFile.{InterruptFile}
 use Rattle.aia_file.specs.Mrif.{stored}
 use Rattle.aia_file.specs.declared.stored.Stored.{Stored}
 use Rattle.aia_file.specs.declared.stored.Stored.TheVariants.{Discarded, Quiet, Notice}
-use Rattle.aia_vcpu.specs.declared.place.Place.{Place}
+use Rattle.aia_vcpu.specs.declared.place.GuestPlace.{GuestPlace}
 use Rattle.aia_vcpu.specs.declared.end.End.{End}
 use Rattle.aia_vcpu.specs.Home.{Home, old_end, new_end}
 use Rattle.aia_vcpu.specs.Home.Home.{InMemory, Resident, OnWay}
@@ -21,7 +21,7 @@ use Rattle.aia_vcpu_places.specs.Places.{Places, old_sets, new_sets, spare_sets}
 use Rattle.aia_vcpu_places.specs.Holds.{IsWithin, Hand, Holds}
 use Rattle.aia_regs.specs.declared.limits.TheConstants.{IDENTITIES, FILE_WORDS}
 
-pub slot_watches : (words q hart : ℕ) (reach : Option Place) (v : Places) (there : Home) (hand : Hand) (file : InterruptFile) (saw : Bool) → Holds words q hart reach v there hand file saw
+pub slot_watches : (words q hart : ℕ) (reach : Option GuestPlace) (v : Places) (there : Home) (hand : Hand) (file : InterruptFile) (saw : Bool) → Holds words q hart reach v there hand file saw
     → (i : ℕ) → i / 64 < words → v.slot.enabled i ≡ (is_watched words there (i / 64) && file.enabled i)
 slot_watches words q hart reach v (InMemory rest) hand file saw h i l = h.sets.old_enables i l ∙ ap (λ b. b && file.enabled i) (has (i / 64) l)
   where
@@ -67,7 +67,7 @@ swapped true false = refl
 swapped false true = refl
 swapped false false = refl
 
-module _ (n words q hart : ℕ) (reach : Option Place) (v : Places) (there : Home) (hand : Hand) (file : InterruptFile) (saw : Bool) (within : IsWithin n words file) (few : words ≤ FILE_WORDS) (h : Holds words q hart reach v there hand file saw) where
+module _ (n words q hart : ℕ) (reach : Option GuestPlace) (v : Places) (there : Home) (hand : Hand) (file : InterruptFile) (saw : Bool) (within : IsWithin n words file) (few : words ≤ FILE_WORDS) (h : Holds words q hart reach v there hand file saw) where
   told_by : (o : Option ℕ) → is_notice (stored v.slot (implemented IDENTITIES o)) ≡ sends_notice words there file.enabled (implemented n o)
   told_by None = refl
   told_by (Some x) = elim (cases_Bool (is_in_range 1 n x)) [
@@ -91,5 +91,5 @@ module _ (n words q hart : ℕ) (reach : Option Place) (v : Places) (there : Hom
   pub told_alike : (offset value : ℕ) → (stored v.slot (requested IDENTITIES offset value) ≡ Notice) ↔ (sends_notice words there file.enabled (requested n offset value) ≡ true)
   told_alike offset value = (λ e. sym (notices_alike offset value) ∙ ap is_notice e, λ e. is_notice-true _ (notices_alike offset value ∙ e))
 
-pub slot_past : (words q hart : ℕ) (reach : Option Place) (v : Places) (there : Home) (hand : Hand) (file : InterruptFile) (saw : Bool) → Holds words q hart reach v there hand file saw → (i : ℕ) → words ≤ i / 64 → v.slot.enabled i ≡ false
+pub slot_past : (words q hart : ℕ) (reach : Option GuestPlace) (v : Places) (there : Home) (hand : Hand) (file : InterruptFile) (saw : Bool) → Holds words q hart reach v there hand file saw → (i : ℕ) → words ≤ i / 64 → v.slot.enabled i ≡ false
 slot_past words q hart reach v there hand file saw h i past = (h.sets.past i past).4

@@ -3,7 +3,7 @@ use Rattle.std.specs.Prelude.{◌≡◌, ℕ, ◌+◌, ◌*◌, ◌/◌, ◌%◌
 use Rattle.aia_word.specs.Sets.{has_bit, least_of}
 use Rattle.aia_file.specs.InterruptFile.{InterruptFile, is_live}
 use Rattle.aia_file.specs.Mrif.{Mrif}
-use Rattle.aia_vcpu.specs.declared.place.Place.{Place}
+use Rattle.aia_vcpu.specs.declared.place.GuestPlace.{GuestPlace}
 use Rattle.aia_vcpu.specs.Home.{Home}
 use Rattle.aia_vcpu.specs.Plans.{is_begun, is_last_made}
 use Rattle.aia_vcpu.specs.declared.access.Access.TheVariants.{TakePending, TakeEnables}
@@ -78,7 +78,7 @@ pub record HoldsNumbers (words : ℕ) (v : Places) (there : Home) (hand : Hand) 
 -- The routes are written as the move has made them, and so is the record in force; the entry in
 -- force leads to a place to which it may lead. Of the virtual hart of slot q, whose notices go to a
 -- hart.
-pub record HoldsRoutes (q notice_hart : ℕ) (reach : Option Place) (v : Places) (there : Home)
+pub record HoldsRoutes (q notice_hart : ℕ) (reach : Option GuestPlace) (v : Places) (there : Home)
     : Type 0 where
   pub word0 : v.word0 ≡ entry_word q (entry_names there)
   pub word1 : v.word1 ≡ second_word q notice_hart
@@ -110,7 +110,7 @@ pub record HasSets (words : ℕ) (slot : Mrif) (file : InterruptFile) : Type 0 w
 
 -- The places hold a file; `reach`: where the entry in force leads; `saw`: a look of the leave under
 -- way saw something.
-pub record Holds (words q notice_hart : ℕ) (reach : Option Place) (v : Places) (there : Home)
+pub record Holds (words q notice_hart : ℕ) (reach : Option GuestPlace) (v : Places) (there : Home)
     (hand : Hand) (file : InterruptFile) (saw : Bool) : Type 0 where
   pub sets : HoldsSets words v there hand.word file
   pub numbers : HoldsNumbers words v there hand file

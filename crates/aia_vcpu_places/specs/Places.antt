@@ -7,7 +7,7 @@ use Rattle.aia_file.specs.Mrif.{Mrif}
 use Rattle.aia_entry.specs.declared.entry.Entry.{Entry}
 use Rattle.aia_entry.specs.declared.entry.Entry.TheVariants as entries
 use Rattle.aia_entry.specs.Format.{basic_word, mrif_word, notice_word}
-use Rattle.aia_vcpu.specs.declared.place.Place.{Place}
+use Rattle.aia_vcpu.specs.declared.place.GuestPlace.{GuestPlace}
 use Rattle.aia_vcpu.specs.declared.end.End.{End}
 use Rattle.aia_vcpu.specs.Home.{Home, old_end, new_end}
 use Rattle.aia_vcpu.specs.Home.Home.{Resident, OnWay}
@@ -25,8 +25,8 @@ pub record Places : Type 0 where
   pub word0 : ℕ
   pub word1 : ℕ
   pub in_force : Entry
-  pub stage : Option Place
-  pub stage_in_force : Option Place
+  pub stage : Option GuestPlace
+  pub stage_in_force : Option GuestPlace
 
 -- ---- its places by what a move does with them
 
@@ -80,13 +80,13 @@ spare_place v there = no_sets
 
 -- The entry that leads to a guest file, or to slot q, whose notices go to a hart, with the slot's
 -- number, counted from 1, as identity.
-abbrev pub leads_to : ℕ → ℕ → Option Place → Entry
+abbrev pub leads_to : ℕ → ℕ → Option GuestPlace → Entry
 leads_to q notice_hart None =
     entries.Mrif (slot_address q) (supervisor_page notice_hart / PAGE) (q + 1)
 leads_to q notice_hart (Some p) = entries.Basic (guest_page p.hart p.file / PAGE)
 
 -- Word 0 of that entry; and word 1, which a basic entry has too, from the VM's making on.
-abbrev pub entry_word : ℕ → Option Place → ℕ
+abbrev pub entry_word : ℕ → Option GuestPlace → ℕ
 entry_word q None = mrif_word (slot_address q)
 entry_word q (Some p) = basic_word (guest_page p.hart p.file / PAGE)
 
@@ -95,10 +95,10 @@ second_word q notice_hart = notice_word (supervisor_page notice_hart / PAGE) (q 
 
 -- A guest file that a machine may have: they are numbered from 1. Profile: how many harts and guest
 -- files there are.
-abbrev pub IsInMap : Place → Type 0
+abbrev pub IsInMap : GuestPlace → Type 0
 IsInMap p = (p.hart < HARTS) × (p.file ≤ GUEST_FILES) × (1 ≤ p.file)
 
 -- The guest files of a home are such ones.
 pub record FilesFit (there : Home) : Type 0 where
-  pub own : (p : Place) → own_file there ≡ Some p → IsInMap p
-  pub next : (p : Place) → next_file there ≡ Some p → IsInMap p
+  pub own : (p : GuestPlace) → own_file there ≡ Some p → IsInMap p
+  pub next : (p : GuestPlace) → next_file there ≡ Some p → IsInMap p

@@ -2,14 +2,14 @@
 use Rattle.std.specs.Prelude.{◌≡◌, ℕ, false, if◌then◌else◌, Option, Some, None}
 use Rattle.aia_file.specs.InterruptFile.{landed}
 use Rattle.aia_file.specs.Mrif.{after_store}
-use Rattle.aia_vcpu.specs.declared.place.Place.{Place}
+use Rattle.aia_vcpu.specs.declared.place.GuestPlace.{GuestPlace}
 use Rattle.aia_vcpu.specs.Home.{Way, Home, is_place}
 use Rattle.aia_vcpu.specs.Home.Home.{OnWay}
 use Rattle.aia_vcpu.specs.Home.Way.{Across}
 use Rattle.aia_vcpu_places.specs.Places.{Places}
 
 -- A 32-bit store of a value at an offset lands in one of its guest files, or in its slot of memory.
-abbrev pub places_landed : Option Place → Home → ℕ → ℕ → Places → Places
+abbrev pub places_landed : Option GuestPlace → Home → ℕ → ℕ → Places → Places
 places_landed None there offset value v = record v { slot = after_store offset value v.slot }
 places_landed (Some p) (OnWay (Across from to) at) offset value v =
     if is_place p to then record v { next = landed offset value v.next }

@@ -8,7 +8,7 @@ use Rattle.aia_file.specs.InterruptFile.{SameFile, register_value, top_of, acces
 use Rattle.aia_file.specs.FileState.{FileState, shown}
 use Rattle.aia_file.specs.declared.spot.Spot.{Spot}
 use Rattle.aia_file.specs.Imsic.{IsThere, file_at, with_file}
-use Rattle.aia_vcpu.specs.declared.place.Place.{Place}
+use Rattle.aia_vcpu.specs.declared.place.GuestPlace.{GuestPlace}
 use Rattle.aia_vcpu.specs.Vms.{Vcpu, vcpu, is_vcpu_in}
 use Rattle.aia_fabric_values.specs.Whole.{IsWhole}
 use Rattle.aia_fabric_values.specs.Changes.{spot_of}
@@ -32,12 +32,12 @@ use Rattle.aia_hyp.proofs.hypervisor_core.Core.guest_access.Goals.{After-access_
 use Rattle.aia_hyp.proofs.hypervisor_core.Core.guest_access.Goals as goal
 
 -- what the call was asked, of the core before it
-record IsAsked (x : CoreState) (g : Vcpu) (p : Place) : Type 0 where
+record IsAsked (x : CoreState) (g : Vcpu) (p : GuestPlace) : Type 0 where
   there : is_vcpu_in x.world.vms g ≡ true
   whole : IsWhole x.world
   at : resident_at (record_of x g).stay ≡ Some p
 
-asked : (x y : CoreState) (g : Vcpu) (p : Place) → x ≡ y → IsAsked y g p → IsAsked x g p
+asked : (x y : CoreState) (g : Vcpu) (p : GuestPlace) → x ≡ y → IsAsked y g p → IsAsked x g p
 asked x y g p e a = subst (λ (z : CoreState). IsAsked z g p) (sym e) a
 
 select_taken : (c : After-access_select_in) → CoreTakes (record { world = c.self.inside.fabric; leases = c.self.inside.pool; vcpus = c.self.inside.vcpus.items; selects = c.self.inside.selects; passes = c.self.inside.passes }) (record { world = c.self.inside.fabric; leases = c.self.inside.pool; vcpus = c.access_select_in.new.vcpus.items; selects = c.self.inside.selects; passes = c.self.inside.passes }) (GuestCsr c.args.found.vm c.args.found.number c.args.csr c.args.op) (Wide c.access_select_in.result)
@@ -133,7 +133,7 @@ topi_taken c =
     (λ h stands there. c.stopi_in.ensures ∙ (λ k. stopi_value (majors_shown (get_or (c.deref.ensures.value k) (slot k) no_record).majors) (top_value (top_of (file k))) (signals (file k))) ∙ stopi_read x g c.args.place a.whole a.at h stands there ∙ ap (guest_csr_value h g) (sym named.0))
     (majors_stay x g low)
 
-file_is_there : (x y : CoreState) (g : Vcpu) (p : Place) (spot : Spot) → x ≡ y → StandsForSome x → IsAsked y g p → spot ≡ spot_of p → IsThere x.world.imsic spot
+file_is_there : (x y : CoreState) (g : Vcpu) (p : GuestPlace) (spot : Spot) → x ≡ y → StandsForSome x → IsAsked y g p → spot ≡ spot_of p → IsThere x.world.imsic spot
 file_is_there x y g p spot e some a at = let b = asked x y g p e a in subst (λ (s : Spot). IsThere x.world.imsic s) (sym at) (file_there x g p some b.there b.at)
 
 pub file-requires : goal.file-requires

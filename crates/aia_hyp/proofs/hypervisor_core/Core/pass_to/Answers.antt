@@ -6,7 +6,7 @@ use Rattle.aia_fabric_values.proofs.WholeLemmas.{notice_hart_there}
 use Rattle.aia_vcpu.specs.Aims.{target_to}
 use Rattle.aia_model.specs.declared.line.Line.TheVariants as lines
 use Rattle.aia_model.specs.Event.Event.{Accepted}
-use Rattle.aia_model.specs.Passes.{Pass}
+use Rattle.aia_model.specs.Passes.{PassedSource}
 use Rattle.aia_hyp_values.specs.Core.{CoreState, resident_at}
 use Rattle.aia_hyp_values.specs.Core.{VcpuRecord}
 use Rattle.aia_hyp_values.specs.Stands.{CoreStands, StandsForSome}
@@ -43,15 +43,15 @@ invariant_of-self g c =
     let m = c.requires.may in
     let free = free_so c.args.self.now (g.T.Targets.map c.args.targets.now) c.args.source c.args.found.vm c.args.found.number c.args.identity m.past m.stands m.tells (c.requires.free m.past m.stands m.tells) in
     let some = pass_stands_for_some c.args.self.now (g.T.Targets.map c.args.targets.now) c.args.source c.args.found.vm c.args.found.number c.args.identity m c.requires.free free in
-    let pass : Pass = record { source = c.args.source; to = vcpu c.args.found.vm c.args.found.number; identity = c.args.identity } in
-    (subst StandsForSome (ap (λ (z : CoreState). record z { passes = z.passes ++ pass ∷ [] }) (sym c.self.view_is) ∙ ap (λ (ps : List Pass). record { world = c.self.inside.fabric; leases = c.self.inside.pool; vcpus = c.self.inside.vcpus.items; selects = c.self.inside.selects; passes = ps }) (sym c.push.ensures)) some, c.self.invariant.1)
+    let pass : PassedSource = record { source = c.args.source; to = vcpu c.args.found.vm c.args.found.number; identity = c.args.identity } in
+    (subst StandsForSome (ap (λ (z : CoreState). record z { passes = z.passes ++ pass ∷ [] }) (sym c.self.view_is) ∙ ap (λ (ps : List PassedSource). record { world = c.self.inside.fabric; leases = c.self.inside.pool; vcpus = c.self.inside.vcpus.items; selects = c.self.inside.selects; passes = ps }) (sym c.push.ensures)) some, c.self.invariant.1)
 
 pub returns-clause-passes : goal.returns-clause-passes
 returns-clause-passes g c = λ h stands tells.
     let free = free_so c.args.self.now (g.T.Targets.map c.args.targets.now) c.args.source c.args.found.vm c.args.found.number c.args.identity h stands tells (c.requires.free h stands tells) in
-    let pass : Pass = record { source = c.args.source; to = vcpu c.args.found.vm c.args.found.number; identity = c.args.identity } in
+    let pass : PassedSource = record { source = c.args.source; to = vcpu c.args.found.vm c.args.found.number; identity = c.args.identity } in
     subst (λ (z : CoreState). CoreStands z (Accepted (lines.Pass c.args.source c.args.found.vm c.args.found.number c.args.identity) ∷ h))
-    (ap (λ (z : CoreState). record z { passes = z.passes ++ pass ∷ [] }) (sym c.self.view_is) ∙ ap (λ (ps : List Pass). record { world = c.self.inside.fabric; leases = c.self.inside.pool; vcpus = c.self.inside.vcpus.items; selects = c.self.inside.selects; passes = ps }) (sym c.push.ensures))
+    (ap (λ (z : CoreState). record z { passes = z.passes ++ pass ∷ [] }) (sym c.self.view_is) ∙ ap (λ (ps : List PassedSource). record { world = c.self.inside.fabric; leases = c.self.inside.pool; vcpus = c.self.inside.vcpus.items; selects = c.self.inside.selects; passes = ps }) (sym c.push.ensures))
     (pass_stands c.args.self.now h c.args.source c.args.found.vm c.args.found.number c.args.identity stands free)
 
 pub returns-clause-aims : goal.returns-clause-aims

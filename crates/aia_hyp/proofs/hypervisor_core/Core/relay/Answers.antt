@@ -1,7 +1,7 @@
 use Rattle.std.proofs.Common.{◌≤◌, refl, sym, ap, subst, ◌∙◌}
 use Rattle.aia_regs.specs.declared.limits.TheConstants.{PASSES}
 use Rattle.aia_vcpu.specs.Vms.{vcpu, is_vcpu_in}
-use Rattle.aia_model.specs.Passes.{Pass}
+use Rattle.aia_model.specs.Passes.{PassedSource}
 use Rattle.aia_model.specs.Event.Event.{Relayed}
 use Rattle.aia_hyp_values.specs.Core.{CoreState}
 use Rattle.aia_hyp_values.specs.Stands.{CoreGoes, MayGo}
@@ -29,7 +29,7 @@ goes c =
       is = c.at-pass.ensures;
       hart = c.notice_hart-notice.ensures.value;
       slot = c.slot_of-slot.ensures.value;
-      there = ap (λ (p : Pass). is_vcpu_in c.self.inside.fabric.vms p.to) c.at-pass.ensures ∙ so.1;
+      there = ap (λ (p : PassedSource). is_vcpu_in c.self.inside.fabric.vms p.to) c.at-pass.ensures ∙ so.1;
       takes = c.reg.ensures.lands;
       others = c.reg.ensures.others;
       stores = c.slot_store.ensures.stores;
