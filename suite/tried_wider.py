@@ -15,7 +15,8 @@ sys.path.append(str(TOP / "docs/make"))
 import strength  # noqa: E402: the way to it stands above
 
 # What the tool needs of a tree, and an edit of its crates.
-FILES = ("suite/wider", "suite/running.py", "docs/make/strength.py", "docs/make/antt.py")
+FILES = ("suite/wider", "suite/keeping.py", "suite/running.py", "docs/make/strength.py",
+         "docs/make/antt.py")
 SOURCE = "pub fn least() -> u32 {\n    1\n}\n\npub fn other() -> u32 {\n    2\n}\n"
 EDIT = "file: src/lib.rt\nold: {old}\nnew: {new}\n"
 # It says of each edit what its name asks for, and notes in `noted` which edits were given to it.
