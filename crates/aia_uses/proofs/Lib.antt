@@ -4,3 +4,7 @@ mod ClearLemmas
 mod SinceLemmas
 mod ForwardFacts
 mod ImageFacts
+mod HearingFacts
+mod ReachedFacts
+mod EventsFacts
+mod CarryingFacts

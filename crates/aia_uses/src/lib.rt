@@ -4,8 +4,12 @@
 //! history, where all premises hold. Nothing rests on them.
 #![tactic(auto)]
 
+pub mod alone;
+pub mod carrying;
 pub mod claims;
 pub mod forwards;
+pub mod hearing;
+pub mod hosts;
 pub mod images;
 pub mod moves;
 pub mod notices;
