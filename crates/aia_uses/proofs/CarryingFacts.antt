@@ -7,13 +7,13 @@ use Rattle.aia_isolation.specs.Images.{said_after, HeardNothing}
 use Rattle.aia_uses.specs.Worked.{made}
 
 pub made_happens : IsHistory made
-made_happens = (refl, refl, tt)
+made_happens = (refl, (refl, tt))
 
 pub made_stands : has_machine made ≡ true
 made_stands = refl
 
 pub none_heard : HeardNothing made (vcpu 0 0)
-none_heard = (refl, refl, tt)
+none_heard = (refl, (refl, tt))
 
 pub none_since : (h : History) (g : Vcpu) → said_after h [] g ≡ []
 unfolding said_after

@@ -1,5 +1,5 @@
 -- Notices of a VM, spelled out; and what rests at a file of the host.
-use Rattle.std.proofs.Common.{◌≡◌, ◌⊎◌, ℕ, ◌∷◌, true, nat_eq, refl, ap, ◌∙◌}
+use Rattle.std.proofs.Common.{◌≡◌, ◌⊎◌, ℕ, ◌∷◌, true, nat_eq, refl, ap, inl, inr}
 use Rattle.std.proofs.lemmas.Bool.{eq-eqb}
 use Rattle.aia_model.specs.Event.{Event, History}
 use Rattle.aia_model.specs.FileAfter.{FileDeed}
