@@ -106,7 +106,7 @@ pub record Planned (x y : CoreState) (h : History) (g : Vcpu) (plan : PlanState)
 
 -- The same of a move of one, with what it takes: the plan is new and leads where the move goes, and its
 -- places hold the interrupt file still.
-pub record Begins (x y : CoreState) (h : History) (move : Move) (plan : PlanState) (r : VcpuRecord) (taken : Option Place) : Type 0 where
+pub record Begins (x y : CoreState) (h : History) (move : WantedMove) (plan : PlanState) (r : VcpuRecord) (taken : Option GuestPlace) : Type 0 where
   pub planned : Planned x y h (moves.mover move) plan r
   pub leases : y.leases ≡ with_taken taken x.leases
   pub is_free : IsFreeIn x h taken
