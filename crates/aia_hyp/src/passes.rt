@@ -48,8 +48,7 @@ impl Passes {
     /// Recalls how many there are at most, for a caller's proof. It does nothing.
     pub fn recall(&self)
         ensures { length self.now ≤ PASSES }
-    {
-    }
+    {}
 
     /// Gives the pass of a number below their count.
     pub fn at(&self, number: u32) -> Passed

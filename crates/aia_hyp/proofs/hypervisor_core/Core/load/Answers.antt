@@ -13,7 +13,8 @@ returns-in_err-_spot-clause-takes c = λ outside.
 pub returns-in_err-_spot-clause-refused : goal.returns-in_err-_spot-clause-refused
 returns-in_err-_spot-clause-refused c = λ there.
     let same : c.from_residual.result ≡ Err c.in_err-_spot.field-0.0 = search rules in
-    let word : Some c.in_err-_spot.field-0.0 ≡ Some Fault = c.in_err-_spot.ensures.refused ∙ in_a_region c.args.self.now.world.imsic c.args.addr there in
+    let word : Some c.in_err-_spot.field-0.0 ≡ Some Fault = c.in_err-_spot.ensures.refused
+    ∙ in_a_region c.args.self.now.world.imsic c.args.addr there in
     let fault : c.in_err-_spot.field-0.0 ≡ Fault = cc in same ∙ ap (λ (w : Refusal). Err w) fault
 
 pub returns-clause-takes : goal.returns-clause-takes
@@ -21,4 +22,5 @@ returns-clause-takes c = λ outside. loaded c.args.self.now c.args.addr outside 
 
 pub returns-clause-refused : goal.returns-clause-refused
 returns-clause-refused c = λ there.
-    let bad : ◌≡◌ {A = Option Refusal} None (Some Fault) = c.in_ok-_spot.ensures.refused ∙ in_a_region c.args.self.now.world.imsic c.args.addr there in absurd (cc)
+    let bad : ◌≡◌ {A = Option Refusal} None (Some Fault) = c.in_ok-_spot.ensures.refused
+    ∙ in_a_region c.args.self.now.world.imsic c.args.addr there in absurd (cc)

@@ -11,10 +11,22 @@ use Rattle.aia_hyp.proofs.hypervisor_core.Core.relay.Goals.{After-slot_store}
 use Rattle.aia_hyp.proofs.hypervisor_core.Core.relay.Goals as goal
 
 abbrev old : After-slot_store → CoreState
-old c = record { world = c.self.inside.fabric; leases = c.self.inside.pool; vcpus = c.self.inside.vcpus.items; selects = c.self.inside.selects; passes = c.self.inside.passes }
+old c = record {
+  world = c.self.inside.fabric;
+  leases = c.self.inside.pool;
+  vcpus = c.self.inside.vcpus.items;
+  selects = c.self.inside.selects;
+  passes = c.self.inside.passes;
+}
 
 abbrev new : After-slot_store → CoreState
-new c = record { world = c.slot_store.new.self; leases = c.self.inside.pool; vcpus = c.self.inside.vcpus.items; selects = c.self.inside.selects; passes = c.self.inside.passes }
+new c = record {
+  world = c.slot_store.new.self;
+  leases = c.self.inside.pool;
+  vcpus = c.self.inside.vcpus.items;
+  selects = c.self.inside.selects;
+  passes = c.self.inside.passes;
+}
 
 may : (c : After-slot_store) → MayGo (old c) (Relayed c.args.number)
 may c = subst (λ (z : CoreState). MayGo z (Relayed c.args.number)) (sym c.self.view_is) c.requires
@@ -23,7 +35,9 @@ goes : (c : After-slot_store) → CoreGoes (old c) (new c) (Relayed c.args.numbe
 goes c =
     let few = subst (λ n. n ≤ PASSES) c.count-few.ensures.value c.count-few.ensures.few in
     let so = may_relay (old c) c.args.number (may c) few in
-    calls_go (old c) (new c) c.args.number (record { source = c.at-pass.result.source; to = vcpu c.at-pass.result.vm c.at-pass.result.number; identity = c.at-pass.result.identity }) c.reg.new.self c.notice_hart-notice.result c.slot_of-slot.result (record {
+    calls_go (old c) (new c) c.args.number (record
+    { source = c.at-pass.result.source; to = vcpu c.at-pass.result.vm c.at-pass.result.number; identity = c.at-pass.result.identity })
+    c.reg.new.self c.notice_hart-notice.result c.slot_of-slot.result (record {
       whole = c.words-whole.ensures.whole;
       few = so.0;
       is = c.at-pass.ensures;
