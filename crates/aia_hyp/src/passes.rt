@@ -46,7 +46,7 @@ impl Passes {
     }
 
     /// Recalls how many there are at most, for a caller's proof. It does nothing.
-    pub fn recall(&self)
+    pub fn recall_count(&self)
         ensures { length self.now ≤ PASSES }
     {}
 

@@ -86,9 +86,9 @@ calls c = record {
       (at_stay (get_or c.swap_stay.new.vcpus.items c.args.found.slot no_record) s)) c.stay_at_end-new.ensures.stay;
   selects = refl;
   passes = refl;
-  whole = c.words-whole.ensures.whole;
-  whole_then = c.words-whole-2.ensures.whole;
-  one = let some = c.words-whole.ensures.some in let value = c.words-whole.ensures.value in omega (arith, some, value);
+  whole = c.recall.ensures.whole;
+  whole_then = c.recall-2.ensures.whole;
+  one = let some = c.recall.ensures.some in omega (arith, some);
   leases = c.stay_at_end-new.ensures.back;
   goes = ends c.before.before.before.before.before.before;
   fits = tt;

@@ -33,7 +33,7 @@ heard c =
     let same = c.self.view_is in
     let host : is_host_spot spot ≡ true = sym c.is_host.ensures ∙ c.if-is_host.true in
     msi_landed _ _ c.args.msi spot (record {
-      few = subst (λ harts. harts ≤ HARTS) c.harts-few.ensures.value c.harts-few.ensures.few;
+      few = c.recall.ensures.whole.harts;
       at = c.requires.at ∙ ap (λ (z : CoreState). spot_at z.world.imsic.harts z.world.imsic.guests c.args.msi.address) (sym same);
       host = host;
       there = subst (λ (z : CoreState). IsThere z.world.imsic spot) (sym same) (c.requires.there (not_nowhere spot host));
@@ -59,5 +59,5 @@ returns-then-is_host c = rw (← c.self.view_is) (heard c)
 pub returns-else-is_host : goal.returns-else-is_host
 returns-else-is_host c = msi_dropped c.args.self.now c.args.msi c.args.spot
     (subst (λ (z : CoreState). z.world.imsic.harts ≤ HARTS) c.self.view_is
-    (subst (λ harts. harts ≤ HARTS) c.harts-few.ensures.value c.harts-few.ensures.few)) c.requires.at (sym c.is_host.ensures ∙ c.if-is_host.false)
+    c.recall.ensures.whole.harts) c.requires.at (sym c.is_host.ensures ∙ c.if-is_host.false)
     c.requires.none

@@ -23,13 +23,13 @@ goes : (c : After-host_store) → CoreGoes (record {
 }) (Delivered c.args.msi)
 goes c =
     forward_goes _ _ c.args.number c.args.msi c.args.spot
-    (forwarding _ c.args.self.now c.args.number c.args.msi c.args.spot c.self.view_is c.words-whole.ensures.whole c.requires.at c.requires.pass)
+    (forwarding _ c.args.self.now c.args.number c.args.msi c.args.spot c.self.view_is c.recall.ensures.whole c.requires.at c.requires.pass)
     (record { stores = c.host_store.ensures; leases = refl; vcpus = refl; selects = refl; passes = refl })
 
 pub host_store-requires : goal.host_store-requires
 host_store-requires c =
     goes_there _ c.args.number c.args.msi c.args.spot
-    (forwarding _ c.args.self.now c.args.number c.args.msi c.args.spot c.self.view_is c.words-whole.ensures.whole c.requires.at c.requires.pass)
+    (forwarding _ c.args.self.now c.args.number c.args.msi c.args.spot c.self.view_is c.recall.ensures.whole c.requires.at c.requires.pass)
     (subst (λ (z : CoreState). MayGo z (Delivered c.args.msi)) (sym c.self.view_is) c.requires.may)
 
 pub invariant_of-self : goal.invariant_of-self

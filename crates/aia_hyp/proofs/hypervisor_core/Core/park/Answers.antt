@@ -51,7 +51,7 @@ told c =
     let g = vcpu found.vm found.number in
     let is = subst (λ (z : CoreState). IsFound z.world found) (sym c.self.view_is) c.requires.found in
     let was = subst (λ (z : CoreState). (record_of z g).stay ≡ stays.InMemory Entered c.args.kept) (sym c.self.view_is) c.requires.entered in
-    let whole = c.words-whole.ensures.whole in
+    let whole = c.recall.ensures.whole in
     let told : (w : World) → w ≡ x.world → ((g : Vcpu) → is_vcpu_in w.vms g ≡ true → slot_of w.vms g ≡ found.slot
     → Posts w y.world (spots.SupervisorFile (notice_hart w.vms g)) (found.slot + 1))
     → Posts x.world y.world (spots.SupervisorFile (notice_hart x.world.vms g)) (notice_identity x.world.vms g) =
@@ -106,7 +106,7 @@ untold c =
     let g = vcpu found.vm found.number in
     let is = subst (λ (z : CoreState). IsFound z.world found) (sym c.self.view_is) c.requires.found in
     let was = subst (λ (z : CoreState). (record_of z g).stay ≡ stays.InMemory Entered c.args.kept) (sym c.self.view_is) c.requires.entered in
-    let whole = c.words-whole.ensures.whole in
+    let whole = c.recall.ensures.whole in
     exits x y found.vm found.number c.args.kept (record {
       whole = whole;
       there = is.there;

@@ -24,7 +24,7 @@ index-requires g c =
 pub aim_first-requires-clause-harts : goal.aim_first-requires-clause-harts
 aim_first-requires-clause-harts g c =
     let hart = notice_hart_there c.args.self.now.world (vcpu c.args.found.vm c.args.found.number)
-    (subst (λ (z : CoreState). IsWhole z.world) c.self.view_is c.words-whole.ensures.whole) c.requires.found.there in
+    (subst (λ (z : CoreState). IsWhole z.world) c.self.view_is c.recall.ensures.whole) c.requires.found.there in
     omega (arith, hart, c.requires.found.notice, c.requires.harts)
 
 pub aim_first-requires-clause-identity : goal.aim_first-requires-clause-identity
@@ -33,7 +33,7 @@ aim_first-requires-clause-identity g c =
     let free = free_so c.args.self.now (g.T.Targets.map c.args.targets.now) c.args.source c.args.found.vm c.args.found.number c.args.identity
     m.past m.stands m.tells (c.requires.free m.past m.stands m.tells) in
     few_identities c.args.self.now.world.n c.args.identity
-    (subst (λ (z : CoreState). is_greatest_identity z.world.n ≡ true) c.self.view_is c.words-whole.ensures.whole.greatest) free.implemented
+    (subst (λ (z : CoreState). is_greatest_identity z.world.n ≡ true) c.self.view_is c.recall.ensures.whole.greatest) free.implemented
 
 pub aim_first-requires-clause-place : goal.aim_first-requires-clause-place
 aim_first-requires-clause-place g c = λ p e.
@@ -43,7 +43,7 @@ aim_first-requires-clause-place g c = λ p e.
     c.requires.found.slot (c.index.ensures ∙ ap (λ (z : CoreState). slice_index_or z.vcpus c.args.found.slot c.index.result.now)
     c.self.view_is) in
     let there = resident_there x c.requires.may.past to p c.requires.may.stands
-    (subst (λ (z : CoreState). IsWhole z.world) c.self.view_is c.words-whole.ensures.whole) c.requires.found.there
+    (subst (λ (z : CoreState). IsWhole z.world) c.self.view_is c.recall.ensures.whole) c.requires.found.there
     (ap (λ (r : VcpuRecord). resident_at r.stay) (sym read) ∙ e) in
     (omega (arith, there.0, c.requires.harts), there.1)
 

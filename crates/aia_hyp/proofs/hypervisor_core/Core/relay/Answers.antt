@@ -33,12 +33,12 @@ may c = subst (λ (z : CoreState). MayGo z (Relayed c.args.number)) (sym c.self.
 
 goes : (c : After-slot_store) → CoreGoes (old c) (new c) (Relayed c.args.number)
 goes c =
-    let few = subst (λ n. n ≤ PASSES) c.count-few.ensures.value c.count-few.ensures.few in
+    let few = c.recall_count.ensures in
     let so = may_relay (old c) c.args.number (may c) few in
     calls_go (old c) (new c) c.args.number (record
     { source = c.at-pass.result.source; to = vcpu c.at-pass.result.vm c.at-pass.result.number; identity = c.at-pass.result.identity })
     c.reg.new.self c.notice_hart-notice.result c.slot_of-slot.result (record {
-      whole = c.words-whole.ensures.whole;
+      whole = c.recall.ensures.whole;
       few = so.0;
       is = c.at-pass.ensures;
       hart = c.notice_hart-notice.ensures.value;

@@ -16,7 +16,7 @@ use Rattle.aia_hyp_values.proofs.OwnPasses.{are_passes, aims_so}
 use Rattle.aia_hyp_values.proofs.MoveCalls.{plan_known, who_low, told_harts}
 use Rattle.aia_hyp_values.proofs.StepsInPlace.{plan_of, made_in_place, in_place_stands, in_place_who, in_place_harts}
 use Rattle.aia_hyp.proofs.hypervisor_core.Core.step_in_place.Given.{Over}
-use Rattle.aia_hyp.proofs.hypervisor_core.Core.step_in_place.Goals.{After-words-whole-2}
+use Rattle.aia_hyp.proofs.hypervisor_core.Core.step_in_place.Goals.{After-recall-2}
 use Rattle.aia_hyp.proofs.hypervisor_core.Core.step_in_place.Goals as goal
 
 pub carry_on-made-requires-clause-low : goal.carry_on-made-requires-clause-low
@@ -48,7 +48,7 @@ carry_on-made-requires-clause-passes g c = λ plan is.
     let there : has_vcpu some.past (vcpu c.args.found.vm c.args.found.number) ≡ true =
     subst (λ (vs : List Vm). is_vcpu_in vs (vcpu c.args.found.vm c.args.found.number) ≡ true) some.stands.vms found.there in
     let greatest : is_greatest_identity (greatest_identity_of some.past) ≡ true =
-    subst (λ n. is_greatest_identity n ≡ true) some.stands.greatest c.words-whole.ensures.whole.greatest in
+    subst (λ n. is_greatest_identity n ≡ true) some.stands.greatest c.recall.ensures.whole.greatest in
     are_passes (record {
       world = c.self.inside.fabric;
       leases = c.self.inside.pool;
@@ -59,9 +59,9 @@ carry_on-made-requires-clause-passes g c = λ plan is.
     }) some.past (vcpu c.args.found.vm c.args.found.number) plan some.stands there
     (ap (λ q. (get_or c.self.inside.vcpus.items q no_record).stay) (sym found.slot) ∙ is)
     (few_identities (greatest_identity_of some.past) greatest)
-    (let value = c.count-few.ensures.value in let few = c.count-few.ensures.few in omega (arith, value, few))
+    (let few = c.recall_count.ensures in omega (arith, few))
 
-makes : (g : Over) (c : After-words-whole-2 g)
+makes : (g : Over) (c : After-recall-2 g)
     → MoveInPlace (record {
       world = c.self.inside.fabric;
       leases = c.self.inside.pool;
@@ -87,14 +87,14 @@ makes g c = made_in_place _ _ c.args.found (get_or c.carry_on-made.new.vcpus.ite
   leases = refl;
   selects = refl;
   passes = refl;
-  whole = c.words-whole.ensures.whole;
-  whole_then = c.words-whole-2.ensures.whole;
-  one = let some = c.words-whole.ensures.some in let value = c.words-whole.ensures.value in omega (arith, some, value);
+  whole = c.recall.ensures.whole;
+  whole_then = c.recall-2.ensures.whole;
+  one = let some = c.recall.ensures.some in omega (arith, some);
   makes = c.carry_on-made.ensures.makes;
 })
 
 -- the plan of one who is being moved
-its_plan : (g : Over) (c : After-words-whole-2 g) → (plan : PlanState)
+its_plan : (g : Over) (c : After-recall-2 g) → (plan : PlanState)
     × ((get_or c.self.inside.vcpus.items c.args.found.slot no_record).stay ≡ stays.Moving plan)
 its_plan g c =
     let found = (subst (λ (x : CoreState). IsFound x.world c.args.found) (sym c.self.view_is) c.requires.found) in

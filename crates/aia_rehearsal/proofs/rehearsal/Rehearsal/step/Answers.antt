@@ -3,7 +3,7 @@ use Rattle.aia_rehearsal.proofs.SameMachine.{step_same, step_of}
 use Rattle.aia_rehearsal.proofs.rehearsal.Rehearsal.step.Goals as goal
 
 pub returns-clause-stands : goal.returns-clause-stands
-returns-clause-stands c = rehearsed c.args.fabric.now c.make.new.fabric c.args.self.now c.make.new.self c.args.step c.words-whole.ensures.whole
+returns-clause-stands c = rehearsed c.args.fabric.now c.make.new.fabric c.args.self.now c.make.new.self c.args.step c.recall.ensures.whole
     c.requires.word c.make.ensures.makes c.make.ensures.after
 
 pub returns-clause-machine : goal.returns-clause-machine
