@@ -129,7 +129,9 @@ impl Fabric {
         ensures some { 1 ≤ (self.now.n + 1) / 64 }
         ensures few { (self.now.n + 1) / 64 ≤ FILE_WORDS }
         ensures whole { IsWhole self.now }
-    {}
+    {
+        self.words();
+    }
 
     /// Tells how many harts there are, 1 to `HARTS`.
     pub fn harts(&self) -> u32

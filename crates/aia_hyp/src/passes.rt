@@ -48,7 +48,9 @@ impl Passes {
     /// Recalls how many there are at most, for a caller's proof. It does nothing.
     pub fn recall_count(&self)
         ensures { length self.now ≤ PASSES }
-    {}
+    {
+        self.count();
+    }
 
     /// Gives the pass of a number below their count.
     pub fn at(&self, number: u32) -> Passed
