@@ -1,4 +1,4 @@
-use Rattle.std.proofs.Common.{◌≡◌, ◌+◌, ◌*◌, ◌/◌, arith}
+use Rattle.std.proofs.Common.{◌≡◌, ◌+◌, ◌*◌, ◌/◌, sym, arith}
 use Rattle.aia_hyp_values.proofs.WordLemmas.{word_seen, live_word}
 use Rattle.aia_hyp.proofs.slot_words.is_live.Goals as goal
 

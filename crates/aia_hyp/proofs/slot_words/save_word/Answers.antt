@@ -1,4 +1,4 @@
-use Rattle.std.proofs.Common.{◌≡◌, ◌+◌, ◌*◌, ◌/◌, ap, ◌∙◌, arith}
+use Rattle.std.proofs.Common.{◌≡◌, ◌+◌, ◌*◌, ◌/◌, sym, ap, ◌∙◌, arith}
 use Rattle.aia_model.specs.declared.part.Part.TheVariants as parts
 use Rattle.aia_hyp_values.proofs.WordLemmas.{word_seen, word_is_part}
 use Rattle.aia_hyp.proofs.slot_words.save_word.Goals as goal

@@ -1,5 +1,4 @@
-use Rattle.std.proofs.Common.{◌≤◌, refl, sym, ap, subst, ◌∙◌}
-use Rattle.aia_regs.specs.declared.limits.TheConstants.{PASSES}
+use Rattle.std.proofs.Common.{refl, sym, ap, subst, ◌∙◌}
 use Rattle.aia_vcpu.specs.Vms.{vcpu, is_vcpu_in}
 use Rattle.aia_model.specs.Passes.{PassedSource}
 use Rattle.aia_model.specs.Event.Event.{Relayed}
