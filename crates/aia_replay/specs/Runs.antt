@@ -173,7 +173,7 @@ reads_source (Some (Audit kind words)) = true
 -- source had left before and after it, what the sink had taken before and after it, and the counts
 -- of faults of the source and of the sink, each before and after it. Each fault has its cause, and
 -- memory lacks where nothing was touched, or for a machine that a script asks for.
-pub record Ends (asked : Option Subcommand) (status : Status) (left rest : Supply)
+pub record RunEnds (asked : Option Subcommand) (status : Status) (left rest : Supply)
     (before now : Option (List ℕ)) (source_old source_new sink_old sink_new : ℕ) : Type 0 where
   pub as_asked : EndsAsAsked asked status left rest before now
   pub read_fault : status ≡ ReadFault → Rose source_old source_new

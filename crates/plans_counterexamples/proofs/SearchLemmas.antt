@@ -2,14 +2,14 @@
 use Rattle.std.proofs.Common.{◌≡◌, ℕ, suc, ◌+◌, ◌-◌, ◌<◌, ◌≤◌, length, List, Option, Some, None, sym, ap, ◌∙◌, arith}
 use Rattle.std.specs.Prelude.{get_or}
 use Rattle.std.proofs.lemmas.Option.{slice_get-get_or}
-use Rattle.plans_rules.specs.declared.step.Step.{Step}
+use Rattle.plans_rules.specs.declared.step.AnyStep.{AnyStep}
 use Rattle.plans_rules.specs.declared.setting.Terms.{Terms}
 use Rattle.plans_counterexamples.specs.declared.run.Run.{Run}
 use Rattle.plans_counterexamples.specs.Trace.{trace_after}
 use Rattle.plans_counterexamples.specs.Run.{trace_extra}
 use Rattle.plans_counterexamples.specs.Search.{first_of, or_else, trace_stepped, trace_upto}
 
-pub traced_more : (run : Run) (terms : Terms) (plan : List Step) (k : ℕ) (x : Step) → k < length plan → trace_after run.case (get_or plan k x) (trace_extra run k (trace_upto run terms plan k)) ≡ trace_upto run terms plan (k + 1)
+pub traced_more : (run : Run) (terms : Terms) (plan : List AnyStep) (k : ℕ) (x : AnyStep) → k < length plan → trace_after run.case (get_or plan k x) (trace_extra run k (trace_upto run terms plan k)) ≡ trace_upto run terms plan (k + 1)
 traced_more run terms plan k x low =
     sym (ap (λ o. trace_stepped run o (trace_extra run k (trace_upto run terms plan k))) (slice_get-get_or plan k x low)) ∙ ap (trace_upto run terms plan) (next k)
   where

@@ -7,9 +7,9 @@ use Rattle.aia_plan.specs.declared.step.Kind.{Kind}
 use Rattle.aia_plan.specs.declared.step.Kind.TheVariants as kinds
 use Rattle.aia_plan.specs.declared.step.Step.{Step as OurStep}
 use Rattle.aia_plan.specs.declared.step.Step.TheVariants.{Word0, Fence, Map, Unmap, Remap, GFence, TakeP}
-use Rattle.plans_rules.specs.declared.step.Bank.TheVariants.{Pending}
+use Rattle.plans_rules.specs.declared.step.WhichSet.TheVariants.{Pending}
 use Rattle.plans_rules.specs.declared.rule.Rule.TheVariants.{Routes}
-use Rattle.plans_rules.specs.declared.step.Step.TheVariants as steps
+use Rattle.plans_rules.specs.declared.step.AnyStep.TheVariants as steps
 use Rattle.plans_rules.specs.Rules.{Done, is_turned, is_fenced, all_led, old_holds, lets_rest}
 use Rattle.plans_rules.proofs.BoolLaws.{by_case, all_of, and_left, and_right, and_of, or_left, or_false, not_true}
 use Rattle.plans_of_aia.specs.Translated.{access_of, onto, translated, shape_setting}

@@ -9,11 +9,11 @@ use Rattle.aia_plan.specs.declared.step.Step.{Step as OurStep}
 use Rattle.aia_plan.specs.declared.step.Step.TheVariants.{Word0, Fence, GFence, TakeP, PutP, TakeE, Post}
 use Rattle.aia_plan.proofs.Throughout.{by_recursion}
 use Rattle.aia_plan.proofs.RuleIsSafe.{once_stands, below_passes, all_turns, all_late, keeps_all}
-use Rattle.plans_rules.specs.declared.step.Bank.TheVariants.{Pending, Enabled}
+use Rattle.plans_rules.specs.declared.step.WhichSet.TheVariants.{Pending, Enabled}
 use Rattle.plans_rules.specs.declared.step.Number.TheVariants.{Threshold, Delivery}
-use Rattle.plans_rules.specs.declared.setting.Spot.TheVariants.{InOld}
+use Rattle.plans_rules.specs.declared.setting.NumberSpot.TheVariants.{InOld}
 use Rattle.plans_rules.specs.declared.rule.Rule.TheVariants.{Routes, Words, Blank, Numbers, Freeing}
-use Rattle.plans_rules.specs.declared.step.Step.TheVariants as steps
+use Rattle.plans_rules.specs.declared.step.AnyStep.TheVariants as steps
 use Rattle.plans_rules.specs.Rules.{Done, hand_holds, is_blank, has_number, frees, lets_rest, moves}
 use Rattle.plans_rules.specs.Safe.{IsSafe}
 use Rattle.plans_rules.proofs.BoolLaws.{and_of, or_right, clash}

@@ -12,7 +12,7 @@ use Rattle.aia_plan.specs.declared.step.Kind.{Kind}
 use Rattle.aia_plan.specs.declared.step.Kind.TheVariants as kinds
 use Rattle.aia_plan.specs.declared.step.Step.TheVariants as ours
 use Rattle.aia_plan.proofs.Throughout.{by_place}
-use Rattle.plans_rules.specs.declared.step.Step.{Step}
+use Rattle.plans_rules.specs.declared.step.AnyStep.{AnyStep}
 use Rattle.plans_rules.specs.Setting.{Setting}
 use Rattle.plans_rules.specs.Rows.{widths, AreAccepted}
 use Rattle.plans_rules.specs.Rules.{moves}
@@ -44,17 +44,17 @@ shift_joins = (refl, (refl, (refl, (refl, (refl, (refl, tt))))))
 
 -- ---- so they are safe, and tell
 
-accepted_safe : (sizes : List ℕ) (settings : ℕ → Setting) (plans : ℕ → List Step) → AreAccepted sizes settings plans → AllByRecursion (λ words. IsSafe (settings words) (plans words)) sizes
+accepted_safe : (sizes : List ℕ) (settings : ℕ → Setting) (plans : ℕ → List AnyStep) → AreAccepted sizes settings plans → AllByRecursion (λ words. IsSafe (settings words) (plans words)) sizes
 accepted_safe [] settings plans kept = tt
 accepted_safe (words ∷ others) settings plans kept =
     (rules_are_safe (settings words) (plans words) (and_left (moves (settings words) (plans words)) _ kept.0), accepted_safe others settings plans kept.1)
 
-accepted_told : (sizes : List ℕ) (settings : ℕ → Setting) (plans : ℕ → List Step) → ((words : ℕ) → (settings words).in_memory ≡ true) → AreAccepted sizes settings plans → AllByRecursion (λ words. IsTold (settings words) (plans words)) sizes
+accepted_told : (sizes : List ℕ) (settings : ℕ → Setting) (plans : ℕ → List AnyStep) → ((words : ℕ) → (settings words).in_memory ≡ true) → AreAccepted sizes settings plans → AllByRecursion (λ words. IsTold (settings words) (plans words)) sizes
 accepted_told [] settings plans memory kept = tt
 accepted_told (words ∷ others) settings plans memory kept =
     (rules_are_told (settings words) (plans words) (memory words) kept.0, accepted_told others settings plans memory kept.1)
 
-all_safe : (settings : ℕ → Setting) (plans : ℕ → List Step) → AreAccepted widths settings plans → All (λ words. IsSafe (settings words) (plans words)) widths
+all_safe : (settings : ℕ → Setting) (plans : ℕ → List AnyStep) → AreAccepted widths settings plans → All (λ words. IsSafe (settings words) (plans words)) widths
 all_safe settings plans kept = by_place (λ words. IsSafe (settings words) (plans words)) widths (accepted_safe widths settings plans kept)
 
 pub leave_safe : All (λ words. IsSafe (told_setting File Memory words) (told_plan File Memory words)) widths

@@ -7,9 +7,9 @@ use Rattle.aia_plan.specs.Plan.{Plan, IsInside}
 use Rattle.aia_plan.specs.Rule.{stands, is_never, is_once, is_same, are_paired, takes_pending, puts_pending, takes_enables, puts_enables}
 use Rattle.aia_plan.specs.declared.step.Step.{Step as OurStep}
 use Rattle.aia_plan.specs.declared.step.Step.TheVariants.{TakeP, PutP, TakeE, PutE}
-use Rattle.plans_rules.specs.declared.step.Bank.TheVariants.{Pending, Enabled}
+use Rattle.plans_rules.specs.declared.step.WhichSet.TheVariants.{Pending, Enabled}
 use Rattle.plans_rules.specs.declared.rule.Rule.TheVariants.{Words}
-use Rattle.plans_rules.specs.declared.step.Step.TheVariants as steps
+use Rattle.plans_rules.specs.declared.step.AnyStep.TheVariants as steps
 use Rattle.plans_rules.specs.Rules.{Done, old_holds, hand_holds, is_filled, is_moved, lets_rest}
 use Rattle.plans_rules.proofs.BoolLaws.{by_case, all_of, false_of, and_left, and_right, and_of, not_true, or_false_left, or_false_right, clash}
 use Rattle.plans_of_aia.specs.Translated.{access_of, onto, translated, shape_setting}

@@ -1,6 +1,6 @@
 -- The rows of plans, computed on the rules.
 use Rattle.std.proofs.Common.{true, false, [], ◌∷◌, refl}
-use Rattle.plans_rules.specs.declared.setting.Spot.TheVariants.{InNew}
+use Rattle.plans_rules.specs.declared.setting.NumberSpot.TheVariants.{InNew}
 use Rattle.plans_rules.specs.declared.rule.Rule.TheVariants.{Routes, Words, Blank, Numbers, Freeing}
 use Rattle.plans_rules.specs.Plans.{kvm_leave, kvm_arrive, kvm_shift, kvm_leave_with, kvm_arrive_with, kvm_shift_with, entry_led, kvm_producers, with_devices, kvm_moves, kvm_leaves}
 use Rattle.plans_rules.specs.Rows.{widths, AreAccepted, BreakAlone, LeaveUntold, plainly, with_numbers, to_memory, unset, heeded, all_moved, break_routes, break_words, break_blank, break_numbers, break_freeing, break_freeing_with_numbers, looked_early, looked_first, posted_first, told_early, looked_last, written_late, written_last, told_shut, shut_again}

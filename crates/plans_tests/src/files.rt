@@ -1,7 +1,7 @@
 //! What is answered of files of plans, by the rows that are laws too.
 
 use plans_counterexamples::{losing_run, untold_run};
-use plans_judge::{Kind, Rule, Spot, Step, Terms, Verdict, judge};
+use plans_judge::{AnyStep, Judgement, NumberSpot, RouteKind, Rule, Terms, judge};
 use plans_text::{Line, Outcome, Reading, answers, parse_line};
 use std::alloc::{AllocError, Global};
 use std::test::Fail;
@@ -183,7 +183,7 @@ fn lines_are_read(rt: HostRuntime) {
     assert!(rt; parse_line(b"# nothing") == Reading::Skip);
     assert!(rt; parse_line(b"words 100") == Reading::Bad);
     assert!(rt; parse_line(b"join threshold") == Reading::Bad);
-    assert!(rt; parse_line(b"write notice") == Reading::Line(Line::Step(Step::WriteNotice)));
+    assert!(rt; parse_line(b"write notice") == Reading::Line(Line::Step(AnyStep::WriteNotice)));
     assert!(rt; parse_line(b"write") == Reading::Bad);
     assert!(rt; parse_line(b"write notice 0") == Reading::Bad);
     assert!(rt; parse_line(b"notices unset # yet") == Reading::Line(Line::NoticesUnset));
@@ -199,18 +199,18 @@ fn a_plan_that_forgets_its_words_is_refused_in_the_end(rt: HostRuntime) -> Resul
         in_memory: false,
         heeds: false,
         notices_go: true,
-        number_from: Spot::InOld,
-        number_to: Spot::InOld,
+        number_from: NumberSpot::InOld,
+        number_to: NumberSpot::InOld,
     };
-    let plan = [Step::Route(0), Step::Fence(0)];
-    let verdict = judge(rt.alloc(), &[Kind::Routed], terms, &plan)?;
-    let refused = Verdict::Refused {
+    let plan = [AnyStep::Route(0), AnyStep::Fence(0)];
+    let verdict = judge(rt.alloc(), &[RouteKind::Routed], terms, &plan)?;
+    let refused = Judgement::Refused {
         rule: Rule::Routes,
         before: 2,
     };
     assert!(rt; verdict == refused);
-    assert!(rt; losing_run(&[Kind::Routed], terms, &plan).is_some());
-    assert!(rt; untold_run(&[Kind::Routed], terms, &plan).is_none());
+    assert!(rt; losing_run(&[RouteKind::Routed], terms, &plan).is_some());
+    assert!(rt; untold_run(&[RouteKind::Routed], terms, &plan).is_none());
     Ok(())
 }
 

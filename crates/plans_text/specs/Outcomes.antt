@@ -1,7 +1,7 @@
 -- What comes of plans: the worst that comes of any of them. Profile.
 use Rattle.std.specs.Prelude.{ℕ, ◌≤◌, if◌then◌else◌, nat_le}
-use Rattle.plans_judge.specs.declared.verdict.Verdict.{Verdict}
-use Rattle.plans_judge.specs.declared.verdict.Verdict.TheVariants.{Accepted, Refused}
+use Rattle.plans_judge.specs.declared.verdict.Judgement.{Judgement}
+use Rattle.plans_judge.specs.declared.verdict.Judgement.TheVariants.{Accepted, Refused}
 use Rattle.plans_text.specs.declared.outcome.Outcome.{Outcome}
 use Rattle.plans_text.specs.declared.outcome.Outcome.TheVariants as outcomes
 
@@ -17,6 +17,6 @@ abbrev pub worse : Outcome → Outcome → Outcome
 worse one other = if nat_le (badness other) (badness one) then one else other
 
 -- What comes of a plan by the verdict on it.
-abbrev pub outcome_of : Verdict → Outcome
+abbrev pub outcome_of : Judgement → Outcome
 outcome_of Accepted = outcomes.Accepted
 outcome_of (Refused rule before) = outcomes.Refused

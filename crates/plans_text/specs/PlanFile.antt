@@ -2,25 +2,25 @@
 -- of a refused one a line about a run. Profile.
 use Rattle.std.specs.Prelude.{ℕ, ◌+◌, ◌-◌, Bool, true, false, ◌&&◌, nat_eq, nat_lt, nat_le, if◌then◌else◌, List, [], ◌∷◌, ◌++◌, length, map, Option, Some, None, codes, decimal, slice_get}
 use Rattle.std.specs.List.{All, onto_first}
-use Rattle.plans_rules.specs.declared.setting.Kind.{Kind}
-use Rattle.plans_rules.specs.declared.setting.Spot.{Spot}
-use Rattle.plans_rules.specs.declared.setting.Spot.TheVariants.{InOld, InHand, InNew}
+use Rattle.plans_rules.specs.declared.setting.RouteKind.{RouteKind}
+use Rattle.plans_rules.specs.declared.setting.NumberSpot.{NumberSpot}
+use Rattle.plans_rules.specs.declared.setting.NumberSpot.TheVariants.{InOld, InHand, InNew}
 use Rattle.plans_rules.specs.declared.setting.Terms.{Terms}
 use Rattle.plans_rules.specs.declared.rule.Rule.{Rule}
 use Rattle.plans_rules.specs.declared.rule.Rule.TheVariants as rules
-use Rattle.plans_rules.specs.declared.step.Step.{Step}
-use Rattle.plans_rules.specs.declared.step.Step.TheVariants as steps
+use Rattle.plans_rules.specs.declared.step.AnyStep.{AnyStep}
+use Rattle.plans_rules.specs.declared.step.AnyStep.TheVariants as steps
 use Rattle.plans_rules.specs.Setting.{setting_of}
 use Rattle.plans_rules.specs.Safe.{IsInFile}
-use Rattle.plans_judge.specs.declared.verdict.Verdict.{Verdict}
-use Rattle.plans_judge.specs.declared.verdict.Verdict.TheVariants.{Accepted, Refused}
+use Rattle.plans_judge.specs.declared.verdict.Judgement.{Judgement}
+use Rattle.plans_judge.specs.declared.verdict.Judgement.TheVariants.{Accepted, Refused}
 use Rattle.plans_judge.specs.Verdicts.{verdict_on}
-use Rattle.plans_rules.specs.declared.step.Bank.{Bank}
-use Rattle.plans_rules.specs.declared.step.Bank.TheVariants.{Pending, Enabled}
+use Rattle.plans_rules.specs.declared.step.WhichSet.{WhichSet}
+use Rattle.plans_rules.specs.declared.step.WhichSet.TheVariants.{Pending, Enabled}
 use Rattle.plans_counterexamples.specs.declared.trace.Begin.{Begin}
 use Rattle.plans_counterexamples.specs.declared.trace.Begin.TheVariants as begins
-use Rattle.plans_counterexamples.specs.declared.trace.Route.{Route}
-use Rattle.plans_counterexamples.specs.declared.trace.Route.TheVariants.{Written, InForce}
+use Rattle.plans_counterexamples.specs.declared.trace.StoreRoute.{StoreRoute}
+use Rattle.plans_counterexamples.specs.declared.trace.StoreRoute.TheVariants.{Written, InForce}
 use Rattle.plans_counterexamples.specs.declared.run.Extra.{Extra}
 use Rattle.plans_counterexamples.specs.declared.run.Extra.TheVariants as extras
 use Rattle.plans_counterexamples.specs.declared.run.Run.{Run}
@@ -56,9 +56,9 @@ pub record Plan : Type 0 where
   pub is_begun : Bool
   -- the number of its first bad line, if it has one
   pub bad : Option ℕ
-  pub producers : List Kind
+  pub producers : List RouteKind
   pub terms : Terms
-  pub steps : List Step
+  pub steps : List AnyStep
   -- where each step was read
   pub places : List Place
 
@@ -115,7 +115,7 @@ with_terms line (Some terms) plan =
     else bad_at line plan
 
 -- A plan with one producer more, likewise.
-abbrev pub with_producer : ℕ → Kind → Plan → Plan
+abbrev pub with_producer : ℕ → RouteKind → Plan → Plan
 with_producer line kind plan =
     if nat_eq (length plan.steps) 0 && nat_lt (length plan.producers) PRODUCERS then record plan {
       is_begun = true;
@@ -125,7 +125,7 @@ with_producer line kind plan =
 -- ---- steps
 
 -- Whether a step names words of the file and producers that are declared.
-abbrev pub is_known : ℕ → ℕ → Step → Bool
+abbrev pub is_known : ℕ → ℕ → AnyStep → Bool
 is_known words producers (steps.Route p) = nat_lt p producers
 is_known words producers (steps.Fence p) = nat_lt p producers
 is_known words producers (steps.Switch p) = nat_lt p producers
@@ -137,7 +137,7 @@ is_known words producers (steps.Look w) = nat_lt w words
 is_known words producers step = true
 
 -- A plan with one step more, from this line of the file.
-abbrev pub with_step : ℕ → Text → Step → Plan → Plan
+abbrev pub with_step : ℕ → Text → AnyStep → Plan → Plan
 with_step line text step plan =
     if is_known plan.terms.words (length plan.producers) step && nat_lt (length plan.steps) STEPS
     then record plan {
@@ -172,7 +172,7 @@ place_text (Some place) =
 -- ---- the run that is shown of a plan that loses something, in a line of its own
 
 -- How it is said in which set the identity stands.
-abbrev pub bank_word : Bank → Text
+abbrev pub bank_word : WhichSet → Text
 bank_word Pending = codes " is pending "
 bank_word Enabled = codes " is enabled "
 
@@ -183,7 +183,7 @@ begin_word begins.InOld = codes "in the old place at the start"
 begin_word begins.InNew = codes "in the new place at the start"
 
 -- By which route a store goes.
-abbrev pub route_word : Route → Text
+abbrev pub route_word : StoreRoute → Text
 route_word Written = codes " by its written route"
 route_word InForce = codes " by its route in force"
 
@@ -235,7 +235,7 @@ run_text places (Some run) =
 -- ---- the run that is shown of a plan that may leave its host untold
 
 -- How a spot is named.
-abbrev pub spot_word : Spot → Text
+abbrev pub spot_word : NumberSpot → Text
 spot_word InOld = codes " in the old place"
 spot_word InHand = codes " in the hand"
 spot_word InNew = codes " in the new place"
@@ -247,12 +247,12 @@ store_text places (Some store) =
     extra_text places store.producer (extras.Stores store.before store.route)
 
 -- Where the threshold lets the identity through at the start.
-abbrev pub threshold_text : Option Spot → Text
+abbrev pub threshold_text : Option NumberSpot → Text
 threshold_text None = codes "1 everywhere"
 threshold_text (Some spot) = codes "0" ++ (spot_word spot ++ codes " and 1 elsewhere")
 
 -- Where delivery is 1 at the start.
-abbrev pub delivery_text : Spot → Text
+abbrev pub delivery_text : NumberSpot → Text
 delivery_text spot =
     codes "; at the start delivery is 1" ++ (spot_word spot
     ++ codes " and 0 elsewhere, and the threshold is ")
@@ -288,7 +288,7 @@ shown_text places (shows.Losing run) = run_text places run
 shown_text places (shows.Untold run heeds) = untold_text places heeds run
 
 -- The text of a verdict, with what is shown of it.
-abbrev pub verdict_text : List Place → Shown → Verdict → Text
+abbrev pub verdict_text : List Place → Shown → Judgement → Text
 verdict_text places shown Accepted = codes "accepted"
 verdict_text places shown (Refused rule before) =
     codes "refused " ++ (rule_word rule ++ (place_text (slice_get places before)
@@ -296,7 +296,7 @@ verdict_text places shown (Refused rule before) =
 
 -- Of a plan that breaks a rule of safety a run that loses something; of one that breaks the rule on
 -- notices one that leaves the host untold.
-abbrev pub shown_of : List Kind → Terms → List Step → Verdict → Shown
+abbrev pub shown_of : List RouteKind → Terms → List AnyStep → Judgement → Shown
 shown_of producers terms plan Accepted = shows.Nothing
 shown_of producers terms plan (Refused rules.Notice before) =
     shows.Untold (untold_run_of producers terms plan) terms.heeds
@@ -304,7 +304,7 @@ shown_of producers terms plan (Refused rule before) =
     shows.Losing (losing_run_of producers terms plan)
 
 -- The text of the verdict on a plan.
-abbrev pub found_text : List Place → List Kind → Terms → List Step → Verdict → Text
+abbrev pub found_text : List Place → List RouteKind → Terms → List AnyStep → Judgement → Text
 found_text places producers terms plan verdict =
     verdict_text places (shown_of producers terms plan verdict) verdict
 

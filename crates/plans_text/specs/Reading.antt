@@ -2,18 +2,18 @@
 use Rattle.std.specs.Prelude.{ℕ, ◌+◌, ◌-◌, ◌*◌, Bool, not, nat_eq, nat_le, if◌then◌else◌, List, [], ◌∷◌, length, take, drop, Option, Some, None, codes, position}
 use Rattle.std.specs.Int.{is_in_range}
 use Rattle.std.specs.Str.{bytes_eq}
-use Rattle.plans_rules.specs.declared.step.Place.{Place}
-use Rattle.plans_rules.specs.declared.step.Place.TheVariants.{Old, New}
-use Rattle.plans_rules.specs.declared.step.Bank.{Bank}
-use Rattle.plans_rules.specs.declared.step.Bank.TheVariants.{Pending, Enabled}
+use Rattle.plans_rules.specs.declared.step.AnyPlace.{AnyPlace}
+use Rattle.plans_rules.specs.declared.step.AnyPlace.TheVariants.{Old, New}
+use Rattle.plans_rules.specs.declared.step.WhichSet.{WhichSet}
+use Rattle.plans_rules.specs.declared.step.WhichSet.TheVariants.{Pending, Enabled}
 use Rattle.plans_rules.specs.declared.step.Number.{Number}
 use Rattle.plans_rules.specs.declared.step.Number.TheVariants.{Threshold, Delivery}
-use Rattle.plans_rules.specs.declared.step.Step.{Step}
-use Rattle.plans_rules.specs.declared.step.Step.TheVariants as steps
-use Rattle.plans_rules.specs.declared.setting.Kind.{Kind}
-use Rattle.plans_rules.specs.declared.setting.Kind.TheVariants.{Routed, Switched}
-use Rattle.plans_rules.specs.declared.setting.Spot.{Spot}
-use Rattle.plans_rules.specs.declared.setting.Spot.TheVariants.{InOld, InHand, InNew}
+use Rattle.plans_rules.specs.declared.step.AnyStep.{AnyStep}
+use Rattle.plans_rules.specs.declared.step.AnyStep.TheVariants as steps
+use Rattle.plans_rules.specs.declared.setting.RouteKind.{RouteKind}
+use Rattle.plans_rules.specs.declared.setting.RouteKind.TheVariants.{Routed, Switched}
+use Rattle.plans_rules.specs.declared.setting.NumberSpot.{NumberSpot}
+use Rattle.plans_rules.specs.declared.setting.NumberSpot.TheVariants.{InOld, InHand, InNew}
 use Rattle.plans_counterexamples.specs.Search.{or_else}
 use Rattle.plans_text.specs.declared.limits.TheConstants.{LINE_BYTES}
 use Rattle.plans_text.specs.declared.line.Line.{Line}
@@ -87,7 +87,7 @@ numeral_at text = do
 -- ---- names
 
 -- The set that a word names.
-abbrev pub bank_named : Text → Option Bank
+abbrev pub bank_named : Text → Option WhichSet
 bank_named word =
     if bytes_eq word (codes "pending") then Some Pending
     else if bytes_eq word (codes "enabled") then Some Enabled else None
@@ -99,20 +99,20 @@ number_named word =
     else if bytes_eq word (codes "delivery") then Some Delivery else None
 
 -- The place that a word names.
-abbrev pub place_named : Text → Option Place
+abbrev pub place_named : Text → Option AnyPlace
 place_named word =
     if bytes_eq word (codes "old") then Some Old
     else if bytes_eq word (codes "new") then Some New else None
 
 -- The spot that a word names: the old place, the hand or the new place.
-abbrev pub spot_named : Text → Option Spot
+abbrev pub spot_named : Text → Option NumberSpot
 spot_named word =
     if bytes_eq word (codes "old") then Some InOld
     else if bytes_eq word (codes "hand") then Some InHand
     else if bytes_eq word (codes "new") then Some InNew else None
 
 -- The kind of producer that a word names.
-abbrev pub kind_named : Text → Option Kind
+abbrev pub kind_named : Text → Option RouteKind
 kind_named word =
     if bytes_eq word (codes "routed") then Some Routed
     else if bytes_eq word (codes "switched") then Some Switched else None
@@ -139,35 +139,35 @@ unfoldable pub thing_at : Text → Option (Thing × Text)
 thing_at text = elim (number_thing_at text) [ Some thing ↦ Some thing | None ↦ word_at text ]
 
 -- The step that zeroes such a thing in a place.
-abbrev pub zero_of : Place → Thing → Step
+abbrev pub zero_of : AnyPlace → Thing → AnyStep
 zero_of place (things.Word bank word) = steps.Zero place bank word
 zero_of place (things.Number number) = steps.ZeroNumber place number
 
 -- The step that takes it from the old place.
-abbrev pub take_of : Thing → Step
+abbrev pub take_of : Thing → AnyStep
 take_of (things.Word bank word) = steps.Take bank word
 take_of (things.Number number) = steps.TakeNumber number
 
 -- The step that puts it in the new place.
-abbrev pub put_of : Thing → Step
+abbrev pub put_of : Thing → AnyStep
 put_of (things.Word bank word) = steps.Put bank word
 put_of (things.Number number) = steps.PutNumber number
 
 -- The step that joins it to the new place; a number is not joined.
-abbrev pub join_of : Thing → Option Step
+abbrev pub join_of : Thing → Option AnyStep
 join_of (things.Word bank word) = Some (steps.Join bank word)
 join_of (things.Number number) = None
 
 -- ---- steps, by their names
 
 -- A step with a number, which is the one word of a text.
-unfoldable pub numbered_at : (ℕ → Step) → Text → Option Step
+unfoldable pub numbered_at : (ℕ → AnyStep) → Text → Option AnyStep
 numbered_at step text = do
   number ← numeral_at text
   at_end number.1 (step number.0)
 
 -- What follows `zero`: a place, and what is zeroed there.
-unfoldable pub zero_at : Text → Option Step
+unfoldable pub zero_at : Text → Option AnyStep
 zero_at text = do
   word ← next_word text
   place ← place_named word.0
@@ -175,33 +175,33 @@ zero_at text = do
   at_end thing.1 (zero_of place thing.0)
 
 -- What follows `take`.
-unfoldable pub take_at : Text → Option Step
+unfoldable pub take_at : Text → Option AnyStep
 take_at text = do
   thing ← thing_at text
   at_end thing.1 (take_of thing.0)
 
 -- What follows `put`.
-unfoldable pub put_at : Text → Option Step
+unfoldable pub put_at : Text → Option AnyStep
 put_at text = do
   thing ← thing_at text
   at_end thing.1 (put_of thing.0)
 
 -- What follows `join`.
-unfoldable pub join_at : Text → Option Step
+unfoldable pub join_at : Text → Option AnyStep
 join_at text = do
   thing ← thing_at text
   step ← join_of thing.0
   at_end thing.1 step
 
 -- A step about routes, by its name and the text behind it.
-abbrev pub routing_named : Text → Text → Option Step
+abbrev pub routing_named : Text → Text → Option AnyStep
 routing_named name text =
     if bytes_eq name (codes "route") then numbered_at steps.Route text
     else if bytes_eq name (codes "fence") then numbered_at steps.Fence text
     else if bytes_eq name (codes "switch") then numbered_at steps.Switch text else None
 
 -- A step that moves something, likewise.
-abbrev pub moving_named : Text → Text → Option Step
+abbrev pub moving_named : Text → Text → Option AnyStep
 moving_named name text =
     if bytes_eq name (codes "zero") then zero_at text
     else if bytes_eq name (codes "take") then take_at text
@@ -209,19 +209,19 @@ moving_named name text =
     else if bytes_eq name (codes "put") then put_at text else None
 
 -- The step that the word behind `write` names.
-abbrev pub notice_named : Text → Option Step
+abbrev pub notice_named : Text → Option AnyStep
 notice_named word =
     if bytes_eq word (codes "notice") then Some steps.WriteNotice else None
 
 -- What follows `write`.
-unfoldable pub write_at : Text → Option Step
+unfoldable pub write_at : Text → Option AnyStep
 write_at text = do
   word ← next_word text
   step ← notice_named word.0
   at_end word.1 step
 
 -- A step about notices, or `free`, likewise.
-abbrev pub telling_named : Text → Text → Option Step
+abbrev pub telling_named : Text → Text → Option AnyStep
 telling_named name text =
     if bytes_eq name (codes "look") then numbered_at steps.Look text
     else if bytes_eq name (codes "post") then at_end text steps.Post
@@ -230,7 +230,7 @@ telling_named name text =
     else if bytes_eq name (codes "free") then at_end text steps.Free else None
 
 -- The step that a name spells with the text behind it.
-unfoldable pub step_named : Text → Text → Option Step
+unfoldable pub step_named : Text → Text → Option AnyStep
 step_named name text =
     or_else (routing_named name text)
     (or_else (moving_named name text) (telling_named name text))
@@ -287,7 +287,7 @@ declaration_named name text =
     else if bytes_eq name (codes "notices") then notices_at text else flag_named name text
 
 -- A step as a line.
-abbrev pub step_line : Option Step → Option Line
+abbrev pub step_line : Option AnyStep → Option Line
 step_line None = None
 step_line (Some step) = Some (lines.Step step)
 

@@ -9,7 +9,7 @@ use crate::limits::{PRODUCERS, STEPS, WORDS};
 use crate::line::Line;
 use crate::outcome::Outcome;
 use crate::shown::shown_of;
-use plans_judge::{Kind, Spot, Step, Terms, judge};
+use plans_judge::{AnyStep, NumberSpot, RouteKind, Terms, judge};
 use std::alloc::{AllocError, Global};
 
 /// Where a step was read.
@@ -30,9 +30,9 @@ pub(crate) struct Draft {
     /// The number of its first bad line.
     bad: Option<usize>,
 
-    producers: Vec<Kind>,
+    producers: Vec<RouteKind>,
     terms: Terms,
-    steps: Vec<Step>,
+    steps: Vec<AnyStep>,
     marks: Vec<Mark>,
 }
 
@@ -46,8 +46,8 @@ fn first_terms() -> Terms
         in_memory: false,
         heeds: false,
         notices_go: true,
-        number_from: Spot::InOld,
-        number_to: Spot::InNew,
+        number_from: NumberSpot::InOld,
+        number_to: NumberSpot::InNew,
     }
 }
 
@@ -90,13 +90,14 @@ fn terms_with(line: Line, terms: Terms) -> Option<Terms>
 }
 
 /// Tells whether a step names words of the file and producers that are declared.
-fn is_known(words: u32, producers: usize, step: Step) -> bool
+fn is_known(words: u32, producers: usize, step: AnyStep) -> bool
     ensures { result ≡ file.is_known words producers step }
 {
     match step {
-        Step::Route(p) | Step::Fence(p) | Step::Switch(p) => (p as usize) < producers,
-        Step::Zero(_, _, w) | Step::Take(_, w) | Step::Join(_, w) | Step::Put(_, w) => w < words,
-        Step::Look(w) => w < words,
+        AnyStep::Route(p) | AnyStep::Fence(p) | AnyStep::Switch(p) => (p as usize) < producers,
+        AnyStep::Zero(_, _, w) | AnyStep::Take(_, w) | AnyStep::Join(_, w) | AnyStep::Put(_, w) => w
+            < words,
+        AnyStep::Look(w) => w < words,
         _ => true,
     }
 }
@@ -168,7 +169,7 @@ impl Draft {
 
     /// Declares a producer, where no step stands yet and there is room. `Err`: there is no memory
     /// for it.
-    fn declare_producer(&mut self, line: usize, kind: Kind) -> Result<(), AllocError>
+    fn declare_producer(&mut self, line: usize, kind: RouteKind) -> Result<(), AllocError>
         ensures plan { OnOk result
             (plan_of self.new ≡ file.with_producer line kind (plan_of self.old)) }
         ensures inside { AreInFile self.old → AreInFile self.new }
@@ -189,7 +190,7 @@ impl Draft {
         alloc: Global,
         line: usize,
         text: &[u8],
-        step: Step,
+        step: AnyStep,
     ) -> Result<(), AllocError>
         ensures plan { OnOk result
             (plan_of self.new ≡ file.with_step line text.now step (plan_of self.old)) }

@@ -3,7 +3,7 @@
 ghost use Rattle.std.specs.Prelude.{◌≡◌};
 ghost use Rattle.plans_text.specs.Outcomes as outcomes;
 
-use plans_judge::Verdict;
+use plans_judge::Judgement;
 
 /// What came of plans: the worst that came of any of them. From the best on to the worst.
 #[derive(Clone, Copy, Debug, PartialEq, Eq)]
@@ -35,12 +35,12 @@ impl Outcome {
     }
 
     /// Gives what came of a plan on which this is the verdict.
-    pub(crate) fn of(verdict: Verdict) -> Outcome
+    pub(crate) fn of(verdict: Judgement) -> Outcome
         ensures { result ≡ outcomes.outcome_of verdict }
     {
         match verdict {
-            Verdict::Accepted => Outcome::Accepted,
-            Verdict::Refused { .. } => Outcome::Refused,
+            Judgement::Accepted => Outcome::Accepted,
+            Judgement::Refused { .. } => Outcome::Refused,
         }
     }
 }

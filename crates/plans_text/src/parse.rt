@@ -10,7 +10,7 @@ use crate::words::{
     at_end, bank_named, before_comment, kind_named, next_word, number_named, numeral_at,
     place_named, spot_named,
 };
-use plans_rules::{Place, Step};
+use plans_rules::{AnyPlace, AnyStep};
 
 /// Reads a word of a set: its set and its number. `None`: it is none.
 #[tactic(auto, unfolding(crate::specs::Reading::word_at))]
@@ -45,48 +45,48 @@ fn thing_at(text: &[u8]) -> Option<(Thing, &[u8])>
 }
 
 /// Gives the step that overwrites it with zeros.
-fn zero_of(place: Place, thing: Thing) -> Step
+fn zero_of(place: AnyPlace, thing: Thing) -> AnyStep
     ensures { result ≡ reading.zero_of place thing }
 {
     match thing {
-        Thing::Word(bank, word) => Step::Zero(place, bank, word),
-        Thing::Number(number) => Step::ZeroNumber(place, number),
+        Thing::Word(bank, word) => AnyStep::Zero(place, bank, word),
+        Thing::Number(number) => AnyStep::ZeroNumber(place, number),
     }
 }
 
 /// Gives the step that takes it.
-fn take_of(thing: Thing) -> Step
+fn take_of(thing: Thing) -> AnyStep
     ensures { result ≡ reading.take_of thing }
 {
     match thing {
-        Thing::Word(bank, word) => Step::Take(bank, word),
-        Thing::Number(number) => Step::TakeNumber(number),
+        Thing::Word(bank, word) => AnyStep::Take(bank, word),
+        Thing::Number(number) => AnyStep::TakeNumber(number),
     }
 }
 
 /// Gives the step that puts it.
-fn put_of(thing: Thing) -> Step
+fn put_of(thing: Thing) -> AnyStep
     ensures { result ≡ reading.put_of thing }
 {
     match thing {
-        Thing::Word(bank, word) => Step::Put(bank, word),
-        Thing::Number(number) => Step::PutNumber(number),
+        Thing::Word(bank, word) => AnyStep::Put(bank, word),
+        Thing::Number(number) => AnyStep::PutNumber(number),
     }
 }
 
 /// Gives the step that joins it. `None`: a number is not joined.
-fn join_of(thing: Thing) -> Option<Step>
+fn join_of(thing: Thing) -> Option<AnyStep>
     ensures { result ≡ reading.join_of thing }
 {
     match thing {
-        Thing::Word(bank, word) => Some(Step::Join(bank, word)),
+        Thing::Word(bank, word) => Some(AnyStep::Join(bank, word)),
         Thing::Number(_) => None,
     }
 }
 
 /// Reads the place and the thing of a `zero`. `None`: they are none.
 #[tactic(auto, unfolding(crate::specs::Reading::zero_at))]
-fn zero_at(text: &[u8]) -> Option<Step>
+fn zero_at(text: &[u8]) -> Option<AnyStep>
     ensures { result ≡ reading.zero_at text.now }
 {
     let (word, rest) = next_word(text)?;
@@ -97,7 +97,7 @@ fn zero_at(text: &[u8]) -> Option<Step>
 
 /// Reads the thing of a `take`. `None`: it is none.
 #[tactic(auto, unfolding(crate::specs::Reading::take_at))]
-fn take_at(text: &[u8]) -> Option<Step>
+fn take_at(text: &[u8]) -> Option<AnyStep>
     ensures { result ≡ reading.take_at text.now }
 {
     let (thing, rest) = thing_at(text)?;
@@ -106,7 +106,7 @@ fn take_at(text: &[u8]) -> Option<Step>
 
 /// Reads the thing of a `put`. `None`: it is none.
 #[tactic(auto, unfolding(crate::specs::Reading::put_at))]
-fn put_at(text: &[u8]) -> Option<Step>
+fn put_at(text: &[u8]) -> Option<AnyStep>
     ensures { result ≡ reading.put_at text.now }
 {
     let (thing, rest) = thing_at(text)?;
@@ -115,7 +115,7 @@ fn put_at(text: &[u8]) -> Option<Step>
 
 /// Reads the word of a `join`. `None`: it is none.
 #[tactic(auto, unfolding(crate::specs::Reading::join_at))]
-fn join_at(text: &[u8]) -> Option<Step>
+fn join_at(text: &[u8]) -> Option<AnyStep>
     ensures { result ≡ reading.join_at text.now }
 {
     let (thing, rest) = thing_at(text)?;
@@ -126,29 +126,29 @@ fn join_at(text: &[u8]) -> Option<Step>
 /// Reads the number with which a text ends. `None`: it is none, or a word stands behind it.
 #[tactic(auto, unfolding(crate::specs::Reading::numbered_at))]
 fn last_number(text: &[u8]) -> Option<u32>
-    ensures { (step : ℕ → Step) → option_map step result ≡ reading.numbered_at step text.now }
+    ensures { (step : ℕ → AnyStep) → option_map step result ≡ reading.numbered_at step text.now }
 {
     let (number, rest) = numeral_at(text)?;
     at_end(rest, number)
 }
 
 /// Reads a step about a route. `None`: the name or what stands behind it spells none.
-fn routing_named(name: &[u8], text: &[u8]) -> Option<Step>
+fn routing_named(name: &[u8], text: &[u8]) -> Option<AnyStep>
     ensures { result ≡ reading.routing_named name.now text.now }
 {
     if name == b"route".as_slice() {
-        Some(Step::Route(last_number(text)?))
+        Some(AnyStep::Route(last_number(text)?))
     } else if name == b"fence".as_slice() {
-        Some(Step::Fence(last_number(text)?))
+        Some(AnyStep::Fence(last_number(text)?))
     } else if name == b"switch".as_slice() {
-        Some(Step::Switch(last_number(text)?))
+        Some(AnyStep::Switch(last_number(text)?))
     } else {
         None
     }
 }
 
 /// Reads a step that moves something. `None`: the name or what stands behind it spells none.
-fn moving_named(name: &[u8], text: &[u8]) -> Option<Step>
+fn moving_named(name: &[u8], text: &[u8]) -> Option<AnyStep>
     ensures { result ≡ reading.moving_named name.now text.now }
 {
     if name == b"zero".as_slice() {
@@ -165,11 +165,11 @@ fn moving_named(name: &[u8], text: &[u8]) -> Option<Step>
 }
 
 /// Gives the step that the word behind `write` names. `None`: it names none.
-fn notice_named(word: &[u8]) -> Option<Step>
+fn notice_named(word: &[u8]) -> Option<AnyStep>
     ensures { result ≡ reading.notice_named word.now }
 {
     if word == b"notice".as_slice() {
-        Some(Step::WriteNotice)
+        Some(AnyStep::WriteNotice)
     } else {
         None
     }
@@ -177,7 +177,7 @@ fn notice_named(word: &[u8]) -> Option<Step>
 
 /// Reads what a `write` writes. `None`: it is none.
 #[tactic(auto, unfolding(crate::specs::Reading::write_at))]
-fn write_at(text: &[u8]) -> Option<Step>
+fn write_at(text: &[u8]) -> Option<AnyStep>
     ensures { result ≡ reading.write_at text.now }
 {
     let (word, rest) = next_word(text)?;
@@ -186,19 +186,19 @@ fn write_at(text: &[u8]) -> Option<Step>
 }
 
 /// Reads a step about the host, or `free`. `None`: the name or what stands behind it spells none.
-fn telling_named(name: &[u8], text: &[u8]) -> Option<Step>
+fn telling_named(name: &[u8], text: &[u8]) -> Option<AnyStep>
     ensures { result ≡ reading.telling_named name.now text.now }
 {
     if name == b"look".as_slice() {
-        Some(Step::Look(last_number(text)?))
+        Some(AnyStep::Look(last_number(text)?))
     } else if name == b"post".as_slice() {
-        at_end(text, Step::Post)
+        at_end(text, AnyStep::Post)
     } else if name == b"tell".as_slice() {
-        at_end(text, Step::Tell)
+        at_end(text, AnyStep::Tell)
     } else if name == b"write".as_slice() {
         write_at(text)
     } else if name == b"free".as_slice() {
-        at_end(text, Step::Free)
+        at_end(text, AnyStep::Free)
     } else {
         None
     }
@@ -206,7 +206,7 @@ fn telling_named(name: &[u8], text: &[u8]) -> Option<Step>
 
 /// Reads the step that a name spells with the text behind it. `None`: they spell none.
 #[tactic(auto, unfolding(crate::specs::Reading::step_named))]
-fn step_named(name: &[u8], text: &[u8]) -> Option<Step>
+fn step_named(name: &[u8], text: &[u8]) -> Option<AnyStep>
     ensures { result ≡ reading.step_named name.now text.now }
 {
     if let Some(step) = routing_named(name, text) {
