@@ -9,8 +9,8 @@ use Rattle.clap.specs.Simple.{App, new_app, on_top, with_subcommand}
 use Rattle.clap.specs.Simple.{subcommand_of as subcommand_met}
 use Rattle.clap.specs.Kinds.{Kinds}
 use Rattle.clap.specs.Faults.{fault_of}
-use Rattle.plans_text.specs.declared.command_line.Subcommand.{Subcommand}
-use Rattle.plans_text.specs.declared.command_line.Subcommand.TheVariants.{Judge}
+use Rattle.plans_text.specs.declared.command_line.PlansSubcommand.{PlansSubcommand}
+use Rattle.plans_text.specs.declared.command_line.PlansSubcommand.TheVariants.{Judge}
 
 -- `judge` has no arguments.
 abbrev pub judge_command : App
@@ -29,16 +29,16 @@ unfoldable pub the_command : App
 the_command = with_subcommand bare_command judge_command.top
 
 -- The subcommand of this name.
-abbrev pub named : Option (Text × List Row) → Option Subcommand
+abbrev pub named : Option (Text × List Row) → Option PlansSubcommand
 named None = None
 named (Some (name, rows)) = if bytes_eq name (codes "judge") then Some Judge else None
 
 -- Words are refused where there is an error for them.
-abbrev pub unless_refused : Kinds → Option Subcommand → Option Subcommand
+abbrev pub unless_refused : Kinds → Option PlansSubcommand → Option PlansSubcommand
 unless_refused [] asked = asked
 unless_refused (error ∷ errors) asked = None
 
 -- The subcommand that the words ask for, or None where they are refused.
-unfoldable pub subcommand_of : List Text → Option Subcommand
+unfoldable pub subcommand_of : List Text → Option PlansSubcommand
 subcommand_of words =
     unless_refused (fault_of the_command words) (named (subcommand_met the_command words))

@@ -11,7 +11,7 @@ use std::alloc::{AllocError, Global};
 
 /// What the program is to do. Profile.
 #[derive(Clone, Copy, Debug, PartialEq, Eq)]
-pub enum Subcommand {
+pub enum PlansSubcommand {
     /// Judge the plans of a file.
     Judge,
 }
@@ -44,19 +44,22 @@ fn judge_command<'a>(alloc: Global) -> Command<'a>
 }
 
 /// Reads the subcommand that was met. `None`: there is none.
-fn read_matches(matches: &ArgMatches<'_>) -> Option<Subcommand>
+fn read_matches(matches: &ArgMatches<'_>) -> Option<PlansSubcommand>
     ensures { result ≡ named (subcommand_rows_of matches.now) }
 {
     let (name, _arguments) = matches.subcommand()?;
     match name {
-        "judge" => Some(Subcommand::Judge),
+        "judge" => Some(PlansSubcommand::Judge),
         _ => None,
     }
 }
 
 /// Reads what the words of the command line ask for, the program's name not among them. `None`: the
 /// words are refused. `Err`: there is no memory to read them.
-pub(crate) fn read_words(alloc: Global, words: &[&str]) -> Result<Option<Subcommand>, AllocError>
+pub(crate) fn read_words(
+    alloc: Global,
+    words: &[&str],
+) -> Result<Option<PlansSubcommand>, AllocError>
     ensures { IfOk result (λ given. given ≡ subcommand_of (map (λ word. word.now) words.now)) }
 {
     match command(alloc)?.try_get_matches_from(words) {

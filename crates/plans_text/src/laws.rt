@@ -6,12 +6,13 @@
 ghost use Rattle.std.specs.Prelude.{◌≡◌, [], ◌∷◌, Some, None, codes};
 ghost use Rattle.plans_text.specs.CommandLine.{subcommand_of};
 
-use crate::command_line::Subcommand;
+use crate::command_line::PlansSubcommand;
 
 /// The word `judge` is taken, with the delimiter `--` behind it or not.
 pub fn judge_is_taken()
-    ensures alone { subcommand_of (codes "judge" ∷ []) ≡ Some Subcommand.Judge }
-    ensures delimiter { subcommand_of (codes "judge" ∷ codes "--" ∷ []) ≡ Some Subcommand.Judge }
+    ensures alone { subcommand_of (codes "judge" ∷ []) ≡ Some PlansSubcommand.Judge }
+    ensures delimiter { subcommand_of (codes "judge" ∷ codes "--" ∷ [])
+        ≡ Some PlansSubcommand.Judge }
 {}
 
 /// These words, which are not `judge` alone, are refused; so are requests for help and for the
