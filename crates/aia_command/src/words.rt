@@ -5,8 +5,8 @@ ghost use Rattle.aia_command.specs.CommandLine.{audit_of, generate_of, kind_at, 
 use crate::command::command;
 use crate::kind_word::KindWord;
 use crate::subcommand::Subcommand;
+use aia_io::match_words;
 use clap::ArgMatches;
-use clap::error::ErrorKind;
 use std::alloc::{AllocError, Global};
 
 /// Reads what the words of the command line ask for, the program's name not among them. `None`: the
@@ -14,12 +14,9 @@ use std::alloc::{AllocError, Global};
 pub fn read_words(alloc: Global, words: &[&str]) -> Result<Option<Subcommand>, AllocError>
     ensures { IfOk result (λ given. given ≡ subcommand_of (map (λ word. word.now) words.now)) }
 {
-    match command(alloc)?.try_get_matches_from(words) {
-        Ok(matches) => Ok(read_matches(&matches)),
-        Err(error) => match error.kind() {
-            ErrorKind::OutOfMemory => Err(AllocError),
-            _ => Ok(None),
-        },
+    match match_words(command(alloc)?, words)? {
+        Some(found) => Ok(read_matches(&found)),
+        None => Ok(None),
     }
 }
 

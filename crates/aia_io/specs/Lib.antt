@@ -9,3 +9,4 @@ pub mod Tape
 pub mod Lines
 pub mod Taken
 pub mod Words
+pub mod Commands

@@ -1,5 +1,5 @@
 -- What comes of plans: the worst that comes of any of them. Profile.
-use Rattle.std.specs.Prelude.{ℕ, ◌≤◌, if◌then◌else◌, nat_le}
+use Rattle.std.specs.Prelude.{ℕ, if◌then◌else◌, nat_le}
 use Rattle.plans_judge.specs.declared.verdict.Verdict.{Verdict}
 use Rattle.plans_judge.specs.declared.verdict.Verdict.TheVariants.{Accepted, Refused}
 use Rattle.plans_text.specs.declared.outcome.FileOutcome.{FileOutcome}

@@ -3,9 +3,9 @@
 ghost use Rattle.std.specs.Prelude.{◌≡◌, false, map, IfOk};
 ghost use Rattle.clap.specs.Words.{app_of, subcommand_rows_of};
 ghost use Rattle.clap.specs.declared.builder.command.Command.TheViews.{out-Command};
-ghost use Rattle.plans_text.specs.CommandLine.{bare_command, judge_command, named, subcommand_of, the_command};
+ghost use Rattle.plans_text.specs.CommandLine.{judge_command, named, subcommand_of, the_command};
 
-use clap::error::ErrorKind;
+use aia_io::{bare_command, match_words};
 use clap::{ArgMatches, Command};
 use std::alloc::{AllocError, Global};
 
@@ -20,19 +20,7 @@ pub enum PlansSubcommand {
 fn command<'a>(alloc: Global) -> Result<Command<'a>, AllocError>
     ensures { IfOk result (λ made. app_of made ≡ the_command) }
 {
-    bare_command(alloc).subcommand(judge_command(alloc))
-}
-
-/// Makes the command with no subcommand yet: one is required, and it shows no help.
-fn bare_command<'a>(alloc: Global) -> Command<'a>
-    ensures shape { app_of result ≡ bare_command }
-    ensures local { (out-Command result).has_globals ≡ false }
-{
-    Command::new(alloc, "plans")
-        .no_binary_name(true)
-        .subcommand_required(true)
-        .disable_help_flag(true)
-        .disable_help_subcommand(true)
+    bare_command(alloc, "plans").subcommand(judge_command(alloc))
 }
 
 /// Makes the subcommand `judge`.
@@ -62,11 +50,8 @@ pub(crate) fn read_words(
 ) -> Result<Option<PlansSubcommand>, AllocError>
     ensures { IfOk result (λ given. given ≡ subcommand_of (map (λ word. word.now) words.now)) }
 {
-    match command(alloc)?.try_get_matches_from(words) {
-        Ok(matches) => Ok(read_matches(&matches)),
-        Err(error) => match error.kind() {
-            ErrorKind::OutOfMemory => Err(AllocError),
-            _ => Ok(None),
-        },
+    match match_words(command(alloc)?, words)? {
+        Some(found) => Ok(read_matches(&found)),
+        None => Ok(None),
     }
 }
