@@ -1,7 +1,7 @@
 //! The command as `clap` is told of it.
 
-ghost use Rattle.std.specs.Prelude.{◌≡◌, false, IfOk};
-ghost use Rattle.clap.specs.Words.{app_of, rule_of};
+ghost use Rattle.std.specs.Prelude.{◌≡◌, false, IfOk, true};
+ghost use Rattle.clap.specs.Words.{app_of, is_simple_and_free, rule_of};
 ghost use Rattle.clap.specs.declared.builder.command.Command.TheViews.{out-Command};
 ghost use Rattle.clap.specs.declared.builder.value_parser.ValueParser.TheVariants as parser;
 ghost use Rattle.aia_command.specs.CommandLine.{audit_command, generate_command, replay_command, required_rule, the_command};
@@ -14,7 +14,8 @@ use std::alloc::{AllocError, Global};
 
 /// Makes the command of the words. `Err`: there is no memory for it.
 pub(crate) fn command<'a>(alloc: Global) -> Result<Command<'a>, AllocError>
-    ensures { IfOk result (λ made. app_of made ≡ the_command) }
+    ensures shape { IfOk result (λ made. app_of made ≡ the_command) }
+    ensures simple { IfOk result (λ made. is_simple_and_free (app_of made) ≡ true) }
 {
     let with_replay = bare_command(alloc, "aia").subcommand(replay_command(alloc))?;
     let with_generate = with_replay.subcommand(generate_command(alloc)?)?;

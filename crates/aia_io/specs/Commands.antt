@@ -3,7 +3,7 @@
 -- Which words are taken, which word is whose argument and which texts are numbers is what the
 -- library `clap` states of a command: `fault_of`, and its `subcommand_of`, by which a subcommand is
 -- met. The command is each program's own. Vocabulary.
-use Rattle.std.specs.Prelude.{◌≡◌, ◌≢◌, true, List, [], ◌∷◌, Option, Some, None}
+use Rattle.std.specs.Prelude.{◌≡◌, ◌≢◌, true, List, [], ◌∷◌, Option, Some, None, codes}
 use Rattle.clap.specs.Walk.{Text, Row}
 use Rattle.clap.specs.Simple.{App, new_app, on_top, subcommand_of, subcommand_rows_of}
 use Rattle.clap.specs.Kinds.{Kinds}
@@ -36,3 +36,15 @@ abbrev pub Finds : App → List Text → Option ArgMatches → Type 0
 Finds command words (Some found) =
     (fault_of command words ≡ []) × (subcommand_rows_of found ≡ subcommand_of command words)
 Finds command words None = fault_of command words ≢ []
+
+-- Words that no program takes: none, an empty one, `x`, the delimiter alone, and requests for help
+-- and for the version.
+pub record RefusesOthers {A : Type 0} (asks : List Text → Option A) : Type 0 where
+  pub no_word : asks [] ≡ None
+  pub empty_word : asks (codes "" ∷ []) ≡ None
+  pub other_word : asks (codes "x" ∷ []) ≡ None
+  pub delimiter : asks (codes "--" ∷ []) ≡ None
+  pub help : asks (codes "help" ∷ []) ≡ None
+  pub help_option : asks (codes "--help" ∷ []) ≡ None
+  pub help_letter : asks (codes "-h" ∷ []) ≡ None
+  pub version_option : asks (codes "--version" ∷ []) ≡ None

@@ -1,8 +1,9 @@
 //! The words of the command line.
 
-ghost use Rattle.std.specs.Prelude.{◌≡◌, false, map, IfOk};
-ghost use Rattle.clap.specs.Words.{app_of, subcommand_rows_of};
+ghost use Rattle.std.specs.Prelude.{◌≡◌, false, IfOk, true};
+ghost use Rattle.clap.specs.Words.{app_of, is_simple_and_free, subcommand_rows_of};
 ghost use Rattle.clap.specs.declared.builder.command.Command.TheViews.{out-Command};
+ghost use Rattle.aia_io.specs.Words.{asked};
 ghost use Rattle.plans_text.specs.CommandLine.{judge_command, named, subcommand_of, the_command};
 
 use aia_io::{bare_command, match_words};
@@ -18,7 +19,8 @@ pub enum PlansSubcommand {
 
 /// Makes the command of the words. `Err`: there is no memory for it.
 fn command<'a>(alloc: Global) -> Result<Command<'a>, AllocError>
-    ensures { IfOk result (λ made. app_of made ≡ the_command) }
+    ensures shape { IfOk result (λ made. app_of made ≡ the_command) }
+    ensures simple { IfOk result (λ made. is_simple_and_free (app_of made) ≡ true) }
 {
     bare_command(alloc, "plans").subcommand(judge_command(alloc))
 }
@@ -48,7 +50,7 @@ pub(crate) fn read_words(
     alloc: Global,
     words: &[&str],
 ) -> Result<Option<PlansSubcommand>, AllocError>
-    ensures { IfOk result (λ given. given ≡ subcommand_of (map (λ word. word.now) words.now)) }
+    ensures { IfOk result (λ given. given ≡ asked subcommand_of words.now) }
 {
     match match_words(command(alloc)?, words)? {
         Some(found) => Ok(read_matches(&found)),
