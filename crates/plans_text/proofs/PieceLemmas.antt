@@ -6,6 +6,7 @@ use Rattle.std.proofs.KnownBytes.{Appends-nil, Appends-trans, Consumes-whole}
 use Rattle.aia_io.specs.Ends.{Supply, Gives, GivesNone, Rose, CutOff}
 use Rattle.aia_io.proofs.SupplyLemmas.{gives_nothing, gives_more, gives_no_more}
 use Rattle.aia_io.specs.declared.limits.TheConstants.{SOURCE_BYTES}
+use Rattle.aia_io.specs.Written.{CutsAll}
 use Rattle.plans_text.specs.declared.outcome.FileOutcome.{FileOutcome}
 use Rattle.plans_text.specs.PlanFile.{FileRead, answers, outcome}
 use Rattle.plans_text.specs.declared.judging.Stop.{Stop}
@@ -15,7 +16,7 @@ use Rattle.plans_text.specs.declared.program.PlansStatus.TheVariants.{Done, Read
 use Rattle.plans_text.specs.declared.plan_reader.PlanFileReader.{PlanFileReader}
 use Rattle.plans_text.specs.Streaming.{HasRead, NoneWaits, WhateverWasRead}
 use Rattle.plans_text.proofs.StreamLemmas.{answers_grow}
-use Rattle.plans_text.specs.Runs.{AnswersEnded, CutsAnswers, EndsJudge, IsFront, Judged, JudgesAll, WhateverWasJudged, WritesPlansFront, stopped}
+use Rattle.plans_text.specs.Runs.{AnswersEnded, EndsJudge, IsFront, Judged, JudgesAll, WhateverWasJudged, WritesPlansFront, stopped}
 
 -- ---- what was written
 
@@ -164,7 +165,7 @@ ends_done reader left mid rest before middle now came taken a b c d so ended non
       usage = λ e. absurd (cc);
     }
 
-stops : (stop : Stop) (left rest : Supply) (before now : Option (List ℕ)) (a b c d : ℕ) → WritesPlansFront left rest before now → CutsAnswers left before now → (stop ≡ Sink → Rose c d) → EndsJudge (stopped stop) left rest before now a b c d
+stops : (stop : Stop) (left rest : Supply) (before now : Option (List ℕ)) (a b c d : ℕ) → WritesPlansFront left rest before now → CutsAll answers left before now → (stop ≡ Sink → Rose c d) → EndsJudge (stopped stop) left rest before now a b c d
 stops Sink left rest before now a b c d w front rose = record {
   done = λ other e. absurd (cc);
   write_fault = λ e. (w, rose refl);

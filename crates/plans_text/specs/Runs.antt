@@ -5,6 +5,7 @@ use Rattle.aia_io.specs.Ends.{Supply, Gives, Rose, Takes, TakesAtMost, TakesAll,
 use Rattle.aia_io.specs.declared.limits.TheConstants.{SOURCE_BYTES}
 use Rattle.aia_io.specs.Lines.{NoEnd}
 use Rattle.aia_io.specs.Words.{EndsUnasked}
+use Rattle.aia_io.specs.Written.{CutsAll, WritesAll}
 use Rattle.plans_text.specs.declared.plan_reader.PlanFileReader.{PlanFileReader}
 use Rattle.plans_text.specs.declared.outcome.FileOutcome.{FileOutcome}
 use Rattle.plans_text.specs.PlanFile.{answers}
@@ -19,19 +20,11 @@ use Rattle.plans_text.specs.declared.program.PlansStatus.TheVariants.{Done, Usag
 
 -- ---- what is written
 
--- What the sink took is what is answered of all that the source had left, where it tells that; or a
--- front of it.
-abbrev pub WritesAnswers : Supply → Option (List ℕ) → Option (List ℕ) → Type 0
-WritesAnswers left before now = IfSome left.to_come (λ file. Appends before now (answers file))
-
-abbrev pub CutsAnswers : Supply → Option (List ℕ) → Option (List ℕ) → Type 0
-CutsAnswers left before now = IfSome left.to_come (λ file. CutOff before now (answers file))
-
 -- The whole file was taken, what is answered of it was written, and that came of its plans.
 pub record JudgesAll (outcome : FileOutcome) (left rest : Supply) (before now : Option (List ℕ))
     : Type 0 where
   pub taken : TakesAll left rest
-  pub written : WritesAnswers left before now
+  pub written : WritesAll answers left before now
   pub came : IfSome left.to_come (λ file. outcome ≡ outcome_of_file file)
 
 -- The sink took a front of what is answered of the bytes that were taken, no more than a file has.
@@ -101,7 +94,7 @@ pub record EndsJudge (status : PlansStatus) (left rest : Supply) (before now : O
   pub too_long : status ≡ TooLong
       → WritesEnded 1 left rest before now × Takes (SOURCE_BYTES + 1) left rest
   -- in each case it is a front of the answers of the whole file, where the source tells it
-  pub front : CutsAnswers left before now
+  pub front : CutsAll answers left before now
   pub bound : TakesAtMost (SOURCE_BYTES + 1) left rest
   pub usage : status ≢ Usage
 
