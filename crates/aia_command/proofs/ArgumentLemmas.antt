@@ -16,7 +16,8 @@ use Rattle.aia_plan.specs.declared.step.Kind.{Kind}
 use Rattle.aia_command.specs.declared.limits.TheConstants.{MOST_LINES}
 use Rattle.aia_command.specs.declared.subcommand.Subcommand.{Subcommand}
 use Rattle.aia_command.specs.declared.subcommand.Subcommand.TheVariants.{Replay, Generate, Audit}
-use Rattle.aia_command.specs.CommandLine.{audit_command, audit_of, bare_command, generate_command, generate_of, kind_named, number_of, number_up_to, replay_command, unless_refused, width_of}
+use Rattle.aia_io.specs.Commands.{bare_command, unless_refused}
+use Rattle.aia_command.specs.CommandLine.{audit_command, audit_of, generate_command, generate_of, kind_named, number_of, number_up_to, replay_command, width_of}
 use Rattle.aia_command.specs.Spelled.{audit_spelled, generate_spelled, replay_spelled, without_delimiter}
 use Rattle.aia_command.proofs.NumberLemmas.{no_number, widest}
 use Rattle.aia_command.proofs.TurnLemmas.{Delimits, IsArgument, IsRefused, standing, turn, turn-delimited}
@@ -94,7 +95,7 @@ module _ (s : Shape) (read : List Row → Option Subcommand) where
 
 -- A subcommand as building leaves it.
 abbrev leaf_of : App → Shape
-leaf_of a = built_leaf (inherited (with_leaf_noted (marked_built bare_command.top)) a.top)
+leaf_of a = built_leaf (inherited (with_leaf_noted (marked_built (bare_command (codes "aia")).top)) a.top)
 
 -- ---- `replay`
 

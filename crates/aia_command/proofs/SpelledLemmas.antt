@@ -20,7 +20,8 @@ use Rattle.aia_plan.specs.declared.step.Kind.TheVariants.{Leave, Arrive, Shift}
 use Rattle.aia_command.specs.declared.limits.TheConstants.{MOST_LINES}
 use Rattle.aia_command.specs.declared.subcommand.Subcommand.{Subcommand}
 use Rattle.aia_command.specs.declared.subcommand.Subcommand.TheVariants.{Replay, Generate, Audit}
-use Rattle.aia_command.specs.CommandLine.{audit_command, audit_of, bare_command, generate_command, generate_of, kind_named, named, number_of, number_up_to, replay_command, subcommand_of, the_command, unless_refused, width_of}
+use Rattle.aia_io.specs.Commands.{bare_command, unless_refused}
+use Rattle.aia_command.specs.CommandLine.{audit_command, audit_of, generate_command, generate_of, kind_named, named, number_of, number_up_to, replay_command, subcommand_of, the_command, width_of}
 use Rattle.aia_command.specs.Spelled.{audit_spelled, generate_spelled, replay_spelled, kind_word, subcommand_spelled, without_delimiter}
 use Rattle.aia_command.proofs.NumberLemmas.{digits_are_number, no_number, number_up_to-some}
 use Rattle.aia_command.proofs.TurnLemmas.{Delimits, IsArgument, IsRefused, standing, turn, turn-delimited}
@@ -29,7 +30,7 @@ use Rattle.aia_plan.proofs.CorePlans.{at_most_32}
 
 -- The command as building leaves it.
 abbrev whole : App
-whole = built (with_subcommand (with_subcommand (with_subcommand bare_command replay_command.top) generate_command.top) audit_command.top)
+whole = built (with_subcommand (with_subcommand (with_subcommand (bare_command (codes "aia")) replay_command.top) generate_command.top) audit_command.top)
 
 abbrev first : Walk
 first = standing [] None 1 false

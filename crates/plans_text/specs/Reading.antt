@@ -16,8 +16,8 @@ use Rattle.plans_rules.specs.declared.setting.NumberSpot.{NumberSpot}
 use Rattle.plans_rules.specs.declared.setting.NumberSpot.TheVariants.{InOld, InHand, InNew}
 use Rattle.plans_counterexamples.specs.Search.{or_else}
 use Rattle.plans_text.specs.declared.limits.TheConstants.{LINE_BYTES}
-use Rattle.plans_text.specs.declared.line.Line.{Line}
-use Rattle.plans_text.specs.declared.line.Line.TheVariants as lines
+use Rattle.plans_text.specs.declared.line.PlanLine.{PlanLine}
+use Rattle.plans_text.specs.declared.line.PlanLine.TheVariants as lines
 use Rattle.plans_text.specs.declared.line.Thing.{Thing}
 use Rattle.plans_text.specs.declared.line.Thing.TheVariants as things
 use Rattle.plans_text.specs.declared.line.Reading.{Reading}
@@ -238,20 +238,20 @@ step_named name text =
 -- ---- declarations, by their names
 
 -- What follows `words`: how many words each set has.
-unfoldable pub words_at : Text → Option Line
+unfoldable pub words_at : Text → Option PlanLine
 words_at text = do
   number ← numeral_at text
   at_end number.1 (lines.Words number.0)
 
 -- What follows `producer`: its kind.
-unfoldable pub producer_at : Text → Option Line
+unfoldable pub producer_at : Text → Option PlanLine
 producer_at text = do
   word ← next_word text
   kind ← kind_named word.0
   at_end word.1 (lines.Producer kind)
 
 -- What follows `numbers`: where they stand at first, and where in the end.
-unfoldable pub numbers_at : Text → Option Line
+unfoldable pub numbers_at : Text → Option PlanLine
 numbers_at text = do
   first ← next_word text
   from ← spot_named first.0
@@ -260,18 +260,18 @@ numbers_at text = do
   at_end second.1 (lines.Numbers from to)
 
 -- The declaration that the word behind `notices` makes.
-abbrev pub unset_named : Text → Option Line
+abbrev pub unset_named : Text → Option PlanLine
 unset_named word = if bytes_eq word (codes "unset") then Some lines.NoticesUnset else None
 
 -- What follows `notices`.
-unfoldable pub notices_at : Text → Option Line
+unfoldable pub notices_at : Text → Option PlanLine
 notices_at text = do
   word ← next_word text
   line ← unset_named word.0
   at_end word.1 line
 
 -- A line that is one word, by that and the text behind it.
-abbrev pub flag_named : Text → Text → Option Line
+abbrev pub flag_named : Text → Text → Option PlanLine
 flag_named name text =
     if bytes_eq name (codes "plan") then at_end text lines.Plan
     else if bytes_eq name (codes "fresh") then at_end text lines.Fresh
@@ -279,7 +279,7 @@ flag_named name text =
     else if bytes_eq name (codes "heeds") then at_end text lines.Heeds else None
 
 -- A declaration, or the begin of a plan, by its name and the text behind it.
-abbrev pub declaration_named : Text → Text → Option Line
+abbrev pub declaration_named : Text → Text → Option PlanLine
 declaration_named name text =
     if bytes_eq name (codes "words") then words_at text
     else if bytes_eq name (codes "producer") then producer_at text
@@ -287,19 +287,19 @@ declaration_named name text =
     else if bytes_eq name (codes "notices") then notices_at text else flag_named name text
 
 -- A step as a line.
-abbrev pub step_line : Option AnyStep → Option Line
+abbrev pub step_line : Option AnyStep → Option PlanLine
 step_line None = None
 step_line (Some step) = Some (lines.Step step)
 
 -- The line that a name spells with the text behind it.
-abbrev pub line_named : Text → Text → Option Line
+abbrev pub line_named : Text → Text → Option PlanLine
 line_named name text =
     or_else (declaration_named name text) (step_line (step_named name text))
 
 -- ---- a text
 
 -- What a text says that has a word: a line, or it is bad.
-abbrev pub line_or_bad : Option Line → Reading
+abbrev pub line_or_bad : Option PlanLine → Reading
 line_or_bad None = readings.Bad
 line_or_bad (Some line) = readings.Line line
 

@@ -6,8 +6,8 @@ ghost use Rattle.plans_text.specs.PlanFile.{AreInFile, plan_of, place_of};
 
 use crate::answer::{push_number, push_verdict};
 use crate::limits::{PRODUCERS, STEPS, WORDS};
-use crate::line::Line;
-use crate::outcome::Outcome;
+use crate::line::PlanLine;
+use crate::outcome::FileOutcome;
 use crate::shown::shown_of;
 use plans_judge::{AnyStep, NumberSpot, RouteKind, Terms, judge};
 use std::alloc::{AllocError, Global};
@@ -53,34 +53,34 @@ fn first_terms() -> Terms
 
 /// Gives the terms that a declaration makes of others. `None`: the line is none, or declares what
 /// can't be.
-fn terms_with(line: Line, terms: Terms) -> Option<Terms>
+fn terms_with(line: PlanLine, terms: Terms) -> Option<Terms>
     ensures { result ≡ file.terms_with line terms }
 {
     match line {
-        Line::Words(words) => {
+        PlanLine::Words(words) => {
             if 0 < words && words <= WORDS {
                 Some(Terms { words, ..terms })
             } else {
                 None
             }
         }
-        Line::Fresh => Some(Terms {
+        PlanLine::Fresh => Some(Terms {
             is_fresh: true,
             ..terms
         }),
-        Line::Memory => Some(Terms {
+        PlanLine::Memory => Some(Terms {
             in_memory: true,
             ..terms
         }),
-        Line::Heeds => Some(Terms {
+        PlanLine::Heeds => Some(Terms {
             heeds: true,
             ..terms
         }),
-        Line::NoticesUnset => Some(Terms {
+        PlanLine::NoticesUnset => Some(Terms {
             notices_go: false,
             ..terms
         }),
-        Line::Numbers(number_from, number_to) => Some(Terms {
+        PlanLine::Numbers(number_from, number_to) => Some(Terms {
             number_from,
             number_to,
             ..terms
@@ -213,15 +213,15 @@ impl Draft {
         alloc: Global,
         number: usize,
         text: &[u8],
-        line: Line,
+        line: PlanLine,
     ) -> Result<(), AllocError>
         ensures plan { OnOk result
             (plan_of self.new ≡ file.with_line number text.now line (plan_of self.old)) }
         ensures inside { AreInFile self.old → AreInFile self.new }
     {
         match line {
-            Line::Step(step) => self.add_step(alloc, number, text, step),
-            Line::Producer(kind) => self.declare_producer(number, kind),
+            PlanLine::Step(step) => self.add_step(alloc, number, text, step),
+            PlanLine::Producer(kind) => self.declare_producer(number, kind),
             line => {
                 self.declare(number, terms_with(line, self.terms));
                 Ok(())
@@ -233,7 +233,7 @@ impl Draft {
 impl Draft {
     /// Appends which line is bad, or the verdict, and gives what came of the plan. `Err`: there is
     /// no memory for it, or for the verdict.
-    fn push_found(&self, alloc: Global, out: &mut Vec<u8>) -> Result<Outcome, AllocError>
+    fn push_found(&self, alloc: Global, out: &mut Vec<u8>) -> Result<FileOutcome, AllocError>
         requires { AreInFile self.now }
         ensures text { OnOk result (out.new.items
             ≡ out.old.items ++ file.bad_or_verdict self.now.bad (plan_of self.now)) }
@@ -244,13 +244,13 @@ impl Draft {
             Some(line) => {
                 out.extend_from_slice(b"bad line ")?;
                 push_number(out, line as u64)?;
-                Ok(Outcome::BadLine)
+                Ok(FileOutcome::BadLine)
             }
             None => {
                 let verdict = judge(alloc, &self.producers, self.terms, &self.steps)?;
                 let shown = shown_of(&self.producers, self.terms, &self.steps, verdict);
                 push_verdict(out, &self.marks, shown, verdict)?;
-                Ok(Outcome::of(verdict))
+                Ok(FileOutcome::of(verdict))
             }
         }
     }
@@ -261,7 +261,7 @@ impl Draft {
         &self,
         alloc: Global,
         out: &mut Vec<u8>,
-    ) -> Result<Outcome, AllocError>
+    ) -> Result<FileOutcome, AllocError>
         requires { AreInFile self.now }
         ensures text { OnOk result
             (out.new.items ≡ out.old.items ++ file.plan_answer (plan_of self.now)) }
@@ -272,7 +272,7 @@ impl Draft {
             out.push(b'\n')?;
             Ok(outcome)
         } else {
-            Ok(Outcome::NoPlan)
+            Ok(FileOutcome::NoPlan)
         }
     }
 }

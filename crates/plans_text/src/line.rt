@@ -2,7 +2,7 @@ use plans_rules::{AnyStep, Number, NumberSpot, RouteKind, WhichSet};
 
 /// What a line of a plan file says.
 #[derive(Clone, Copy, Debug, PartialEq, Eq)]
-pub enum Line {
+pub enum PlanLine {
     /// `plan`: a plan begins here, and the one before it ends.
     Plan,
 
@@ -38,7 +38,7 @@ pub enum Reading {
     Skip,
 
     /// It spells a line.
-    Line(Line),
+    Line(PlanLine),
 
     /// It spells none.
     Bad,

@@ -5,7 +5,7 @@ ghost use Rattle.std.specs.Option.{option_map};
 ghost use Rattle.plans_text.specs.Reading as reading;
 
 use crate::limits::LINE_BYTES;
-use crate::line::{Line, Reading, Thing};
+use crate::line::{PlanLine, Reading, Thing};
 use crate::words::{
     at_end, bank_named, before_comment, kind_named, next_word, number_named, numeral_at,
     place_named, spot_named,
@@ -220,41 +220,41 @@ fn step_named(name: &[u8], text: &[u8]) -> Option<AnyStep>
 
 /// Reads how many words a set has. `None`: it is no number.
 #[tactic(auto, unfolding(crate::specs::Reading::words_at))]
-fn words_at(text: &[u8]) -> Option<Line>
+fn words_at(text: &[u8]) -> Option<PlanLine>
     ensures { result ≡ reading.words_at text.now }
 {
     let (number, rest) = numeral_at(text)?;
-    at_end(rest, Line::Words(number))
+    at_end(rest, PlanLine::Words(number))
 }
 
 /// Reads the kind of a producer. `None`: it is none.
 #[tactic(auto, unfolding(crate::specs::Reading::producer_at))]
-fn producer_at(text: &[u8]) -> Option<Line>
+fn producer_at(text: &[u8]) -> Option<PlanLine>
     ensures { result ≡ reading.producer_at text.now }
 {
     let (word, rest) = next_word(text)?;
     let kind = kind_named(word)?;
-    at_end(rest, Line::Producer(kind))
+    at_end(rest, PlanLine::Producer(kind))
 }
 
 /// Reads where the numbers are, and have to be. `None`: they are no spots.
 #[tactic(auto, unfolding(crate::specs::Reading::numbers_at))]
-fn numbers_at(text: &[u8]) -> Option<Line>
+fn numbers_at(text: &[u8]) -> Option<PlanLine>
     ensures { result ≡ reading.numbers_at text.now }
 {
     let (word, rest) = next_word(text)?;
     let from = spot_named(word)?;
     let (word, rest) = next_word(rest)?;
     let to = spot_named(word)?;
-    at_end(rest, Line::Numbers(from, to))
+    at_end(rest, PlanLine::Numbers(from, to))
 }
 
 /// Gives the declaration that the word behind `notices` makes. `None`: it makes none.
-fn unset_named(word: &[u8]) -> Option<Line>
+fn unset_named(word: &[u8]) -> Option<PlanLine>
     ensures { result ≡ reading.unset_named word.now }
 {
     if word == b"unset".as_slice() {
-        Some(Line::NoticesUnset)
+        Some(PlanLine::NoticesUnset)
     } else {
         None
     }
@@ -262,7 +262,7 @@ fn unset_named(word: &[u8]) -> Option<Line>
 
 /// Reads what is declared of notices. `None`: it is nothing.
 #[tactic(auto, unfolding(crate::specs::Reading::notices_at))]
-fn notices_at(text: &[u8]) -> Option<Line>
+fn notices_at(text: &[u8]) -> Option<PlanLine>
     ensures { result ≡ reading.notices_at text.now }
 {
     let (word, rest) = next_word(text)?;
@@ -271,24 +271,24 @@ fn notices_at(text: &[u8]) -> Option<Line>
 }
 
 /// Reads a declaration of one word, or the begin of a plan. `None`: they spell none.
-fn flag_named(name: &[u8], text: &[u8]) -> Option<Line>
+fn flag_named(name: &[u8], text: &[u8]) -> Option<PlanLine>
     ensures { result ≡ reading.flag_named name.now text.now }
 {
     if name == b"plan".as_slice() {
-        at_end(text, Line::Plan)
+        at_end(text, PlanLine::Plan)
     } else if name == b"fresh".as_slice() {
-        at_end(text, Line::Fresh)
+        at_end(text, PlanLine::Fresh)
     } else if name == b"memory".as_slice() {
-        at_end(text, Line::Memory)
+        at_end(text, PlanLine::Memory)
     } else if name == b"heeds".as_slice() {
-        at_end(text, Line::Heeds)
+        at_end(text, PlanLine::Heeds)
     } else {
         None
     }
 }
 
 /// Reads a declaration. `None`: the name and the text behind it spell none.
-fn declaration_named(name: &[u8], text: &[u8]) -> Option<Line>
+fn declaration_named(name: &[u8], text: &[u8]) -> Option<PlanLine>
     ensures { result ≡ reading.declaration_named name.now text.now }
 {
     if name == b"words".as_slice() {
@@ -305,14 +305,14 @@ fn declaration_named(name: &[u8], text: &[u8]) -> Option<Line>
 }
 
 /// Reads the line that a name spells with the text behind it. `None`: they spell none.
-fn line_named(name: &[u8], text: &[u8]) -> Option<Line>
+fn line_named(name: &[u8], text: &[u8]) -> Option<PlanLine>
     ensures { result ≡ reading.line_named name.now text.now }
 {
     if let Some(line) = declaration_named(name, text) {
         return Some(line);
     }
     let step = step_named(name, text)?;
-    Some(Line::Step(step))
+    Some(PlanLine::Step(step))
 }
 
 /// Reads the words of a text that is not too long.
