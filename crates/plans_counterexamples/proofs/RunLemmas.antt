@@ -52,7 +52,8 @@ all-append P (x ∷ a) b all more = (all.0, all-append P a b all.1 more)
 
 -- ---- the start
 
-pub follows_begun : (producers : List RouteKind) (terms : Terms) (run : Run) → Follows run.case (trace_begun run terms) (start_of (setting_of producers terms) run)
+pub follows_begun : (producers : List RouteKind) (terms : Terms) (run : Run)
+    → Follows run.case (trace_begun run terms) (start_of (setting_of producers terms) run)
 follows_begun producers terms run = record {
   old = there (begins_old run.begin) run.case.bank run.case.identity;
   new = there (begins_new run.begin) run.case.bank run.case.identity;
@@ -75,26 +76,48 @@ follows_begun producers terms run = record {
 
 -- ---- the store
 
-flown : (d : Setting) (c : Case) (t : Trace) (z : AnyMachine) → Follows c t z → Follows c (record (flight_landed c t.flight t) { flight = None }) (happened d (Lands 0) z)
+flown : (d : Setting) (c : Case) (t : Trace) (z : AnyMachine) → Follows c t z
+    → Follows c (record (flight_landed c t.flight t) { flight = None }) (happened d (Lands 0) z)
 flown d c t z v =
-    subst (λ fs. Follows c (record (flight_landed c t.flight t) { flight = None }) (record (one_landed d (slice_get fs 0) z) { flights = all_but 0 fs })) (sym v.flights) (by_flight t.flight refl)
+    subst (λ fs. Follows c (record (flight_landed c t.flight t) { flight = None })
+    (record (one_landed d (slice_get fs 0) z) { flights = all_but 0 fs })) (sym v.flights) (by_flight t.flight refl)
   where
-    bare : (u : Trace) (y : AnyMachine) (fs : List AnyFlight) → fs ≡ [] → Follows c u y → Follows c (record u { flight = None }) (record y { flights = fs })
-    bare u y fs e w = record { old = w.old; new = w.new; hand = w.hand; due = w.due; old_number = w.old_number; new_number = w.new_number; hand_number = w.hand_number; written = w.written; in_force = w.in_force; flights = e; freed = w.freed; strayed = w.strayed }
+    bare : (u : Trace) (y : AnyMachine) (fs : List AnyFlight) → fs ≡ [] → Follows c u y
+        → Follows c (record u { flight = None }) (record y { flights = fs })
+    bare u y fs e w = record {
+      old = w.old;
+      new = w.new;
+      hand = w.hand;
+      due = w.due;
+      old_number = w.old_number;
+      new_number = w.new_number;
+      hand_number = w.hand_number;
+      written = w.written;
+      in_force = w.in_force;
+      flights = e;
+      freed = w.freed;
+      strayed = w.strayed;
+    }
 
-    by_flight : (f : Option AnyPlace) → t.flight ≡ f → Follows c (record (flight_landed c f t) { flight = None }) (record (one_landed d (slice_get (flights_by c f) 0) z) { flights = all_but 0 (flights_by c f) })
+    by_flight : (f : Option AnyPlace) → t.flight ≡ f
+        → Follows c (record (flight_landed c f t) { flight = None })
+        (record (one_landed d (slice_get (flights_by c f) 0) z) { flights = all_but 0 (flights_by c f) })
     by_flight None e = bare t z [] refl v
     by_flight (Some place) e = bare (trace_landed c place t) (landed d place c.identity z) [] refl (follows_landed d c place t z v)
 
-stored : (d : Setting) (c : Case) (route : StoreRoute) (t : Trace) (z : AnyMachine) → Follows c t z → Follows c (trace_stored c route t) (happened d (Stores c.producer (by_of route) c.identity) z)
-stored d c Written t z v = subst (λ place. Follows c (trace_landed c t.written t) (landed d place c.identity z)) (sym v.written) (follows_landed d c t.written t z v)
-stored d c InForce t z v = subst (λ place. Follows c (trace_landed c t.in_force t) (landed d place c.identity z)) (sym v.in_force) (follows_landed d c t.in_force t z v)
+stored : (d : Setting) (c : Case) (route : StoreRoute) (t : Trace) (z : AnyMachine) → Follows c t z
+    → Follows c (trace_stored c route t) (happened d (Stores c.producer (by_of route) c.identity) z)
+stored d c Written t z v = subst (λ place. Follows c (trace_landed c t.written t) (landed d place c.identity z)) (sym v.written)
+    (follows_landed d c t.written t z v)
+stored d c InForce t z v = subst (λ place. Follows c (trace_landed c t.in_force t) (landed d place c.identity z)) (sym v.in_force)
+    (follows_landed d c t.in_force t z v)
 
 -- Where a store is sent, none is in flight yet.
 abbrev pub IsUnsent : Run → ℕ → Trace → Type 0
 IsUnsent run k t = (before : ℕ) → run.extra ≡ extras.Lingers before → nat_eq before k ≡ true → t.flight ≡ None
 
-sent : (d : Setting) (c : Case) (t : Trace) (z : AnyMachine) → t.flight ≡ None → Follows c t z → Follows c (record t { flight = Some t.in_force }) (happened d (Sends c.producer AsInForce c.identity) z)
+sent : (d : Setting) (c : Case) (t : Trace) (z : AnyMachine) → t.flight ≡ None → Follows c t z
+    → Follows c (record t { flight = Some t.in_force }) (happened d (Sends c.producer AsInForce c.identity) z)
 sent d c t z none v = record {
   old = v.old;
   new = v.new;
@@ -105,27 +128,34 @@ sent d c t z none v = record {
   hand_number = v.hand_number;
   written = v.written;
   in_force = v.in_force;
-  flights = ap₂ (λ place fs. record { producer = c.producer; place = place; identity = c.identity } ∷ fs) v.in_force (v.flights ∙ ap (flights_by c) none);
+  flights = ap₂ (λ place fs. record { producer = c.producer; place = place; identity = c.identity } ∷ fs) v.in_force
+      (v.flights ∙ ap (flights_by c) none);
   freed = v.freed;
   strayed = v.strayed;
 }
 
-pub follows_extra : (d : Setting) (run : Run) (k : ℕ) (t : Trace) (z : AnyMachine) → IsUnsent run k t → Follows run.case t z → Follows run.case (trace_extra run k t) (all_happened d (extra_at run k) z)
+pub follows_extra : (d : Setting) (run : Run) (k : ℕ) (t : Trace) (z : AnyMachine) → IsUnsent run k t → Follows run.case t z
+    → Follows run.case (trace_extra run k t) (all_happened d (extra_at run k) z)
 follows_extra d run k t z unsent v = by_extra run.extra refl
   where
-    stores_at : (b : Bool) (route : StoreRoute) → Follows run.case (elim b [ true ↦ trace_stored run.case route t | false ↦ t ]) (all_happened d (if b then Stores run.case.producer (by_of route) run.case.identity ∷ [] else []) z)
+    stores_at : (b : Bool) (route : StoreRoute) → Follows run.case (elim b [ true ↦ trace_stored run.case route t | false ↦ t ])
+        (all_happened d (if b then Stores run.case.producer (by_of route) run.case.identity ∷ [] else []) z)
     stores_at true route = stored d run.case route t z v
     stores_at false route = v
 
-    flies_at : (b : Bool) → Follows run.case (elim b [ true ↦ record (flight_landed run.case t.flight t) { flight = None } | false ↦ t ]) (all_happened d (if b then Lands 0 ∷ [] else []) z)
+    flies_at : (b : Bool) → Follows run.case (elim b [ true ↦ record (flight_landed run.case t.flight t) { flight = None } | false ↦ t ])
+        (all_happened d (if b then Lands 0 ∷ [] else []) z)
     flies_at true = flown d run.case t z v
     flies_at false = v
 
-    lingers_at : (b : Bool) → (b ≡ true → t.flight ≡ None) → Follows run.case (elim b [ true ↦ record t { flight = Some t.in_force } | false ↦ t ]) (all_happened d (if b then Sends run.case.producer AsInForce run.case.identity ∷ [] else []) z)
+    lingers_at : (b : Bool) → (b ≡ true → t.flight ≡ None)
+        → Follows run.case (elim b [ true ↦ record t { flight = Some t.in_force } | false ↦ t ])
+        (all_happened d (if b then Sends run.case.producer AsInForce run.case.identity ∷ [] else []) z)
     lingers_at true none = sent d run.case t z (none refl) v
     lingers_at false none = v
 
-    by_extra : (extra : Extra) → run.extra ≡ extra → Follows run.case (trace_extra (record run { extra = extra }) k t) (all_happened d (extra_at (record run { extra = extra }) k) z)
+    by_extra : (extra : Extra) → run.extra ≡ extra
+        → Follows run.case (trace_extra (record run { extra = extra }) k t) (all_happened d (extra_at (record run { extra = extra }) k) z)
     by_extra extras.Nothing is = v
     by_extra (extras.Stores before route) is = stores_at (nat_eq before k) route
     by_extra (extras.Flies before) is = flies_at (nat_eq before k)
@@ -133,17 +163,22 @@ follows_extra d run k t z unsent v = by_extra run.extra refl
 
 -- ---- the loop over the steps
 
-pub follows_more : (producers : List RouteKind) (terms : Terms) (plan : List AnyStep) (run : Run) (k : ℕ) (x : AnyStep) (t : Trace) → k < length plan → IsUnsent run k t
+pub follows_more : (producers : List RouteKind) (terms : Terms) (plan : List AnyStep) (run : Run) (k : ℕ) (x : AnyStep) (t : Trace)
+    → k < length plan → IsUnsent run k t
     → Follows run.case t (all_happened (setting_of producers terms) (run_upto plan run k) (start_of (setting_of producers terms) run))
-    → Follows run.case (trace_after run.case (get_or plan k x) (trace_extra run k t)) (all_happened (setting_of producers terms) (run_upto plan run (k + 1)) (start_of (setting_of producers terms) run))
+    → Follows run.case (trace_after run.case (get_or plan k x) (trace_extra run k t))
+    (all_happened (setting_of producers terms) (run_upto plan run (k + 1)) (start_of (setting_of producers terms) run))
 follows_more producers terms plan run k x t low unsent v =
     let d : Setting = setting_of producers terms in
     let start : AnyMachine = start_of d run in
     let here : AnyMachine = all_happened d (extra_at run k) (all_happened d (run_upto plan run k) start) in
     let split : all_happened d (run_upto plan run (suc k)) start ≡ all_happened d (step_at plan k) here =
-    all_happened-append d (run_upto plan run k) (extra_at run k ++ step_at plan k) start ∙ all_happened-append d (extra_at run k) (step_at plan k) (all_happened d (run_upto plan run k) start) in
-    let step : all_happened d (step_at plan k) here ≡ stepped d (get_or plan k x) here = ap (λ o. all_happened d (done_by o) here) (slice_get-get_or plan k x low) in
-    subst (Follows run.case (trace_after run.case (get_or plan k x) (trace_extra run k t))) (sym (ap (λ n. all_happened d (run_upto plan run n) start) (next k) ∙ split ∙ step))
+    all_happened-append d (run_upto plan run k) (extra_at run k ++ step_at plan k) start
+    ∙ all_happened-append d (extra_at run k) (step_at plan k) (all_happened d (run_upto plan run k) start) in
+    let step : all_happened d (step_at plan k) here ≡ stepped d (get_or plan k x) here =
+    ap (λ o. all_happened d (done_by o) here) (slice_get-get_or plan k x low) in
+    subst (Follows run.case (trace_after run.case (get_or plan k x) (trace_extra run k t)))
+    (sym (ap (λ n. all_happened d (run_upto plan run n) start) (next k) ∙ split ∙ step))
     (follows_step d run.case (get_or plan k x) (trace_extra run k t) here (follows_extra d run k t _ unsent v))
   where
     done_by : Option AnyStep → List AnyHappening
@@ -154,10 +189,12 @@ follows_more producers terms plan run k x t low unsent v =
 
 pub follows_end : (producers : List RouteKind) (terms : Terms) (plan : List AnyStep) (run : Run) (t : Trace) → IsUnsent run (length plan) t
     → Follows run.case t (all_happened (setting_of producers terms) (run_upto plan run (length plan)) (start_of (setting_of producers terms) run))
-    → Follows run.case (trace_extra run (length plan) t) (all_happened (setting_of producers terms) (happenings plan run) (start_of (setting_of producers terms) run))
+    → Follows run.case (trace_extra run (length plan) t)
+    (all_happened (setting_of producers terms) (happenings plan run) (start_of (setting_of producers terms) run))
 follows_end producers terms plan run t unsent v =
     let d : Setting = setting_of producers terms in
-    subst (Follows run.case (trace_extra run (length plan) t)) (sym (all_happened-append d (run_upto plan run (length plan)) (extra_at run (length plan)) (start_of d run)))
+    subst (Follows run.case (trace_extra run (length plan) t))
+    (sym (all_happened-append d (run_upto plan run (length plan)) (extra_at run (length plan)) (start_of d run)))
     (follows_extra d run (length plan) t _ unsent v)
 
 -- ---- it is a run of the plan
@@ -180,7 +217,8 @@ MayStore producers run extra = elim extra [
 ]
 
 begin_flights : (producers : List RouteKind) (terms : Terms) (run : Run) (extra : Extra) → MayStore producers run extra ≡ true
-    → AllByRecursion (λ (f : AnyFlight). IsRouted (setting_of producers terms) f.producer × (f.place ≡ Old)) (flights_by run.case (first_flight extra))
+    → AllByRecursion (λ (f : AnyFlight). IsRouted (setting_of producers terms) f.producer × (f.place ≡ Old))
+    (flights_by run.case (first_flight extra))
 begin_flights producers terms run extras.Nothing e = tt
 begin_flights producers terms run (extras.Stores before route) e = tt
 begin_flights producers terms run (extras.Lingers before) e = tt
@@ -193,7 +231,8 @@ none_new false fresh s i u j e f = refl
 none_new true true s i u j e f = absurd (false≢true e)
 none_new true false s i u j e f = absurd (false≢true f)
 
-begins_well : (producers : List RouteKind) (terms : Terms) (run : Run) → (not (begins_new run.begin) || not terms.is_fresh) ≡ true → MayStore producers run run.extra ≡ true → IsStartOfAny (setting_of producers terms) (start_of (setting_of producers terms) run)
+begins_well : (producers : List RouteKind) (terms : Terms) (run : Run) → (not (begins_new run.begin) || not terms.is_fresh) ≡ true
+    → MayStore producers run run.extra ≡ true → IsStartOfAny (setting_of producers terms) (start_of (setting_of producers terms) run)
 begins_well producers terms run fresh may = record {
   written = λ p is. refl;
   in_force = λ p is. refl;
@@ -225,7 +264,8 @@ steps_upto [] run (suc k) within = absurd (omega (arith, within))
 steps_upto (y ∷ ys) run (suc k) within =
     steps_in-append (run_upto (y ∷ ys) run k) (extra_at run k ++ step_at (y ∷ ys) k)
     ∙ ap₂ (λ a b. a ++ b) (steps_upto (y ∷ ys) run k (omega (arith, within)))
-    (steps_in-append (extra_at run k) (step_at (y ∷ ys) k) ∙ ap (λ a. a ++ steps_in (step_at (y ∷ ys) k)) (extra_steps run k) ∙ ap (λ o. steps_in (done_by o)) (slice_get-get_or (y ∷ ys) k y (omega (arith, within))))
+    (steps_in-append (extra_at run k) (step_at (y ∷ ys) k) ∙ ap (λ a. a ++ steps_in (step_at (y ∷ ys) k)) (extra_steps run k)
+    ∙ ap (λ o. steps_in (done_by o)) (slice_get-get_or (y ∷ ys) k y (omega (arith, within))))
     ∙ sym (ap (λ n. take n (y ∷ ys)) (next k) ∙ take_more (y ∷ ys) k y (omega (arith, within)))
   where
     done_by : Option AnyStep → List AnyHappening
@@ -234,16 +274,20 @@ steps_upto (y ∷ ys) run (suc k) within =
     next : (k : ℕ) → suc k ≡ k + 1
     next k = omega arith
 
-extra_can : (producers : List RouteKind) (terms : Terms) (run : Run) (k : ℕ) → MayStore producers run run.extra ≡ true → AllByRecursion (CanHappen (setting_of producers terms)) (extra_at run k)
+extra_can : (producers : List RouteKind) (terms : Terms) (run : Run) (k : ℕ) → MayStore producers run run.extra ≡ true
+    → AllByRecursion (CanHappen (setting_of producers terms)) (extra_at run k)
 extra_can producers terms run k may = by_extra run.extra may
   where
-    one_store : (b : Bool) (x : AnyHappening) → CanHappen (setting_of producers terms) x → AllByRecursion (CanHappen (setting_of producers terms)) (if b then x ∷ [] else [])
+    one_store : (b : Bool) (x : AnyHappening) → CanHappen (setting_of producers terms) x
+        → AllByRecursion (CanHappen (setting_of producers terms)) (if b then x ∷ [] else [])
     one_store true x can = (can, tt)
     one_store false x can = tt
 
-    by_extra : (extra : Extra) → MayStore producers run extra ≡ true → AllByRecursion (CanHappen (setting_of producers terms)) (extra_at (record run { extra = extra }) k)
+    by_extra : (extra : Extra) → MayStore producers run extra ≡ true
+        → AllByRecursion (CanHappen (setting_of producers terms)) (extra_at (record run { extra = extra }) k)
     by_extra extras.Nothing e = tt
-    by_extra (extras.Stores before route) e = one_store (nat_eq before k) (Stores run.case.producer (by_of route) run.case.identity) (below_is run.case.producer (length producers) e)
+    by_extra (extras.Stores before route) e = one_store (nat_eq before k) (Stores run.case.producer (by_of route) run.case.identity)
+        (below_is run.case.producer (length producers) e)
     by_extra (extras.Flies before) e = one_store (nat_eq before k) (Lands 0) tt
     by_extra (extras.Lingers before) e =
         let is = routed_is (slice_get producers run.case.producer) e in
@@ -253,18 +297,22 @@ step_can : (d : Setting) (o : Option AnyStep) → AllByRecursion (CanHappen d) (
 step_can d None = tt
 step_can d (Some x) = (tt, tt)
 
-upto_can : (producers : List RouteKind) (terms : Terms) (plan : List AnyStep) (run : Run) (k : ℕ) → MayStore producers run run.extra ≡ true → AllByRecursion (CanHappen (setting_of producers terms)) (run_upto plan run k)
+upto_can : (producers : List RouteKind) (terms : Terms) (plan : List AnyStep) (run : Run) (k : ℕ) → MayStore producers run run.extra ≡ true
+    → AllByRecursion (CanHappen (setting_of producers terms)) (run_upto plan run k)
 upto_can producers terms plan run zero may = tt
 upto_can producers terms plan run (suc k) may =
     let d : Setting = setting_of producers terms in
     all-append (CanHappen d) (run_upto plan run k) (extra_at run k ++ step_at plan k) (upto_can producers terms plan run k may)
     (all-append (CanHappen d) (extra_at run k) (step_at plan k) (extra_can producers terms run k may) (step_can d (slice_get plan k)))
 
-pub happens_well : (producers : List RouteKind) (terms : Terms) (plan : List AnyStep) (run : Run) → MayStore producers run run.extra ≡ true → IsRun (setting_of producers terms) plan (happenings plan run)
+pub happens_well : (producers : List RouteKind) (terms : Terms) (plan : List AnyStep) (run : Run) → MayStore producers run run.extra ≡ true
+    → IsRun (setting_of producers terms) plan (happenings plan run)
 happens_well producers terms plan run may = record {
   steps = steps_in-append (run_upto plan run (length plan)) (extra_at run (length plan))
-      ∙ ap₂ (λ a b. a ++ b) (steps_upto plan run (length plan) (omega arith)) (extra_steps run (length plan)) ∙ append-nil (take (length plan) plan) ∙ take_all (length plan) plan (omega arith);
-  others = all-append (CanHappen (setting_of producers terms)) (run_upto plan run (length plan)) (extra_at run (length plan)) (upto_can producers terms plan run (length plan) may) (extra_can producers terms run (length plan) may);
+      ∙ ap₂ (λ a b. a ++ b) (steps_upto plan run (length plan) (omega arith)) (extra_steps run (length plan))
+      ∙ append-nil (take (length plan) plan) ∙ take_all (length plan) plan (omega arith);
+  others = all-append (CanHappen (setting_of producers terms)) (run_upto plan run (length plan)) (extra_at run (length plan))
+      (upto_can producers terms plan run (length plan) may) (extra_can producers terms run (length plan) may);
 }
 
 -- ---- it ends as it must not
@@ -284,13 +332,16 @@ start_bit false i = refl
 start_bit true i = eq-eqb i i refl
 
 -- the bit that is followed, by its set
-right_bit : (producers : List RouteKind) (terms : Terms) (run : Run) (s : WhichSet) (z : AnyMachine) (t : Trace) → s ≡ run.case.bank → run.case.identity / 64 < terms.words → IsMovedByAny (setting_of producers terms) (start_of (setting_of producers terms) run) z
+right_bit : (producers : List RouteKind) (terms : Terms) (run : Run) (s : WhichSet) (z : AnyMachine) (t : Trace) → s ≡ run.case.bank
+    → run.case.identity / 64 < terms.words → IsMovedByAny (setting_of producers terms) (start_of (setting_of producers terms) run) z
     → z.new s run.case.identity ≡ t.new → z.due s run.case.identity ≡ t.due → t.new ≡ elim s [ Pending ↦ t.due | Enabled ↦ begins_old run.begin ]
 right_bit producers terms run Pending z t same inside m new due = sym new ∙ m.pending run.case.identity inside ∙ due
 right_bit producers terms run Enabled z t same inside m new due =
-    sym new ∙ m.enabled run.case.identity inside ∙ ap (λ u. one_bit (begins_old run.begin) u run.case.identity Enabled run.case.identity) (sym same) ∙ start_bit (begins_old run.begin) run.case.identity
+    sym new ∙ m.enabled run.case.identity inside ∙ ap (λ u. one_bit (begins_old run.begin) u run.case.identity Enabled run.case.identity)
+    (sym same) ∙ start_bit (begins_old run.begin) run.case.identity
 
-begun_number : (producers : List RouteKind) (terms : Terms) (run : Run) (from : NumberSpot) → terms.number_from ≡ from → number_in from run.case.number (start_of (setting_of producers terms) run) ≡ 1
+begun_number : (producers : List RouteKind) (terms : Terms) (run : Run) (from : NumberSpot) → terms.number_from ≡ from
+    → number_in from run.case.number (start_of (setting_of producers terms) run) ≡ 1
 begun_number producers terms run InOld e = ap (λ f. worth (same_spot f InOld)) e
 begun_number producers terms run InHand e = ap (λ f. worth (same_spot f InHand)) e
 begun_number producers terms run InNew e = ap (λ f. worth (same_spot f InNew)) e
@@ -310,7 +361,8 @@ flies_old c (Some place) e all = old_new place e all.0
 pub true_false : (b : Bool) → b ≡ true → b ≡ false → ⊥
 true_false b e f = false≢true (sym f ∙ e)
 
-ends_badly : (producers : List RouteKind) (terms : Terms) (run : Run) (t : Trace) (z : AnyMachine) → run.case.identity / 64 < terms.words → Follows run.case t z → is_bad_end run terms (length producers) t ≡ true
+ends_badly : (producers : List RouteKind) (terms : Terms) (run : Run) (t : Trace) (z : AnyMachine) → run.case.identity / 64 < terms.words
+    → Follows run.case t z → is_bad_end run terms (length producers) t ≡ true
     → IsMovedByAny (setting_of producers terms) (start_of (setting_of producers terms) run) z → ⊥
 ends_badly producers terms run t z inside v bad m = elim (or_cases (is_bad_bit run t) _ bad) [
   | inl bit ↦ elim (or_cases (differ t.new (trace_wanted run t)) t.old bit) [
@@ -326,7 +378,8 @@ ends_badly producers terms run t z inside v bad m = elim (or_cases (is_bad_bit r
           | inr force ↦ old_new t.in_force force (sym v.in_force ∙ m.in_force run.case.producer p)
         ]
     | inr last ↦ elim (or_cases (not (trace_number terms.number_to t)) _ last) [
-      | inl number ↦ zero_one (sym (ap worth (not_true (trace_number terms.number_to t) number)) ∙ sym (ended_number run.case t z terms.number_to v) ∙ m.numbers run.case.number ∙ begun_number producers terms run terms.number_from refl)
+      | inl number ↦ zero_one (sym (ap worth (not_true (trace_number terms.number_to t) number))
+          ∙ sym (ended_number run.case t z terms.number_to v) ∙ m.numbers run.case.number ∙ begun_number producers terms run terms.number_from refl)
       | inr more ↦ elim (or_cases (is_flying_old t.flight) t.strayed more) [
         | inl flying ↦ flies_old run.case t.flight flying (subst (AllByRecursion (λ (g : AnyFlight). g.place ≡ New)) v.flights m.flights)
         | inr strayed ↦ true_false t.strayed strayed (sym v.strayed ∙ m.strayed)
@@ -336,7 +389,8 @@ ends_badly producers terms run t z inside v bad m = elim (or_cases (is_bad_bit r
 ]
 
 pub it_loses : (producers : List RouteKind) (terms : Terms) (plan : List AnyStep) (run : Run) (t : Trace) → can_be run terms producers ≡ true
-    → Follows run.case t (all_happened (setting_of producers terms) (happenings plan run) (start_of (setting_of producers terms) run)) → is_bad_end run terms (length producers) t ≡ true → Loses (setting_of producers terms) plan run
+    → Follows run.case t (all_happened (setting_of producers terms) (happenings plan run) (start_of (setting_of producers terms) run))
+    → is_bad_end run terms (length producers) t ≡ true → Loses (setting_of producers terms) plan run
 it_loses producers terms plan run t can v bad =
     let inside = below_is (run.case.identity / 64) terms.words (and_left _ _ can) in
     let rest = and_right (nat_lt (run.case.identity / 64) terms.words) _ can in

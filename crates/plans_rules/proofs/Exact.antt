@@ -32,16 +32,20 @@ use Rattle.plans_rules.proofs.Safety.{named, IsOfSafety}
 abbrev pub Live : Setting → AnyMachine → List AnyStep → AnyMachine → Type 0
 Live d start rest z = (run : List AnyHappening) → AllByRecursion (CanHappen d) run → steps_in run ≡ rest → IsMovedByAny d start (all_happened d run z)
 
-live_step : (d : Setting) (start : AnyMachine) (x : AnyStep) (rest : List AnyStep) (z : AnyMachine) → Live d start (x ∷ rest) z → Live d start rest (stepped d x z)
+live_step : (d : Setting) (start : AnyMachine) (x : AnyStep) (rest : List AnyStep) (z : AnyMachine) → Live d start (x ∷ rest) z
+    → Live d start rest (stepped d x z)
 live_step d start x rest z live run can e = live (Does x ∷ run) (tt, can) (ap (λ r. x ∷ r) e)
 
-live_store : (d : Setting) (start : AnyMachine) (rest : List AnyStep) (z : AnyMachine) (p : ℕ) (by : By) (x : ℕ) → IsProducer d p → Live d start rest z → Live d start rest (happened d (Stores p by x) z)
+live_store : (d : Setting) (start : AnyMachine) (rest : List AnyStep) (z : AnyMachine) (p : ℕ) (by : By) (x : ℕ) → IsProducer d p
+    → Live d start rest z → Live d start rest (happened d (Stores p by x) z)
 live_store d start rest z p by x declared live run can e = live (Stores p by x ∷ run) (declared, can) e
 
-live_send : (d : Setting) (start : AnyMachine) (rest : List AnyStep) (z : AnyMachine) (p : ℕ) (by : By) (x : ℕ) → IsRouted d p → Live d start rest z → Live d start rest (happened d (Sends p by x) z)
+live_send : (d : Setting) (start : AnyMachine) (rest : List AnyStep) (z : AnyMachine) (p : ℕ) (by : By) (x : ℕ) → IsRouted d p
+    → Live d start rest z → Live d start rest (happened d (Sends p by x) z)
 live_send d start rest z p by x routed live run can e = live (Sends p by x ∷ run) (routed, can) e
 
-live_land : (d : Setting) (start : AnyMachine) (rest : List AnyStep) (z : AnyMachine) (k : ℕ) → Live d start rest z → Live d start rest (happened d (Lands k) z)
+live_land : (d : Setting) (start : AnyMachine) (rest : List AnyStep) (z : AnyMachine) (k : ℕ) → Live d start rest z
+    → Live d start rest (happened d (Lands k) z)
 live_land d start rest z k live run can e = live (Lands k ∷ run) (tt, can) e
 
 -- ---- a bit in a state that can be reached
@@ -73,7 +77,8 @@ lands_none x z e = tt
 fence_same : (d : Setting) (p : ℕ) (z : AnyMachine) → flights_of p z.flights ≡ [] → all_landed d (flights_of p z.flights) z ≡ z
 fence_same d p z e = subst (λ fs. all_landed d fs z ≡ z) (sym e) refl
 
-old_bit : (d : Setting) (x : AnyStep) (z : AnyMachine) (s : WhichSet) (i : ℕ) → LandsNone x z → (stepped d x z).old s i ≡ (not (takes s (i / 64) x) && (not (wipes s (i / 64) x) && z.old s i))
+old_bit : (d : Setting) (x : AnyStep) (z : AnyMachine) (s : WhichSet) (i : ℕ) → LandsNone x z
+    → (stepped d x z).old s i ≡ (not (takes s (i / 64) x) && (not (wipes s (i / 64) x) && z.old s i))
 old_bit d (Fence p) z s i e = ap (λ (y : AnyMachine). y.old s i) (fence_same d p z e)
 old_bit d (Zero Old t w) z s i e = refl
 old_bit d (Zero New t w) z s i e = refl
@@ -81,7 +86,8 @@ old_bit d (ZeroNumber Old n) z s i e = refl
 old_bit d (ZeroNumber New n) z s i e = refl
 old_bit d x z s i e = refl
 
-new_bit : (d : Setting) (x : AnyStep) (z : AnyMachine) (s : WhichSet) (i : ℕ) → LandsNone x z → (stepped d x z).new s i ≡ ((fills s (i / 64) x && z.hand s i) || (not (blanks s (i / 64) x) && z.new s i))
+new_bit : (d : Setting) (x : AnyStep) (z : AnyMachine) (s : WhichSet) (i : ℕ) → LandsNone x z
+    → (stepped d x z).new s i ≡ ((fills s (i / 64) x && z.hand s i) || (not (blanks s (i / 64) x) && z.new s i))
 new_bit d (Fence p) z s i e = ap (λ (y : AnyMachine). y.new s i) (fence_same d p z e)
 new_bit d (Zero Old t w) z s i e = refl
 new_bit d (Zero New t w) z s i e = refl
@@ -89,7 +95,8 @@ new_bit d (ZeroNumber Old n) z s i e = refl
 new_bit d (ZeroNumber New n) z s i e = refl
 new_bit d x z s i e = refl
 
-hand_bit : (d : Setting) (x : AnyStep) (z : AnyMachine) (s : WhichSet) (i : ℕ) → LandsNone x z → (stepped d x z).hand s i ≡ ((takes s (i / 64) x && z.old s i) || (not (takes s (i / 64) x) && (not (fills s (i / 64) x) && z.hand s i)))
+hand_bit : (d : Setting) (x : AnyStep) (z : AnyMachine) (s : WhichSet) (i : ℕ) → LandsNone x z
+    → (stepped d x z).hand s i ≡ ((takes s (i / 64) x && z.old s i) || (not (takes s (i / 64) x) && (not (fills s (i / 64) x) && z.hand s i)))
 hand_bit d (Fence p) z s i e = ap (λ (y : AnyMachine). y.hand s i) (fence_same d p z e)
 hand_bit d (Zero Old t w) z s i e = refl
 hand_bit d (Zero New t w) z s i e = refl
@@ -127,14 +134,19 @@ at_step d x rest s i q a b k v =
       base = v.base;
       due = λ e. due_bit d x v.z s i (lands_none x v.z v.flights) ∙ v.due e;
       old = old_bit d x v.z s i (lands_none x v.z v.flights) ∙ ap (λ y. not (takes s (i / 64) x) && (not (wipes s (i / 64) x) && y)) v.old;
-      new = new_bit d x v.z s i (lands_none x v.z v.flights) ∙ ap (λ y. (fills s (i / 64) x && y) || (not (blanks s (i / 64) x) && v.z.new s i)) v.hand ∙ ap (λ y. (fills s (i / 64) x && k) || (not (blanks s (i / 64) x) && y)) v.new;
-      hand = hand_bit d x v.z s i (lands_none x v.z v.flights) ∙ ap (λ y. (takes s (i / 64) x && y) || (not (takes s (i / 64) x) && (not (fills s (i / 64) x) && v.z.hand s i))) v.old
+      new = new_bit d x v.z s i (lands_none x v.z v.flights)
+          ∙ ap (λ y. (fills s (i / 64) x && y) || (not (blanks s (i / 64) x) && v.z.new s i)) v.hand
+          ∙ ap (λ y. (fills s (i / 64) x && k) || (not (blanks s (i / 64) x) && y)) v.new;
+      hand = hand_bit d x v.z s i (lands_none x v.z v.flights)
+          ∙ ap (λ y. (takes s (i / 64) x && y) || (not (takes s (i / 64) x) && (not (fills s (i / 64) x) && v.z.hand s i))) v.old
           ∙ ap (λ y. (takes s (i / 64) x && a) || (not (takes s (i / 64) x) && (not (fills s (i / 64) x) && y))) v.hand;
     }
 
 -- the same state, with the bits said otherwise
-at_is : (d : Setting) (rest : List AnyStep) (s : WhichSet) (i : ℕ) (q a b k a' b' k' : Bool) → a ≡ a' → b ≡ b' → k ≡ k' → At d rest s i q a b k → At d rest s i q a' b' k'
-at_is d rest s i q a b k a' b' k' e f g v = record { start = v.start; z = v.z; live = v.live; flights = v.flights; base = v.base; due = v.due; old = v.old ∙ e; new = v.new ∙ f; hand = v.hand ∙ g }
+at_is : (d : Setting) (rest : List AnyStep) (s : WhichSet) (i : ℕ) (q a b k a' b' k' : Bool) → a ≡ a' → b ≡ b' → k ≡ k' → At d rest s i q a b k
+    → At d rest s i q a' b' k'
+at_is d rest s i q a b k a' b' k' e f g v = record
+    { start = v.start; z = v.z; live = v.live; flights = v.flights; base = v.base; due = v.due; old = v.old ∙ e; new = v.new ∙ f; hand = v.hand ∙ g }
 
 -- bits that are nowhere stay so
 no_old : (t w : Bool) → (not t && (not w && false)) ≡ false
@@ -153,8 +165,11 @@ no_hand true f = refl
 no_hand false true = refl
 no_hand false false = refl
 
-step_nowhere : (d : Setting) (x : AnyStep) (rest : List AnyStep) (s : WhichSet) (i : ℕ) (q : Bool) → At d (x ∷ rest) s i q false false false → At d rest s i q false false false
-step_nowhere d x rest s i q v = at_is d rest s i q _ _ _ _ _ _ (no_old (takes s (i / 64) x) (wipes s (i / 64) x)) (no_new (fills s (i / 64) x) (blanks s (i / 64) x)) (no_hand (takes s (i / 64) x) (fills s (i / 64) x)) (at_step d x rest s i q false false false v)
+step_nowhere : (d : Setting) (x : AnyStep) (rest : List AnyStep) (s : WhichSet) (i : ℕ) (q : Bool) → At d (x ∷ rest) s i q false false false
+    → At d rest s i q false false false
+step_nowhere d x rest s i q v = at_is d rest s i q _ _ _ _ _ _ (no_old (takes s (i / 64) x) (wipes s (i / 64) x))
+    (no_new (fills s (i / 64) x) (blanks s (i / 64) x)) (no_hand (takes s (i / 64) x) (fills s (i / 64) x))
+    (at_step d x rest s i q false false false v)
 
 -- at the end the bit stands where it has to
 end_new : (d : Setting) (s : WhichSet) (i : ℕ) (q a b k : Bool) → i / 64 < d.words → At d [] s i q a b k → b ≡ q
@@ -207,16 +222,20 @@ ways_switch : (m t c s : Bool) (w f : AnyPlace) → Ways t c s w f → Ways (m |
 ways_switch true t c s w f v = record { calm = λ e. absurd (false≢true (sym e)); ahead = λ e. refl; behind = λ e g. absurd (false≢true (sym g)) }
 ways_switch false t c s w f v = v
 
-ways_fence : (m t c s : Bool) (there w f : AnyPlace) → (m ≡ true → there ≡ w) → Ways t c s w f → Ways t (elim m [ true ↦ t || c | false ↦ c ]) s w (if m then there else f)
+ways_fence : (m t c s : Bool) (there w f : AnyPlace) → (m ≡ true → there ≡ w) → Ways t c s w f
+    → Ways t (elim m [ true ↦ t || c | false ↦ c ]) s w (if m then there else f)
 ways_fence true t c s there w f same v = record { calm = v.calm; ahead = v.ahead; behind = λ e g. same refl ∙ v.calm (or_false_left t c e) }
 ways_fence false t c s there w f same v = v
 
-ways_step : (d : Setting) (x : AnyStep) (done : Done) (z : AnyMachine) (p : ℕ) → LandsNone x z → Ways (is_turned p done) (is_fenced p done) (list_any (switches p) done) (z.written p) (z.in_force p)
-    → Ways (is_turned p (x ∷ done)) (is_fenced p (x ∷ done)) (list_any (switches p) (x ∷ done)) ((stepped d x z).written p) ((stepped d x z).in_force p)
+ways_step : (d : Setting) (x : AnyStep) (done : Done) (z : AnyMachine) (p : ℕ) → LandsNone x z
+    → Ways (is_turned p done) (is_fenced p done) (list_any (switches p) done) (z.written p) (z.in_force p)
+    → Ways (is_turned p (x ∷ done)) (is_fenced p (x ∷ done)) (list_any (switches p) (x ∷ done)) ((stepped d x z).written p)
+    ((stepped d x z).in_force p)
 ways_step d (Route q) done z p e v = ways_route (nat_eq q p) _ _ _ (z.written p) (z.in_force p) v
 ways_step d (Switch q) done z p e v = ways_switch (nat_eq q p) _ _ _ (z.written p) (z.in_force p) v
 ways_step d (Fence q) done z p e v =
-    subst (λ w. Ways (is_turned p done) (is_fenced p (Fence q ∷ done)) (list_any (switches p) done) w (if nat_eq q p then z.written q else z.in_force p)) (sym (ap (λ (y : AnyMachine). y.written p) (fence_same d q z e)))
+    subst (λ w. Ways (is_turned p done) (is_fenced p (Fence q ∷ done)) (list_any (switches p) done) w
+    (if nat_eq q p then z.written q else z.in_force p)) (sym (ap (λ (y : AnyMachine). y.written p) (fence_same d q z e)))
     (ways_fence (nat_eq q p) _ _ _ (z.written q) (z.written p) (z.in_force p) (λ m. ap z.written (eqb-true q p m)) v)
 ways_step d (Zero Old s w) done z p e v = v
 ways_step d (Zero New s w) done z p e v = v
@@ -227,7 +246,8 @@ ways_step d x done z p e v = v
 abbrev Worths : Setting → Done → AnyMachine → Number → Type 0
 Worths d done z n = (spot : NumberSpot) → number_in spot n z ≡ worth (has_number d n spot done)
 
-worth_step : (d : Setting) (x : AnyStep) (done : Done) (z : AnyMachine) (n : Number) → LandsNone x z → Worths d done z n → Worths d (x ∷ done) (stepped d x z) n
+worth_step : (d : Setting) (x : AnyStep) (done : Done) (z : AnyMachine) (n : Number) → LandsNone x z → Worths d done z n
+    → Worths d (x ∷ done) (stepped d x z) n
 worth_step d (TakeNumber Threshold) done z Threshold e v InOld = refl
 worth_step d (TakeNumber Threshold) done z Threshold e v InHand = v InOld
 worth_step d (TakeNumber Threshold) done z Threshold e v InNew = v InNew
@@ -265,7 +285,8 @@ worth_step d (Zero New s w) done z n e v spot = v spot
 worth_step d (Fence p) done z n e v spot = ap (number_in spot n) (fence_same d p z e) ∙ v spot
 worth_step d x done z n e v spot = v spot
 
-freed_step : (d : Setting) (x : AnyStep) (done : Done) (z : AnyMachine) → LandsNone x z → z.freed ≡ list_any frees done → (stepped d x z).freed ≡ list_any frees (x ∷ done)
+freed_step : (d : Setting) (x : AnyStep) (done : Done) (z : AnyMachine) → LandsNone x z → z.freed ≡ list_any frees done
+    → (stepped d x z).freed ≡ list_any frees (x ∷ done)
 freed_step d (Fence p) done z e v = ap (λ (y : AnyMachine). y.freed) (fence_same d p z e) ∙ v
 freed_step d Free done z e v = refl
 freed_step d (Zero Old s w) done z e v = v
@@ -287,12 +308,14 @@ plain_step d x done rest i v =
     }
 
 -- a store is sent, to the old place
-sent : (d : Setting) (done : Done) (rest : List AnyStep) (p i : ℕ) → IsRouted d p → is_turned p done ≡ false → Plain d done rest i → Flying d done rest p i
+sent : (d : Setting) (done : Done) (rest : List AnyStep) (p i : ℕ) → IsRouted d p → is_turned p done ≡ false → Plain d done rest i
+    → Flying d done rest p i
 sent d done rest p i routed calm v = record {
   start = v.at.start;
   z = happened d (Sends p Written i) v.at.z;
   live = live_send d v.at.start rest v.at.z p Written i routed v.at.live;
-  flights = ap (λ w. record { producer = p; place = w; identity = i } ∷ v.at.z.flights) ((v.ways p).calm calm) ∙ ap (λ fs. record { producer = p; place = Old; identity = i } ∷ fs) v.at.flights;
+  flights = ap (λ w. record { producer = p; place = w; identity = i } ∷ v.at.z.flights) ((v.ways p).calm calm)
+      ∙ ap (λ fs. record { producer = p; place = Old; identity = i } ∷ fs) v.at.flights;
   due = v.at.due refl;
   old = v.at.old;
   new = v.at.new;
@@ -303,14 +326,18 @@ sent d done rest p i routed calm v = record {
 other_none : (d : Setting) (q p i : ℕ) → nat_eq q p ≡ false → flights_of q (record { producer = p; place = Old; identity = i } ∷ []) ≡ []
 other_none d q p i e = ap (λ m. if m then record { producer = p; place = Old; identity = i } ∷ [] else []) e
 
-other_beside : (d : Setting) (q p i : ℕ) → nat_eq q p ≡ false → flights_beside q (record { producer = p; place = Old; identity = i } ∷ []) ≡ record { producer = p; place = Old; identity = i } ∷ []
+other_beside : (d : Setting) (q p i : ℕ) → nat_eq q p ≡ false
+    → flights_beside q (record { producer = p; place = Old; identity = i } ∷ []) ≡ record { producer = p; place = Old; identity = i } ∷ []
 other_beside d q p i e = ap (λ m. if m then [] else record { producer = p; place = Old; identity = i } ∷ []) e
 
-lands_other : (d : Setting) (x : AnyStep) (z : AnyMachine) (p i : ℕ) → fences p x ≡ false → z.flights ≡ record { producer = p; place = Old; identity = i } ∷ [] → LandsNone x z
+lands_other : (d : Setting) (x : AnyStep) (z : AnyMachine) (p i : ℕ) → fences p x ≡ false
+    → z.flights ≡ record { producer = p; place = Old; identity = i } ∷ [] → LandsNone x z
 lands_other d (Fence q) z p i e f = ap (flights_of q) f ∙ other_none d q p i e
 lands_other d x z p i e f = tt
 
-still_other : (d : Setting) (x : AnyStep) (z : AnyMachine) (p i : ℕ) → fences p x ≡ false → z.flights ≡ record { producer = p; place = Old; identity = i } ∷ [] → (stepped d x z).flights ≡ record { producer = p; place = Old; identity = i } ∷ []
+still_other : (d : Setting) (x : AnyStep) (z : AnyMachine) (p i : ℕ) → fences p x ≡ false
+    → z.flights ≡ record { producer = p; place = Old; identity = i } ∷ []
+    → (stepped d x z).flights ≡ record { producer = p; place = Old; identity = i } ∷ []
 still_other d (Fence q) z p i e f = ap (flights_beside q) f ∙ other_beside d q p i e
 still_other d (Zero Old s w) z p i e f = f
 still_other d (Zero New s w) z p i e f = f
@@ -318,7 +345,8 @@ still_other d (ZeroNumber Old n) z p i e f = f
 still_other d (ZeroNumber New n) z p i e f = f
 still_other d x z p i e f = f
 
-flying_on : (d : Setting) (x : AnyStep) (done : Done) (rest : List AnyStep) (p i : ℕ) → fences p x ≡ false → Flying d done (x ∷ rest) p i → Flying d (x ∷ done) rest p i
+flying_on : (d : Setting) (x : AnyStep) (done : Done) (rest : List AnyStep) (p i : ℕ) → fences p x ≡ false → Flying d done (x ∷ rest) p i
+    → Flying d (x ∷ done) rest p i
 flying_on d x done rest p i other v =
     let z : AnyMachine = v.z in
     let none = lands_other d x v.z p i other v.flights in
@@ -333,8 +361,10 @@ flying_on d x done rest p i other v =
       flights = still_other d x v.z p i other v.flights;
       due = due_bit d x v.z Pending i none ∙ v.due;
       old = old_bit d x v.z Pending i none ∙ ap (λ y. not t && (not w && y)) v.old ∙ no_old t w;
-      new = new_bit d x v.z Pending i none ∙ ap (λ y. (f && y) || (not l && v.z.new Pending i)) v.hand ∙ ap (λ y. (f && false) || (not l && y)) v.new ∙ no_new f l;
-      hand = hand_bit d x v.z Pending i none ∙ ap (λ y. (t && y) || (not t && (not f && v.z.hand Pending i))) v.old ∙ ap (λ y. (t && false) || (not t && (not f && y))) v.hand ∙ no_hand t f;
+      new = new_bit d x v.z Pending i none ∙ ap (λ y. (f && y) || (not l && v.z.new Pending i)) v.hand
+          ∙ ap (λ y. (f && false) || (not l && y)) v.new ∙ no_new f l;
+      hand = hand_bit d x v.z Pending i none ∙ ap (λ y. (t && y) || (not t && (not f && v.z.hand Pending i))) v.old
+          ∙ ap (λ y. (t && false) || (not t && (not f && y))) v.hand ∙ no_hand t f;
       freed = freed_step d x done v.z none v.freed;
     }
 
@@ -360,7 +390,8 @@ set_bit true false a true e f g = absurd (false≢true f)
 set_bit true false a false e f g = g
 set_bit false o a b e f g = absurd (false≢true e)
 
-stored : (d : Setting) (done : Done) (rest : List AnyStep) (p i : ℕ) (by : By) (place : AnyPlace) → IsProducer d p → (v : Plain d done rest i) → route_of by p v.at.z ≡ place
+stored : (d : Setting) (done : Done) (rest : List AnyStep) (p i : ℕ) (by : By) (place : AnyPlace) → IsProducer d p → (v : Plain d done rest i)
+    → route_of by p v.at.z ≡ place
     → At d rest Pending i true (is_old place) (not (is_old place)) false
 stored d done rest p i by place declared v e = record {
   start = v.at.start;
@@ -370,7 +401,8 @@ stored d done rest p i by place declared v e = record {
   base = λ f. absurd (false≢true (sym f));
   due = λ f. set_bit (nat_eq i i) true (v.at.z.due Pending i) true (eq-eqb i i refl) refl (v.at.due refl);
   old = set_bit (nat_eq i i) (is_old (route_of by p v.at.z)) (v.at.z.old Pending i) (is_old place) (eq-eqb i i refl) (ap is_old e) v.at.old;
-  new = set_bit (nat_eq i i) (not (is_old (route_of by p v.at.z))) (v.at.z.new Pending i) (not (is_old place)) (eq-eqb i i refl) (ap (λ y. not (is_old y)) e) v.at.new;
+  new = set_bit (nat_eq i i) (not (is_old (route_of by p v.at.z))) (v.at.z.new Pending i) (not (is_old place)) (eq-eqb i i refl)
+      (ap (λ y. not (is_old y)) e) v.at.new;
   hand = v.at.hand;
 }
 
@@ -400,14 +432,17 @@ kind_of d p declared = by_kind (get_or d.producers p Routed) (slice_get-get_or d
 unled_routed : (d : Setting) (p : ℕ) (done : Done) → slice_get d.producers p ≡ Some Routed → is_led d p done ≡ false → is_fenced p done ≡ false
 unled_routed d p done k e = subst (λ k. is_led_as k p done ≡ false) k e
 
-unled_switched : (d : Setting) (p : ℕ) (done : Done) → slice_get d.producers p ≡ Some Switched → is_led d p done ≡ false → (is_fenced p done || list_any (switches p) done) ≡ false
+unled_switched : (d : Setting) (p : ℕ) (done : Done) → slice_get d.producers p ≡ Some Switched → is_led d p done ≡ false
+    → (is_fenced p done || list_any (switches p) done) ≡ false
 unled_switched d p done k e = subst (λ k. is_led_as k p done ≡ false) k e
 
-unled_old : (d : Setting) (done : Done) (rest : List AnyStep) (p i : ℕ) → IsProducer d p → is_led d p done ≡ false → Plain d done rest i → (IsRouted d p → is_fenced p done ≡ false → Flying d done rest p i)
+unled_old : (d : Setting) (done : Done) (rest : List AnyStep) (p i : ℕ) → IsProducer d p → is_led d p done ≡ false → Plain d done rest i
+    → (IsRouted d p → is_fenced p done ≡ false → Flying d done rest p i)
     → At d rest Pending i true true false false
 unled_old d done rest p i declared e plain flying = elim (kind_of d p declared) [
   | inl routed ↦ arrived d done rest p i (flying (declared, routed) (unled_routed d p done routed e))
-  | inr switched ↦ (let none = unled_switched d p done switched e in stored d done rest p i InForce Old declared plain ((plain.ways p).behind (or_false_left _ _ none) (or_false_right (is_fenced p done) _ none)))
+  | inr switched ↦ (let none = unled_switched d p done switched e in
+      stored d done rest p i InForce Old declared plain ((plain.ways p).behind (or_false_left _ _ none) (or_false_right (is_fenced p done) _ none)))
 ]
 
 -- who is not led, where not all are; who is turned, where someone is
@@ -415,7 +450,8 @@ all_find : (is : ℕ → Bool) (count : ℕ) → all_below is count ≡ false �
 all_find is zero e = absurd (false≢true (sym e))
 all_find is (suc n) e = find (is n) refl (all_find is n) e
   where
-    find : (b : Bool) → b ≡ is n → (all_below is n ≡ false → (p : ℕ) × (p < n) × (is p ≡ false)) → (b && all_below is n) ≡ false → (p : ℕ) × (p < suc n) × (is p ≡ false)
+    find : (b : Bool) → b ≡ is n → (all_below is n ≡ false → (p : ℕ) × (p < n) × (is p ≡ false)) → (b && all_below is n) ≡ false → (p : ℕ)
+        × (p < suc n) × (is p ≡ false)
     find true same again e = (let found = again e in (found.0, omega (arith, found.1), found.2))
     find false same again e = (n, omega arith, sym same)
 
@@ -423,7 +459,8 @@ any_find : (is : ℕ → Bool) (count : ℕ) → any_below is count ≡ true →
 any_find is zero e = absurd (false≢true e)
 any_find is (suc n) e = find (is n) refl (any_find is n) e
   where
-    find : (b : Bool) → b ≡ is n → (any_below is n ≡ true → (p : ℕ) × (p < n) × (is p ≡ true)) → (elim b [ true ↦ true | false ↦ any_below is n ]) ≡ true → (p : ℕ) × (p < suc n) × (is p ≡ true)
+    find : (b : Bool) → b ≡ is n → (any_below is n ≡ true → (p : ℕ) × (p < n) × (is p ≡ true))
+        → (elim b [ true ↦ true | false ↦ any_below is n ]) ≡ true → (p : ℕ) × (p < suc n) × (is p ≡ true)
     find true same again e = (n, omega arith, sym same)
     find false same again e = (let found = again e in (found.0, omega (arith, found.1), found.2))
 
@@ -439,15 +476,19 @@ fills_only s w (Join t u) e = (refl, refl)
 fills_only s w (Put t u) e = (refl, refl)
 fills_only s w x e = absurd (false≢true e)
 
-wipes_guard : (d : Setting) (s : WhichSet) (w : ℕ) (x : AnyStep) (done : Done) → lets Words d x done ≡ true → wipes s w x ≡ true → old_holds d s w done ≡ false
+wipes_guard : (d : Setting) (s : WhichSet) (w : ℕ) (x : AnyStep) (done : Done) → lets Words d x done ≡ true → wipes s w x ≡ true
+    → old_holds d s w done ≡ false
 wipes_guard d s w (Zero Old t u) done guard m = named (λ t v. old_holds d t v done ≡ false) t u s w (not_true _ guard) m
 wipes_guard d s w (Zero New t u) done guard m = absurd (false≢true m)
 wipes_guard d s w x done guard m = absurd (false≢true m)
 
-blanks_guard : (d : Setting) (s : WhichSet) (w : ℕ) (x : AnyStep) (done : Done) → lets Words d x done ≡ true → blanks s w x ≡ true → is_filled d s w done ≡ false
-blanks_guard d s w (Zero New t u) done guard m = named (λ t v. is_filled d t v done ≡ false) t u s w (or_false_right (is_reached d t done) _ (not_true _ guard)) m
+blanks_guard : (d : Setting) (s : WhichSet) (w : ℕ) (x : AnyStep) (done : Done) → lets Words d x done ≡ true → blanks s w x ≡ true
+    → is_filled d s w done ≡ false
+blanks_guard d s w (Zero New t u) done guard m =
+    named (λ t v. is_filled d t v done ≡ false) t u s w (or_false_right (is_reached d t done) _ (not_true _ guard)) m
 blanks_guard d s w (Zero Old t u) done guard m = absurd (false≢true m)
-blanks_guard d s w (Put t u) done guard m = named (λ t v. is_filled d t v done ≡ false) t u s w (or_false_right (is_reached d t done) _ (not_true _ guard)) m
+blanks_guard d s w (Put t u) done guard m = named (λ t v. is_filled d t v done ≡ false) t u s w
+    (or_false_right (is_reached d t done) _ (not_true _ guard)) m
 blanks_guard d s w x done guard m = absurd (false≢true m)
 
 -- the bits after it
@@ -530,7 +571,8 @@ taken_false false o true h e f = absurd (false≢true f)
 taken_false false o false h e f = (refl, f)
 
 -- a word that is taken while someone still stores there: he stores again
-again : (d : Setting) (x : AnyStep) (done : Done) (rest : List AnyStep) (s : WhichSet) (i : ℕ) → takes s (i / 64) x ≡ true → is_still d s done ≡ false → ((j : ℕ) → Plain d (x ∷ done) rest j)
+again : (d : Setting) (x : AnyStep) (done : Done) (rest : List AnyStep) (s : WhichSet) (i : ℕ) → takes s (i / 64) x ≡ true
+    → is_still d s done ≡ false → ((j : ℕ) → Plain d (x ∷ done) rest j)
     → ((p j : ℕ) → IsRouted d p → is_fenced p (x ∷ done) ≡ false → Flying d (x ∷ done) rest p j) → At d rest s i true true false false
 again d (Take t u) done rest Enabled i m busy plain flying = absurd (false≢true (sym busy))
 again d (Take t u) done rest Pending i m busy plain flying =
@@ -538,7 +580,8 @@ again d (Take t u) done rest Pending i m busy plain flying =
     unled_old d (Take t u ∷ done) rest found.0 i found.1 found.2 (plain i) (flying found.0 i)
 again d x done rest s i m busy plain flying = absurd (false≢true m)
 
-witness_step : (d : Setting) (x : AnyStep) (done : Done) (rest : List AnyStep) → lets Words d x done ≡ true → Witness d done (x ∷ rest) → Witness d (x ∷ done) rest
+witness_step : (d : Setting) (x : AnyStep) (done : Done) (rest : List AnyStep) → lets Words d x done ≡ true → Witness d done (x ∷ rest)
+    → Witness d (x ∷ done) rest
 witness_step d x done rest guard v =
     let plain : ((j : ℕ) → Plain d (x ∷ done) rest j) = λ j. plain_step d x done rest j (v.plain j) in
     let flying : ((p j : ℕ) → IsRouted d p → is_fenced p (x ∷ done) ≡ false → Flying d (x ∷ done) rest p j) = λ p j routed e. by_case (fences p x)
@@ -555,16 +598,21 @@ witness_step d x done rest guard v =
           (no_new (fills s (i / 64) x) (blanks s (i / 64) x)) (not_taken (takes s (i / 64) x) (fills s (i / 64) x) m)
           (at_step d x rest s i true true false false (v.old s i holds)));
       hand = λ s i e. by_case (takes s (i / 64) x)
-          (λ m. at_is d rest s i true _ _ _ _ _ _ (gone_old (takes s (i / 64) x) (wipes s (i / 64) x) m) (no_new (fills s (i / 64) x) (blanks s (i / 64) x)) (now_hand (takes s (i / 64) x) (fills s (i / 64) x) m)
-          (at_step d x rest s i true true false false (v.old s i (taken_true (takes s (i / 64) x) _ (fills s (i / 64) x) (hand_holds d s (i / 64) done) m e))))
+          (λ m. at_is d rest s i true _ _ _ _ _ _ (gone_old (takes s (i / 64) x) (wipes s (i / 64) x) m)
+          (no_new (fills s (i / 64) x) (blanks s (i / 64) x)) (now_hand (takes s (i / 64) x) (fills s (i / 64) x) m)
+          (at_step d x rest s i true true false false (v.old s i
+          (taken_true (takes s (i / 64) x) _ (fills s (i / 64) x) (hand_holds d s (i / 64) done) m e))))
           (λ m. let cases = taken_false (takes s (i / 64) x) (old_holds d s (i / 64) done) (fills s (i / 64) x) _ m e in
-          at_is d rest s i true _ _ _ _ _ _ (no_old (takes s (i / 64) x) (wipes s (i / 64) x)) (not_filled (fills s (i / 64) x) (blanks s (i / 64) x) cases.0) (keep_hand (takes s (i / 64) x) (fills s (i / 64) x) m cases.0)
+          at_is d rest s i true _ _ _ _ _ _ (no_old (takes s (i / 64) x) (wipes s (i / 64) x))
+          (not_filled (fills s (i / 64) x) (blanks s (i / 64) x) cases.0) (keep_hand (takes s (i / 64) x) (fills s (i / 64) x) m cases.0)
           (at_step d x rest s i true false false true (v.hand s i cases.1)));
       filled = λ s i e. elim (added_cases (fills s (i / 64) x) _ _ e) [
-        | inl now ↦ at_is d rest s i true _ _ _ _ _ _ (no_old (takes s (i / 64) x) (wipes s (i / 64) x)) (now_new (fills s (i / 64) x) (blanks s (i / 64) x) now.0) (from_hand (takes s (i / 64) x) (fills s (i / 64) x) now.0)
+        | inl now ↦ at_is d rest s i true _ _ _ _ _ _ (no_old (takes s (i / 64) x) (wipes s (i / 64) x))
+            (now_new (fills s (i / 64) x) (blanks s (i / 64) x) now.0) (from_hand (takes s (i / 64) x) (fills s (i / 64) x) now.0)
             (at_step d x rest s i true false false true (v.hand s i now.1))
         | inr before ↦ at_is d rest s i true _ _ _ _ _ _ (no_old (takes s (i / 64) x) (wipes s (i / 64) x))
-            (keep_new (fills s (i / 64) x) (blanks s (i / 64) x) (false_of _ (λ l. clash _ before (blanks_guard d s (i / 64) x done guard l)))) (no_hand (takes s (i / 64) x) (fills s (i / 64) x))
+            (keep_new (fills s (i / 64) x) (blanks s (i / 64) x) (false_of _ (λ l. clash _ before (blanks_guard d s (i / 64) x done guard l))))
+            (no_hand (takes s (i / 64) x) (fills s (i / 64) x))
             (at_step d x rest s i true false true false (v.filled s i before))
       ];
       dirty = λ s i e. at_is d rest s i false _ _ _ _ _ _ (no_old (takes s (i / 64) x) (wipes s (i / 64) x))
@@ -600,35 +648,43 @@ named_itself Enabled w = eq-eqb w ((64 * w) / 64) (sym (first_of_word w))
 at_first : (P : ℕ → Type 0) (w : ℕ) → P w → P ((64 * w) / 64)
 at_first P w h = subst P (sym (first_of_word w)) h
 
-take_loses : (d : Setting) (s : WhichSet) (w : ℕ) (done : Done) (rest : List AnyStep) → w < d.words → Witness d done (Take s w ∷ rest) → hand_holds d s w done ≡ true → ⊥
+take_loses : (d : Setting) (s : WhichSet) (w : ℕ) (done : Done) (rest : List AnyStep) → w < d.words → Witness d done (Take s w ∷ rest)
+    → hand_holds d s w done ≡ true → ⊥
 take_loses d s w done rest inside v e =
     lost d rest s (64 * w) (below_words d w inside)
-    (at_is d rest s (64 * w) true _ _ _ _ _ _ (no_old (names s w s ((64 * w) / 64)) false) refl (over_hand (names s w s ((64 * w) / 64)) false (named_itself s w))
+    (at_is d rest s (64 * w) true _ _ _ _ _ _ (no_old (names s w s ((64 * w) / 64)) false) refl
+    (over_hand (names s w s ((64 * w) / 64)) false (named_itself s w))
     (at_step d (Take s w) rest s (64 * w) true false false true (v.hand s (64 * w) (at_first (λ u. hand_holds d s u done ≡ true) w e))))
 
 -- a word of the new place, with something that is due in it
-in_new : (d : Setting) (x : AnyStep) (s : WhichSet) (w : ℕ) (done : Done) (rest : List AnyStep) → Witness d done (x ∷ rest) → new_holds d s w done ≡ true → At d (x ∷ rest) s (64 * w) true false true false
+in_new : (d : Setting) (x : AnyStep) (s : WhichSet) (w : ℕ) (done : Done) (rest : List AnyStep) → Witness d done (x ∷ rest)
+    → new_holds d s w done ≡ true → At d (x ∷ rest) s (64 * w) true false true false
 in_new d x Enabled w done rest v e = v.filled Enabled (64 * w) (at_first (λ u. is_filled d Enabled u done ≡ true) w e)
 in_new d x Pending w done rest v e = elim (or_cases (is_reached d Pending done) _ e) [
-  | inl reached ↦ (let found = any_find (λ p. is_turned p done) (length d.producers) reached in stored d done (x ∷ rest) found.0 (64 * w) Written New found.1 (v.plain (64 * w)) (((v.plain (64 * w)).ways found.0).ahead found.2))
+  | inl reached ↦ (let found = any_find (λ p. is_turned p done) (length d.producers) reached in
+      stored d done (x ∷ rest) found.0 (64 * w) Written New found.1 (v.plain (64 * w)) (((v.plain (64 * w)).ways found.0).ahead found.2))
   | inr filled ↦ v.filled Pending (64 * w) (at_first (λ u. is_filled d Pending u done ≡ true) w filled)
 ]
 
-over_loses : (d : Setting) (x : AnyStep) (s : WhichSet) (w : ℕ) (done : Done) (rest : List AnyStep) → w < d.words → blanks s ((64 * w) / 64) x ≡ true → Witness d done (x ∷ rest) → new_holds d s w done ≡ true → ⊥
+over_loses : (d : Setting) (x : AnyStep) (s : WhichSet) (w : ℕ) (done : Done) (rest : List AnyStep) → w < d.words
+    → blanks s ((64 * w) / 64) x ≡ true → Witness d done (x ∷ rest) → new_holds d s w done ≡ true → ⊥
 over_loses d x s w done rest inside m v e =
     let i = 64 * w in
     let t = takes s ((64 * w) / 64) x in
     lost d rest s (64 * w) (below_words d w inside)
-    (at_is d rest s (64 * w) true _ _ _ _ _ _ (no_old (takes s ((64 * w) / 64) x) (wipes s ((64 * w) / 64) x)) (over_new (fills s ((64 * w) / 64) x) (blanks s ((64 * w) / 64) x) m) (no_hand (takes s ((64 * w) / 64) x) (fills s ((64 * w) / 64) x))
+    (at_is d rest s (64 * w) true _ _ _ _ _ _ (no_old (takes s ((64 * w) / 64) x) (wipes s ((64 * w) / 64) x))
+    (over_new (fills s ((64 * w) / 64) x) (blanks s ((64 * w) / 64) x) m) (no_hand (takes s ((64 * w) / 64) x) (fills s ((64 * w) / 64) x))
     (at_step d x rest s (64 * w) true false true false (in_new d x s w done rest v e)))
 
-wipe_loses : (d : Setting) (s : WhichSet) (w : ℕ) (done : Done) (rest : List AnyStep) → w < d.words → Witness d done (Zero Old s w ∷ rest) → old_holds d s w done ≡ true → ⊥
+wipe_loses : (d : Setting) (s : WhichSet) (w : ℕ) (done : Done) (rest : List AnyStep) → w < d.words → Witness d done (Zero Old s w ∷ rest)
+    → old_holds d s w done ≡ true → ⊥
 wipe_loses d s w done rest inside v e =
     lost d rest s (64 * w) (below_words d w inside)
     (at_is d rest s (64 * w) true _ _ _ _ _ _ (wiped_old false (names s w s ((64 * w) / 64)) (named_itself s w)) refl refl
     (at_step d (Zero Old s w) rest s (64 * w) true true false false (v.old s (64 * w) (at_first (λ u. old_holds d s u done ≡ true) w e))))
 
-words_kept : (d : Setting) (x : AnyStep) (done : Done) (rest : List AnyStep) → IsInFile d.words x → Witness d done (x ∷ rest) → lets Words d x done ≡ true
+words_kept : (d : Setting) (x : AnyStep) (done : Done) (rest : List AnyStep) → IsInFile d.words x → Witness d done (x ∷ rest)
+    → lets Words d x done ≡ true
 words_kept d (Take s w) done rest inside v = not_of _ (λ e. take_loses d s w done rest inside v e)
 words_kept d (Put s w) done rest inside v = not_of _ (λ e. over_loses d (Put s w) s w done rest inside (named_itself s w) v e)
 words_kept d (Zero Old s w) done rest inside v = not_of _ (λ e. wipe_loses d s w done rest inside v e)
@@ -638,25 +694,33 @@ words_kept d (ZeroNumber New n) done rest inside v = refl
 words_kept d x done rest inside v = refl
 
 -- what is joined to a word that is not blank: it stays there with what is left over, or both are overwritten
-mixed : (d : Setting) (rest : List AnyStep) (s : WhichSet) (i : ℕ) → i / 64 < d.words → At d rest s i true false true false → At d rest s i false false true false → ⊥
+mixed : (d : Setting) (rest : List AnyStep) (s : WhichSet) (i : ℕ) → i / 64 < d.words → At d rest s i true false true false
+    → At d rest s i false false true false → ⊥
 mixed d [] s i inside new dirty = false≢true (sym (end_new d s i false false true false inside dirty))
 mixed d (x ∷ rest) s i inside new dirty = by_case (blanks s (i / 64) x)
-    (λ m. lost d rest s i inside (at_is d rest s i true _ _ _ _ _ _ (no_old (takes s (i / 64) x) (wipes s (i / 64) x)) (over_new (fills s (i / 64) x) (blanks s (i / 64) x) m) (no_hand (takes s (i / 64) x) (fills s (i / 64) x)) (at_step d x rest s i true false true false new)))
+    (λ m. lost d rest s i inside (at_is d rest s i true _ _ _ _ _ _ (no_old (takes s (i / 64) x) (wipes s (i / 64) x))
+    (over_new (fills s (i / 64) x) (blanks s (i / 64) x) m) (no_hand (takes s (i / 64) x) (fills s (i / 64) x))
+    (at_step d x rest s i true false true false new)))
     (λ m. mixed d rest s i inside (on true m new) (on false m dirty))
   where
     on : (q : Bool) → blanks s (i / 64) x ≡ false → At d (x ∷ rest) s i q false true false → At d rest s i q false true false
-    on q m v = at_is d rest s i q _ _ _ _ _ _ (no_old (takes s (i / 64) x) (wipes s (i / 64) x)) (keep_new (fills s (i / 64) x) (blanks s (i / 64) x) m) (no_hand (takes s (i / 64) x) (fills s (i / 64) x)) (at_step d x rest s i q false true false v)
+    on q m v = at_is d rest s i q _ _ _ _ _ _ (no_old (takes s (i / 64) x) (wipes s (i / 64) x))
+        (keep_new (fills s (i / 64) x) (blanks s (i / 64) x) m) (no_hand (takes s (i / 64) x) (fills s (i / 64) x))
+        (at_step d x rest s i q false true false v)
 
-join_loses : (d : Setting) (s : WhichSet) (w : ℕ) (done : Done) (rest : List AnyStep) → w < d.words → Witness d done (Join s w ∷ rest) → hand_holds d s w done ≡ true → is_blank d s w done ≡ false → ⊥
+join_loses : (d : Setting) (s : WhichSet) (w : ℕ) (done : Done) (rest : List AnyStep) → w < d.words → Witness d done (Join s w ∷ rest)
+    → hand_holds d s w done ≡ true → is_blank d s w done ≡ false → ⊥
 join_loses d s w done rest inside v held e =
     let m = names s w s ((64 * w) / 64) in
     mixed d rest s (64 * w) (below_words d w inside)
-    (at_is d rest s (64 * w) true _ _ _ _ _ _ refl (now_new (names s w s ((64 * w) / 64)) false (named_itself s w)) (from_hand false (names s w s ((64 * w) / 64)) (named_itself s w))
+    (at_is d rest s (64 * w) true _ _ _ _ _ _ refl (now_new (names s w s ((64 * w) / 64)) false (named_itself s w))
+    (from_hand false (names s w s ((64 * w) / 64)) (named_itself s w))
     (at_step d (Join s w) rest s (64 * w) true false false true (v.hand s (64 * w) (at_first (λ u. hand_holds d s u done ≡ true) w held))))
     (at_is d rest s (64 * w) false _ _ _ _ _ _ refl (keep_new (names s w s ((64 * w) / 64)) false refl) (no_hand false (names s w s ((64 * w) / 64)))
     (at_step d (Join s w) rest s (64 * w) false false true false (v.dirty s (64 * w) (at_first (λ u. is_blank d s u done ≡ false) w e))))
 
-blank_kept : (d : Setting) (x : AnyStep) (done : Done) (rest : List AnyStep) → IsInFile d.words x → Witness d done (x ∷ rest) → lets Blank d x done ≡ true
+blank_kept : (d : Setting) (x : AnyStep) (done : Done) (rest : List AnyStep) → IsInFile d.words x → Witness d done (x ∷ rest)
+    → lets Blank d x done ≡ true
 blank_kept d (Join s w) done rest inside v = join_law (hand_holds d s w done) (is_blank d s w done) (join_loses d s w done rest inside v)
   where
     join_law : (h c : Bool) → (h ≡ true → c ≡ false → ⊥) → (not h || c) ≡ true
@@ -697,19 +761,25 @@ free_loses : (d : Setting) (done : Done) (rest : List AnyStep) → Witness d don
 free_loses d done rest v e =
     let found = all_find (λ p. is_led d p done) (length d.producers) e in
     elim (kind_of d found.0 found.1) [
-      | inl routed ↦ (let fly : Flying d done (Free ∷ rest) found.0 0 = v.flying found.0 0 (found.1, routed) (unled_routed d found.0 done routed found.2) in
+      | inl routed ↦ (let fly : Flying d done (Free ∷ rest) found.0 0 =
+          v.flying found.0 0 (found.1, routed) (unled_routed d found.0 done routed found.2) in
           stray_loses d fly.start rest _ (live_land d fly.start rest (stepped d Free fly.z) 0 (live_step d fly.start Free rest fly.z fly.live))
-          (subst (λ fs. (one_landed d (slice_get fs 0) (stepped d Free fly.z)).strayed ≡ true) (sym fly.flights) (stray_bit fly.z.strayed true true refl refl)))
+          (subst (λ fs. (one_landed d (slice_get fs 0) (stepped d Free fly.z)).strayed ≡ true) (sym fly.flights)
+          (stray_bit fly.z.strayed true true refl refl)))
       | inr switched ↦ (let plain : Plain d done (Free ∷ rest) 0 = v.plain 0 in
           let none = unled_switched d found.0 done switched found.2 in
-          stray_loses d plain.at.start rest _ (live_store d plain.at.start rest (stepped d Free plain.at.z) found.0 InForce 0 found.1 (live_step d plain.at.start Free rest plain.at.z plain.at.live))
-          (stray_bit plain.at.z.strayed (is_old (plain.at.z.in_force found.0)) true (ap is_old ((plain.ways found.0).behind (or_false_left _ _ none) (or_false_right (is_fenced found.0 done) _ none))) refl))
+          stray_loses d plain.at.start rest _ (live_store d plain.at.start rest (stepped d Free plain.at.z) found.0 InForce 0 found.1
+          (live_step d plain.at.start Free rest plain.at.z plain.at.live))
+          (stray_bit plain.at.z.strayed (is_old (plain.at.z.in_force found.0)) true
+          (ap is_old ((plain.ways found.0).behind (or_false_left _ _ none) (or_false_right (is_fenced found.0 done) _ none))) refl))
     ]
 
-reach_loses : (d : Setting) (x : AnyStep) (done : Done) (rest : List AnyStep) → ((z : AnyMachine) → (stepped d x z).strayed ≡ (z.strayed || z.freed)) → Witness d done (x ∷ rest) → list_any frees done ≡ true → ⊥
+reach_loses : (d : Setting) (x : AnyStep) (done : Done) (rest : List AnyStep)
+    → ((z : AnyMachine) → (stepped d x z).strayed ≡ (z.strayed || z.freed)) → Witness d done (x ∷ rest) → list_any frees done ≡ true → ⊥
 reach_loses d x done rest reaches v e =
     let plain : Plain d done (x ∷ rest) 0 = v.plain 0 in
-    stray_loses d plain.at.start rest (stepped d x plain.at.z) (live_step d plain.at.start x rest plain.at.z plain.at.live) (reaches plain.at.z ∙ or_right plain.at.z.strayed _ (plain.freed ∙ e))
+    stray_loses d plain.at.start rest (stepped d x plain.at.z) (live_step d plain.at.start x rest plain.at.z plain.at.live)
+    (reaches plain.at.z ∙ or_right plain.at.z.strayed _ (plain.freed ∙ e))
 
 freeing_kept : (d : Setting) (x : AnyStep) (done : Done) (rest : List AnyStep) → Witness d done (x ∷ rest) → lets Freeing d x done ≡ true
 freeing_kept d Free done rest v = true_of _ (free_loses d done rest v)
@@ -724,10 +794,12 @@ freeing_kept d x done rest v = refl
 -- ---- an end that the rules don't let stand
 
 old_loses : (d : Setting) (s : WhichSet) (w : ℕ) (done : Done) → w < d.words → Witness d done [] → old_holds d s w done ≡ true → ⊥
-old_loses d s w done inside v e = false≢true (sym (end_old d s (64 * w) true true false false (below_words d w inside) (v.old s (64 * w) (at_first (λ u. old_holds d s u done ≡ true) w e))))
+old_loses d s w done inside v e = false≢true (sym
+    (end_old d s (64 * w) true true false false (below_words d w inside) (v.old s (64 * w) (at_first (λ u. old_holds d s u done ≡ true) w e))))
 
 hand_loses : (d : Setting) (s : WhichSet) (w : ℕ) (done : Done) → w < d.words → Witness d done [] → hand_holds d s w done ≡ true → ⊥
-hand_loses d s w done inside v e = false≢true (end_new d s (64 * w) true false false true (below_words d w inside) (v.hand s (64 * w) (at_first (λ u. hand_holds d s u done ≡ true) w e)))
+hand_loses d s w done inside v e = false≢true (end_new d s (64 * w) true false false true (below_words d w inside)
+    (v.hand s (64 * w) (at_first (λ u. hand_holds d s u done ≡ true) w e)))
 
 unled_loses : (d : Setting) (done : Done) → Witness d done [] → all_led d done ≡ false → ⊥
 unled_loses d done v e =
@@ -737,7 +809,8 @@ unled_loses d done v e =
           false≢true (sym (ap is_old (subst (AllByRecursion (λ (f : AnyFlight). f.place ≡ New)) fly.flights (fly.live [] tt refl).flights).0)))
       | inr switched ↦ (let plain : Plain d done [] 0 = v.plain 0 in
           let none = unled_switched d found.0 done switched found.2 in
-          false≢true (ap is_old (sym ((plain.at.live [] tt refl).in_force found.0 found.1) ∙ (plain.ways found.0).behind (or_false_left _ _ none) (or_false_right (is_fenced found.0 done) _ none))))
+          false≢true (ap is_old (sym ((plain.at.live [] tt refl).in_force found.0 found.1)
+          ∙ (plain.ways found.0).behind (or_false_left _ _ none) (or_false_right (is_fenced found.0 done) _ none))))
     ]
 
 number_loses : (d : Setting) (done : Done) (n : Number) → Witness d done [] → has_number d n d.number_to done ≡ false → ⊥
@@ -748,7 +821,8 @@ number_loses d done n v e =
     zero_one : ◌≡◌ {A = ℕ} 0 1 → ⊥
     zero_one e = omega (arith, e)
 
-step_kept : (rule : Rule) (d : Setting) (x : AnyStep) (done : Done) (rest : List AnyStep) → IsOfSafety rule → IsInFile d.words x → Witness d done (x ∷ rest) → lets rule d x done ≡ true
+step_kept : (rule : Rule) (d : Setting) (x : AnyStep) (done : Done) (rest : List AnyStep) → IsOfSafety rule → IsInFile d.words x
+    → Witness d done (x ∷ rest) → lets rule d x done ≡ true
 step_kept Notice d x done rest of inside v = absurd of
 step_kept Words d x done rest of inside v = words_kept d x done rest inside v
 step_kept Blank d x done rest of inside v = blank_kept d x done rest inside v
@@ -760,14 +834,18 @@ end_kept : (rule : Rule) (d : Setting) (done : Done) → IsOfSafety rule → Wit
 end_kept Notice d done of v = absurd of
 end_kept Blank d done of v = refl
 end_kept Freeing d done of v = refl
-end_kept Routes d done of v = and_of _ _ (true_of _ (unled_loses d done v)) (all_of _ d.words (λ w inside. not_of _ (old_loses d Pending w done inside v)))
-end_kept Words d done of v = all_of _ d.words (λ w inside. and_of _ _ (not_of _ (hand_loses d Pending w done inside v)) (and_of _ _ (not_of _ (old_loses d Enabled w done inside v)) (not_of _ (hand_loses d Enabled w done inside v))))
+end_kept Routes d done of v = and_of _ _ (true_of _ (unled_loses d done v))
+    (all_of _ d.words (λ w inside. not_of _ (old_loses d Pending w done inside v)))
+end_kept Words d done of v = all_of _ d.words (λ w inside. and_of _ _ (not_of _ (hand_loses d Pending w done inside v))
+    (and_of _ _ (not_of _ (old_loses d Enabled w done inside v)) (not_of _ (hand_loses d Enabled w done inside v))))
 end_kept Numbers d done of v = and_of _ _ (true_of _ (number_loses d done Threshold v)) (true_of _ (number_loses d done Delivery v))
 
-rest_kept : (rule : Rule) (d : Setting) (done : Done) (rest : List AnyStep) → IsOfSafety rule → AllByRecursion (IsInFile d.words) rest → Witness d done rest → lets_rest rule d done rest ≡ true
+rest_kept : (rule : Rule) (d : Setting) (done : Done) (rest : List AnyStep) → IsOfSafety rule → AllByRecursion (IsInFile d.words) rest
+    → Witness d done rest → lets_rest rule d done rest ≡ true
 rest_kept rule d done [] of inside v = end_kept rule d done of v
 rest_kept rule d done (x ∷ rest) of (here, later) v =
-    and_of _ _ (step_kept rule d x done rest of here v) (rest_kept rule d (x ∷ done) rest of later (witness_step d x done rest (words_kept d x done rest here v) v))
+    and_of _ _ (step_kept rule d x done rest of here v)
+    (rest_kept rule d (x ∷ done) rest of later (witness_step d x done rest (words_kept d x done rest here v) v))
 
 -- ---- its beginning
 
@@ -790,8 +868,19 @@ beginning d before rest = record {
   told = false;
 }
 
-it_begins : (d : Setting) (before rest : WhichSet → ℕ → Bool) → (d.is_fresh ≡ true → (s : WhichSet) (i : ℕ) → rest s i ≡ false) → IsStartOfAny d (beginning d before rest)
-it_begins d before rest fresh = record { written = λ p e. refl; in_force = λ p e. refl; flights = tt; due = λ s i. refl; hand = λ s i. refl; fresh = fresh; freed = refl; strayed = refl; noticed = λ e. refl }
+it_begins : (d : Setting) (before rest : WhichSet → ℕ → Bool) → (d.is_fresh ≡ true → (s : WhichSet) (i : ℕ) → rest s i ≡ false)
+    → IsStartOfAny d (beginning d before rest)
+it_begins d before rest fresh = record {
+  written = λ p e. refl;
+  in_force = λ p e. refl;
+  flights = tt;
+  due = λ s i. refl;
+  hand = λ s i. refl;
+  fresh = fresh;
+  freed = refl;
+  strayed = refl;
+  noticed = λ e. refl;
+}
 
 -- A set of one bit is `names` of its number, as it is for a word.
 abbrev nothing : WhichSet → ℕ → Bool
@@ -864,5 +953,6 @@ begin d plan safe = record {
 }
 
 -- **A safe plan keeps each rule of safety.**
-pub safe_keeps : (rule : Rule) (d : Setting) (plan : List AnyStep) → IsOfSafety rule → AllByRecursion (IsInFile d.words) plan → IsSafe d plan → lets_rest rule d [] plan ≡ true
+pub safe_keeps : (rule : Rule) (d : Setting) (plan : List AnyStep) → IsOfSafety rule → AllByRecursion (IsInFile d.words) plan → IsSafe d plan
+    → lets_rest rule d [] plan ≡ true
 safe_keeps rule d plan of inside safe = rest_kept rule d [] plan of inside (begin d plan safe)

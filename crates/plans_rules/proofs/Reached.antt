@@ -27,7 +27,8 @@ pub reached_more : (d : Setting) (s : WhichSet) (x : AnyStep) (done : Done) → 
 reached_more d Pending x done e = any_more _ _ (length d.producers) (λ p. or_right (turns p x) _) e
 reached_more d Enabled x done e = e
 
-late_law : (m o still now : Bool) → (still ≡ true → now ≡ true) → (o ≡ false → still ≡ true) → (elim m [ true ↦ o && not still | false ↦ o ]) ≡ false → now ≡ true
+late_law : (m o still now : Bool) → (still ≡ true → now ≡ true) → (o ≡ false → still ≡ true)
+    → (elim m [ true ↦ o && not still | false ↦ o ]) ≡ false → now ≡ true
 late_law true true true now h k e = h refl
 late_law true true false now h k e = absurd (false≢true (sym e))
 late_law true false still now h k e = h (k refl)

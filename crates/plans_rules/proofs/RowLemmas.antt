@@ -43,7 +43,11 @@ pub freeing_number_rows : BreakAlone Freeing with_numbers break_freeing_with_num
 freeing_number_rows = (refl, (refl, tt))
 
 pub notice_rows : LeaveUntold to_memory (looked_early ∷ looked_first ∷ posted_first ∷ told_early ∷ all_moved ∷ [])
-notice_rows = (refl, looked_early_leaves_untold, (refl, looked_first_leaves_untold, (refl, posted_first_leaves_untold, (refl, told_early_leaves_untold, (refl, untold_leaves_untold, tt)))))
+notice_rows = (
+  refl,
+  looked_early_leaves_untold,
+  (refl, looked_first_leaves_untold, (refl, posted_first_leaves_untold, (refl, told_early_leaves_untold, (refl, untold_leaves_untold, tt)))),
+)
 
 pub unset_rows : LeaveUntold unset (looked_last ∷ written_late ∷ written_last ∷ [])
 unset_rows = (refl, looked_last_leaves_untold, (refl, written_late_leaves_untold, (refl, written_last_leaves_untold, tt)))

@@ -20,8 +20,10 @@ pub five_kept : (d : Setting) (plan : List AnyStep) → moves d plan ≡ true �
 five_kept d plan e Routes of = and_left (keeps Routes d plan) _ e
 five_kept d plan e Words of = and_left (keeps Words d plan) _ (and_right (keeps Routes d plan) _ e)
 five_kept d plan e Blank of = and_left (keeps Blank d plan) _ (and_right (keeps Words d plan) _ (and_right (keeps Routes d plan) _ e))
-five_kept d plan e Numbers of = and_left (keeps Numbers d plan) _ (and_right (keeps Blank d plan) _ (and_right (keeps Words d plan) _ (and_right (keeps Routes d plan) _ e)))
-five_kept d plan e Freeing of = and_right (keeps Numbers d plan) _ (and_right (keeps Blank d plan) _ (and_right (keeps Words d plan) _ (and_right (keeps Routes d plan) _ e)))
+five_kept d plan e Numbers of = and_left (keeps Numbers d plan) _
+    (and_right (keeps Blank d plan) _ (and_right (keeps Words d plan) _ (and_right (keeps Routes d plan) _ e)))
+five_kept d plan e Freeing of = and_right (keeps Numbers d plan) _
+    (and_right (keeps Blank d plan) _ (and_right (keeps Words d plan) _ (and_right (keeps Routes d plan) _ e)))
 five_kept d plan e Notice of = absurd of
 
 all_kept : (d : Setting) (plan : List AnyStep) → accepts d plan ≡ true → telling.GuardRest d [] plan
@@ -42,7 +44,8 @@ only_these d plan inside safe =
     let each = recursively (IsInFile d.words) plan inside in
     and_of _ _ (safe_keeps Routes d plan tt each safe)
     (and_of _ _ (safe_keeps Words d plan tt each safe)
-    (and_of _ _ (safe_keeps Blank d plan tt each safe) (and_of _ _ (safe_keeps Numbers d plan tt each safe) (safe_keeps Freeing d plan tt each safe))))
+    (and_of _ _ (safe_keeps Blank d plan tt each safe)
+    (and_of _ _ (safe_keeps Numbers d plan tt each safe) (safe_keeps Freeing d plan tt each safe))))
 
 -- **A plan into memory that keeps the sixth too tells its host.**
 pub rules_are_told : (d : Setting) (plan : List AnyStep) → d.in_memory ≡ true → accepts d plan ≡ true → IsTold d plan

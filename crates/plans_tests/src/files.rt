@@ -1,7 +1,7 @@
 //! What is answered of files of plans, by the rows that are laws too.
 
 use plans_counterexamples::{losing_run, untold_run};
-use plans_judge::{RouteKind, Rule, NumberSpot, AnyStep, Terms, Judgement, judge};
+use plans_judge::{AnyStep, Judgement, NumberSpot, RouteKind, Rule, Terms, judge};
 use plans_text::{FileOutcome, PlanLine, Reading, answers, parse_line};
 use std::alloc::{AllocError, Global};
 use std::test::Fail;
