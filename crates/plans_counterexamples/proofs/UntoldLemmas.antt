@@ -18,7 +18,7 @@ use Rattle.plans_rules.specs.Machine.AnyHappening.{Does, Stores}
 use Rattle.plans_rules.specs.Rules.{writes_notice}
 use Rattle.plans_rules.specs.Safe.{IsStartOfAny}
 use Rattle.plans_rules.proofs.BoolLaws.{and_left, and_right, and_false_right, not_true, or_false}
-use Rattle.plans_rules.proofs.Exact.{still_none}
+use Rattle.plans_rules.proofs.States.{still_none}
 use Rattle.plans_counterexamples.specs.declared.trace.StoreRoute.{StoreRoute}
 use Rattle.plans_counterexamples.specs.declared.trace.StoreRoute.TheVariants.{Written, InForce}
 use Rattle.plans_counterexamples.specs.declared.watch.Watch.{Watch}

@@ -13,7 +13,7 @@ use Rattle.plans_rules.specs.declared.step.Number.{Number}
 use Rattle.plans_rules.specs.declared.step.Number.TheVariants.{Threshold, Delivery}
 use Rattle.plans_rules.specs.declared.setting.NumberSpot.TheVariants.{InHand, InNew}
 use Rattle.plans_rules.specs.declared.step.AnyStep.{AnyStep}
-use Rattle.plans_rules.specs.declared.step.AnyStep.TheVariants.{Route, Fence, Switch, Zero, Take, Join, Put, ZeroNumber, TakeNumber, PutNumber, Look, Post, Tell, WriteNotice, Free}
+use Rattle.plans_rules.specs.declared.step.AnyStep.TheVariants.{Fence, Zero, Take, Join, Put, ZeroNumber, TakeNumber, PutNumber, Look, Post, Tell, WriteNotice}
 use Rattle.plans_rules.specs.Setting.{Setting, is_old, names}
 use Rattle.plans_rules.specs.Machine.{lets_out, stands_out, word_stands_out, AnyFlight, AnyMachine, landed, flight_landed, all_landed, flights_of, stepped, route_of, AnyHappening, one_landed, happened, all_happened, steps_in}
 use Rattle.plans_rules.specs.Machine.AnyHappening.{Does, Stores, Sends, Lands, Refetches}
