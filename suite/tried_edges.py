@@ -72,7 +72,7 @@ def refused_words(trial):
     """Lists words that are wrong, by the tool."""
     for name in ("between-steps", "majors-table", "make", "documents", "step-numbers", "isolation",
                  "from-memory", "migrations", "no-sense", "want-of-memory", "repeats",
-                 "chain"):
+                 "names", "chain"):
         yield TOP / "suite" / name, ["--x"], ["a", "b", "c"]
     for name in ("isolation", "from-memory", "migrations", "no-sense"):
         yield TOP / "suite" / name, ["0"], ["x"], ["1", "x"]
@@ -255,6 +255,7 @@ def same_and_different(trial):
         trial.sees(trial.run(APART / "plans.py", one, 1, 20).status == status, "plans.py")
     trial.sees(trial.run(here / "hypervisors/check", plans).status == 1, "hypervisors/check")
     trial.prints(0, ["no number of a step stands outside the plans\n"], suite / "step-numbers")
+    trial.prints(0, [" names of public types: "], suite / "names", "try")
 
 
 def short_of_time(trial, name, seconds):

@@ -24,11 +24,13 @@ use Rattle.aia_aplic_values.proofs.AddressSteps.{addresses_aimed}
 
 aimed_child : (t v : ℕ) (past : Past) (s : ℕ) → source_of (Aimed t v ∷ past) Child s ≡ changed_at t (with_target v) s (source_of past Child s)
 unfolding newest wire_of
-aimed_child t v past s = source-step (Aimed t v) past Child s ∙ aimed_if (nat_eq t s) (delivers_by_msis past Child) v (source_of past Child s) (source-idle past Child s)
+aimed_child t v past s = source-step (Aimed t v) past Child s
+    ∙ aimed_if (nat_eq t s) (delivers_by_msis past Child) v (source_of past Child s) (source-idle past Child s)
 
 aimed_root : (t v : ℕ) (past : Past) (s : ℕ) → source_of (Aimed t v ∷ past) Root s ≡ source_of past Root s
 unfolding newest wire_of
-aimed_root t v past s = source-step (Aimed t v) past Root s ∙ step-nothing (delivers_by_msis past Root) (source_of past Root s) (source-idle past Root s)
+aimed_root t v past s = source-step (Aimed t v) past Root s
+    ∙ step-nothing (delivers_by_msis past Root) (source_of past Root s) (source-idle past Root s)
 
 -- the target of an active one is what it is given
 pub aim_targets : (past : Past) (s v : ℕ) → is_active_in past Child s ≡ true → target (Aimed s v ∷ past) Child s ≡ v
@@ -51,20 +53,26 @@ quiet_aimed : (t v : ℕ) (past : Past) (name : DomainName) → IsQuiet (Aimed t
 unfolding newest genmsi_waits
 quiet_aimed t v past name = (refl, refl, refl, refl, refl, refl)
 
-pub child-aimed : (t v : ℕ) (a : SideState) (e : DomainState) (past : Past) → EachSource a.domain.sources e.sources (changed_at t (with_target v)) → e ≡ with_sources a.domain e.sources
+pub child-aimed : (t v : ℕ) (a : SideState) (e : DomainState) (past : Past) → EachSource a.domain.sources e.sources (changed_at t (with_target v))
+    → e ≡ with_sources a.domain e.sources
     → SideStands a past Child → SideStands (record { domain = e; controls = a.controls }) (Aimed t v ∷ past) Child
 child-aimed t v a e past each rest stands = record {
-  domain = stands-after (Aimed t v) a.domain e past Child (changed_at t (with_target v)) (keeps_quiet (Aimed t v) a.domain e past Child (quiet_aimed t v past Child) rest stands.domain) each (λ s low. sym (aimed_child t v past s)) stands.domain;
+  domain = stands-after (Aimed t v) a.domain e past Child (changed_at t (with_target v))
+      (keeps_quiet (Aimed t v) a.domain e past Child (quiet_aimed t v past Child) rest stands.domain) each (λ s low. sym (aimed_child t v past s))
+      stands.domain;
   controls = controls-still (Aimed t v) a.controls past Child (aimed_harts t v past) (λ h low. aimed_control t v past Child h) stands.controls;
 }
 
 root-aimed : (t v : ℕ) (a : SideState) (past : Past) → SideStands a past Root → SideStands a (Aimed t v ∷ past) Root
 root-aimed t v a past stands = record {
-  domain = still-stands (Aimed t v) a.domain past Root (keeps_quiet (Aimed t v) a.domain a.domain past Root (quiet_aimed t v past Root) refl stands.domain) (λ s low. aimed_root t v past s) stands.domain;
+  domain = still-stands (Aimed t v) a.domain past Root
+      (keeps_quiet (Aimed t v) a.domain a.domain past Root (quiet_aimed t v past Root) refl stands.domain) (λ s low. aimed_root t v past s)
+      stands.domain;
   controls = controls-still (Aimed t v) a.controls past Root (aimed_harts t v past) (λ h low. aimed_control t v past Root h) stands.controls;
 }
 
-pub aplic-aimed : (t v : ℕ) (a : AplicState) (new : SideState) (past : Past) → (SideStands a.child past Child → SideStands new (Aimed t v ∷ past) Child) → AplicStands a past
+pub aplic-aimed : (t v : ℕ) (a : AplicState) (new : SideState) (past : Past)
+    → (SideStands a.child past Child → SideStands new (Aimed t v ∷ past) Child) → AplicStands a past
     → AplicStands (record { root = a.root; child = new; addresses = a.addresses }) (Aimed t v ∷ past)
 aplic-aimed t v a new past aims stands = record {
   root = root-aimed t v a.root past stands.root;
@@ -74,13 +82,17 @@ aplic-aimed t v a new past aims stands = record {
 
 -- ---- what may be passed
 
-active-stands : (d : DomainState) (past : Past) (name : DomainName) (s : ℕ) → DomainStands d past name → is_active_at d.sources s ≡ (is_source past s && is_active_in past name s)
+active-stands : (d : DomainState) (past : Past) (name : DomainName) (s : ℕ) → DomainStands d past name
+    → is_active_at d.sources s ≡ (is_source past s && is_active_in past name s)
 active-stands d past name s stands = elim (place d past name s stands) [
-  | inl p ↦ ap (λ (o : Option InterruptSourceState). option_map_or (λ (x : InterruptSourceState). is_active x.source.mode) o false) p.1 ∙ elim (cases_eq s 0) [
-    | inl e ↦ ap (is_active_in past name) e ∙ mode-zero past name ∙ sym (ap (λ (b : Bool). b && is_active_in past name s) (zero_not (sources_in past) s e))
-    | inr ne ↦ sym (ap (λ (b : Bool). b && is_active_in past name s) (there (sources_in past) s p.0 ne))
-  ]
-  | inr p ↦ ap (λ (o : Option InterruptSourceState). option_map_or (λ (x : InterruptSourceState). is_active x.source.mode) o false) p.1 ∙ sym (ap (λ (b : Bool). b && is_active_in past name s) (not_there (sources_in past) s p.0))
+  | inl p ↦ ap (λ (o : Option InterruptSourceState). option_map_or (λ (x : InterruptSourceState). is_active x.source.mode) o false) p.1
+      ∙ elim (cases_eq s 0) [
+        | inl e ↦ ap (is_active_in past name) e ∙ mode-zero past name
+            ∙ sym (ap (λ (b : Bool). b && is_active_in past name s) (zero_not (sources_in past) s e))
+        | inr ne ↦ sym (ap (λ (b : Bool). b && is_active_in past name s) (there (sources_in past) s p.0 ne))
+      ]
+  | inr p ↦ ap (λ (o : Option InterruptSourceState). option_map_or (λ (x : InterruptSourceState). is_active x.source.mode) o false) p.1
+      ∙ sym (ap (λ (b : Bool). b && is_active_in past name s) (not_there (sources_in past) s p.0))
 ]
 
 and_grouped : (a b c d : Bool) → (a && b && c && d) ≡ (a && (b && c && d))

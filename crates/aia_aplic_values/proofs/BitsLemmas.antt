@@ -29,18 +29,21 @@ shown_at members k s low high =
     let at : 64 * k + (s - 64 * k) ≡ s = omega arith in ap members (sym at) ∙ sym (has_bit-word_of members (64 * k) 64 (s - 64 * k) (omega arith))
 
 -- none below a word, and none of its lowest bits
-none_before : (members : ℕ → Bool) (k bit : ℕ) → NoneBelow members (64 * k) → bit ≤ 64 → ((b : ℕ) → b < bit → has_bit (word_of members (64 * k) 64) b ≡ false) → NoneBelow members (64 * k + bit)
+none_before : (members : ℕ → Bool) (k bit : ℕ) → NoneBelow members (64 * k) → bit ≤ 64
+    → ((b : ℕ) → b < bit → has_bit (word_of members (64 * k) 64) b ≡ false) → NoneBelow members (64 * k + bit)
 none_before members k bit below small none s low = elim (cases_lt s (64 * k)) [
   | inl p ↦ below s p
   | inr p ↦ shown_at members k s p (omega arith) ∙ none (s - 64 * k) (omega arith)
 ]
 
-pub one_word_more : (p q : ℕ → Bool) (k x y : ℕ) → ShowNone p q k → AreSources p → AreSources q → x ≡ word_of p (64 * k) 64 → y ≡ word_of q (64 * k) 64 → IsFirstSource (has_bit x) (has_bit y) None → ShowNone p q (k + 1)
+pub one_word_more : (p q : ℕ → Bool) (k x y : ℕ) → ShowNone p q k → AreSources p → AreSources q → x ≡ word_of p (64 * k) 64
+    → y ≡ word_of q (64 * k) 64 → IsFirstSource (has_bit x) (has_bit y) None → ShowNone p q (k + 1)
 one_word_more p q k x y shows first second at_p at_q none =
     let e : 64 * (k + 1) ≡ 64 * k + 64 = omega arith in
     record {
       first = λ s low. none_before p k 64 shows.first (omega arith) (λ b high. ap (λ w. has_bit w b) (sym at_p) ∙ none.0 b) s (omega (arith, e, low));
-      second = λ s low. none_before q k 64 shows.second (omega arith) (λ b high. ap (λ w. has_bit w b) (sym at_q) ∙ none.1 b) s (omega (arith, e, low));
+      second = λ s low. none_before q k 64 shows.second (omega arith) (λ b high. ap (λ w. has_bit w b) (sym at_q) ∙ none.1 b) s
+          (omega (arith, e, low));
       range = λ some. (first, second);
     }
 
@@ -54,7 +57,9 @@ none_at_all members below range s = at (members s) refl
 pub no_word_more : (p q : ℕ → Bool) → ShowNone p q 16 → IsFirstSource p q None
 no_word_more p q shows = let range = shows.range (omega arith) in (none_at_all p shows.first range.0, none_at_all q shows.second range.1)
 
-found_there : (p q : ℕ → Bool) (k : ℕ) (name : DomainName) (bit : ℕ) → ShowNone p q k → bit < 64 → IsFirstSource (has_bit (word_of p (64 * k) 64)) (has_bit (word_of q (64 * k) 64)) (Some (name, bit)) → IsFirstSource p q (Some (name, 64 * k + bit))
+found_there : (p q : ℕ → Bool) (k : ℕ) (name : DomainName) (bit : ℕ) → ShowNone p q k → bit < 64
+    → IsFirstSource (has_bit (word_of p (64 * k) 64)) (has_bit (word_of q (64 * k) 64)) (Some (name, bit))
+    → IsFirstSource p q (Some (name, 64 * k + bit))
 found_there p q k Root bit shows small found = (
   sym (has_bit-word_of p (64 * k) 64 bit small) ∙ found.0,
   none_before p k bit shows.first (omega arith) found.1,
@@ -66,6 +71,8 @@ found_there p q k Child bit shows small found = (
   none_before q k bit shows.second (omega arith) found.2,
 )
 
-pub word_found : (p q : ℕ → Bool) (k x y : ℕ) (name : DomainName) (bit : ℕ) → ShowNone p q k → x ≡ word_of p (64 * k) 64 → y ≡ word_of q (64 * k) 64 → bit < 64 → IsFirstSource (has_bit x) (has_bit y) (Some (name, bit)) → IsFirstSource p q (Some (name, 64 * k + bit))
+pub word_found : (p q : ℕ → Bool) (k x y : ℕ) (name : DomainName) (bit : ℕ) → ShowNone p q k → x ≡ word_of p (64 * k) 64
+    → y ≡ word_of q (64 * k) 64 → bit < 64 → IsFirstSource (has_bit x) (has_bit y) (Some (name, bit)) → IsFirstSource p q (Some (name, 64 * k + bit))
 word_found p q k x y name bit shows at_p at_q small found =
-    found_there p q k name bit shows small (subst (λ v. IsFirstSource (has_bit v) (has_bit (word_of q (64 * k) 64)) (Some (name, bit))) at_p (subst (λ w. IsFirstSource (has_bit x) (has_bit w) (Some (name, bit))) at_q found))
+    found_there p q k name bit shows small (subst (λ v. IsFirstSource (has_bit v) (has_bit (word_of q (64 * k) 64)) (Some (name, bit))) at_p
+    (subst (λ w. IsFirstSource (has_bit x) (has_bit w) (Some (name, bit))) at_q found))

@@ -33,18 +33,22 @@ sources_are from zero = λ k d low. absurd (omega (arith, low))
 sources_are from (suc count) =
     All-cons (IsSourceFrom from (suc count)) (BySource Root from) (BySource Child from ∷ sources_from (from + 1) count) (omega arith, omega arith)
     (All-cons (IsSourceFrom from (suc count)) (BySource Child from) (sources_from (from + 1) count) (omega arith, omega arith)
-    (All-weaker (IsSourceFrom (from + 1) count) (IsSourceFrom from (suc count)) (one_more from count) (sources_from (from + 1) count) (sources_are (from + 1) count)))
+    (All-weaker (IsSourceFrom (from + 1) count) (IsSourceFrom from (suc count)) (one_more from count) (sources_from (from + 1) count)
+    (sources_are (from + 1) count)))
 
 sources_have : (from count : ℕ) (d : DomainName) (s : ℕ) → from ≤ s → s < from + count → Contains (sources_from from count) (BySource d s)
 sources_have from zero d s low high = absurd (omega (arith, low, high))
 sources_have from (suc count) d s low high = elim (cases_eq from s) [
   | inl e ↦ subst (λ n. Contains (sources_from from (suc count)) (BySource d n)) e (first d)
-  | inr ne ↦ later (BySource Root from) (BySource d s) (BySource Child from ∷ sources_from (from + 1) count) (later (BySource Child from) (BySource d s) (sources_from (from + 1) count) (sources_have (from + 1) count d s (omega (arith, low)) (omega (arith, high))))
+  | inr ne ↦ later (BySource Root from) (BySource d s) (BySource Child from ∷ sources_from (from + 1) count)
+      (later (BySource Child from) (BySource d s) (sources_from (from + 1) count)
+      (sources_have (from + 1) count d s (omega (arith, low)) (omega (arith, high))))
 ]
   where
     first : (d : DomainName) → Contains (sources_from from (suc count)) (BySource d from)
     first Root = here (BySource Root from) (BySource Child from ∷ sources_from (from + 1) count)
-    first Child = later (BySource Root from) (BySource Child from) (BySource Child from ∷ sources_from (from + 1) count) (here (BySource Child from) (sources_from (from + 1) count))
+    first Child = later (BySource Root from) (BySource Child from) (BySource Child from ∷ sources_from (from + 1) count)
+        (here (BySource Child from) (sources_from (from + 1) count))
 
 before_later : (d : DomainName) (from count : ℕ) (y : Sender) → IsSourceFrom (from + 1) count y → SendsBefore (BySource d from) y
 before_later d from count (ByGenMsi e) r = absurd r
@@ -61,7 +65,8 @@ sources_in_order from (suc count) =
     (AllPairs-cons SendsBefore (BySource Child from) (sources_from (from + 1) count) (rest Child) (sources_in_order (from + 1) count))
   where
     rest : (d : DomainName) → All (SendsBefore (BySource d from)) (sources_from (from + 1) count)
-    rest d = All-weaker (IsSourceFrom (from + 1) count) (SendsBefore (BySource d from)) (before_later d from count) (sources_from (from + 1) count) (sources_are (from + 1) count)
+    rest d = All-weaker (IsSourceFrom (from + 1) count) (SendsBefore (BySource d from)) (before_later d from count)
+        (sources_from (from + 1) count) (sources_are (from + 1) count)
 
 -- ---- all senders
 
@@ -76,7 +81,8 @@ before_sources d count = All-weaker (IsSourceFrom 1 count) (SendsBefore (ByGenMs
 pub all_in_order : (count : ℕ) → AllPairs SendsBefore (all_senders count)
 unfolding all_senders
 all_in_order count =
-    AllPairs-cons SendsBefore (ByGenMsi Root) (ByGenMsi Child ∷ sources_from 1 count) (All-cons (SendsBefore (ByGenMsi Root)) (ByGenMsi Child) (sources_from 1 count) tt (before_sources Root count))
+    AllPairs-cons SendsBefore (ByGenMsi Root) (ByGenMsi Child ∷ sources_from 1 count)
+    (All-cons (SendsBefore (ByGenMsi Root)) (ByGenMsi Child) (sources_from 1 count) tt (before_sources Root count))
     (AllPairs-cons SendsBefore (ByGenMsi Child) (sources_from 1 count) (before_sources Child count) (sources_in_order 1 count))
 
 pub all_genmsi : (count : ℕ) (d : DomainName) → Contains (all_senders count) (ByGenMsi d)
@@ -86,7 +92,8 @@ all_genmsi count Child = later (ByGenMsi Root) (ByGenMsi Child) (ByGenMsi Child 
 
 pub all_sources : (count : ℕ) (d : DomainName) (s : ℕ) → 1 ≤ s → s ≤ count → Contains (all_senders count) (BySource d s)
 unfolding all_senders
-all_sources count d s low high = later (ByGenMsi Root) (BySource d s) (ByGenMsi Child ∷ sources_from 1 count) (later (ByGenMsi Child) (BySource d s) (sources_from 1 count) (sources_have 1 count d s low (omega (arith, high))))
+all_sources count d s low high = later (ByGenMsi Root) (BySource d s) (ByGenMsi Child ∷ sources_from 1 count)
+    (later (ByGenMsi Child) (BySource d s) (sources_from 1 count) (sources_have 1 count d s low (omega (arith, high))))
 
 -- genmsi, or a source that is there
 abbrev IsThere : ℕ → Sender → Type 0
@@ -95,7 +102,9 @@ IsThere count (BySource d s) = (1 ≤ s) × (s ≤ count)
 
 all_there : (count : ℕ) → All (IsThere count) (all_senders count)
 unfolding all_senders
-all_there count = All-cons (IsThere count) (ByGenMsi Root) (ByGenMsi Child ∷ sources_from 1 count) tt (All-cons (IsThere count) (ByGenMsi Child) (sources_from 1 count) tt (All-weaker (IsSourceFrom 1 count) (IsThere count) there (sources_from 1 count) (sources_are 1 count)))
+all_there count = All-cons (IsThere count) (ByGenMsi Root) (ByGenMsi Child ∷ sources_from 1 count) tt
+    (All-cons (IsThere count) (ByGenMsi Child) (sources_from 1 count) tt
+    (All-weaker (IsSourceFrom 1 count) (IsThere count) there (sources_from 1 count) (sources_are 1 count)))
   where
     there : (y : Sender) → IsSourceFrom 1 count y → IsThere count y
     there (ByGenMsi d) r = tt
@@ -106,14 +115,17 @@ source_there count d s m = All-contains (IsThere count) (all_senders count) (ByS
 
 -- ---- those that wait
 
-pub source_among : (past : Past) (d : DomainName) (s : ℕ) → Contains (senders past) (BySource d s) → (1 ≤ s) × (s ≤ sources_in past) × (forwards past d s ≡ true)
+pub source_among : (past : Past) (d : DomainName) (s : ℕ) → Contains (senders past) (BySource d s) → (1 ≤ s) × (s ≤ sources_in past)
+    × (forwards past d s ≡ true)
 source_among past d s m =
     let r = in_filter (has_msi past) (all_senders (sources_in past)) (BySource d s) m in
     let there = source_there (sources_in past) d s r.0 in
     (there.0, there.1, r.1)
 
-pub among_source : (past : Past) (d : DomainName) (s : ℕ) → 1 ≤ s → s ≤ sources_in past → forwards past d s ≡ true → Contains (senders past) (BySource d s)
-among_source past d s low high ready = filter_has (has_msi past) (all_senders (sources_in past)) (BySource d s) (all_sources (sources_in past) d s low high) ready
+pub among_source : (past : Past) (d : DomainName) (s : ℕ) → 1 ≤ s → s ≤ sources_in past → forwards past d s ≡ true
+    → Contains (senders past) (BySource d s)
+among_source past d s low high ready = filter_has (has_msi past) (all_senders (sources_in past)) (BySource d s)
+    (all_sources (sources_in past) d s low high) ready
 
 pub genmsi_among : (past : Past) (d : DomainName) → Contains (senders past) (ByGenMsi d) → genmsi_waits past d ≡ true
 genmsi_among past d m = (in_filter (has_msi past) (all_senders (sources_in past)) (ByGenMsi d) m).1

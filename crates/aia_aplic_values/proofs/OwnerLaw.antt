@@ -21,7 +21,8 @@ use Rattle.aia_aplic_values.proofs.WriteSteps.{inactive-stays}
 pub one_owner : (past : Past) (s : ℕ) → (is_active_in past Root s && is_active_in past Child s) ≡ false
 one_owner past s = elim (cases_eq (root_sourcecfg_of past s) DELEGATED) [
   | inl e ↦ ap (λ c. is_active (mode_of c) && is_active_in past Child s) e
-  | inr ne ↦ ap (λ c. is_active_in past Root s && is_active (mode_of c)) (none_undelegated past s (ne_eqb (root_sourcecfg_of past s) DELEGATED ne)) ∙ and_right (is_active_in past Root s) false refl
+  | inr ne ↦ ap (λ c. is_active_in past Root s && is_active (mode_of c))
+      (none_undelegated past s (ne_eqb (root_sourcecfg_of past s) DELEGATED ne)) ∙ and_right (is_active_in past Root s) false refl
 ]
 
 -- ---- a source that is delegated is delegated again
@@ -44,7 +45,8 @@ pub same_sourcecfg : (past : Past) (i v : ℕ) (d : DomainName) (s : ℕ) → is
 unfolding newest
 same_sourcecfg past i v Root s was again = same_written (is_register_of past i s) (root_sourcecfg v) (root_sourcecfg_of past s)
     (λ at. eqb-true (root_sourcecfg v) DELEGATED again ∙ sym (eqb-true (root_sourcecfg_of past s) DELEGATED (both_delegated past i s v was at)))
-same_sourcecfg past i v Child s was again = not_written (is_register_of past i s && not (is_delegated past s && delegates (root_sourcecfg v))) (newest (child_told s) past) (at (is_register_of past i s) refl)
+same_sourcecfg past i v Child s was again = not_written (is_register_of past i s && not (is_delegated past s && delegates (root_sourcecfg v)))
+    (newest (child_told s) past) (at (is_register_of past i s) refl)
   where
     at : (b : Bool) → is_register_of past i s ≡ b → (b && not (is_delegated past s && delegates (root_sourcecfg v))) ≡ false
     at true here = ap (λ x. not (x && delegates (root_sourcecfg v))) (both_delegated past i s v was here) ∙ ap not again
@@ -56,16 +58,23 @@ pub same_source : (past : Past) (i v : ℕ) (d : DomainName) (s : ℕ) → is_de
 unfolding newest wire_of
 same_source past i v Child s was again =
     source-step (Written Root (SourceCfg i) v) past Child s
-    ∙ ap (λ c. stepped (mode_of c) (wire_of past s) (delivers_by_msis past Child) (delivers_by_msis past Child) (is_delegated (Written Root (SourceCfg i) v ∷ past) s) None Nothing Untouched (source_of past Child s)) (same_sourcecfg past i v Child s was again)
-    ∙ ap (λ c. stepped (mode_of (sourcecfg_of past Child s)) (wire_of past s) (delivers_by_msis past Child) (delivers_by_msis past Child) (delegates c) None Nothing Untouched (source_of past Child s)) (same_sourcecfg past i v Root s was again)
+    ∙ ap (λ c. stepped (mode_of c) (wire_of past s) (delivers_by_msis past Child) (delivers_by_msis past Child)
+    (is_delegated (Written Root (SourceCfg i) v ∷ past) s) None Nothing Untouched (source_of past Child s))
+    (same_sourcecfg past i v Child s was again)
+    ∙ ap (λ c. stepped (mode_of (sourcecfg_of past Child s)) (wire_of past s) (delivers_by_msis past Child) (delivers_by_msis past Child)
+    (delegates c) None Nothing Untouched (source_of past Child s)) (same_sourcecfg past i v Root s was again)
     ∙ step-nothing (delivers_by_msis past Child) (source_of past Child s) (source-idle past Child s)
 same_source past i v Root s was again =
     source-step (Written Root (SourceCfg i) v) past Root s
-    ∙ ap (λ c. stepped (mode_of c) (wire_of past s) (delivers_by_msis past Root) (delivers_by_msis past Root) (delegates c) None Nothing (cond (is_register_of past i s) Configured Untouched) (source_of past Root s)) (same_sourcecfg past i v Root s was again)
+    ∙ ap (λ c. stepped (mode_of c) (wire_of past s) (delivers_by_msis past Root) (delivers_by_msis past Root) (delegates c) None Nothing
+    (cond (is_register_of past i s) Configured Untouched) (source_of past Root s)) (same_sourcecfg past i v Root s was again)
     ∙ at (is_register_of past i s) refl
   where
-    at : (b : Bool) → is_register_of past i s ≡ b → stepped (mode_of (sourcecfg_of past Root s)) (wire_of past s) (delivers_by_msis past Root) (delivers_by_msis past Root) (is_delegated past s) None Nothing (cond b Configured Untouched) (source_of past Root s) ≡ source_of past Root s
+    at : (b : Bool) → is_register_of past i s ≡ b → stepped (mode_of (sourcecfg_of past Root s)) (wire_of past s) (delivers_by_msis past Root)
+        (delivers_by_msis past Root) (is_delegated past s) None Nothing (cond b Configured Untouched) (source_of past Root s) ≡ source_of past Root s
     at true here =
-        let off : is_active_in past Root s ≡ false = ap (λ c. is_active (mode_of c)) (eqb-true (root_sourcecfg_of past s) DELEGATED (both_delegated past i s v was here)) in
-        step-deed (delivers_by_msis past Root) (source_of past Root s) Configured (source-idle past Root s) ∙ inactive-stays (delivers_by_msis past Root) (source_of past Root s) (source-idle past Root s) off
+        let off : is_active_in past Root s ≡ false = ap (λ c. is_active (mode_of c))
+        (eqb-true (root_sourcecfg_of past s) DELEGATED (both_delegated past i s v was here)) in
+        step-deed (delivers_by_msis past Root) (source_of past Root s) Configured (source-idle past Root s)
+        ∙ inactive-stays (delivers_by_msis past Root) (source_of past Root s) (source-idle past Root s) off
     at false e = step-nothing (delivers_by_msis past Root) (source_of past Root s) (source-idle past Root s)

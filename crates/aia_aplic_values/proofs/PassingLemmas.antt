@@ -22,31 +22,42 @@ mode_stays : (b : Bool) (v : ℕ) (x : InterruptSourceState) → is_active (cond
 mode_stays true v x = refl
 mode_stays false v x = refl
 
-active_stays : (t v s : ℕ) (o : Option InterruptSourceState) → option_map_or (λ (x : InterruptSourceState). is_active x.source.mode) (option_map (changed_at t (with_target v) s) o) false ≡ option_map_or (λ (x : InterruptSourceState). is_active x.source.mode) o false
+active_stays : (t v s : ℕ) (o : Option InterruptSourceState)
+    → option_map_or (λ (x : InterruptSourceState). is_active x.source.mode) (option_map (changed_at t (with_target v) s) o) false ≡ option_map_or
+    (λ (x : InterruptSourceState). is_active x.source.mode) o false
 active_stays t v s None = refl
 active_stays t v s (Some x) = mode_stays (nat_eq t s) v x
 
-target_given : (t v : ℕ) (o : Option InterruptSourceState) → option_map_or (λ (x : InterruptSourceState). is_active x.source.mode) o false ≡ true → option_map_or (λ (x : InterruptSourceState). x.target) (option_map (changed_at t (with_target v) t) o) 0 ≡ v
+target_given : (t v : ℕ) (o : Option InterruptSourceState) → option_map_or (λ (x : InterruptSourceState). is_active x.source.mode) o false ≡ true
+    → option_map_or (λ (x : InterruptSourceState). x.target) (option_map (changed_at t (with_target v) t) o) 0 ≡ v
 target_given t v None on = absurd (false≢true on)
 target_given t v (Some x) on = ap (λ b. (cond b (with_target v x) x).target) (eq-eqb t t refl) ∙ cond-true _ _ _ on
 
-target_stays : (t v s : ℕ) → s ≢ t → (o : Option InterruptSourceState) → option_map_or (λ (x : InterruptSourceState). x.target) (option_map (changed_at t (with_target v) s) o) 0 ≡ option_map_or (λ (x : InterruptSourceState). x.target) o 0
+target_stays : (t v s : ℕ) → s ≢ t → (o : Option InterruptSourceState)
+    → option_map_or (λ (x : InterruptSourceState). x.target) (option_map (changed_at t (with_target v) s) o) 0 ≡ option_map_or
+    (λ (x : InterruptSourceState). x.target) o 0
 target_stays t v s other None = refl
 target_stays t v s other (Some x) = ap (λ b. (cond b (with_target v x) x).target) (ne_eqb t s (λ e. other (sym e)))
 
 -- ---- an APLIC
 
 -- an aim of one that may be passed
-pub aimed-aims : (t v : ℕ) (a : AplicState) (new : SideState) → EachSource a.child.domain.sources new.domain.sources (changed_at t (with_target v)) → new.domain ≡ with_sources a.child.domain new.domain.sources
+pub aimed-aims : (t v : ℕ) (a : AplicState) (new : SideState)
+    → EachSource a.child.domain.sources new.domain.sources (changed_at t (with_target v))
+    → new.domain ≡ with_sources a.child.domain new.domain.sources
     → is_passable_in a t ≡ true → AimsIn a t v (record { root = a.root; child = new; addresses = a.addresses })
 aimed-aims t v a new each rest is = record {
   harts = ap (λ (d : DomainState). d.harts) rest;
   passable = λ s.
       ap (λ (m : Bool). is_active_at new.domain.sources s && m && are_for_guests a.addresses) (ap (λ (d : DomainState). d.msi) rest)
-      ∙ ap (λ (b : Bool). b && a.child.domain.msi && are_for_guests a.addresses) (ap (λ (o : Option InterruptSourceState). option_map_or (λ (x : InterruptSourceState). is_active x.source.mode) o false) (each s) ∙ active_stays t v s _);
-  aimed = λ passable. ap (λ (o : Option InterruptSourceState). option_map_or (λ (x : InterruptSourceState). x.target) o 0) (each t) ∙ target_given t v _ (and_parts _ a.child.domain.msi (and_parts _ (are_for_guests a.addresses) is).0).0;
+      ∙ ap (λ (b : Bool). b && a.child.domain.msi && are_for_guests a.addresses)
+      (ap (λ (o : Option InterruptSourceState). option_map_or (λ (x : InterruptSourceState). is_active x.source.mode) o false) (each s)
+      ∙ active_stays t v s _);
+  aimed = λ passable. ap (λ (o : Option InterruptSourceState). option_map_or (λ (x : InterruptSourceState). x.target) o 0) (each t)
+      ∙ target_given t v _ (and_parts _ a.child.domain.msi (and_parts _ (are_for_guests a.addresses) is).0).0;
   stays = λ unready. absurd (false≢true (sym unready ∙ is));
-  others = λ s other. ap (λ (o : Option InterruptSourceState). option_map_or (λ (x : InterruptSourceState). x.target) o 0) (each s) ∙ target_stays t v s other _;
+  others = λ s other. ap (λ (o : Option InterruptSourceState). option_map_or (λ (x : InterruptSourceState). x.target) o 0) (each s)
+      ∙ target_stays t v s other _;
 }
 
 -- ---- the past

@@ -34,7 +34,8 @@ use Rattle.aia_word.proofs.SetLemmas.{same_sets}
 root-zero : (past : Past) → root_sourcecfg_of past 0 ≡ 0
 unfolding newest
 root-zero [] = refl
-root-zero (Written Root (SourceCfg i) v ∷ past) = ap (λ (b : Bool). unwrap_or (when b (root_sourcecfg v)) (root_sourcecfg_of past 0)) (and_right (nat_eq i 0) false refl) ∙ root-zero past
+root-zero (Written Root (SourceCfg i) v ∷ past) =
+    ap (λ (b : Bool). unwrap_or (when b (root_sourcecfg v)) (root_sourcecfg_of past 0)) (and_right (nat_eq i 0) false refl) ∙ root-zero past
 root-zero (a ∷ past) = root-zero past
 
 pub mode-zero : (past : Past) (d : DomainName) → is_active (mode past d 0) ≡ false
@@ -42,9 +43,14 @@ mode-zero past Root = ap (λ c. is_active (mode_of c)) (root-zero past)
 mode-zero past Child = ap (λ c. is_active (mode_of c)) (none_undelegated past 0 (ap delegates (root-zero past)))
 
 -- what is at a place: what the past makes of it, or nothing past the sources
-pub place : (d : DomainState) (past : Past) (name : DomainName) (s : ℕ) → DomainStands d past name → ((s < suc (sources_in past)) × (slice_get d.sources s ≡ Some (source_of past name s))) ⊎ ((suc (sources_in past) ≤ s) × (slice_get d.sources s ≡ None))
+pub place : (d : DomainState) (past : Past) (name : DomainName) (s : ℕ) → DomainStands d past name
+    → ((s < suc (sources_in past)) × (slice_get d.sources s ≡ Some (source_of past name s)))
+    ⊎ ((suc (sources_in past) ≤ s) × (slice_get d.sources s ≡ None))
 place d past name s stands = elim (cases_lt s (length d.sources)) [
-  | inl p ↦ inl (subst (λ n. s < n) stands.count p, at (get_or d.sources s (source_of past name s)) (slice_get-get_or d.sources s (source_of past name s) p))
+  | inl p ↦ inl (
+    subst (λ n. s < n) stands.count p,
+    at (get_or d.sources s (source_of past name s)) (slice_get-get_or d.sources s (source_of past name s) p),
+  )
   | inr p ↦ inr (subst (λ n. n ≤ s) stands.count p, slice_get_past d.sources s p)
 ]
   where
@@ -85,16 +91,21 @@ said-zero bits.Pending past d = (source-idle past d 0).pending (mode-zero past d
 said-zero bits.Input past d = no_input (mode past d 0) _ (mode-zero past d)
 said-zero bits.Enable past d = (source-idle past d 0).enabled (mode-zero past d)
 
-pub shown-stands : (which : SourceBit) (d : DomainState) (past : Past) (name : DomainName) (s : ℕ) → DomainStands d past name → bit_at_source d.sources which s ≡ (is_source past s && said which past name s)
+pub shown-stands : (which : SourceBit) (d : DomainState) (past : Past) (name : DomainName) (s : ℕ) → DomainStands d past name
+    → bit_at_source d.sources which s ≡ (is_source past s && said which past name s)
 shown-stands which d past name s stands = elim (place d past name s stands) [
-  | inl p ↦ ap (λ (o : Option InterruptSourceState). option_map_or (bit_shown which) o false) p.1 ∙ shown_said which past name s ∙ elim (cases_eq s 0) [
-    | inl e ↦ ap (said which past name) e ∙ said-zero which past name ∙ sym (ap (λ (b : Bool). b && said which past name s) (zero_not (sources_in past) s e))
-    | inr ne ↦ sym (ap (λ (b : Bool). b && said which past name s) (there (sources_in past) s p.0 ne))
-  ]
-  | inr p ↦ ap (λ (o : Option InterruptSourceState). option_map_or (bit_shown which) o false) p.1 ∙ sym (ap (λ (b : Bool). b && said which past name s) (not_there (sources_in past) s p.0))
+  | inl p ↦ ap (λ (o : Option InterruptSourceState). option_map_or (bit_shown which) o false) p.1 ∙ shown_said which past name s
+      ∙ elim (cases_eq s 0) [
+        | inl e ↦ ap (said which past name) e ∙ said-zero which past name
+            ∙ sym (ap (λ (b : Bool). b && said which past name s) (zero_not (sources_in past) s e))
+        | inr ne ↦ sym (ap (λ (b : Bool). b && said which past name s) (there (sources_in past) s p.0 ne))
+      ]
+  | inr p ↦ ap (λ (o : Option InterruptSourceState). option_map_or (bit_shown which) o false) p.1
+      ∙ sym (ap (λ (b : Bool). b && said which past name s) (not_there (sources_in past) s p.0))
 ]
 
-pub word-stands : (which : SourceBit) (d : DomainState) (past : Past) (name : DomainName) (k : ℕ) → DomainStands d past name → word_of (bit_at_source d.sources which) (32 * k) 32 ≡ sources_word past (said which past name) k
+pub word-stands : (which : SourceBit) (d : DomainState) (past : Past) (name : DomainName) (k : ℕ) → DomainStands d past name
+    → word_of (bit_at_source d.sources which) (32 * k) 32 ≡ sources_word past (said which past name) k
 word-stands which d past name k stands = ap (λ f. word_of f (32 * k) 32) (same_sets _ _ (λ s. shown-stands which d past name s stands))
 
 -- ---- sourcecfg: a kept value is one that its mode gives again
@@ -142,14 +153,18 @@ root-legal (a ∷ past) s = root-legal past s
 child-legal : (past : Past) (s : ℕ) → mode_number (mode_of (newest (child_told s) past)) ≡ newest (child_told s) past
 unfolding newest
 child-legal [] s = refl
-child-legal (Written Root (SourceCfg i) v ∷ past) s = at (is_register_of past i s && not (is_delegated past s && delegates (root_sourcecfg v))) (child-legal past s)
+child-legal (Written Root (SourceCfg i) v ∷ past) s =
+    at (is_register_of past i s && not (is_delegated past s && delegates (root_sourcecfg v))) (child-legal past s)
   where
-    at : (b : Bool) → mode_number (mode_of (newest (child_told s) past)) ≡ newest (child_told s) past → mode_number (mode_of (unwrap_or (when b 0) (newest (child_told s) past))) ≡ unwrap_or (when b 0) (newest (child_told s) past)
+    at : (b : Bool) → mode_number (mode_of (newest (child_told s) past)) ≡ newest (child_told s) past
+        → mode_number (mode_of (unwrap_or (when b 0) (newest (child_told s) past))) ≡ unwrap_or (when b 0) (newest (child_told s) past)
     at true before = refl
     at false before = before
 child-legal (Written Child (SourceCfg i) v ∷ past) s = at (is_register_of past i s && is_delegated past s) (child-legal past s)
   where
-    at : (b : Bool) → mode_number (mode_of (newest (child_told s) past)) ≡ newest (child_told s) past → mode_number (mode_of (unwrap_or (when b (child_sourcecfg v)) (newest (child_told s) past))) ≡ unwrap_or (when b (child_sourcecfg v)) (newest (child_told s) past)
+    at : (b : Bool) → mode_number (mode_of (newest (child_told s) past)) ≡ newest (child_told s) past
+        → mode_number (mode_of (unwrap_or (when b (child_sourcecfg v)) (newest (child_told s) past))) ≡ unwrap_or (when b (child_sourcecfg v))
+        (newest (child_told s) past)
     at true before = legal_child v
     at false before = before
 child-legal (a ∷ past) s = child-legal past s
@@ -175,19 +190,26 @@ config_zero : (past : Past) (name : DomainName) → sourcecfg_of past name 0 ≡
 config_zero past Root = root-zero past
 config_zero past Child = none_undelegated past 0 (ap delegates (root-zero past))
 
-pub read-stands : (reg : DomainReg) (d : DomainState) (past : Past) (name : DomainName) → is_control reg ≡ false → DomainStands d past name → domain_read d reg ≡ own_read past name reg
-read-stands DomainCfg d past name plain stands = ap (λ (b : Bool). domaincfg_read b d.msi) stands.on ∙ ap (λ (b : Bool). domaincfg_read (is_on past name) b) stands.msi
+pub read-stands : (reg : DomainReg) (d : DomainState) (past : Past) (name : DomainName) → is_control reg ≡ false → DomainStands d past name
+    → domain_read d reg ≡ own_read past name reg
+read-stands DomainCfg d past name plain stands = ap (λ (b : Bool). domaincfg_read b d.msi) stands.on
+    ∙ ap (λ (b : Bool). domaincfg_read (is_on past name) b) stands.msi
 read-stands (SetIp k) d past name plain stands = word-stands bits.Pending d past name k stands
 read-stands (InClrIp k) d past name plain stands = word-stands bits.Input d past name k stands
 read-stands (SetIe k) d past name plain stands = word-stands bits.Enable d past name k stands
 read-stands GenMsi d past name plain stands = stands.genmsi
 read-stands (SourceCfg i) d past name plain stands = elim (place d past name i stands) [
-  | inl p ↦ numbered (sourcecfg_of past name) past i _ p.0 (config_zero past name) (ap (λ (o : Option InterruptSourceState). option_map_or (sourcecfg_shown d.leaf) o 0) p.1 ∙ ap (λ (b : Bool). sourcecfg_shown b (source_of past name i)) stands.leaf ∙ config_shown past name i)
-  | inr p ↦ ap (λ (o : Option InterruptSourceState). option_map_or (sourcecfg_shown d.leaf) o 0) p.1 ∙ sym (cond-false _ _ _ (not_there (sources_in past) i p.0))
+  | inl p ↦ numbered (sourcecfg_of past name) past i _ p.0 (config_zero past name)
+      (ap (λ (o : Option InterruptSourceState). option_map_or (sourcecfg_shown d.leaf) o 0) p.1
+      ∙ ap (λ (b : Bool). sourcecfg_shown b (source_of past name i)) stands.leaf ∙ config_shown past name i)
+  | inr p ↦ ap (λ (o : Option InterruptSourceState). option_map_or (sourcecfg_shown d.leaf) o 0) p.1
+      ∙ sym (cond-false _ _ _ (not_there (sources_in past) i p.0))
 ]
 read-stands (Target i) d past name plain stands = elim (place d past name i stands) [
-  | inl p ↦ numbered (target past name) past i _ p.0 ((source-idle past name 0).target (mode-zero past name)) (ap (λ (o : Option InterruptSourceState). option_map_or (λ (x : InterruptSourceState). x.target) o 0) p.1)
-  | inr p ↦ ap (λ (o : Option InterruptSourceState). option_map_or (λ (x : InterruptSourceState). x.target) o 0) p.1 ∙ sym (cond-false _ _ _ (not_there (sources_in past) i p.0))
+  | inl p ↦ numbered (target past name) past i _ p.0 ((source-idle past name 0).target (mode-zero past name))
+      (ap (λ (o : Option InterruptSourceState). option_map_or (λ (x : InterruptSourceState). x.target) o 0) p.1)
+  | inr p ↦ ap (λ (o : Option InterruptSourceState). option_map_or (λ (x : InterruptSourceState). x.target) o 0) p.1
+      ∙ sym (cond-false _ _ _ (not_there (sources_in past) i p.0))
 ]
 read-stands (IDelivery hart) d past name plain stands = cc
 read-stands (IForce hart) d past name plain stands = cc

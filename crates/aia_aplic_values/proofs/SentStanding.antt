@@ -24,30 +24,38 @@ quiet_sent (ByGenMsi Root) past Root other = cc
 quiet_sent (ByGenMsi Child) past Child other = cc
 
 -- of the other domain
-pub sent-stands_other : (sender : Sender) (d : DomainState) (past : Past) (name : DomainName) → is_genmsi_of sender name ≡ false → is_source_in sender name ≡ false → DomainStands d past name → DomainStands d (Sent sender ∷ past) name
+pub sent-stands_other : (sender : Sender) (d : DomainState) (past : Past) (name : DomainName) → is_genmsi_of sender name ≡ false
+    → is_source_in sender name ≡ false → DomainStands d past name → DomainStands d (Sent sender ∷ past) name
 sent-stands_other sender d past name genmsi source stands =
-    still-stands (Sent sender) d past name (keeps_quiet (Sent sender) d d past name (quiet_sent sender past name genmsi) refl stands) (λ s low. sent_elsewhere sender past name s source) stands
+    still-stands (Sent sender) d past name (keeps_quiet (Sent sender) d d past name (quiet_sent sender past name genmsi) refl stands)
+    (λ s low. sent_elsewhere sender past name s source) stands
 
 -- of a source
-pub forwarded-stands : (t : ℕ) (d e : DomainState) (past : Past) (name : DomainName) → delivers_by_msis past name ≡ true → EachSource d.sources e.sources (changed_at t (with_deed true Forwarded)) → e ≡ with_sources d e.sources
+pub forwarded-stands : (t : ℕ) (d e : DomainState) (past : Past) (name : DomainName) → delivers_by_msis past name ≡ true
+    → EachSource d.sources e.sources (changed_at t (with_deed true Forwarded)) → e ≡ with_sources d e.sources
     → DomainStands d past name → DomainStands e (Sent (BySource name t) ∷ past) name
 forwarded-stands t d e past name by_msi each rest stands =
-    stands-after (Sent (BySource name t)) d e past name (changed_at t (with_deed true Forwarded)) (keeps_quiet (Sent (BySource name t)) d e past name (quiet_sent (BySource name t) past name refl) rest stands) each
+    stands-after (Sent (BySource name t)) d e past name (changed_at t (with_deed true Forwarded))
+    (keeps_quiet (Sent (BySource name t)) d e past name (quiet_sent (BySource name t) past name refl) rest stands) each
     (λ s low. by_mode (nat_eq t s) (delivers_by_msis past name) (source_of past name s) by_msi ∙ sym (forwarded t past name s)) stands
   where
-    by_mode : (b msi : Bool) (x : InterruptSourceState) → msi ≡ true → cond b (with_deed true Forwarded x) x ≡ cond (b && msi) (with_deed msi Forwarded x) x
+    by_mode : (b msi : Bool) (x : InterruptSourceState) → msi ≡ true
+        → cond b (with_deed true Forwarded x) x ≡ cond (b && msi) (with_deed msi Forwarded x) x
     by_mode true true x e = refl
     by_mode true false x e = cc
     by_mode false msi x e = refl
 
 -- of genmsi
-sent_genmsi : (past : Past) (name : DomainName) → (harts_in (Sent (ByGenMsi name) ∷ past) ≡ harts_in past) × (sources_in (Sent (ByGenMsi name) ∷ past) ≡ sources_in past) × (is_on (Sent (ByGenMsi name) ∷ past) name ≡ is_on past name)
-    × (delivers_by_msis (Sent (ByGenMsi name) ∷ past) name ≡ delivers_by_msis past name) × (genmsi_of (Sent (ByGenMsi name) ∷ past) name ≡ genmsi_of past name) × (genmsi_waits (Sent (ByGenMsi name) ∷ past) name ≡ false)
+sent_genmsi : (past : Past) (name : DomainName) → (harts_in (Sent (ByGenMsi name) ∷ past) ≡ harts_in past)
+    × (sources_in (Sent (ByGenMsi name) ∷ past) ≡ sources_in past) × (is_on (Sent (ByGenMsi name) ∷ past) name ≡ is_on past name)
+    × (delivers_by_msis (Sent (ByGenMsi name) ∷ past) name ≡ delivers_by_msis past name)
+    × (genmsi_of (Sent (ByGenMsi name) ∷ past) name ≡ genmsi_of past name) × (genmsi_waits (Sent (ByGenMsi name) ∷ past) name ≡ false)
 unfolding newest genmsi_waits
 sent_genmsi past Root = (refl, refl, refl, refl, refl, refl)
 sent_genmsi past Child = (refl, refl, refl, refl, refl, refl)
 
-pub genmsi_sent-stands : (d e : DomainState) (past : Past) (name : DomainName) → e ≡ record d { genmsi_waits = false } → DomainStands d past name → DomainStands e (Sent (ByGenMsi name) ∷ past) name
+pub genmsi_sent-stands : (d e : DomainState) (past : Past) (name : DomainName) → e ≡ record d { genmsi_waits = false } → DomainStands d past name
+    → DomainStands e (Sent (ByGenMsi name) ∷ past) name
 genmsi_sent-stands d e past name is stands =
     let says = sent_genmsi past name in
     let keeps : Keeps d (record d { genmsi_waits = false }) (Sent (ByGenMsi name)) past name = record {
@@ -61,4 +69,5 @@ genmsi_sent-stands d e past name is stands =
       genmsi_waits = sym says.5;
     } in
     subst (λ (x : DomainState). DomainStands x (Sent (ByGenMsi name) ∷ past) name) (sym is)
-    (stands-after (Sent (ByGenMsi name)) d (record d { genmsi_waits = false }) past name (λ s x. x) keeps (λ s. sym (option_map_id (slice_get d.sources s))) (λ s low. sym (sent_elsewhere (ByGenMsi name) past name s refl)) stands)
+    (stands-after (Sent (ByGenMsi name)) d (record d { genmsi_waits = false }) past name (λ s x. x) keeps
+    (λ s. sym (option_map_id (slice_get d.sources s))) (λ s low. sym (sent_elsewhere (ByGenMsi name) past name s refl)) stands)

@@ -68,7 +68,8 @@ same_sizes : (h : History) → sizes_in (acts_of h) ≡ sizes_of h
 same_sizes [] = none
 same_sizes (Accepted line ∷ h) =
     let aims : Past = with_act (aimed_by h (Accepted line)) (acts_of h) in
-    sizes_settled (with_act (act_of line) aims) ∙ sizes_by line aims ∙ ap (sizes_then line) (aimed_sizes h (Accepted line) (acts_of h) ∙ same_sizes h) ∙ sym (sizes_after line h)
+    sizes_settled (with_act (act_of line) aims) ∙ sizes_by line aims
+    ∙ ap (sizes_then line) (aimed_sizes h (Accepted line) (acts_of h) ∙ same_sizes h) ∙ sym (sizes_after line h)
 same_sizes (event ∷ h) = aimed_sizes h event (acts_of h) ∙ same_sizes h
 
 pub same_harts : (h : History) → harts_in (acts_of h) ≡ harts_of h

@@ -29,7 +29,9 @@ stepped mode' wire' msi msi' delegated' aim asked does x = record {
 }
 
 pub source-step : (a : Act) (past : Past) (d : DomainName) (s : ℕ) →
-    source_of (a ∷ past) d s ≡ stepped (mode (a ∷ past) d s) (wire_of (a ∷ past) s) (delivers_by_msis past d) (delivers_by_msis (a ∷ past) d) (is_delegated (a ∷ past) s) (target_told d s past a) (enable_said d s a) (deed (top_in (pending past d) past d) past a d s) (source_of past d s)
+    source_of (a ∷ past) d s ≡ stepped (mode (a ∷ past) d s) (wire_of (a ∷ past) s) (delivers_by_msis past d) (delivers_by_msis (a ∷ past) d)
+    (is_delegated (a ∷ past) s) (target_told d s past a) (enable_said d s a) (deed (top_in (pending past d) past d) past a d s)
+    (source_of past d s)
 unfolding pending enabled target
 source-step a past d s = refl
 
@@ -39,7 +41,8 @@ pub record IsIdle (x : InterruptSourceState) : Type 0 where
   pub enabled : is_active x.source.mode ≡ false → x.enabled ≡ false
   pub target : is_active x.source.mode ≡ false → x.target ≡ 0
 
-pub said_nothing : (m : Mode) (msi before after : Bool) (does : SourceDeed) (was : Bool) → is_active m ≡ false → settle (says m msi before after does) was ≡ false
+pub said_nothing : (m : Mode) (msi before after : Bool) (does : SourceDeed) (was : Bool) → is_active m ≡ false
+    → settle (says m msi before after does) was ≡ false
 said_nothing Inactive msi before after does was e = refl
 said_nothing Detached msi before after does was e = cc
 said_nothing RisingEdge msi before after does was e = cc
@@ -81,16 +84,23 @@ same_target true false was idle = refl
 same_target false msi was idle = sym (idle refl)
 
 -- an act that says nothing
-pub step-nothing : (msi : Bool) (x : InterruptSourceState) → IsIdle x → stepped x.source.mode x.source.wire msi msi x.delegated None Nothing Untouched x ≡ x
+pub step-nothing : (msi : Bool) (x : InterruptSourceState) → IsIdle x
+    → stepped x.source.mode x.source.wire msi msi x.delegated None Nothing Untouched x ≡ x
 step-nothing msi x idle = λ i. record {
-  source = record { mode = x.source.mode; wire = x.source.wire; pending = same_mode_says x.source.mode msi (rectified x.source.mode x.source.wire) x.source.pending idle.pending i };
+  source = record {
+    mode = x.source.mode;
+    wire = x.source.wire;
+    pending =
+        same_mode_says x.source.mode msi (rectified x.source.mode x.source.wire) x.source.pending idle.pending i;
+  };
   enabled = same_enable (is_active x.source.mode) x.enabled idle.enabled i;
   target = same_target (is_active x.source.mode) msi x.target idle.target i;
   delegated = x.delegated;
 }
 
 -- an act that is about pending alone
-pub step-deed : (msi : Bool) (x : InterruptSourceState) (does : SourceDeed) → IsIdle x → stepped x.source.mode x.source.wire msi msi x.delegated None Nothing does x ≡ with_deed msi does x
+pub step-deed : (msi : Bool) (x : InterruptSourceState) (does : SourceDeed) → IsIdle x
+    → stepped x.source.mode x.source.wire msi msi x.delegated None Nothing does x ≡ with_deed msi does x
 step-deed msi x does idle = λ i. record {
   source = done msi does x.source.mode x.source.wire x.source;
   enabled = same_enable (is_active x.source.mode) x.enabled idle.enabled i;
@@ -103,9 +113,15 @@ enable_set true true was = refl
 enable_set false true was = refl
 enable_set e false was = refl
 
-pub step-enable : (e msi : Bool) (x : InterruptSourceState) → IsIdle x → stepped x.source.mode x.source.wire msi msi x.delegated None (cond e Ask Clear) Untouched x ≡ with_enable e x
+pub step-enable : (e msi : Bool) (x : InterruptSourceState) → IsIdle x
+    → stepped x.source.mode x.source.wire msi msi x.delegated None (cond e Ask Clear) Untouched x ≡ with_enable e x
 step-enable e msi x idle = λ i. record {
-  source = record { mode = x.source.mode; wire = x.source.wire; pending = same_mode_says x.source.mode msi (rectified x.source.mode x.source.wire) x.source.pending idle.pending i };
+  source = record {
+    mode = x.source.mode;
+    wire = x.source.wire;
+    pending =
+        same_mode_says x.source.mode msi (rectified x.source.mode x.source.wire) x.source.pending idle.pending i;
+  };
   enabled = enable_set e (is_active x.source.mode) x.enabled i;
   target = same_target (is_active x.source.mode) msi x.target idle.target i;
   delegated = x.delegated;
@@ -116,18 +132,26 @@ aimed_target true true new = refl
 aimed_target true false new = refl
 aimed_target false msi new = refl
 
-step-aim : (msi : Bool) (target : ℕ) (x : InterruptSourceState) → IsIdle x → stepped x.source.mode x.source.wire msi msi x.delegated (Some target) Nothing Untouched x ≡ with_target target x
+step-aim : (msi : Bool) (target : ℕ) (x : InterruptSourceState) → IsIdle x
+    → stepped x.source.mode x.source.wire msi msi x.delegated (Some target) Nothing Untouched x ≡ with_target target x
 step-aim msi target x idle = λ i. record {
-  source = record { mode = x.source.mode; wire = x.source.wire; pending = same_mode_says x.source.mode msi (rectified x.source.mode x.source.wire) x.source.pending idle.pending i };
+  source = record {
+    mode = x.source.mode;
+    wire = x.source.wire;
+    pending =
+        same_mode_says x.source.mode msi (rectified x.source.mode x.source.wire) x.source.pending idle.pending i;
+  };
   enabled = same_enable (is_active x.source.mode) x.enabled idle.enabled i;
   target = aimed_target (is_active x.source.mode) msi target i;
   delegated = x.delegated;
 }
 
-pub done_if : (b msi : Bool) (does : SourceDeed) (x : InterruptSourceState) → IsIdle x → stepped x.source.mode x.source.wire msi msi x.delegated None Nothing (cond b does Untouched) x ≡ cond b (with_deed msi does x) x
+pub done_if : (b msi : Bool) (does : SourceDeed) (x : InterruptSourceState) → IsIdle x
+    → stepped x.source.mode x.source.wire msi msi x.delegated None Nothing (cond b does Untouched) x ≡ cond b (with_deed msi does x) x
 done_if true msi does x idle = step-deed msi x does idle
 done_if false msi does x idle = step-nothing msi x idle
 
-pub aimed_if : (b msi : Bool) (target : ℕ) (x : InterruptSourceState) → IsIdle x → stepped x.source.mode x.source.wire msi msi x.delegated (when b target) Nothing Untouched x ≡ cond b (with_target target x) x
+pub aimed_if : (b msi : Bool) (target : ℕ) (x : InterruptSourceState) → IsIdle x
+    → stepped x.source.mode x.source.wire msi msi x.delegated (when b target) Nothing Untouched x ≡ cond b (with_target target x) x
 aimed_if true msi target x idle = step-aim msi target x idle
 aimed_if false msi target x idle = step-nothing msi x idle

@@ -20,7 +20,8 @@ has_pair true true t s q e = record { for_it = refl; member = refl; is = sym (sa
 has_pair true false t s q e = absurd (cc)
 has_pair false b t s q e = absurd (cc)
 
-pair_of : (past : Past) (d : DomainName) (hart s : ℕ) → pending past d s ≡ true → is_for past d hart s ≡ true → pair_in (pending past d) past d hart s ≡ Some (priority_of (target past d s), s)
+pair_of : (past : Past) (d : DomainName) (hart s : ℕ) → pending past d s ≡ true → is_for past d hart s ≡ true
+    → pair_in (pending past d) past d hart s ≡ Some (priority_of (target past d s), s)
 pair_of past d hart s p f = cond-true _ _ _ f ∙ cond-true _ _ _ p
 
 names_itself : (past : Past) (d : DomainName) (hart : ℕ) → NamesItself (pair_in (pending past d) past d hart)
@@ -52,7 +53,9 @@ no_pair true true t s e f = absurd (cc)
 no_pair true false t s e f = refl
 no_pair false b t s e f = absurd (cc)
 
-pub none_on_top : (past : Past) (d : DomainName) (hart : ℕ) → delivers_by_msis past d ≡ false → top past d hart ≡ None → (s : ℕ) → 1 ≤ s → s ≤ sources_in past → is_for past d hart s ≡ true → pending past d s ≡ false
+pub none_on_top : (past : Past) (d : DomainName) (hart : ℕ) → delivers_by_msis past d ≡ false → top past d hart ≡ None → (s : ℕ) → 1 ≤ s
+    → s ≤ sources_in past → is_for past d hart s ≡ true → pending past d s ≡ false
 none_on_top past d hart direct e s low high is =
     let empty : least_pair (pair_in (pending past d) past d hart) 1 (sources_in past) ≡ None = sym (cond-false _ _ _ direct) ∙ e in
-    no_pair (is_for past d hart s) (pending past d s) (target past d s) s (least_none (pair_in (pending past d) past d hart) 1 (sources_in past) (names_itself past d hart) empty s low (omega arith)) is
+    no_pair (is_for past d hart s) (pending past d s) (target past d s) s
+    (least_none (pair_in (pending past d) past d hart) 1 (sources_in past) (names_itself past d hart) empty s low (omega arith)) is

@@ -17,7 +17,8 @@ same_behind r s p q e f same_r same_p same_e =
     ap (λ x. made x p e) same_r ∙ ap (λ x. made s x e) same_p ∙ ap (λ x. made s q x) same_e
 
 -- the verdict by the parts
-pub same_parts : (a1 b1 a2 b2 a3 b3 a4 b4 : Bool) → a1 ≡ b1 → a2 ≡ b2 → a3 ≡ b3 → a4 ≡ b4 → verdict_by (first_failing 1 (a1 ∷ a2 ∷ a3 ∷ a4 ∷ [])) ≡ verdict_by (first_failing 1 (b1 ∷ b2 ∷ b3 ∷ b4 ∷ []))
+pub same_parts : (a1 b1 a2 b2 a3 b3 a4 b4 : Bool) → a1 ≡ b1 → a2 ≡ b2 → a3 ≡ b3 → a4 ≡ b4
+    → verdict_by (first_failing 1 (a1 ∷ a2 ∷ a3 ∷ a4 ∷ [])) ≡ verdict_by (first_failing 1 (b1 ∷ b2 ∷ b3 ∷ b4 ∷ []))
 same_parts a1 b1 a2 b2 a3 b3 a4 b4 e1 e2 e3 e4 =
     ap (λ x. verdict_by (first_failing 1 (x ∷ a2 ∷ a3 ∷ a4 ∷ []))) e1
     ∙ ap (λ x. verdict_by (first_failing 1 (b1 ∷ x ∷ a3 ∷ a4 ∷ []))) e2

@@ -35,12 +35,14 @@ both_below p q zero = refl
 both_below p q (suc n) = ap (λ b. (p n && q n) && b) (both_below p q n) ∙ both_exchanged (p n) (q n) (all_below p n) (all_below q n)
 
 -- where one number alone is barred from something
-one_below : (bars passes : ℕ → Bool) (u count : ℕ) → u < count → all_below (λ w. not (nat_eq u w && bars w) && passes w) count ≡ (not (bars u) && all_below passes count)
+one_below : (bars passes : ℕ → Bool) (u count : ℕ) → u < count
+    → all_below (λ w. not (nat_eq u w && bars w) && passes w) count ≡ (not (bars u) && all_below passes count)
 one_below bars passes u zero low = absurd (omega arith)
 one_below bars passes u (suc n) low = elim (cases_eq u n) [
   | inl same ↦
       ap (λ b. (not (b && bars n) && passes n) && all_below (λ w. not (nat_eq u w && bars w) && passes w) n) (eq-eqb u n same)
-      ∙ ap (λ b. (not (bars n) && passes n) && b) (same_below (λ w. not (nat_eq u w && bars w) && passes w) passes n (λ w under. ap (λ b. not (b && bars w) && passes w) (ne_eqb u w (λ e. omega arith))))
+      ∙ ap (λ b. (not (bars n) && passes n) && b) (same_below (λ w. not (nat_eq u w && bars w) && passes w) passes n
+      (λ w under. ap (λ b. not (b && bars w) && passes w) (ne_eqb u w (λ e. omega arith))))
       ∙ and_together (not (bars n)) (passes n) (all_below passes n)
       ∙ ap (λ k. not (bars k) && (passes n && all_below passes n)) (sym same)
   | inr other ↦
@@ -98,7 +100,8 @@ free_more takes may words later (Some u) inside =
     one_below (λ w. not (may later && not (is_taken takes w later))) (λ w. is_free takes may w later) u words inside
     ∙ ap (λ b. b && all_below (λ w. is_free takes may w later) words) (not_not (may later && not (is_taken takes u later)))
 
-all_free : (takes : Step → Option ℕ) (may : Plan → Bool) (words : ℕ) (plan : Plan) → AllByRecursion (λ x. IfSome (takes x) (λ w. w < words)) plan → all_below (λ w. is_free takes may w plan) words ≡ all_may_take takes may plan
+all_free : (takes : Step → Option ℕ) (may : Plan → Bool) (words : ℕ) (plan : Plan) → AllByRecursion (λ x. IfSome (takes x) (λ w. w < words)) plan
+    → all_below (λ w. is_free takes may w plan) words ≡ all_may_take takes may plan
 all_free takes may words [] inside = all_true words
   where
     all_true : (count : ℕ) → all_below (λ w. true) count ≡ true
@@ -108,13 +111,17 @@ all_free takes may words (x ∷ later) inside =
     free_more takes may words later (takes x) inside.0
     ∙ ap (λ b. may_take (takes x) (may later) (λ w. is_taken takes w later) && b) (all_free takes may words later inside.1)
 
-stands_taken : (step : Step) (takes : Step → Option ℕ) (w : ℕ) → ((x : Step) → is_step step x ≡ names (takes x) w) → (plan : Plan) → stands step plan ≡ is_taken takes w plan
+stands_taken : (step : Step) (takes : Step → Option ℕ) (w : ℕ) → ((x : Step) → is_step step x ≡ names (takes x) w) → (plan : Plan)
+    → stands step plan ≡ is_taken takes w plan
 stands_taken step takes w named [] = refl
-stands_taken step takes w named (x ∷ later) = ap (λ b. b || stands step later) (named x) ∙ ap (λ b. names (takes x) w || b) (stands_taken step takes w named later)
+stands_taken step takes w named (x ∷ later) = ap (λ b. b || stands step later) (named x)
+    ∙ ap (λ b. names (takes x) w || b) (stands_taken step takes w named later)
 
 -- ---- part 2
 
-late_law : (here t f g once fence gfence : Bool) → (((not (here && t) && once) && (not (here && f) && fence)) && (not (here && g) && gfence)) ≡ (not (here && not ((not f && not g) && not t)) && ((once && fence) && gfence))
+late_law : (here t f g once fence gfence : Bool)
+    → (((not (here && t) && once) && (not (here && f) && fence)) && (not (here && g) && gfence))
+    ≡ (not (here && not ((not f && not g) && not t)) && ((once && fence) && gfence))
 late_law false t f g once fence gfence = refl
 late_law true true true g once fence gfence = refl
 late_law true true false true once fence gfence = refl
@@ -136,34 +143,45 @@ late_law true false false true once fence gfence = and_none (once && fence)
     and_none false = refl
 late_law true false false false once fence gfence = refl
 
-pending_free : (w : ℕ) (plan : Plan) → (comes_before (TakeP w) (TakeP w) plan && comes_before Fence (TakeP w) plan && comes_before GFence (TakeP w) plan) ≡ is_free takes_pending is_late w plan
+pending_free : (w : ℕ) (plan : Plan) → (comes_before (TakeP w) (TakeP w) plan && comes_before Fence (TakeP w) plan && comes_before GFence
+    (TakeP w) plan) ≡ is_free takes_pending is_late w plan
 pending_free w [] = refl
 pending_free w (x ∷ later) =
-    late_law (is_step (TakeP w) x) (stands (TakeP w) later) (stands Fence later) (stands GFence later) (comes_before (TakeP w) (TakeP w) later) (comes_before Fence (TakeP w) later) (comes_before GFence (TakeP w) later)
-    ∙ ap (λ b. not (b && not (is_late later && not (stands (TakeP w) later))) && (comes_before (TakeP w) (TakeP w) later && comes_before Fence (TakeP w) later && comes_before GFence (TakeP w) later)) (pending_named w x)
-    ∙ ap (λ b. not (names (takes_pending x) w && not (is_late later && not b)) && (comes_before (TakeP w) (TakeP w) later && comes_before Fence (TakeP w) later && comes_before GFence (TakeP w) later)) (stands_taken (TakeP w) takes_pending w (pending_named w) later)
+    late_law (is_step (TakeP w) x) (stands (TakeP w) later) (stands Fence later) (stands GFence later) (comes_before (TakeP w) (TakeP w) later)
+    (comes_before Fence (TakeP w) later) (comes_before GFence (TakeP w) later)
+    ∙ ap (λ b. not (b && not (is_late later && not (stands (TakeP w) later)))
+    && (comes_before (TakeP w) (TakeP w) later && comes_before Fence (TakeP w) later && comes_before GFence (TakeP w) later)) (pending_named w x)
+    ∙ ap (λ b. not (names (takes_pending x) w && not (is_late later && not b))
+    && (comes_before (TakeP w) (TakeP w) later && comes_before Fence (TakeP w) later && comes_before GFence (TakeP w) later))
+    (stands_taken (TakeP w) takes_pending w (pending_named w) later)
     ∙ ap (λ b. not (names (takes_pending x) w && not (is_late later && not (is_taken takes_pending w later))) && b) (pending_free w later)
 
 three : (a b c d : Bool) → (((a && b) && c) && d) ≡ (a && ((b && c) && d))
 three true b c d = refl
 three false b c d = refl
 
-pending_word : (w : ℕ) (plan : Plan) → (is_once (TakeP w) plan && comes_before Fence (TakeP w) plan && comes_before GFence (TakeP w) plan) ≡ (is_taken takes_pending w plan && is_free takes_pending is_late w plan)
+pending_word : (w : ℕ) (plan : Plan) → (is_once (TakeP w) plan && comes_before Fence (TakeP w) plan && comes_before GFence (TakeP w) plan)
+    ≡ (is_taken takes_pending w plan && is_free takes_pending is_late w plan)
 pending_word w plan =
     ap (λ b. b && comes_before Fence (TakeP w) plan && comes_before GFence (TakeP w) plan) (once_is (TakeP w) plan)
     ∙ three (stands (TakeP w) plan) (comes_before (TakeP w) (TakeP w) plan) (comes_before Fence (TakeP w) plan) (comes_before GFence (TakeP w) plan)
-    ∙ ap (λ b. b && (comes_before (TakeP w) (TakeP w) plan && comes_before Fence (TakeP w) plan && comes_before GFence (TakeP w) plan)) (stands_taken (TakeP w) takes_pending w (pending_named w) plan)
+    ∙ ap (λ b. b && (comes_before (TakeP w) (TakeP w) plan && comes_before Fence (TakeP w) plan && comes_before GFence (TakeP w) plan))
+    (stands_taken (TakeP w) takes_pending w (pending_named w) plan)
     ∙ ap (λ b. is_taken takes_pending w plan && b) (pending_free w plan)
 
 all_inside : (P Q : Step → Type 0) → ((x : Step) → P x → Q x) → (plan : Plan) → AllByRecursion P plan → AllByRecursion Q plan
 all_inside P Q h [] all = tt
 all_inside P Q h (x ∷ later) all = (h x all.0, all_inside P Q h later all.1)
 
-pub taken_late : (words : ℕ) (plan : Plan) → AllByRecursion (IsInside words) plan → (all_below (λ w. is_taken takes_pending w plan) words && all_may_take takes_pending is_late plan) ≡ takes_late words plan
+pub taken_late : (words : ℕ) (plan : Plan) → AllByRecursion (IsInside words) plan
+    → (all_below (λ w. is_taken takes_pending w plan) words && all_may_take takes_pending is_late plan) ≡ takes_late words plan
 taken_late words plan inside =
-    ap (λ b. all_below (λ w. is_taken takes_pending w plan) words && b) (sym (all_free takes_pending is_late words plan (all_inside (IsInside words) (λ x. IfSome (takes_pending x) (λ w. w < words)) (pending_inside words) plan inside)))
+    ap (λ b. all_below (λ w. is_taken takes_pending w plan) words && b)
+    (sym (all_free takes_pending is_late words plan
+    (all_inside (IsInside words) (λ x. IfSome (takes_pending x) (λ w. w < words)) (pending_inside words) plan inside)))
     ∙ sym (both_below (λ w. is_taken takes_pending w plan) (λ w. is_free takes_pending is_late w plan) words)
-    ∙ sym (same_below (λ w. is_once (TakeP w) plan && comes_before Fence (TakeP w) plan && comes_before GFence (TakeP w) plan) (λ w. is_taken takes_pending w plan && is_free takes_pending is_late w plan) words (λ w low. pending_word w plan))
+    ∙ sym (same_below (λ w. is_once (TakeP w) plan && comes_before Fence (TakeP w) plan && comes_before GFence (TakeP w) plan)
+    (λ w. is_taken takes_pending w plan && is_free takes_pending is_late w plan) words (λ w low. pending_word w plan))
 
 -- ---- part 4
 
@@ -175,7 +193,8 @@ enables_free w [] = refl
 enables_free w (x ∷ later) =
     once_law (is_step (TakeE w) x) (stands (TakeE w) later) (comes_before (TakeE w) (TakeE w) later)
     ∙ ap (λ b. not (b && not (true && not (stands (TakeE w) later))) && comes_before (TakeE w) (TakeE w) later) (enables_named w x)
-    ∙ ap (λ b. not (names (takes_enables x) w && not (true && not b)) && comes_before (TakeE w) (TakeE w) later) (stands_taken (TakeE w) takes_enables w (enables_named w) later)
+    ∙ ap (λ b. not (names (takes_enables x) w && not (true && not b)) && comes_before (TakeE w) (TakeE w) later)
+    (stands_taken (TakeE w) takes_enables w (enables_named w) later)
     ∙ ap (λ b. not (names (takes_enables x) w && not (true && not (is_taken takes_enables w later))) && b) (enables_free w later)
 
 enables_word : (w : ℕ) (plan : Plan) → is_once (TakeE w) plan ≡ (is_taken takes_enables w plan && is_free takes_enables is_any_time w plan)
@@ -184,8 +203,13 @@ enables_word w plan =
     ∙ ap (λ b. b && comes_before (TakeE w) (TakeE w) plan) (stands_taken (TakeE w) takes_enables w (enables_named w) plan)
     ∙ ap (λ b. is_taken takes_enables w plan && b) (enables_free w plan)
 
-pub taken_once : (words : ℕ) (plan : Plan) → AllByRecursion (IsInside words) plan → (all_below (λ w. is_taken takes_enables w plan) words && all_may_take takes_enables is_any_time plan) ≡ all_below (λ w. is_once (TakeE w) plan) words
+pub taken_once : (words : ℕ) (plan : Plan) → AllByRecursion (IsInside words) plan
+    → (all_below (λ w. is_taken takes_enables w plan) words && all_may_take takes_enables is_any_time plan) ≡ all_below
+    (λ w. is_once (TakeE w) plan) words
 taken_once words plan inside =
-    ap (λ b. all_below (λ w. is_taken takes_enables w plan) words && b) (sym (all_free takes_enables is_any_time words plan (all_inside (IsInside words) (λ x. IfSome (takes_enables x) (λ w. w < words)) (enables_inside words) plan inside)))
+    ap (λ b. all_below (λ w. is_taken takes_enables w plan) words && b)
+    (sym (all_free takes_enables is_any_time words plan
+    (all_inside (IsInside words) (λ x. IfSome (takes_enables x) (λ w. w < words)) (enables_inside words) plan inside)))
     ∙ sym (both_below (λ w. is_taken takes_enables w plan) (λ w. is_free takes_enables is_any_time w plan) words)
-    ∙ sym (same_below (λ w. is_once (TakeE w) plan) (λ w. is_taken takes_enables w plan && is_free takes_enables is_any_time w plan) words (λ w low. enables_word w plan))
+    ∙ sym (same_below (λ w. is_once (TakeE w) plan) (λ w. is_taken takes_enables w plan && is_free takes_enables is_any_time w plan) words
+    (λ w low. enables_word w plan))

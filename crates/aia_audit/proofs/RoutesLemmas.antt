@@ -55,7 +55,16 @@ all_ordered plan e =
     let p6 = and_parts (before is_record is_record plan) _ p5.1 in
     let p7 = and_parts (before is_record (is_step GFence) plan) _ p6.1 in
     let p8 = and_parts (before (is_step GFence) (is_step GFence) plan) true p7.1 in
-    record { one_word1 = p1.0; word1_first = p2.0; one_word0 = p3.0; word0_first = p4.0; one_fence = p5.0; one_record = p6.0; record_first = p7.0; one_gfence = p8.0 }
+    record {
+      one_word1 = p1.0;
+      word1_first = p2.0;
+      one_word0 = p3.0;
+      word0_first = p4.0;
+      one_fence = p5.0;
+      one_record = p6.0;
+      record_first = p7.0;
+      one_gfence = p8.0;
+    }
 
 so_in_order : (plan : Plan) → Ordered plan → are_in_order plan ≡ true
 so_in_order plan o =
@@ -157,7 +166,9 @@ turns_told kind plan e =
       one_word0 = once_before Word0 plan t.word0;
       word0_first = in_order Word0 Fence plan t.word0_first;
       one_fence = once_before Fence plan t.fence;
-      one_record = record_before_record kind plan t.others ∙ (and_parts (stands (own_record kind) plan) (comes_before (own_record kind) (own_record kind) plan) (sym (once_is (own_record kind) plan) ∙ t.own)).1;
+      one_record = record_before_record kind plan t.others
+          ∙ (and_parts (stands (own_record kind) plan) (comes_before (own_record kind) (own_record kind) plan)
+          (sym (once_is (own_record kind) plan) ∙ t.own)).1;
       record_first = record_before kind GFence plan t.others ∙ t.own_first;
       one_gfence = once_before GFence plan t.gfence;
     }))

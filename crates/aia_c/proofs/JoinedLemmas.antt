@@ -58,12 +58,14 @@ whole_again front more (inl none) whole = subst AreWholeLines (sym (ap (λ xs. x
 whole_again front more (inr lines) (inl none) = inr (lines.0, ap (λ xs. front ++ xs) none ∙ append-nil front ∙ lines.1)
 whole_again front more whole (inr lines) = inr (front ++ lines.0, ap (λ xs. front ++ xs) lines.1 ∙ sym (append_assoc front lines.0 (10 ∷ [])))
 
-pub answers_more : (h : History) (texts more : List (List ℕ)) → answers_from h (texts ++ more) ≡ answers_from h texts ++ answers_from (after_texts h texts) more
+pub answers_more : (h : History) (texts more : List (List ℕ))
+    → answers_from h (texts ++ more) ≡ answers_from h texts ++ answers_from (after_texts h texts) more
 answers_more h [] more = refl
 answers_more h (text ∷ texts) more =
     let first = printed (text_answer h (reading text)) in
     let next = after_text h (reading text) in
-    ap (λ xs. first ++ xs) (answers_more next texts more) ∙ sym (append_assoc first (answers_from next texts) (answers_from (after_texts next texts) more))
+    ap (λ xs. first ++ xs) (answers_more next texts more)
+    ∙ sym (append_assoc first (answers_from next texts) (answers_from (after_texts next texts) more))
 
 pub after_more : (h : History) (texts more : List (List ℕ)) → after_texts h (texts ++ more) ≡ after_texts (after_texts h texts) more
 after_more h [] more = refl
@@ -74,7 +76,8 @@ after_more h (text ∷ texts) more = after_more (after_text h (reading text)) te
 pub nothing_answered : (e : EngineState) → Answers e e [] []
 nothing_answered e = record { answers = λ h stands. refl; stands = λ h stands. stands }
 
-pub answered_more : (old mid new : EngineState) (script more bytes others : List ℕ) → AreWholeLines script → Answers old mid script bytes → Answers mid new more others → Answers old new (script ++ more) (bytes ++ others)
+pub answered_more : (old mid new : EngineState) (script more bytes others : List ℕ) → AreWholeLines script → Answers old mid script bytes
+    → Answers mid new more others → Answers old new (script ++ more) (bytes ++ others)
 answered_more old mid new script more bytes others whole one two = record {
   answers = λ h stands.
       let next = after_texts h (texts_of script) in
@@ -82,29 +85,36 @@ answered_more old mid new script more bytes others whole one two = record {
       ∙ sym (answers_more h (texts_of script) (texts_of more)) ∙ ap (answers_from h) (sym (texts_whole script more whole));
   stands = λ h stands.
       let joined = after_more h (texts_of script) (texts_of more) in
-      subst (StandsFor new) (sym joined ∙ ap (after_texts h) (sym (texts_whole script more whole))) (two.stands (after_texts h (texts_of script)) (one.stands h stands));
+      subst (StandsFor new) (sym joined ∙ ap (after_texts h) (sym (texts_whole script more whole)))
+      (two.stands (after_texts h (texts_of script)) (one.stands h stands));
 }
 
 pub one_line : (old new : EngineState) (text bytes : List ℕ) → NoEnd text → Gives old new text bytes → Answers old new (text ++ 10 ∷ []) bytes
 one_line old new text bytes none gives = record {
-  answers = λ h stands. gives.answers h stands ∙ sym (append-nil (printed (text_answer h (reading text)))) ∙ ap (answers_from h) (sym (texts_front text [] none));
-  stands = λ h stands. subst (λ (texts : List (List ℕ)). StandsFor new (after_texts h texts)) (sym (texts_front text [] none)) (gives.stands h stands);
+  answers = λ h stands. gives.answers h stands ∙ sym (append-nil (printed (text_answer h (reading text))))
+      ∙ ap (answers_from h) (sym (texts_front text [] none));
+  stands = λ h stands. subst (λ (texts : List (List ℕ)). StandsFor new (after_texts h texts)) (sym (texts_front text [] none))
+      (gives.stands h stands);
 }
 
 pub joined : (calls : List Call) (old : EngineState) → AreAnswered old calls → Answers old (left_by old calls) (script_of calls) (bytes_of calls)
 joined [] old all = nothing_answered old
 joined (call ∷ calls) old all =
-    answered_more old call.engine (left_by call.engine calls) call.script (script_of calls) call.bytes (bytes_of calls) all.0.lines all.0.answers (joined calls call.engine all.1)
+    answered_more old call.engine (left_by call.engine calls) call.script (script_of calls) call.bytes (bytes_of calls) all.0.lines all.0.answers
+    (joined calls call.engine all.1)
 
-pub left : (calls : List Call) (old : EngineState) (h : History) → StandsFor old h → AreDone old calls → StandsFor (left_by old calls) (after_texts h (texts_of (script_of calls)))
+pub left : (calls : List Call) (old : EngineState) (h : History) → StandsFor old h → AreDone old calls
+    → StandsFor (left_by old calls) (after_texts h (texts_of (script_of calls)))
 left [] old h stands all = stands
 left (call ∷ calls) old h stands all =
     let next = after_texts h (texts_of call.script) in
     let whole = texts_whole call.script (script_of calls) all.0.lines in
-    subst (StandsFor (left_by call.engine calls)) (sym (after_more h (texts_of call.script) (texts_of (script_of calls))) ∙ ap (after_texts h) (sym whole))
+    subst (StandsFor (left_by call.engine calls)) (sym (after_more h (texts_of call.script) (texts_of (script_of calls)))
+    ∙ ap (after_texts h) (sym whole))
     (left calls call.engine next (all.0.moves h stands) all.1)
 
-pub as_text : (old new : EngineState) (line : Line) (text : List ℕ) (code : ℤ) → NoEnd text → reading text ≡ parsed.Line line → Does old new line code → DoesText old new text code
+pub as_text : (old new : EngineState) (line : Line) (text : List ℕ) (code : ℤ) → NoEnd text → reading text ≡ parsed.Line line
+    → Does old new line code → DoesText old new text code
 as_text old new line text code none is does = record {
   answers = λ h stands. (answer h line, ap (text_answer h) is, does.answers h stands);
   moves = λ h stands. subst (λ (texts : List (List ℕ)). StandsFor new (after_texts h texts)) (sym (texts_front text [] none))

@@ -11,7 +11,8 @@ use Rattle.aia_c.specs.Codes.{number, code_of, number_of, read_in}
 use Rattle.aia_c.specs.Calls.{Serving, Fetches}
 
 -- a line that makes no machine wants no memory
-fetched : (of : Answer → ℕ) (old new : Option EngineState) (line : Line) (given : Result Answer Code) → makes_machine [] line ≡ false → Serving old new line given → Fetches of old new line (number_of given) (read_in of given)
+fetched : (of : Answer → ℕ) (old new : Option EngineState) (line : Line) (given : Result Answer Code) → makes_machine [] line ≡ false
+    → Serving old new line given → Fetches of old new line (number_of given) (read_in of given)
 fetched of None new line (Ok answer) plain is = absurd is
 fetched of None new line (Err code) plain is = (record { says = ap number is.0; same = is.1 }, refl)
 fetched of (Some old) None line given plain is = absurd is
@@ -21,6 +22,7 @@ fetched of (Some old) (Some new) line (Ok answer) plain is = record {
 }
 fetched of (Some old) (Some new) line (Err code) plain is = absurd (false≢true (sym plain ∙ is.1.asks))
 
-pub served : (of : Answer → ℕ) (old new : Option EngineState) (line : Line) (given : Result Answer Code) (code : ℤ) (value : ℕ) → Serving old new line given → code ≡ number_of given → value ≡ read_in of given
+pub served : (of : Answer → ℕ) (old new : Option EngineState) (line : Line) (given : Result Answer Code) (code : ℤ) (value : ℕ)
+    → Serving old new line given → code ≡ number_of given → value ≡ read_in of given
     → makes_machine [] line ≡ false → Fetches of old new line code value
 served of old new line given code value is e f plain = rw (e, f) (fetched of old new line given plain is)

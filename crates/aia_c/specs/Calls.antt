@@ -87,7 +87,7 @@ Stops new rest room code =
     ⊎ ((code ≡ number NoMemory) × WantsMemory new rest))
 
 -- A script was taken up to a rest: what was taken is answered, and is whole lines or all of it.
-pub record Takes (old new : EngineState) (taken rest bytes : List ℕ) (room : ℕ) (code : ℤ)
+pub record CallTakes (old new : EngineState) (taken rest bytes : List ℕ) (room : ℕ) (code : ℤ)
     : Type 0 where
   pub answers : Answers old new taken bytes
   pub lines : AreWholeLines taken ⊎ (rest ≡ [])
@@ -99,7 +99,8 @@ abbrev pub Scripts : Option EngineState → Option EngineState → List ℕ → 
     → Type 0
 Scripts None new taken rest bytes room code = IsClosed new code × (taken ≡ []) × (bytes ≡ [])
 Scripts (Some old) None taken rest bytes room code = ⊥
-Scripts (Some old) (Some new) taken rest bytes room code = Takes old new taken rest bytes room code
+Scripts (Some old) (Some new) taken rest bytes room code =
+    CallTakes old new taken rest bytes room code
 
 -- ---- calls without text
 

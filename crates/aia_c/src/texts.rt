@@ -3,7 +3,7 @@
 ghost use Rattle.std.specs.Prelude.{◌≡◌, ◌⊎◌, ◌-◌, ◌<◌, ◌≤◌, [], ◌∷◌, ◌++◌, length, take, drop, IfOk, OnErr};
 ghost use Rattle.aia_model.specs.Answer.{answer_text};
 ghost use Rattle.aia_replay.specs.Runs.{NoEnd, AreWholeLines};
-ghost use Rattle.aia_c.specs.Calls.{Answers, Takes, WantsMemory};
+ghost use Rattle.aia_c.specs.Calls.{Answers, CallTakes, WantsMemory};
 ghost use Rattle.aia_c.specs.Codes.{number};
 ghost use Rattle.aia_model.specs.declared.limits.TheConstants.{ANSWER_BYTES};
 
@@ -17,7 +17,7 @@ use std::alloc::{AllocError, Global};
 
 /// How far a script was answered, and why no further.
 #[derive(Clone, Copy)]
-pub struct Front {
+pub struct TextFront {
     /// How many bytes of the script were taken.
     pub taken: usize,
     /// How many bytes of answers were written.
@@ -82,10 +82,15 @@ fn answer_first(
 
 /// Answers a script, as far as there is room for the longest answer and memory for a machine.
 #[tactic(auto, using(crate::proofs::TextLemmas::more_left))]
-pub fn answer_script(engine: &mut Engine, script: &[u8], answers: &mut [u8], alloc: Global) -> Front
+pub fn answer_script(
+    engine: &mut Engine,
+    script: &[u8],
+    answers: &mut [u8],
+    alloc: Global,
+) -> TextFront
     ensures within { (result.taken ≤ length script.now) × (result.written ≤ length answers.old) }
     ensures rest { drop result.written answers.new ≡ drop result.written answers.old }
-    ensures takes { Takes engine.old engine.new (take result.taken script.now)
+    ensures takes { CallTakes engine.old engine.new (take result.taken script.now)
         (drop result.taken script.now) (take result.written answers.new)
         (length answers.old - result.written) (number result.code) }
 {
@@ -93,7 +98,7 @@ pub fn answer_script(engine: &mut Engine, script: &[u8], answers: &mut [u8], all
     let mut written = 0;
     while taken < script.len() {
         if answers.len() - written < ANSWER_BYTES {
-            return Front {
+            return TextFront {
                 taken,
                 written,
                 code: Code::NoRoom,
@@ -105,7 +110,7 @@ pub fn answer_script(engine: &mut Engine, script: &[u8], answers: &mut [u8], all
                 written += answer;
             }
             Err(_) => {
-                return Front {
+                return TextFront {
                     taken,
                     written,
                     code: Code::NoMemory,
@@ -113,7 +118,7 @@ pub fn answer_script(engine: &mut Engine, script: &[u8], answers: &mut [u8], all
             }
         }
     }
-    Front {
+    TextFront {
         taken,
         written,
         code: Code::Done,

@@ -13,7 +13,8 @@ use Rattle.aia_command.specs.CommandLine.{number_of, number_up_to}
 
 -- A text is one number at most, and a number wherever it is digits, with a plus before them or not.
 pub number_up_to-some : (most n : ℕ) (text : Text)
-    → (number_up_to most text ≡ Some n) ↔ (IsNumeral 10 (without_leading_plus text) × (digits_value 10 (without_leading_plus text) ≡ n) × (n ≤ most) × (n < 2 ^ 64))
+    → (number_up_to most text ≡ Some n) ↔ (IsNumeral 10 (without_leading_plus text) × (digits_value 10 (without_leading_plus text) ≡ n)
+    × (n ≤ most) × (n < 2 ^ 64))
 number_up_to-some most n text = (go (is_unsigned_in 0 most text) refl, back)
   where
     go : (b : Bool) → is_unsigned_in 0 most text ≡ b → number_up_to most text ≡ Some n
@@ -27,7 +28,8 @@ number_up_to-some most n text = (go (is_unsigned_in 0 most text) refl, back)
         let none : ◌≡◌ {A = Option ℕ} None (Some n) = rw is at some in
         absurd (cc)
 
-    back : IsNumeral 10 (without_leading_plus text) × (digits_value 10 (without_leading_plus text) ≡ n) × (n ≤ most) × (n < 2 ^ 64) → number_up_to most text ≡ Some n
+    back : IsNumeral 10 (without_leading_plus text) × (digits_value 10 (without_leading_plus text) ≡ n) × (n ≤ most) × (n < 2 ^ 64)
+        → number_up_to most text ≡ Some n
     back h =
         let same = h.1 in
         rw (Accepts-accepts false (parser.Unsigned 0 most) text (h.0, omega arith, omega arith, omega arith)) (ap Some h.1)
@@ -43,7 +45,8 @@ widest most text fits =
     Accepts-accepts false (parser.Unsigned 0 (2 ^ 64 - 1)) text (passes.0, passes.1, passes.2, omega arith)
 
 -- A text is read as `u64` where it is a number.
-pub number_read : {E : Type 0} (gives : Text → Result ℕ E → Type 0) (text : Option Text) (read : Option ℕ) → (text ≡ None → read ≡ None) → ((t : Text) → text ≡ Some t → ReadsOne gives t read)
+pub number_read : {E : Type 0} (gives : Text → Result ℕ E → Type 0) (text : Option Text) (read : Option ℕ) → (text ≡ None → read ≡ None)
+    → ((t : Text) → text ≡ Some t → ReadsOne gives t read)
     → ((t : Text) (r : Result ℕ E) → gives t r → ParsesUnsigned 64 10 t r) → read ≡ option_and_then number_of text
 number_read gives None read none some only = none refl
 number_read {E} gives (Some t) read none some only = go (is_unsigned_in 0 (2 ^ 64 - 1) t) refl read (some t refl)
@@ -55,7 +58,8 @@ number_read {E} gives (Some t) read none some only = go (is_unsigned_in 0 (2 ^ 6
         absurd (only t (Err h.0) h.1 (passes.0, passes.1))
     go false is (Some n) h =
         let gave = only t (Ok n) h in
-        let passes : is_unsigned_in 0 (2 ^ 64 - 1) t ≡ true = Accepts-accepts false (parser.Unsigned 0 (2 ^ 64 - 1)) t (gave.0.0, gave.0.1, omega arith, omega arith) in
+        let passes : is_unsigned_in 0 (2 ^ 64 - 1) t ≡ true =
+        Accepts-accepts false (parser.Unsigned 0 (2 ^ 64 - 1)) t (gave.0.0, gave.0.1, omega arith, omega arith) in
         cc
     go false is None h = rw is refl
 

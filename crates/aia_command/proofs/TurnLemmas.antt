@@ -21,8 +21,10 @@ standing rows pending position delimited = record {
 
 -- A word is the delimiter, or begins with a hyphen and is refused, or is an argument.
 pub data Turn (s : Shape) (names : Names) (w : Walk) (word : Text) : Type 0 where
-  Delimits : bytes_eq word (45 ∷ 45 ∷ []) ≡ true → turn_fault s names w word ≡ [] → walked s.rules names w word ≡ record w { is_trailing = true } → Turn s names w word
-  IsRefused : (k : ErrorKind) → turn_fault s names w word ≡ k ∷ [] → (rest : Text) → word ≡ 45 ∷ rest → bytes_eq word (45 ∷ 45 ∷ []) ≡ false → Turn s names w word
+  Delimits : bytes_eq word (45 ∷ 45 ∷ []) ≡ true → turn_fault s names w word ≡ [] → walked s.rules names w word ≡ record w { is_trailing = true }
+      → Turn s names w word
+  IsRefused : (k : ErrorKind) → turn_fault s names w word ≡ k ∷ [] → (rest : Text) → word ≡ 45 ∷ rest → bytes_eq word (45 ∷ 45 ∷ []) ≡ false
+      → Turn s names w word
   IsArgument : bytes_eq word (45 ∷ 45 ∷ []) ≡ false → turn_fault s names w word ≡ step_fault s w.position w.held value
       → walked s.rules names w word ≡ to_positional s.rules (arg_by_index s.rules w.position) word w w.held → Turn s names w word
 
@@ -63,6 +65,7 @@ module _ (s : Shape) (names : Names) (rows : List Row) (pending : Option (Text �
 -- After the delimiter each word is an argument.
 pub turn-delimited : (s : Shape) (names : Names) (rows : List Row) (pending : Option (Text × List Text)) (position : ℕ) (word : Text)
     → let w = standing rows pending position true in
-    (turn_fault s names w word ≡ step_fault s position w.held value) × (walked s.rules names w word ≡ to_positional s.rules (arg_by_index s.rules position) word w w.held)
+    (turn_fault s names w word ≡ step_fault s position w.held value)
+    × (walked s.rules names w word ≡ to_positional s.rules (arg_by_index s.rules position) word w w.held)
 unfolding walked
 turn-delimited s names rows pending position word = (refl, refl)

@@ -1,21 +1,16 @@
 -- What the words of the command line ask for, without the program's name: a subcommand with its
--- arguments.
---
--- Which words are taken, which word is whose argument and which texts are numbers is what the
--- library `clap` states of a command: `fault_of`, its `subcommand_of`, by which a subcommand is
--- met, `one_of` and `is_unsigned_in`. The command is ours.
+-- arguments, by what the library `clap` states of a command (`asked_of`). Which words are an
+-- argument's, and which texts are numbers, is what it states too: `one_of` and `is_unsigned_in`.
 use Rattle.std.specs.Prelude.{ℕ, ◌^◌, ◌-◌, true, nat_eq, List, [], ◌∷◌, Option, Some, None, if◌then◌else◌, codes, option_and_then}
 use Rattle.std.specs.List.{list_any}
 use Rattle.std.specs.Str.{bytes_eq}
 use Rattle.std.specs.Str.Parse.{digits_value, without_leading_plus}
 use Rattle.clap.specs.ValueTests.{is_unsigned_in}
 use Rattle.clap.specs.Walk.{Text, Row, Rule, one_of}
-use Rattle.clap.specs.Simple.{App, new_app, new_rule, on_top, with_rule, with_subcommand}
-use Rattle.clap.specs.Simple.{subcommand_of as subcommand_met}
-use Rattle.clap.specs.Kinds.{Kinds}
-use Rattle.clap.specs.Faults.{fault_of}
+use Rattle.clap.specs.Simple.{App, new_app, new_rule, with_rule, with_subcommand}
 use Rattle.clap.specs.declared.builder.value_parser.ValueParser.{ValueParser}
 use Rattle.clap.specs.declared.builder.value_parser.ValueParser.TheVariants as parser
+use Rattle.aia_io.specs.Commands.{asked_of, bare_command}
 use Rattle.aia_command.specs.declared.limits.TheConstants.{MOST_LINES}
 use Rattle.aia_command.specs.declared.subcommand.Subcommand.{Subcommand}
 use Rattle.aia_command.specs.declared.subcommand.Subcommand.TheVariants.{Replay, Generate, Audit}
@@ -44,20 +39,11 @@ audit_command = with_rule (with_rule (new_app (codes "audit"))
     (required_rule (codes "KIND") parser.String))
     (required_rule (codes "W") (parser.Unsigned 0 (2 ^ 64 - 1)))
 
--- The command, but for its subcommands: there must be one, and there is no help.
-abbrev pub bare_command : App
-bare_command = on_top (λ shape. record shape {
-  no_binary_name = true;
-  subcommand_required = true;
-  disable_help_flag = true;
-  disable_help_subcommand = true;
-}) (new_app (codes "aia"))
-
 -- The command.
 unfoldable pub the_command : App
 the_command = with_subcommand
-    (with_subcommand (with_subcommand bare_command replay_command.top) generate_command.top)
-    audit_command.top
+    (with_subcommand (with_subcommand (bare_command (codes "aia")) replay_command.top)
+    generate_command.top) audit_command.top
 
 -- ---- what words ask for
 
@@ -112,12 +98,6 @@ named (Some (name, rows)) = if bytes_eq name (codes "replay") then Some Replay
     else if bytes_eq name (codes "gen") then generate_of rows
     else if bytes_eq name (codes "audit") then audit_of rows else None
 
--- Words are refused where there is an error for them.
-abbrev pub unless_refused : Kinds → Option Subcommand → Option Subcommand
-unless_refused [] asked = asked
-unless_refused (error ∷ errors) asked = None
-
 -- The subcommand that the words ask for, or None where they are refused.
 unfoldable pub subcommand_of : List Text → Option Subcommand
-subcommand_of words =
-    unless_refused (fault_of the_command words) (named (subcommand_met the_command words))
+subcommand_of words = asked_of the_command named words

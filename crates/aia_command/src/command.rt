@@ -1,36 +1,26 @@
 //! The command as `clap` is told of it.
 
-ghost use Rattle.std.specs.Prelude.{◌≡◌, false, IfOk};
-ghost use Rattle.clap.specs.Words.{app_of, rule_of};
+ghost use Rattle.std.specs.Prelude.{◌≡◌, false, IfOk, true};
+ghost use Rattle.clap.specs.Words.{app_of, is_simple_and_free, rule_of};
 ghost use Rattle.clap.specs.declared.builder.command.Command.TheViews.{out-Command};
 ghost use Rattle.clap.specs.declared.builder.value_parser.ValueParser.TheVariants as parser;
-ghost use Rattle.aia_command.specs.CommandLine.{audit_command, bare_command, generate_command, replay_command, required_rule, the_command};
+ghost use Rattle.aia_command.specs.CommandLine.{audit_command, generate_command, replay_command, required_rule, the_command};
 
 use crate::limits::MOST_LINES;
+use aia_io::bare_command;
 use clap::builder::ValueParser;
 use clap::{Arg, Command, value_parser};
 use std::alloc::{AllocError, Global};
 
 /// Makes the command of the words. `Err`: there is no memory for it.
 pub(crate) fn command<'a>(alloc: Global) -> Result<Command<'a>, AllocError>
-    ensures { IfOk result (λ made. app_of made ≡ the_command) }
+    ensures shape { IfOk result (λ made. app_of made ≡ the_command) }
+    ensures simple { IfOk result (λ made. is_simple_and_free (app_of made) ≡ true) }
 {
-    let with_replay = bare_command(alloc).subcommand(replay_command(alloc))?;
+    let with_replay = bare_command(alloc, "aia").subcommand(replay_command(alloc))?;
     let with_generate = with_replay.subcommand(generate_command(alloc)?)?;
     let whole = with_generate.subcommand(audit_command(alloc)?)?;
     Ok(whole)
-}
-
-/// Makes the command with no subcommand yet: one is required, and it shows no help.
-fn bare_command<'a>(alloc: Global) -> Command<'a>
-    ensures shape { app_of result ≡ bare_command }
-    ensures local { (out-Command result).has_globals ≡ false }
-{
-    Command::new(alloc, "aia")
-        .no_binary_name(true)
-        .subcommand_required(true)
-        .disable_help_flag(true)
-        .disable_help_subcommand(true)
 }
 
 /// Makes the subcommand `replay`.

@@ -6,6 +6,7 @@
 ghost use Rattle.std.specs.Prelude.{◌≡◌, ◌^◌, ◌<◌, ◌≤◌, ◌⊎◌, ◌↔◌, ℕ, List, [], ◌∷◌, Option, Some, None, codes, slice_get};
 ghost use Rattle.std.specs.Fmt.{decimal};
 ghost use Rattle.std.specs.Str.Parse.{IsNumeral, digits_value, without_leading_plus};
+ghost use Rattle.aia_io.specs.Commands.{RefusesOthers};
 ghost use Rattle.aia_command.specs.CommandLine.{number_up_to, subcommand_of};
 ghost use Rattle.aia_command.specs.Spelled.{kind_word, subcommand_spelled};
 ghost use Rattle.aia_plan.specs.Plan.{IsWidth};
@@ -98,14 +99,7 @@ pub fn plans_are_taken()
 /// These words, which are no subcommand with its arguments, are refused; so are requests for help
 /// and for the version.
 pub fn other_words_are_refused()
-    ensures no_word { subcommand_of [] ≡ None }
-    ensures empty_word { subcommand_of (codes "" ∷ []) ≡ None }
-    ensures other_word { subcommand_of (codes "x" ∷ []) ≡ None }
-    ensures delimiter { subcommand_of (codes "--" ∷ []) ≡ None }
-    ensures help { subcommand_of (codes "help" ∷ []) ≡ None }
-    ensures help_option { subcommand_of (codes "--help" ∷ []) ≡ None }
-    ensures help_letter { subcommand_of (codes "-h" ∷ []) ≡ None }
-    ensures version_option { subcommand_of (codes "--version" ∷ []) ≡ None }
+    ensures others { RefusesOthers subcommand_of }
     ensures replay_with_a_word { subcommand_of (codes "replay" ∷ codes "x" ∷ []) ≡ None }
     ensures replay_twice { subcommand_of (codes "replay" ∷ codes "replay" ∷ []) ≡ None }
     ensures no_count { subcommand_of (codes "gen" ∷ []) ≡ None }

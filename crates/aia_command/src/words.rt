@@ -1,25 +1,23 @@
-ghost use Rattle.std.specs.Prelude.{◌≡◌, map, IfOk, option_and_then, option_map};
+ghost use Rattle.std.specs.Prelude.{◌≡◌, IfOk, option_and_then, option_map};
 ghost use Rattle.clap.specs.Words.{found_of, one_of, rows_of, subcommand_rows_of};
+ghost use Rattle.aia_io.specs.Words.{asked};
 ghost use Rattle.aia_command.specs.CommandLine.{audit_of, generate_of, kind_at, named, number_at, subcommand_of, width_of};
 
 use crate::command::command;
 use crate::kind_word::KindWord;
 use crate::subcommand::Subcommand;
+use aia_io::match_words;
 use clap::ArgMatches;
-use clap::error::ErrorKind;
 use std::alloc::{AllocError, Global};
 
 /// Reads what the words of the command line ask for, the program's name not among them. `None`: the
 /// words are refused. `Err`: there is no memory to read them.
 pub fn read_words(alloc: Global, words: &[&str]) -> Result<Option<Subcommand>, AllocError>
-    ensures { IfOk result (λ given. given ≡ subcommand_of (map (λ word. word.now) words.now)) }
+    ensures { IfOk result (λ given. given ≡ asked subcommand_of words.now) }
 {
-    match command(alloc)?.try_get_matches_from(words) {
-        Ok(matches) => Ok(read_matches(&matches)),
-        Err(error) => match error.kind() {
-            ErrorKind::OutOfMemory => Err(AllocError),
-            _ => Ok(None),
-        },
+    match match_words(command(alloc)?, words)? {
+        Some(found) => Ok(read_matches(&found)),
+        None => Ok(None),
     }
 }
 

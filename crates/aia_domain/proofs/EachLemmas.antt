@@ -10,7 +10,8 @@ each-length {A} (x ∷ xs) [] change each = let e : ◌≡◌ {A = Option A} Non
 each-length (x ∷ xs) (y ∷ ys) change each = ap suc (each-length xs ys (λ s. change (suc s)) (λ s. each (suc s)))
 
 -- what a member is after each was changed
-pub each-member : {A : Type 0} (old new : List A) (change : ℕ → A → A) (was is : ℕ → A) → EachAt old new change → ((s : ℕ) (x : A) → slice_get old s ≡ Some x → x ≡ was s)
+pub each-member : {A : Type 0} (old new : List A) (change : ℕ → A → A) (was is : ℕ → A) → EachAt old new change
+    → ((s : ℕ) (x : A) → slice_get old s ≡ Some x → x ≡ was s)
     → ((s : ℕ) → s < length old → change s (was s) ≡ is s) → (s : ℕ) (y : A) → slice_get new s ≡ Some y → y ≡ is s
 each-member {A} old new change was is each stands goes s y found = at (slice_get old s) refl
   where

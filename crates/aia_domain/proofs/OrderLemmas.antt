@@ -36,7 +36,8 @@ not_before p q e =
           inr (
             same,
             elim (cases_lt p.1 q.1) [
-              | inl less ↦ absurd (let bad : ◌≡◌ {A = Bool} true false = sym (and_from _ _ (eq-eqb p.0 q.0 (sym same)) (lt-ltb p.1 q.1 less)) ∙ parts.1 in cc)
+              | inl less ↦ absurd (let bad : ◌≡◌ {A = Bool} true false = sym (and_from _ _ (eq-eqb p.0 q.0 (sym same)) (lt-ltb p.1 q.1 less))
+                  ∙ parts.1 in cc)
               | inr more ↦ more
             ],
           )
@@ -79,7 +80,8 @@ pub first_other : (p q : Pair) → ComesFirst p q → is_pair p q ≡ false → 
 first_other p q (inl x) other = inl x
 first_other p q (inr x) other = elim (cases_lt p.1 q.1) [
   | inl less ↦ inr (x.0, less)
-  | inr more ↦ absurd (let bad : ◌≡◌ {A = Bool} true false = sym (and_from _ _ (eq-eqb p.0 q.0 x.0) (eq-eqb p.1 q.1 (omega (arith, x.1, more)))) ∙ other in cc)
+  | inr more ↦ absurd (let bad : ◌≡◌ {A = Bool} true false = sym (and_from _ _ (eq-eqb p.0 q.0 x.0) (eq-eqb p.1 q.1 (omega (arith, x.1, more))))
+      ∙ other in cc)
 ]
 
 pub before_other : (p q : Pair) → Before p q → is_pair p q ≡ false
@@ -94,7 +96,8 @@ pub same_pair : (p : Pair) → is_pair p p ≡ true
 same_pair p = and_from _ _ (eq-eqb p.0 p.0 refl) (eq-eqb p.1 p.1 refl)
 
 pub pair_same : (p q : Pair) → is_pair p q ≡ true → p ≡ q
-pair_same p q e = let r = and_parts _ _ e in let a = eqb-true p.0 q.0 r.0 in let b = eqb-true p.1 q.1 r.1 in ap (λ x. (x, p.1)) a ∙ ap (λ y. (q.0, y)) b
+pair_same p q e = let r = and_parts _ _ e in let a = eqb-true p.0 q.0 r.0 in let b = eqb-true p.1 q.1 r.1 in ap (λ x. (x, p.1)) a
+    ∙ ap (λ y. (q.0, y)) b
 
 -- ---- the place of a pair
 
@@ -104,17 +107,20 @@ rising_tail q qs = pairs_tail (λ p q. comes_before q p ≡ false) q qs
 -- a rising list is cut in two by the pairs that come before one
 pub rising_parted : (p : Pair) (xs : List Pair) → IsRising xs → IsPartitionedBy (λ q. comes_before q p) xs
 rising_parted p xs rising i j d low within is = elim (cases_lt i j) [
-  | inl less ↦ before_is (get_or xs i d) p (first_before (get_or xs i d) (get_or xs j d) p (not_before (get_or xs j d) (get_or xs i d) (rising i j d less within)) (is_before (get_or xs j d) p is))
+  | inl less ↦ before_is (get_or xs i d) p (first_before (get_or xs i d) (get_or xs j d) p
+      (not_before (get_or xs j d) (get_or xs i d) (rising i j d less within)) (is_before (get_or xs j d) p is))
   | inr more ↦ let e : j ≡ i = omega arith in subst (λ k. comes_before (get_or xs k d) p ≡ true) e is
 ]
 
 -- behind those that come before it, and ahead of the others, a pair stands at its place
-pub put_at : (p : Pair) (xs : List Pair) (i : ℕ) → i ≤ length xs → IsPartitionPoint (λ q. comes_before q p ≡ true) (λ q. comes_before q p ≡ false) xs i → insert xs i p ≡ put_in p xs
+pub put_at : (p : Pair) (xs : List Pair) (i : ℕ) → i ≤ length xs
+    → IsPartitionPoint (λ q. comes_before q p ≡ true) (λ q. comes_before q p ≡ false) xs i → insert xs i p ≡ put_in p xs
 put_at p [] zero low point = refl
 put_at p [] (suc i) low point = absurd (omega arith)
 put_at p (q ∷ qs) zero low point = sym (cond-false _ _ _ (point.1 0 p (omega arith) (omega arith)))
 put_at p (q ∷ qs) (suc i) low point =
-    ap (λ ys. q ∷ ys) (put_at p qs i (omega arith) (λ k d a b. point.0 (suc k) d (omega arith) (omega arith), λ k d a b. point.1 (suc k) d (omega arith) (omega arith)))
+    ap (λ ys. q ∷ ys) (put_at p qs i (omega arith)
+    (λ k d a b. point.0 (suc k) d (omega arith) (omega arith), λ k d a b. point.1 (suc k) d (omega arith) (omega arith)))
     ∙ sym (cond-true _ _ _ (point.0 0 p (omega arith) (omega arith)))
 
 -- nothing is taken out of those that all come after
@@ -125,21 +131,28 @@ none_after p q (r ∷ rs) rising before =
     cond-false _ _ _ (before_other p r later) ∙ ap (λ ys. r ∷ ys) (none_after p r rs (rising_tail q (r ∷ rs) rising) later)
 
 -- where it stands at its place, it is taken out there; else it stands nowhere
-pub out_there : (p : Pair) (xs : List Pair) (i : ℕ) (d : Pair) → IsRising xs → i < length xs → IsPartitionPoint (λ q. comes_before q p ≡ true) (λ q. comes_before q p ≡ false) xs i → is_pair p (get_or xs i d) ≡ true → remove xs i ≡ taken_out p xs
+pub out_there : (p : Pair) (xs : List Pair) (i : ℕ) (d : Pair) → IsRising xs → i < length xs
+    → IsPartitionPoint (λ q. comes_before q p ≡ true) (λ q. comes_before q p ≡ false) xs i → is_pair p (get_or xs i d) ≡ true
+    → remove xs i ≡ taken_out p xs
 out_there p [] i d rising low point is = absurd (omega arith)
 out_there p (q ∷ qs) zero d rising low point is = sym (cond-true _ _ _ is)
 out_there p (q ∷ qs) (suc i) d rising low point is =
-    ap (λ ys. q ∷ ys) (out_there p qs i d (rising_tail q qs rising) (omega arith) (λ k d a b. point.0 (suc k) d (omega arith) (omega arith), λ k d a b. point.1 (suc k) d (omega arith) (omega arith)) is)
+    ap (λ ys. q ∷ ys) (out_there p qs i d (rising_tail q qs rising) (omega arith)
+    (λ k d a b. point.0 (suc k) d (omega arith) (omega arith), λ k d a b. point.1 (suc k) d (omega arith) (omega arith)) is)
     ∙ sym (cond-false _ _ _ (after_other p q (is_before q p (point.0 0 p (omega arith) (omega arith)))))
 
-pub out_nowhere : (p : Pair) (xs : List Pair) (i : ℕ) → IsRising xs → i ≤ length xs → IsPartitionPoint (λ q. comes_before q p ≡ true) (λ q. comes_before q p ≡ false) xs i → (i < length xs → (d : Pair) × (is_pair p (get_or xs i d) ≡ false)) → xs ≡ taken_out p xs
+pub out_nowhere : (p : Pair) (xs : List Pair) (i : ℕ) → IsRising xs → i ≤ length xs
+    → IsPartitionPoint (λ q. comes_before q p ≡ true) (λ q. comes_before q p ≡ false) xs i
+    → (i < length xs → (d : Pair) × (is_pair p (get_or xs i d) ≡ false)) → xs ≡ taken_out p xs
 out_nowhere p [] i rising low point other = refl
 out_nowhere p (q ∷ qs) zero rising low point other =
     let not_it = (other (omega arith)).1 in
     let before = first_other p q (not_before q p (point.1 0 p (omega arith) (omega arith))) not_it in
     sym (cond-false _ _ _ not_it ∙ ap (λ ys. q ∷ ys) (none_after p q qs rising before))
 out_nowhere p (q ∷ qs) (suc i) rising low point other =
-    ap (λ ys. q ∷ ys) (out_nowhere p qs i (rising_tail q qs rising) (omega arith) (λ k d a b. point.0 (suc k) d (omega arith) (omega arith), λ k d a b. point.1 (suc k) d (omega arith) (omega arith)) (λ a. other (omega arith)))
+    ap (λ ys. q ∷ ys) (out_nowhere p qs i (rising_tail q qs rising) (omega arith)
+    (λ k d a b. point.0 (suc k) d (omega arith) (omega arith), λ k d a b. point.1 (suc k) d (omega arith) (omega arith))
+    (λ a. other (omega arith)))
     ∙ sym (cond-false _ _ _ (after_other p q (is_before q p (point.0 0 p (omega arith) (omega arith)))))
 
 -- ---- with one more
@@ -169,11 +182,13 @@ put_rising p (q ∷ qs) rising = at (comes_before q p) refl (put_rising p qs (ri
   where
     after : comes_before q p ≡ false → All (λ r. comes_before r p ≡ false) qs
     after first k d low =
-        not_before_is (get_or qs k d) p (first_first p q (get_or qs k d) (not_before q p first) (not_before (get_or qs k d) q (rising 0 (suc k) d (omega arith) (omega arith))))
+        not_before_is (get_or qs k d) p (first_first p q (get_or qs k d) (not_before q p first)
+        (not_before (get_or qs k d) q (rising 0 (suc k) d (omega arith) (omega arith))))
 
     at : (b : Bool) → comes_before q p ≡ b → IsRising (put_in p qs) → IsRising (cond b (q ∷ put_in p qs) (p ∷ q ∷ qs))
     at true is rest =
-        AllPairs-cons (λ p q. comes_before q p ≡ false) q (put_in p qs) (put_all (λ r. comes_before r q ≡ false) p qs (not_before_is p q (before_comes_first q p (is_before q p is))) (head_all q qs rising)) rest
+        AllPairs-cons (λ p q. comes_before q p ≡ false) q (put_in p qs)
+        (put_all (λ r. comes_before r q ≡ false) p qs (not_before_is p q (before_comes_first q p (is_before q p is))) (head_all q qs rising)) rest
     at false is rest = AllPairs-cons (λ p q. comes_before q p ≡ false) p (q ∷ qs) (All-cons (λ r. comes_before r p ≡ false) q qs is (after is)) rising
 
 -- ---- the first pair

@@ -31,7 +31,8 @@ pub put_twice : (p q : Pair) (xs : List Pair) → put_in p (put_in q xs) ≡ put
 put_twice p q [] = two_first p q []
 put_twice p q (r ∷ rs) = at (comes_before r p) (comes_before r q) refl refl (put_twice p q rs)
   where
-    at : (x y : Bool) → comes_before r p ≡ x → comes_before r q ≡ y → put_in p (put_in q rs) ≡ put_in q (put_in p rs) → put_in p (cond y (r ∷ put_in q rs) (q ∷ r ∷ rs)) ≡ put_in q (cond x (r ∷ put_in p rs) (p ∷ r ∷ rs))
+    at : (x y : Bool) → comes_before r p ≡ x → comes_before r q ≡ y → put_in p (put_in q rs) ≡ put_in q (put_in p rs)
+        → put_in p (cond y (r ∷ put_in q rs) (q ∷ r ∷ rs)) ≡ put_in q (cond x (r ∷ put_in p rs) (p ∷ r ∷ rs))
     at true true a b rest = cond-true _ _ _ a ∙ ap (λ ys. r ∷ ys) rest ∙ sym (cond-true _ _ _ b)
     at true false a b rest =
         let first = before_is q p (first_before q r p (not_before r q b) (is_before r p a)) in
@@ -40,7 +41,8 @@ put_twice p q (r ∷ rs) = at (comes_before r p) (comes_before r q) refl refl (p
         let first = before_is p q (first_before p r q (not_before r p a) (is_before r q b)) in
         cond-false _ _ _ a ∙ sym (cond-true _ _ _ first ∙ ap (λ ys. p ∷ ys) (cond-true _ _ _ b))
     at false false a b rest =
-        ap (λ ys. cond (comes_before q p) (q ∷ ys) (p ∷ q ∷ r ∷ rs)) (cond-false _ _ _ a) ∙ two_first p q (r ∷ rs) ∙ sym (ap (λ ys. cond (comes_before p q) (p ∷ ys) (q ∷ p ∷ r ∷ rs)) (cond-false _ _ _ b))
+        ap (λ ys. cond (comes_before q p) (q ∷ ys) (p ∷ q ∷ r ∷ rs)) (cond-false _ _ _ a) ∙ two_first p q (r ∷ rs)
+        ∙ sym (ap (λ ys. cond (comes_before p q) (p ∷ ys) (q ∷ p ∷ r ∷ rs)) (cond-false _ _ _ b))
 
 pub put_and_out : (p : Pair) (xs : List Pair) → taken_out p (put_in p xs) ≡ xs
 put_and_out p [] = cond-true _ _ _ (same_pair p)
@@ -69,7 +71,8 @@ pub ordered-suc : (c : ℕ → Option Pair) (from count : ℕ) → ordered c fro
 unfolding ordered
 ordered-suc c from count = refl
 
-pub ordered_same : (c d : ℕ → Option Pair) (from count : ℕ) → ((s : ℕ) → from ≤ s → s < from + count → c s ≡ d s) → ordered c from count ≡ ordered d from count
+pub ordered_same : (c d : ℕ → Option Pair) (from count : ℕ) → ((s : ℕ) → from ≤ s → s < from + count → c s ≡ d s)
+    → ordered c from count ≡ ordered d from count
 ordered_same c d from zero same = ordered-none c from ∙ sym (ordered-none d from)
 ordered_same c d from (suc count) same =
     ordered-suc c from count ∙ ap (λ o. put_if o (ordered c (suc from) count)) (same from (omega arith) (omega arith))
@@ -86,15 +89,20 @@ except_elsewhere : (s : ℕ) (c : ℕ → Option Pair) (i : ℕ) → (s ≡ i �
 except_elsewhere s c i ne = cond-false _ _ _ (ne_eqb s i ne)
 
 -- one of the numbers has its pair among those of the others
-pub ordered_one : (c : ℕ → Option Pair) (s from count : ℕ) → from ≤ s → s < from + count → ordered c from count ≡ put_if (c s) (ordered (except s c) from count)
+pub ordered_one : (c : ℕ → Option Pair) (s from count : ℕ) → from ≤ s → s < from + count
+    → ordered c from count ≡ put_if (c s) (ordered (except s c) from count)
 ordered_one c s from zero low high = absurd (omega arith)
 ordered_one c s from (suc count) low high = ordered-suc c from count ∙ elim (cases_eq s from) [
   | inl e ↦
-      let others : ordered (except s c) from (suc count) ≡ ordered c (suc from) count = ordered-suc (except s c) from count ∙ ap (λ o. put_if o (ordered (except s c) (suc from) count)) (except_there s c from e) ∙ ordered_same (except s c) c (suc from) count (λ i a b. except_elsewhere s c i (λ f. omega (arith, e, f, a))) in
+      let others : ordered (except s c) from (suc count) ≡ ordered c (suc from) count = ordered-suc (except s c) from count
+      ∙ ap (λ o. put_if o (ordered (except s c) (suc from) count)) (except_there s c from e)
+      ∙ ordered_same (except s c) c (suc from) count (λ i a b. except_elsewhere s c i (λ f. omega (arith, e, f, a))) in
       sym (ap (put_if (c s)) others ∙ ap (λ i. put_if (c i) (ordered c (suc from) count)) e)
   | inr ne ↦
-      ap (put_if (c from)) (ordered_one c s (suc from) count (omega arith) (omega arith)) ∙ put_if_twice (c from) (c s) (ordered (except s c) (suc from) count)
-      ∙ ap (put_if (c s)) (ap (λ o. put_if o (ordered (except s c) (suc from) count)) (sym (except_elsewhere s c from ne)) ∙ sym (ordered-suc (except s c) from count))
+      ap (put_if (c from)) (ordered_one c s (suc from) count (omega arith) (omega arith))
+      ∙ put_if_twice (c from) (c s) (ordered (except s c) (suc from) count)
+      ∙ ap (put_if (c s)) (ap (λ o. put_if o (ordered (except s c) (suc from) count)) (sym (except_elsewhere s c from ne))
+      ∙ sym (ordered-suc (except s c) from count))
 ]
 
 put_if_length : (o : Option Pair) (xs : List Pair) (n : ℕ) → length xs ≤ n → length (put_if o xs) ≤ suc n
@@ -103,20 +111,25 @@ put_if_length (Some p) xs n few = omega (arith, put_length p xs)
 
 pub ordered_length : (c : ℕ → Option Pair) (from count : ℕ) → length (ordered c from count) ≤ count
 ordered_length c from zero = omega (arith, ap length (ordered-none c from))
-ordered_length c from (suc count) = let few = put_if_length (c from) (ordered c (suc from) count) count (ordered_length c (suc from) count) in subst (λ n. n ≤ suc count) (sym (ap length (ordered-suc c from count))) few
+ordered_length c from (suc count) = let few = put_if_length (c from) (ordered c (suc from) count) count (ordered_length c (suc from) count) in
+    subst (λ n. n ≤ suc count) (sym (ap length (ordered-suc c from count))) few
 
 pub ordered_rising : (c : ℕ → Option Pair) (from count : ℕ) → IsRising (ordered c from count)
 ordered_rising c from zero = subst IsRising (sym (ordered-none c from)) (λ i j d low within. absurd (omega arith))
-ordered_rising c from (suc count) = subst IsRising (sym (ordered-suc c from count)) (put_if_rising (c from) (ordered c (suc from) count) (ordered_rising c (suc from) count))
+ordered_rising c from (suc count) = subst IsRising (sym (ordered-suc c from count))
+    (put_if_rising (c from) (ordered c (suc from) count) (ordered_rising c (suc from) count))
   where
     put_if_rising : (o : Option Pair) (xs : List Pair) → IsRising xs → IsRising (put_if o xs)
     put_if_rising None xs rising = rising
     put_if_rising (Some p) xs rising = put_rising p xs rising
 
 -- where one number changes, its old pair is taken out and its new one put in
-pub ordered_changed : (c d : ℕ → Option Pair) (s from count : ℕ) → from ≤ s → s < from + count → ((i : ℕ) → (s ≡ i → ⊥) → c i ≡ d i) → put_if (d s) (out_if (c s) (ordered c from count)) ≡ ordered d from count
+pub ordered_changed : (c d : ℕ → Option Pair) (s from count : ℕ) → from ≤ s → s < from + count → ((i : ℕ) → (s ≡ i → ⊥) → c i ≡ d i)
+    → put_if (d s) (out_if (c s) (ordered c from count)) ≡ ordered d from count
 ordered_changed c d s from count low high same =
-    ap (λ xs. put_if (d s) (out_if (c s) xs)) (ordered_one c s from count low high) ∙ ap (put_if (d s)) (put_if_and_out (c s) (ordered (except s c) from count)) ∙ ap (put_if (d s)) others ∙ sym (ordered_one d s from count low high)
+    ap (λ xs. put_if (d s) (out_if (c s) xs)) (ordered_one c s from count low high)
+    ∙ ap (put_if (d s)) (put_if_and_out (c s) (ordered (except s c) from count)) ∙ ap (put_if (d s)) others
+    ∙ sym (ordered_one d s from count low high)
   where
     others : ordered (except s c) from count ≡ ordered (except s d) from count
     others = ordered_same (except s c) (except s d) from count (λ i a b. elim (cases_eq s i) [
@@ -125,16 +138,19 @@ ordered_changed c d s from count low high same =
     ])
 
 -- and there is room for it
-pub ordered_room : (c d : ℕ → Option Pair) (p : Pair) (s from count : ℕ) → from ≤ s → s < from + count → ((i : ℕ) → (s ≡ i → ⊥) → c i ≡ d i) → d s ≡ Some p → length (out_if (c s) (ordered c from count)) < count
+pub ordered_room : (c d : ℕ → Option Pair) (p : Pair) (s from count : ℕ) → from ≤ s → s < from + count → ((i : ℕ) → (s ≡ i → ⊥) → c i ≡ d i)
+    → d s ≡ Some p → length (out_if (c s) (ordered c from count)) < count
 ordered_room c d p s from count low high same is =
     let all = ordered_length d from count in
     let e = ap length (sym (ordered_changed c d s from count low high same) ∙ ap (λ o. put_if o (out_if (c s) (ordered c from count))) is) in
     let more = put_length p (out_if (c s) (ordered c from count)) in omega (arith, all, e, more)
 
 -- what holds of the pair of each number holds of all of them
-pub ordered_all : (P : Pair → Type 0) (c : ℕ → Option Pair) (from count : ℕ) → ((s : ℕ) (p : Pair) → from ≤ s → s < from + count → c s ≡ Some p → P p) → All P (ordered c from count)
+pub ordered_all : (P : Pair → Type 0) (c : ℕ → Option Pair) (from count : ℕ)
+    → ((s : ℕ) (p : Pair) → from ≤ s → s < from + count → c s ≡ Some p → P p) → All P (ordered c from count)
 ordered_all P c from zero each = subst (All P) (sym (ordered-none c from)) (λ k d low. absurd (omega arith))
-ordered_all P c from (suc count) each = subst (All P) (sym (ordered-suc c from count)) (at (c from) refl (ordered_all P c (suc from) count (λ s p a b. each s p (omega arith) (omega arith))))
+ordered_all P c from (suc count) each = subst (All P) (sym (ordered-suc c from count))
+    (at (c from) refl (ordered_all P c (suc from) count (λ s p a b. each s p (omega arith) (omega arith))))
   where
     at : (o : Option Pair) → c from ≡ o → All P (ordered c (suc from) count) → All P (put_if o (ordered c (suc from) count))
     at None e rest = rest
@@ -154,7 +170,8 @@ in_put p q (r ∷ rs) m = at (comes_before r p) m (in_put p q rs)
     first (inl e) next = inr (subst (Contains (r ∷ rs)) e (here r rs))
     first (inr n) next = later_too (next n)
 
-    at : (b : Bool) → Contains (cond b (r ∷ put_in p rs) (p ∷ r ∷ rs)) q → (Contains (put_in p rs) q → (p ≡ q) ⊎ Contains rs q) → (p ≡ q) ⊎ Contains (r ∷ rs) q
+    at : (b : Bool) → Contains (cond b (r ∷ put_in p rs) (p ∷ r ∷ rs)) q → (Contains (put_in p rs) q → (p ≡ q) ⊎ Contains rs q) → (p ≡ q)
+        ⊎ Contains (r ∷ rs) q
     at true n next = first (here_or_later r q (put_in p rs) n) next
     at false n next = here_or_later p q (r ∷ rs) n
 
@@ -177,50 +194,65 @@ put_keeps p q (r ∷ rs) m = at (comes_before r p) (here_or_later r q rs m) (put
     at false (inr n) next = later p q (r ∷ rs) (later r q rs n)
 
 -- a pair of the list is that of one of the numbers, and the other way round
-pub ordered_from : (c : ℕ → Option Pair) (from count : ℕ) (q : Pair) → Contains (ordered c from count) q → (s : ℕ) × (from ≤ s) × (s < from + count) × (c s ≡ Some q)
+pub ordered_from : (c : ℕ → Option Pair) (from count : ℕ) (q : Pair) → Contains (ordered c from count) q → (s : ℕ) × (from ≤ s)
+    × (s < from + count) × (c s ≡ Some q)
 ordered_from c from zero q m = nowhere q (subst (λ xs. Contains xs q) (ordered-none c from) m)
 ordered_from c from (suc count) q m = at (c from) refl (subst (λ xs. Contains xs q) (ordered-suc c from count) m) (ordered_from c (suc from) count q)
   where
     farther : (s : ℕ) × (suc from ≤ s) × (s < suc from + count) × (c s ≡ Some q) → (s : ℕ) × (from ≤ s) × (s < from + suc count) × (c s ≡ Some q)
     farther f = (f.0, omega (arith, f.1), omega (arith, f.2), f.3)
 
-    either : (p : Pair) → c from ≡ Some p → (p ≡ q) ⊎ Contains (ordered c (suc from) count) q → (Contains (ordered c (suc from) count) q → (s : ℕ) × (suc from ≤ s) × (s < suc from + count) × (c s ≡ Some q)) → (s : ℕ) × (from ≤ s) × (s < from + suc count) × (c s ≡ Some q)
+    either : (p : Pair) → c from ≡ Some p → (p ≡ q) ⊎ Contains (ordered c (suc from) count) q
+        → (Contains (ordered c (suc from) count) q → (s : ℕ) × (suc from ≤ s) × (s < suc from + count) × (c s ≡ Some q)) → (s : ℕ) × (from ≤ s)
+        × (s < from + suc count) × (c s ≡ Some q)
     either p e (inl same) next = (from, omega arith, omega arith, e ∙ ap Some same)
     either p e (inr n) next = farther (next n)
 
-    at : (o : Option Pair) → c from ≡ o → Contains (put_if o (ordered c (suc from) count)) q → (Contains (ordered c (suc from) count) q → (s : ℕ) × (suc from ≤ s) × (s < suc from + count) × (c s ≡ Some q)) → (s : ℕ) × (from ≤ s) × (s < from + suc count) × (c s ≡ Some q)
+    at : (o : Option Pair) → c from ≡ o → Contains (put_if o (ordered c (suc from) count)) q
+        → (Contains (ordered c (suc from) count) q → (s : ℕ) × (suc from ≤ s) × (s < suc from + count) × (c s ≡ Some q)) → (s : ℕ) × (from ≤ s)
+        × (s < from + suc count) × (c s ≡ Some q)
     at None e n next = farther (next n)
     at (Some p) e n next = either p e (in_put p q (ordered c (suc from) count) n) next
 
 pub ordered_has : (c : ℕ → Option Pair) (from count s : ℕ) (q : Pair) → from ≤ s → s < from + count → c s ≡ Some q → Contains (ordered c from count) q
 ordered_has c from count s q low high is =
-    subst (λ xs. Contains xs q) (sym (ordered_one c s from count low high ∙ ap (λ o. put_if o (ordered (except s c) from count)) is)) (put_here q (ordered (except s c) from count))
+    subst (λ xs. Contains xs q) (sym (ordered_one c s from count low high ∙ ap (λ o. put_if o (ordered (except s c) from count)) is))
+    (put_here q (ordered (except s c) from count))
 
 -- ---- each pair comes before all that follow it, where each has its own number
 
-put_strict : (p : Pair) (xs : List Pair) → All (λ q. is_pair p q ≡ false) xs → AllPairs (λ p q. comes_before p q ≡ true) xs → AllPairs (λ p q. comes_before p q ≡ true) (put_in p xs)
+put_strict : (p : Pair) (xs : List Pair) → All (λ q. is_pair p q ≡ false) xs → AllPairs (λ p q. comes_before p q ≡ true) xs
+    → AllPairs (λ p q. comes_before p q ≡ true) (put_in p xs)
 put_strict p [] others rising = λ i j d low within. absurd (omega arith)
-put_strict p (q ∷ qs) others rising = at (comes_before q p) refl (put_strict p qs (λ k d low. others (suc k) d (omega arith)) (pairs_tail (λ p q. comes_before p q ≡ true) q qs rising))
+put_strict p (q ∷ qs) others rising = at (comes_before q p) refl
+    (put_strict p qs (λ k d low. others (suc k) d (omega arith)) (pairs_tail (λ p q. comes_before p q ≡ true) q qs rising))
   where
     tail : All (λ r. comes_before q r ≡ true) qs
     tail k d low = rising 0 (suc k) d (omega arith) (omega arith)
 
     after : Before p q → All (λ r. comes_before p r ≡ true) qs
-    after first k d low = before_is p (get_or qs k d) (before_first p q (get_or qs k d) first (before_comes_first q (get_or qs k d) (is_before q (get_or qs k d) (tail k d low))))
+    after first k d low = before_is p (get_or qs k d)
+        (before_first p q (get_or qs k d) first (before_comes_first q (get_or qs k d) (is_before q (get_or qs k d) (tail k d low))))
 
-    at : (b : Bool) → comes_before q p ≡ b → AllPairs (λ p q. comes_before p q ≡ true) (put_in p qs) → AllPairs (λ p q. comes_before p q ≡ true) (cond b (q ∷ put_in p qs) (p ∷ q ∷ qs))
+    at : (b : Bool) → comes_before q p ≡ b → AllPairs (λ p q. comes_before p q ≡ true) (put_in p qs)
+        → AllPairs (λ p q. comes_before p q ≡ true) (cond b (q ∷ put_in p qs) (p ∷ q ∷ qs))
     at true is rest = AllPairs-cons (λ p q. comes_before p q ≡ true) q (put_in p qs) (put_all (λ r. comes_before q r ≡ true) p qs is tail) rest
     at false is rest =
         let first = first_other p q (not_before q p is) (others 0 q (omega arith)) in
-        AllPairs-cons (λ p q. comes_before p q ≡ true) p (q ∷ qs) (All-cons (λ r. comes_before p r ≡ true) q qs (before_is p q first) (after first)) rising
+        AllPairs-cons (λ p q. comes_before p q ≡ true) p (q ∷ qs)
+        (All-cons (λ r. comes_before p r ≡ true) q qs (before_is p q first) (after first)) rising
 
 pub ordered_strict : (c : ℕ → Option Pair) (from count : ℕ) → NamesItself c → AllPairs (λ p q. comes_before p q ≡ true) (ordered c from count)
-ordered_strict c from zero own = subst (AllPairs (λ p q. comes_before p q ≡ true)) (sym (ordered-none c from)) (λ i j d low within. absurd (omega arith))
-ordered_strict c from (suc count) own = subst (AllPairs (λ p q. comes_before p q ≡ true)) (sym (ordered-suc c from count)) (at (c from) refl (ordered_strict c (suc from) count own))
+ordered_strict c from zero own = subst (AllPairs (λ p q. comes_before p q ≡ true)) (sym (ordered-none c from))
+    (λ i j d low within. absurd (omega arith))
+ordered_strict c from (suc count) own = subst (AllPairs (λ p q. comes_before p q ≡ true)) (sym (ordered-suc c from count))
+    (at (c from) refl (ordered_strict c (suc from) count own))
   where
     other : (p : Pair) → c from ≡ Some p → All (λ q. is_pair p q ≡ false) (ordered c (suc from) count)
-    other p e = ordered_all (λ q. is_pair p q ≡ false) c (suc from) count (λ s q a b is. and_right (nat_eq p.0 q.0) (nat_eq p.1 q.1) (ne_eqb p.1 q.1 (λ same. omega (arith, same, own from p e, own s q is, a))))
+    other p e = ordered_all (λ q. is_pair p q ≡ false) c (suc from) count
+        (λ s q a b is. and_right (nat_eq p.0 q.0) (nat_eq p.1 q.1) (ne_eqb p.1 q.1 (λ same. omega (arith, same, own from p e, own s q is, a))))
 
-    at : (o : Option Pair) → c from ≡ o → AllPairs (λ p q. comes_before p q ≡ true) (ordered c (suc from) count) → AllPairs (λ p q. comes_before p q ≡ true) (put_if o (ordered c (suc from) count))
+    at : (o : Option Pair) → c from ≡ o → AllPairs (λ p q. comes_before p q ≡ true) (ordered c (suc from) count)
+        → AllPairs (λ p q. comes_before p q ≡ true) (put_if o (ordered c (suc from) count))
     at None e rest = rest
     at (Some p) e rest = put_strict p (ordered c (suc from) count) (other p e) rest

@@ -15,14 +15,18 @@ none_word a from none = word_from_bits a from 0 (omega arith) (λ i low. has_bit
 -- ---- the summary
 
 -- where one source changes, the other words stay
-pub other_words : (summary s : ℕ) (ready : Bool) (old new : ℕ → Bool) → Summarizes summary old → ((t : ℕ) → new t ≡ cond (nat_eq s t) ready (old t)) → SummarizesAllBut (s / 64) summary new
+pub other_words : (summary s : ℕ) (ready : Bool) (old new : ℕ → Bool) → Summarizes summary old
+    → ((t : ℕ) → new t ≡ cond (nat_eq s t) ready (old t)) → SummarizesAllBut (s / 64) summary new
 other_words summary s ready old new told changed =
-    any.other_words summary (s / 64) old new told (λ t other. changed t ∙ ap (λ b. cond b ready (old t)) (ne_eqb s t (λ e. other (ap (λ n. n / 64) (sym e)))))
+    any.other_words summary (s / 64) old new told (λ t other. changed t
+    ∙ ap (λ b. cond b ready (old t)) (ne_eqb s t (λ e. other (ap (λ n. n / 64) (sym e)))))
 
 -- a summary of 0 tells that no source is in the set
-pub empty_told : (summary : ℕ) (words : List ℕ) → length words ≡ SOURCE_WORDS → Summarizes summary (is_in words) → summary ≡ 0 → (s : ℕ) → is_in words s ≡ false
+pub empty_told : (summary : ℕ) (words : List ℕ) → length words ≡ SOURCE_WORDS → Summarizes summary (is_in words) → summary ≡ 0 → (s : ℕ)
+    → is_in words s ≡ false
 empty_told summary words sixteen told zero_word s = elim (cases_lt (s / 64) 64) [
-  | inl low ↦ none_in_word (is_in words) (s / 64) s refl (sym (summarizes summary (is_in words) told (s / 64) low) ∙ ap (λ x. has_bit x (s / 64)) zero_word ∙ has_bit-zero (s / 64))
+  | inl low ↦ none_in_word (is_in words) (s / 64) s refl
+      (sym (summarizes summary (is_in words) told (s / 64) low) ∙ ap (λ x. has_bit x (s / 64)) zero_word ∙ has_bit-zero (s / 64))
   | inr past ↦ is_in-past words s (omega arith)
 ]
 

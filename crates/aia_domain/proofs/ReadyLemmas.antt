@@ -7,7 +7,8 @@ use Rattle.aia_domain.specs.Domain.{DomainState, is_ready, ready_from}
 
 from_step : (d : DomainState) (s : ℕ) → s < length d.sources → ready_from d s ≡ cond (is_ready d s) (s ∷ ready_from d (s + 1)) (ready_from d (s + 1))
 unfolding ready_from
-from_step d s within = let e : length d.sources - s ≡ suc (length d.sources - (s + 1)) = omega arith in ap (λ n. filter (is_ready d) (range_with_len s n)) e
+from_step d s within = let e : length d.sources - s ≡ suc (length d.sources - (s + 1)) = omega arith in
+    ap (λ n. filter (is_ready d) (range_with_len s n)) e
 
 pub ready_here : (d : DomainState) (s : ℕ) → s < length d.sources → is_ready d s ≡ true → ready_from d s ≡ s ∷ ready_from d (s + 1)
 ready_here d s within here = from_step d s within ∙ ap (λ (b : Bool). cond b (s ∷ ready_from d (s + 1)) (ready_from d (s + 1))) here
@@ -32,8 +33,10 @@ from_members d from s m =
 
 pub from_each : (d : DomainState) (from s : ℕ) → from ≤ s → s < length d.sources → is_ready d s ≡ true → Contains (ready_from d from) s
 unfolding ready_from
-from_each d from s low high is = filter_has (is_ready d) (range_with_len from (length d.sources - from)) s (range_has from (length d.sources - from) s low (omega (arith, low, high))) is
+from_each d from s low high is = filter_has (is_ready d) (range_with_len from (length d.sources - from)) s
+    (range_has from (length d.sources - from) s low (omega (arith, low, high))) is
 
 pub from_rising : (d : DomainState) (from : ℕ) → AllPairs (λ x y. x < y) (ready_from d from)
 unfolding ready_from
-from_rising d from = AllPairs-filter (λ x y. x < y) (is_ready d) (range_with_len from (length d.sources - from)) (range_rises from (length d.sources - from))
+from_rising d from = AllPairs-filter (λ x y. x < y) (is_ready d) (range_with_len from (length d.sources - from))
+    (range_rises from (length d.sources - from))

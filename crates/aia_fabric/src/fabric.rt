@@ -130,6 +130,7 @@ impl Fabric {
         ensures few { (self.now.n + 1) / 64 ≤ FILE_WORDS }
         ensures whole { IsWhole self.now }
     {
+        self.words();
     }
 
     /// Tells how many harts there are, 1 to `HARTS`.

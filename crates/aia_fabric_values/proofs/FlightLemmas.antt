@@ -15,7 +15,8 @@ stored_rest : (w u : World) (vm k : ℕ) (l : Lands w u vm k) → OnlyStores w l
 stored_rest w u vm k l = entry_rest l.store.entry w l.stored l.store.offset l.store.value l.reaches
 
 landed_flights : (w u : World) (vm k : ℕ) → Lands w u vm k → u.flights ≡ slice_set w.flights vm (remove (flight_of w vm) k)
-landed_flights w u vm k l = ap (λ (x : World). x.flights) l.taken ∙ ap (λ (x : World). slice_set x.flights vm (remove (flight_of x vm) k)) (stored_rest w u vm k l)
+landed_flights w u vm k l = ap (λ (x : World). x.flights) l.taken
+    ∙ ap (λ (x : World). slice_set x.flights vm (remove (flight_of x vm) k)) (stored_rest w u vm k l)
 
 pub landed_vms : (w u : World) (vm k : ℕ) → Lands w u vm k → u.vms ≡ w.vms
 landed_vms w u vm k l = ap (λ (x : World). x.vms) l.taken ∙ ap (λ (x : World). x.vms) (stored_rest w u vm k l)
@@ -34,7 +35,8 @@ pub record HaveLanded (w u : World) (vm count : ℕ) : Type 0 where
 pub none_landed : (w : World) (vm : ℕ) → HaveLanded w w vm 0
 none_landed w vm = record { lands = refl; left = omega arith; vms = refl; lists = refl }
 
-pub one_landed : (w u x : World) (vm count : ℕ) → vm < length w.flights → 0 < length (flight_of u vm) → HaveLanded w u vm count → IsWhole u → Lands u x vm 0 → HaveLanded w x vm (count + 1)
+pub one_landed : (w u x : World) (vm count : ℕ) → vm < length w.flights → 0 < length (flight_of u vm) → HaveLanded w u vm count → IsWhole u
+    → Lands u x vm 0 → HaveLanded w x vm (count + 1)
 one_landed w u x vm count there some so_far whole l =
     let one : length (flight_of x vm) ≡ length (remove (flight_of u vm) 0) = ap length (landed_flight u x vm 0 (omega (arith, so_far.lists)) l) in
     let more : suc count ≡ count + 1 = omega arith in
@@ -48,7 +50,8 @@ one_landed w u x vm count there some so_far whole l =
 
 -- ---- a fence leaves none of its VM in flight, and those of other VMs as they were
 
-have_landed : (count : ℕ) (w u : World) (vm : ℕ) → vm < length w.flights → count ≤ length (flight_of w vm) → LandsOldest count w u vm → HaveLanded w u vm count
+have_landed : (count : ℕ) (w u : World) (vm : ℕ) → vm < length w.flights → count ≤ length (flight_of w vm) → LandsOldest count w u vm
+    → HaveLanded w u vm count
 have_landed zero w u vm there enough same = subst (λ (x : World). HaveLanded w x vm 0) (sym same) (none_landed w vm)
 have_landed (suc count) w u vm there enough (mid, before, whole, l) =
     let so_far = have_landed count w mid vm there (omega (arith, enough)) before in
@@ -67,21 +70,25 @@ fence_leaves_none w u vm file whole there f =
 others_fly : (count : ℕ) (w u : World) (vm other : ℕ) → other ≢ vm → LandsOldest count w u vm → flight_of u other ≡ flight_of w other
 others_fly zero w u vm other ne same = ap (λ (x : World). flight_of x other) same
 others_fly (suc count) w u vm other ne (mid, before, whole, l) =
-    ap (λ flights. slice_index_or flights other []) (landed_flights mid u vm 0 l) ∙ get_or-set_other mid.flights vm other (remove (flight_of mid vm) 0) [] ne ∙ others_fly count w mid vm other ne before
+    ap (λ flights. slice_index_or flights other []) (landed_flights mid u vm 0 l)
+    ∙ get_or-set_other mid.flights vm other (remove (flight_of mid vm) 0) [] ne ∙ others_fly count w mid vm other ne before
 
 pub fence_leaves_others : (w u : World) (vm file other : ℕ) → Fences w u vm file → other ≢ vm → flight_of u other ≡ flight_of w other
-fence_leaves_others w u vm file other f ne = ap (λ (x : World). flight_of x other) f.fenced ∙ others_fly (length (flight_of w vm)) w f.landed vm other ne f.lands
+fence_leaves_others w u vm file other f ne = ap (λ (x : World). flight_of x other) f.fenced
+    ∙ others_fly (length (flight_of w vm)) w f.landed vm other ne f.lands
 
 -- ---- what landings leave as it was
 
 -- the world with other files, another memory, another count of notices and other stores in flight
 abbrev with_landed : World → List FileState → List ℕ → ℕ → List (List Flying) → World
-with_landed w files memory notices flights = record w { imsic = record w.imsic { files = files }; memory = memory; notices = notices; flights = flights }
+with_landed w files memory notices flights = record w
+    { imsic = record w.imsic { files = files }; memory = memory; notices = notices; flights = flights }
 
 abbrev pub OnlyLandings : World → World → Type 0
 OnlyLandings w u = u ≡ record w { imsic = record w.imsic { files = u.imsic.files }; memory = u.memory; notices = u.notices; flights = u.flights }
 
-by_landed : (w u : World) (files : List FileState) (memory : List ℕ) (notices : ℕ) (flights : List (List Flying)) → u ≡ with_landed w files memory notices flights → OnlyLandings w u
+by_landed : (w u : World) (files : List FileState) (memory : List ℕ) (notices : ℕ) (flights : List (List Flying))
+    → u ≡ with_landed w files memory notices flights → OnlyLandings w u
 by_landed w u files memory notices flights e = e ∙ ap (λ (x : World). with_landed w x.imsic.files x.memory x.notices x.flights) (sym e)
 
 landed_rest : (w u : World) (vm k : ℕ) → Lands w u vm k → OnlyLandings w u

@@ -9,7 +9,8 @@ use Rattle.aia_fabric_values.specs.Found.{IsFound}
 use Rattle.aia_fabric_values.specs.Whole.{IsWhole}
 use Rattle.aia_fabric_values.proofs.WholeLemmas.{notice_hart_there}
 
-pub found_there : (w : World) (found : Found) → IsWhole w → IsFound w found → (found.slot < vcpus_in w.vms) × (found.slot < VCPUS) × (found.notice < w.imsic.harts)
+pub found_there : (w : World) (found : Found) → IsWhole w → IsFound w found → (found.slot < vcpus_in w.vms) × (found.slot < VCPUS)
+    × (found.notice < w.imsic.harts)
 found_there w found whole is =
     let slot = is.slot in
     let below = slot_below w.vms (vcpu found.vm found.number) is.there in

@@ -30,7 +30,8 @@ none_rest w u e = by_parts w u w.imsic.files w.memory w.notices e
 
 -- so it is where files alone changed, and none came or went
 pub files_rest : (w u : World) → u ≡ record w { imsic = u.imsic } → u.imsic.harts ≡ w.imsic.harts → u.imsic.guests ≡ w.imsic.guests → OnlyStores w u
-files_rest w u rest harts guests = by_parts w u u.imsic.files w.memory w.notices (rest ∙ (λ k. record w { imsic = record { harts = harts k; guests = guests k; files = u.imsic.files } }))
+files_rest w u rest harts guests = by_parts w u u.imsic.files w.memory w.notices
+    (rest ∙ (λ k. record w { imsic = record { harts = harts k; guests = guests k; files = u.imsic.files } }))
 
 pub stores_rest : (w u : World) (spot : Spot) (offset value : ℕ) → StoresIn w u spot offset value → OnlyStores w u
 stores_rest w u spot offset value s =
@@ -38,7 +39,8 @@ stores_rest w u spot offset value s =
 
 pub posts_rest : (w u : World) (spot : Spot) (identity : ℕ) → Posts w u spot identity → OnlyStores w u
 posts_rest w u spot identity p =
-    by_parts w u (with_file w.imsic spot (file_at u.imsic spot)).files w.memory u.notices (p.rest ∙ ap (λ j. record w { imsic = j; notices = u.notices }) p.lands.others)
+    by_parts w u (with_file w.imsic spot (file_at u.imsic spot)).files w.memory u.notices
+    (p.rest ∙ ap (λ j. record w { imsic = j; notices = u.notices }) p.lands.others)
 
 at_rest : (w u : World) (spot : Spot) (offset value : ℕ) → StoresInGuestFile w u spot offset value → OnlyStores w u
 at_rest w u (GuestFile hart file) offset value s = stores_rest w u (GuestFile hart file) offset value s
@@ -57,9 +59,11 @@ by_rest Notice w u spot identity p = noticed_rest w u spot identity p
 by_rest Quiet w u spot identity p = none_rest w u p
 by_rest Discarded w u spot identity p = none_rest w u p
 
-pub slot_rest : (w u : World) (slot : Option ℕ) (spot : Spot) (identity offset value : ℕ) → StoresInSlot w u slot spot identity offset value → OnlyStores w u
+pub slot_rest : (w u : World) (slot : Option ℕ) (spot : Spot) (identity offset value : ℕ) → StoresInSlot w u slot spot identity offset value
+    → OnlyStores w u
 slot_rest w u None spot identity offset value s = none_rest w u s
-slot_rest w u (Some q) spot identity offset value s = by_rest (stored (mrif_in w.memory q) (requested IDENTITIES offset value)) (with_store w q offset value) u spot identity s
+slot_rest w u (Some q) spot identity offset value s =
+    by_rest (stored (mrif_in w.memory q) (requested IDENTITIES offset value)) (with_store w q offset value) u spot identity s
 
 pub entry_rest : (entry : Entry) (w u : World) (offset value : ℕ) → ReachesBy entry w u offset value → OnlyStores w u
 entry_rest (Basic page) w u offset value s = at_rest w u (page_spot w.imsic page) offset value s

@@ -34,9 +34,12 @@ pub record HasMade (w u : World) (vm : Vm) (made : ℕ) : Type 0 where
   pub room : length (table_of u.tables (length w.tables)).in_force ≡ ENTRIES
   pub size : length u.memory ≡ MEMORY_WORDS
   pub in_force : (file : ℕ) → entry_in_force (table_of u.tables (length w.tables)) file ≡ entry_so_far vm (vcpus_in w.vms) made file
-  pub word0 : (file : ℕ) → file < made → slice_index u.memory (entry_word_place (length w.tables) file) ≡ mrif_word (slot_address (vcpus_in w.vms + file))
-  pub word1 : (file : ℕ) → file < made → slice_index u.memory (entry_word_place (length w.tables) file + 1) ≡ notice_word (notice_page vm) (vcpus_in w.vms + file + 1)
-  pub elsewhere : (place : ℕ) → (place < entry_word_place (length w.tables) 0) ⊎ (entry_word_place (length w.tables) made ≤ place) → slice_index u.memory place ≡ slice_index w.memory place
+  pub word0 : (file : ℕ) → file < made → slice_index u.memory (entry_word_place (length w.tables) file) ≡ mrif_word
+      (slot_address (vcpus_in w.vms + file))
+  pub word1 : (file : ℕ) → file < made → slice_index u.memory (entry_word_place (length w.tables) file + 1) ≡ notice_word (notice_page vm)
+      (vcpus_in w.vms + file + 1)
+  pub elsewhere : (place : ℕ) → (place < entry_word_place (length w.tables) 0) ⊎ (entry_word_place (length w.tables) made ≤ place)
+      → slice_index u.memory place ≡ slice_index w.memory place
   pub flights : u.flights ≡ w.flights ++ [] ∷ []
   pub rest : u ≡ record w { vms = u.vms; tables = u.tables; flights = u.flights; memory = u.memory }
 
@@ -70,29 +73,38 @@ none_made w vm size =
 
 -- ---- one more
 
-table_here : (tables : List TableState) (vm file : ℕ) (words : List ℕ) → vm < length tables → table_of (fenced_at tables vm file words) vm ≡ fenced words file (table_of tables vm)
+table_here : (tables : List TableState) (vm file : ℕ) (words : List ℕ) → vm < length tables
+    → table_of (fenced_at tables vm file words) vm ≡ fenced words file (table_of tables vm)
 table_here tables vm file words there = get_or-set_same tables vm (fenced words file (table_of tables vm)) no_table there
 
 -- the words of an entry that is written
-first_word : (words : List ℕ) (vm file slot page : ℕ) → entry_word_place vm file + 1 < MEMORY_WORDS → length words ≡ MEMORY_WORDS → slice_index (words_with_entry words vm file slot page) (entry_word_place vm file) ≡ mrif_word (slot_address slot)
+first_word : (words : List ℕ) (vm file slot page : ℕ) → entry_word_place vm file + 1 < MEMORY_WORDS → length words ≡ MEMORY_WORDS
+    → slice_index (words_with_entry words vm file slot page) (entry_word_place vm file) ≡ mrif_word (slot_address slot)
 first_word words vm file slot page low size =
-    get_or-set_other (set words (entry_word_place vm file) (mrif_word (slot_address slot))) (entry_word_place vm file + 1) (entry_word_place vm file) (notice_word page (slot + 1)) 0 (λ e. omega arith)
+    get_or-set_other (set words (entry_word_place vm file) (mrif_word (slot_address slot))) (entry_word_place vm file + 1)
+    (entry_word_place vm file) (notice_word page (slot + 1)) 0 (λ e. omega arith)
     ∙ get_or-set_same words (entry_word_place vm file) (mrif_word (slot_address slot)) 0 (omega arith)
 
-second_word : (words : List ℕ) (vm file slot page : ℕ) → entry_word_place vm file + 1 < MEMORY_WORDS → length words ≡ MEMORY_WORDS → slice_index (words_with_entry words vm file slot page) (entry_word_place vm file + 1) ≡ notice_word page (slot + 1)
+second_word : (words : List ℕ) (vm file slot page : ℕ) → entry_word_place vm file + 1 < MEMORY_WORDS → length words ≡ MEMORY_WORDS
+    → slice_index (words_with_entry words vm file slot page) (entry_word_place vm file + 1) ≡ notice_word page (slot + 1)
 second_word words vm file slot page low size =
-    get_or-set_same (set words (entry_word_place vm file) (mrif_word (slot_address slot))) (entry_word_place vm file + 1) (notice_word page (slot + 1)) 0 (omega (arith, length-set words (entry_word_place vm file) (mrif_word (slot_address slot))))
+    get_or-set_same (set words (entry_word_place vm file) (mrif_word (slot_address slot))) (entry_word_place vm file + 1)
+    (notice_word page (slot + 1)) 0 (omega (arith, length-set words (entry_word_place vm file) (mrif_word (slot_address slot))))
 
-other_word : (words : List ℕ) (vm file slot page place : ℕ) → place ≢ entry_word_place vm file → place ≢ entry_word_place vm file + 1 → slice_index (words_with_entry words vm file slot page) place ≡ slice_index words place
+other_word : (words : List ℕ) (vm file slot page place : ℕ) → place ≢ entry_word_place vm file → place ≢ entry_word_place vm file + 1
+    → slice_index (words_with_entry words vm file slot page) place ≡ slice_index words place
 other_word words vm file slot page place first second =
-    get_or-set_other (set words (entry_word_place vm file) (mrif_word (slot_address slot))) (entry_word_place vm file + 1) place (notice_word page (slot + 1)) 0 second
+    get_or-set_other (set words (entry_word_place vm file) (mrif_word (slot_address slot))) (entry_word_place vm file + 1) place
+    (notice_word page (slot + 1)) 0 second
     ∙ get_or-set_other words (entry_word_place vm file) place (mrif_word (slot_address slot)) 0 first
 
 size_kept : (words : List ℕ) (vm file slot page : ℕ) → length (words_with_entry words vm file slot page) ≡ length words
-size_kept words vm file slot page = length-set (set words (entry_word_place vm file) (mrif_word (slot_address slot))) (entry_word_place vm file + 1) (notice_word page (slot + 1)) ∙ length-set words (entry_word_place vm file) (mrif_word (slot_address slot))
+size_kept words vm file slot page = length-set (set words (entry_word_place vm file) (mrif_word (slot_address slot)))
+    (entry_word_place vm file + 1) (notice_word page (slot + 1)) ∙ length-set words (entry_word_place vm file) (mrif_word (slot_address slot))
 
 -- what they say
-said : (words : List ℕ) (t : TableState) (vm file slot page : ℕ) → t.start ≡ table_byte vm → entry_word_place vm file + 1 < MEMORY_WORDS → length words ≡ MEMORY_WORDS → slot < SLOTS → page < 2 ^ 44
+said : (words : List ℕ) (t : TableState) (vm file slot page : ℕ) → t.start ≡ table_byte vm → entry_word_place vm file + 1 < MEMORY_WORDS
+    → length words ≡ MEMORY_WORDS → slot < SLOTS → page < 2 ^ 44
     → written_entry (words_with_entry words vm file slot page) t file ≡ Mrif (slot_address slot) page (slot + 1)
 said words t vm file slot page start low size few there =
     let first : (t.start + 16 * file) / 8 ≡ entry_word_place vm file = ap (λ n. (n + 16 * file) / 8) start in
@@ -104,7 +116,8 @@ said words t vm file slot page start low size few there =
     ∙ ap (λ x. decoded (mrif_word (slot_address slot)) x) (second_word words vm file slot page low size)
     ∙ mrif_back (slot_address slot) page (slot + 1) (omega arith) (omega arith) there (omega arith)
 
-pub one_more_made : (w u : World) (vm : Vm) (made page : ℕ) → HasMade w u vm made → length w.tables < VMS → made < ENTRIES → vcpus_in w.vms + made < VCPUS → page ≡ notice_page vm → page < 2 ^ 44
+pub one_more_made : (w u : World) (vm : Vm) (made page : ℕ) → HasMade w u vm made → length w.tables < VMS → made < ENTRIES
+    → vcpus_in w.vms + made < VCPUS → page ≡ notice_page vm → page < 2 ^ 44
     → HasMade w (with_entry u (length w.tables) made (vcpus_in w.vms + made) page) vm (made + 1)
 one_more_made w u vm made page so_far vms few slots is there =
     let new = length w.tables in
@@ -117,7 +130,8 @@ one_more_made w u vm made page so_far vms few slots is there =
     let low : entry_word_place new made + 1 < MEMORY_WORDS = omega arith in
     let here = table_here u.tables new made words stands in
     let entry : entry_in_force (table_of (fenced_at u.tables new made words) new) made ≡ Mrif (slot_address slot) (notice_page vm) (slot + 1) =
-    fenced_here u.tables new made words stands (omega arith) ∙ said u.memory t new made slot page so_far.start low so_far.size slots there ∙ ap (λ p. Mrif (slot_address slot) p (slot + 1)) is in
+    fenced_here u.tables new made words stands (omega arith) ∙ said u.memory t new made slot page so_far.start low so_far.size slots there
+    ∙ ap (λ p. Mrif (slot_address slot) p (slot + 1)) is in
     record {
       vms = so_far.vms;
       count = fenced_count u.tables new made words ∙ so_far.count;
@@ -127,16 +141,24 @@ one_more_made w u vm made page so_far vms few slots is there =
       room = ap (λ (x : TableState). length x.in_force) here ∙ length-set t.in_force made (written_entry words t made) ∙ so_far.room;
       size = size_kept u.memory new made slot page ∙ so_far.size;
       in_force = λ file. elim (cases_eq file made) [
-        | inl e ↦ ap (λ n. entry_in_force (table_of (fenced_at u.tables new made words) new) n) e ∙ entry ∙ ap (λ n. Mrif (slot_address (vcpus_in w.vms + n)) (notice_page vm) (vcpus_in w.vms + n + 1)) (sym e) ∙ sym (cond-true _ _ _ (lt-ltb file (made + 1) (omega arith)))
-        | inr ne ↦ fenced_elsewhere u.tables new made words new file (inr ne) ∙ so_far.in_force file ∙ ap (λ b. cond b (Mrif (slot_address (vcpus_in w.vms + file)) (notice_page vm) (vcpus_in w.vms + file + 1)) NotValid) (below_next file made ne)
+        | inl e ↦ ap (λ n. entry_in_force (table_of (fenced_at u.tables new made words) new) n) e ∙ entry
+            ∙ ap (λ n. Mrif (slot_address (vcpus_in w.vms + n)) (notice_page vm) (vcpus_in w.vms + n + 1)) (sym e)
+            ∙ sym (cond-true _ _ _ (lt-ltb file (made + 1) (omega arith)))
+        | inr ne ↦ fenced_elsewhere u.tables new made words new file (inr ne) ∙ so_far.in_force file
+            ∙ ap (λ b. cond b (Mrif (slot_address (vcpus_in w.vms + file)) (notice_page vm) (vcpus_in w.vms + file + 1)) NotValid)
+            (below_next file made ne)
       ];
       word0 = λ file under. elim (cases_eq file made) [
-        | inl e ↦ ap (λ n. slice_index words (entry_word_place new n)) e ∙ first_word u.memory new made slot page low so_far.size ∙ ap (λ n. mrif_word (slot_address (vcpus_in w.vms + n))) (sym e)
-        | inr ne ↦ other_word u.memory new made slot page (entry_word_place new file) (λ e. omega arith) (λ e. omega arith) ∙ so_far.word0 file (omega arith)
+        | inl e ↦ ap (λ n. slice_index words (entry_word_place new n)) e ∙ first_word u.memory new made slot page low so_far.size
+            ∙ ap (λ n. mrif_word (slot_address (vcpus_in w.vms + n))) (sym e)
+        | inr ne ↦ other_word u.memory new made slot page (entry_word_place new file) (λ e. omega arith) (λ e. omega arith)
+            ∙ so_far.word0 file (omega arith)
       ];
       word1 = λ file under. elim (cases_eq file made) [
-        | inl e ↦ ap (λ n. slice_index words (entry_word_place new n + 1)) e ∙ second_word u.memory new made slot page low so_far.size ∙ ap (λ p. notice_word p (slot + 1)) is ∙ ap (λ n. notice_word (notice_page vm) (vcpus_in w.vms + n + 1)) (sym e)
-        | inr ne ↦ other_word u.memory new made slot page (entry_word_place new file + 1) (λ e. omega arith) (λ e. omega arith) ∙ so_far.word1 file (omega arith)
+        | inl e ↦ ap (λ n. slice_index words (entry_word_place new n + 1)) e ∙ second_word u.memory new made slot page low so_far.size
+            ∙ ap (λ p. notice_word p (slot + 1)) is ∙ ap (λ n. notice_word (notice_page vm) (vcpus_in w.vms + n + 1)) (sym e)
+        | inr ne ↦ other_word u.memory new made slot page (entry_word_place new file + 1) (λ e. omega arith) (λ e. omega arith)
+            ∙ so_far.word1 file (omega arith)
       ];
       elsewhere = λ place apart. elim apart [
         | inl before ↦ other_word u.memory new made slot page place (λ e. omega arith) (λ e. omega arith) ∙ so_far.elsewhere place (inl before)

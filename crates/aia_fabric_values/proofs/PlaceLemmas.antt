@@ -25,7 +25,8 @@ use Rattle.aia_fabric_values.specs.Changes.{spot_of}
 
 pub slot_found : (q : ℕ) → q < SLOTS → slot_at (slot_address q) ≡ Some q
 slot_found q low =
-    least_of-found (λ x. nat_eq (slot_address x) (slot_address q)) 0 SLOTS q (omega arith) (omega arith) (eq-eqb (slot_address q) (slot_address q) refl)
+    least_of-found (λ x. nat_eq (slot_address x) (slot_address q)) 0 SLOTS q (omega arith) (omega arith)
+    (eq-eqb (slot_address q) (slot_address q) refl)
     (λ j a b. ne_eqb (slot_address j) (slot_address q) (λ e. omega arith))
 
 pub slot_begins : (addr q : ℕ) → slot_at addr ≡ Some q → (q < SLOTS) × (addr ≡ slot_address q)
@@ -37,18 +38,22 @@ pub slot_by_number : (addr q : ℕ) → q < SLOTS → addr ≡ slot_address q �
 slot_by_number addr q low is = ap slot_at is ∙ slot_found q low
 
 pub no_slot : (addr : ℕ) → ((q : ℕ) → q < SLOTS → addr ≢ slot_address q) → slot_at addr ≡ None
-no_slot addr none = least_of-none (λ x. nat_eq (slot_address x) addr) 0 SLOTS (λ j a b. ne_eqb (slot_address j) addr (λ e. none j (omega arith) (sym e)))
+no_slot addr none = least_of-none (λ x. nat_eq (slot_address x) addr) 0 SLOTS
+    (λ j a b. ne_eqb (slot_address j) addr (λ e. none j (omega arith) (sym e)))
 
 -- ---- files by page
 
 pub host_page : (i : ImsicState) (hart : ℕ) → hart < i.harts → i.harts ≤ HARTS → page_spot i (supervisor_page hart / PAGE) ≡ SupervisorFile hart
 host_page i hart there few =
     let page : supervisor_page hart / PAGE * PAGE ≡ supervisor_page hart = omega arith in
-    spot_of_host i.harts i.guests (supervisor_page hart / PAGE * PAGE) hart few there (in_page (supervisor_page hart) (supervisor_page hart / PAGE * PAGE) (omega arith) (omega arith))
+    spot_of_host i.harts i.guests (supervisor_page hart / PAGE * PAGE) hart few there
+    (in_page (supervisor_page hart) (supervisor_page hart / PAGE * PAGE) (omega arith) (omega arith))
 
 -- past the pages of all files there is none
-pub page_past : (i : ImsicState) (page : ℕ) → i.harts ≤ HARTS → i.guests ≤ GUEST_FILES → supervisor_page HARTS / PAGE ≤ page → page_spot i page ≡ Nowhere
-page_past i page few fewer past = past_hosts i.harts i.guests (page * PAGE) ((page * PAGE - SUPERVISOR_FILES) / HART_STRIDE) few fewer refl (omega arith) (omega arith)
+pub page_past : (i : ImsicState) (page : ℕ) → i.harts ≤ HARTS → i.guests ≤ GUEST_FILES → supervisor_page HARTS / PAGE ≤ page
+    → page_spot i page ≡ Nowhere
+page_past i page few fewer past = past_hosts i.harts i.guests (page * PAGE) ((page * PAGE - SUPERVISOR_FILES) / HART_STRIDE) few fewer refl
+    (omega arith) (omega arith)
 
 -- ---- a store to a slot
 
@@ -58,8 +63,10 @@ pub slot_takes_store : (words : List ℕ) (q offset value : ℕ) → HasSlot wor
 slot_takes_store words q offset value there = landed words (words_after_store words q (requested IDENTITIES offset value)) q offset value there refl
 
 -- that in another slot is equal
-pub other_slot_stays : (words : List ℕ) (q r offset value : ℕ) → q ≢ r → mrif_in (words_after_store words q (requested IDENTITIES offset value)) r ≡ mrif_in words r
-other_slot_stays words q r offset value other = by_request (requested IDENTITIES offset value) (λ i e. (requested_in_range IDENTITIES offset value i e).1)
+pub other_slot_stays : (words : List ℕ) (q r offset value : ℕ) → q ≢ r
+    → mrif_in (words_after_store words q (requested IDENTITIES offset value)) r ≡ mrif_in words r
+other_slot_stays words q r offset value other =
+    by_request (requested IDENTITIES offset value) (λ i e. (requested_in_range IDENTITIES offset value i e).1)
   where
     apart : (place : ℕ) → 64 * q ≤ place → place < 64 * (q + 1) → (place < 64 * r) ⊎ (64 * (r + 1) ≤ place)
     apart place low high = elim (cases_lt q r) [
@@ -81,4 +88,5 @@ store_keeps_size words q (Some i) = length-set words (pending_place q (i / 64)) 
 -- ---- the guest file that a record names
 
 pub named_guest : (i : ImsicState) (p : GuestPlace) → IsThere i (spot_of p) → named_spot i p ≡ spot_of p
-named_guest i p inside = let named : (nat_lt p.hart i.harts && is_in_range 1 i.guests p.file) ≡ true = grind (arith, nat_tests, inside.0, inside.1, inside.2) in cond-true _ _ _ named
+named_guest i p inside = let named : (nat_lt p.hart i.harts && is_in_range 1 i.guests p.file) ≡ true =
+    grind (arith, nat_tests, inside.0, inside.1, inside.2) in cond-true _ _ _ named

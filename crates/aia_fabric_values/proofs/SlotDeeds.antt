@@ -21,17 +21,23 @@ slots_apart q r place other low high = elim (cases_lt r q) [
 pub slot_whole : (w : World) (q : ℕ) (memory : List ℕ) → IsWhole w → KeepsAllElse w.memory memory q w.n → IsWhole (record w { memory = memory })
 slot_whole w q memory whole keeps = memory_whole w memory whole keeps.size
     (λ p low. elim (cases_eq p q) [
-      | inl e ↦ ap (λ x. has_bit (get_or memory (pending_place x 0) 0) 0) e ∙ (keeps.kept 0 refl).0 ∙ ap (λ x. has_bit (get_or w.memory (pending_place x 0) 0) 0) (sym e) ∙ whole.no_pending_zero p low
-      | inr ne ↦ ap (λ x. has_bit x 0) (keeps.elsewhere (pending_place p 0) (slots_apart q p (pending_place p 0) ne (omega arith) (omega arith))) ∙ whole.no_pending_zero p low
+      | inl e ↦ ap (λ x. has_bit (get_or memory (pending_place x 0) 0) 0) e ∙ (keeps.kept 0 refl).0
+          ∙ ap (λ x. has_bit (get_or w.memory (pending_place x 0) 0) 0) (sym e) ∙ whole.no_pending_zero p low
+      | inr ne ↦ ap (λ x. has_bit x 0) (keeps.elsewhere (pending_place p 0) (slots_apart q p (pending_place p 0) ne (omega arith) (omega arith)))
+          ∙ whole.no_pending_zero p low
     ])
     (λ p low. elim (cases_eq p q) [
-      | inl e ↦ ap (λ x. has_bit (get_or memory (enable_place x 0) 0) 0) e ∙ (keeps.kept 0 refl).1 ∙ ap (λ x. has_bit (get_or w.memory (enable_place x 0) 0) 0) (sym e) ∙ whole.no_enabled_zero p low
-      | inr ne ↦ ap (λ x. has_bit x 0) (keeps.elsewhere (enable_place p 0) (slots_apart q p (enable_place p 0) ne (omega arith) (omega arith))) ∙ whole.no_enabled_zero p low
+      | inl e ↦ ap (λ x. has_bit (get_or memory (enable_place x 0) 0) 0) e ∙ (keeps.kept 0 refl).1
+          ∙ ap (λ x. has_bit (get_or w.memory (enable_place x 0) 0) 0) (sym e) ∙ whole.no_enabled_zero p low
+      | inr ne ↦ ap (λ x. has_bit x 0) (keeps.elsewhere (enable_place p 0) (slots_apart q p (enable_place p 0) ne (omega arith) (omega arith)))
+          ∙ whole.no_enabled_zero p low
     ])
 
 -- ---- it is done
 
-pub slot_done : (w : World) (q threshold : ℕ) (deed : InterruptFile → InterruptFile) (memory : List ℕ) → SameFile (slot_file w.n threshold (mrif_in memory q)) (deed (file_of_slot w q threshold)) → KeepsAllElse w.memory memory q w.n → DoneInSlot w (record w { memory = memory }) q threshold deed
+pub slot_done : (w : World) (q threshold : ℕ) (deed : InterruptFile → InterruptFile) (memory : List ℕ)
+    → SameFile (slot_file w.n threshold (mrif_in memory q)) (deed (file_of_slot w q threshold)) → KeepsAllElse w.memory memory q w.n
+    → DoneInSlot w (record w { memory = memory }) q threshold deed
 slot_done w q threshold deed memory done keeps = record { done = done; kept = keeps.kept; elsewhere = keeps.elsewhere; rest = refl }
 
 -- so it is where nothing is written

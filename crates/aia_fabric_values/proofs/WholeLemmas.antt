@@ -52,7 +52,8 @@ notice_hart_there w g whole there = elim (cases_lt g.vm (length w.vms)) [
 ]
 
 -- so the notices of a slot go to a hart that is there
-pub noticed_there : (w : World) (q hart : ℕ) → IsWhole w → q < vcpus_in w.vms → ((g : Vcpu) → is_vcpu_in w.vms g ≡ true → slot_of w.vms g ≡ q → hart ≡ notice_hart w.vms g) → hart < w.imsic.harts
+pub noticed_there : (w : World) (q hart : ℕ) → IsWhole w → q < vcpus_in w.vms
+    → ((g : Vcpu) → is_vcpu_in w.vms g ≡ true → slot_of w.vms g ≡ q → hart ≡ notice_hart w.vms g) → hart < w.imsic.harts
 noticed_there w q hart whole low is =
     let taken = slot_taken w.vms q low in
     let there = notice_hart_there w taken.0 whole taken.1 in
@@ -67,7 +68,8 @@ table_stays tables t v low = get_or-append tables (t ∷ []) no_table v low
 table_new : (tables : List TableState) (t : TableState) → table_of (tables ++ t ∷ []) (length tables) ≡ t
 table_new tables t = get_or-append_seam tables t [] no_table
 
-pub vm_whole : (w : World) (vm : Vm) → IsWhole w → length w.vms < VMS → IsMask vm.mask → vm.vcpus ≤ 2 ^ ones 64 vm.mask → vcpus_in w.vms + vm.vcpus ≤ VCPUS → vm.notice_hart < w.imsic.harts → IsWhole (with_vm w vm)
+pub vm_whole : (w : World) (vm : Vm) → IsWhole w → length w.vms < VMS → IsMask vm.mask → vm.vcpus ≤ 2 ^ ones 64 vm.mask
+    → vcpus_in w.vms + vm.vcpus ≤ VCPUS → vm.notice_hart < w.imsic.harts → IsWhole (with_vm w vm)
 vm_whole w vm whole few mask numbers vcpus hart = record {
   harts = whole.harts;
   guests = whole.guests;
@@ -83,7 +85,8 @@ vm_whole w vm whole few mask numbers vcpus hart = record {
   vcpus = omega (arith, vcpus_more w.vms vm);
   vms = λ v low. elim (cases_lt v (length w.vms)) [
     | inl old ↦ stays v old
-    | inr past ↦ let is : v ≡ length w.vms = omega (arith, past, low, length-append w.vms (vm ∷ [])) in subst (λ x. IsVm (with_vm w vm) x) (sym is) made
+    | inr past ↦ let is : v ≡ length w.vms = omega (arith, past, low, length-append w.vms (vm ∷ [])) in
+        subst (λ x. IsVm (with_vm w vm) x) (sym is) made
   ];
   stages = whole.stages;
 }
@@ -105,7 +108,8 @@ vm_whole w vm whole few mask numbers vcpus hart = record {
     made : IsVm (with_vm w vm) (length w.vms)
     made =
         let same = vm_new w.vms vm in
-        let there = ap (λ n. table_of (w.tables ++ new_table vm.mask (table_byte (length w.tables)) ∷ []) n) (sym whole.tables) ∙ table_new w.tables (new_table vm.mask (table_byte (length w.tables))) in
+        let there = ap (λ n. table_of (w.tables ++ new_table vm.mask (table_byte (length w.tables)) ∷ []) n) (sym whole.tables)
+        ∙ table_new w.tables (new_table vm.mask (table_byte (length w.tables))) in
         record {
           mask = rw (same) mask;
           numbers = rw (same) numbers;
@@ -118,7 +122,8 @@ vm_whole w vm whole few mask numbers vcpus hart = record {
 -- ---- where an entry lies
 
 pub entry_at : (w : World) (vm file : ℕ) → IsWhole w → vm < length w.vms → file < 2 ^ ones 64 (table_of w.tables vm).mask
-    → (file < ENTRIES) × (entry_byte (table_of w.tables vm) file ≡ table_byte vm + 16 * file) × (entry_word_place vm file * 8 ≡ table_byte vm + 16 * file) × (entry_word_place vm file + 1 < MEMORY_WORDS)
+    → (file < ENTRIES) × (entry_byte (table_of w.tables vm) file ≡ table_byte vm + 16 * file)
+    × (entry_word_place vm file * 8 ≡ table_byte vm + 16 * file) × (entry_word_place vm file + 1 < MEMORY_WORDS)
 entry_at w vm file whole there low =
     let is = whole.vms vm there in
     let few = has_entry (table_of w.tables vm).mask file (mask_parts (table_of w.tables vm).mask (rw (is.same_mask) is.mask)).1 low in
@@ -126,7 +131,8 @@ entry_at w vm file whole there low =
     (few, ap (λ n. n + 16 * file) is.start, omega arith, omega (arith, few, there, vms))
 
 -- so has a virtual hart that is there its entry
-pub vcpu_entry : (w : World) (vm file : ℕ) → IsWhole w → is_vcpu_in w.vms (vcpu vm file) ≡ true → (vm < length w.vms) × (vm < VMS) × (file < ENTRIES) × (file < 2 ^ ones 64 (table_of w.tables vm).mask)
+pub vcpu_entry : (w : World) (vm file : ℕ) → IsWhole w → is_vcpu_in w.vms (vcpu vm file) ≡ true → (vm < length w.vms) × (vm < VMS)
+    × (file < ENTRIES) × (file < 2 ^ ones 64 (table_of w.tables vm).mask)
 vcpu_entry w vm file whole there =
     let low = numbered w.vms vm file there in
     elim (cases_lt vm (length w.vms)) [
@@ -151,7 +157,8 @@ vcpu_words w vm file whole there =
 -- word k of the pending set of a slot is joined with another
 pub joined_whole : (w : World) (q k v : ℕ) → IsWhole w → q < VCPUS → k < FILE_WORDS → (k ≡ 0 → has_bit v 0 ≡ false)
     → IsWhole (record w { memory = set w.memory (pending_place q k) (bit_or (get_or w.memory (pending_place q k) 0) v) })
-joined_whole w q k v whole there low zero = pending_whole w q k _ whole there low (λ e. has_bit-or _ v 0 ∙ neither _ _ (ap (λ j. has_bit (get_or w.memory (pending_place q j) 0) 0) e ∙ whole.no_pending_zero q there) (zero e))
+joined_whole w q k v whole there low zero = pending_whole w q k _ whole there low
+    (λ e. has_bit-or _ v 0 ∙ neither _ _ (ap (λ j. has_bit (get_or w.memory (pending_place q j) 0) 0) e ∙ whole.no_pending_zero q there) (zero e))
   where
     neither : (a b : Bool) → a ≡ false → b ≡ false → (a || b) ≡ false
     neither true b p q = p
@@ -162,7 +169,8 @@ pub store_whole : (w : World) (q offset value : ℕ) → IsWhole w → q < VCPUS
 store_whole w q offset value whole there = by_request (requested IDENTITIES offset value) (λ i e. requested_in_range IDENTITIES offset value i e)
   where
     no_zero : (k : ℕ) → 1 ≤ k → k < 64 → has_bit (2 ^ k) 0 ≡ false
-    no_zero k some low = ap (λ x. has_bit x 0) (sym (one_bit k low)) ∙ ap (λ x. has_bit x 0) (sym (or_zero_l (1 * 2 ^ k % 2 ^ 64))) ∙ has_bit-set 0 k 0 low ∙ ap (λ b. b || has_bit 0 0) (ne_eqb 0 k (λ e. omega arith))
+    no_zero k some low = ap (λ x. has_bit x 0) (sym (one_bit k low)) ∙ ap (λ x. has_bit x 0) (sym (or_zero_l (1 * 2 ^ k % 2 ^ 64)))
+        ∙ has_bit-set 0 k 0 low ∙ ap (λ b. b || has_bit 0 0) (ne_eqb 0 k (λ e. omega arith))
 
     by_request : (o : Option ℕ) → ((i : ℕ) → o ≡ Some i → (1 ≤ i) × (i ≤ IDENTITIES)) → IsWhole (record w { memory = words_after_store w.memory q o })
     by_request None small = whole
@@ -172,4 +180,5 @@ store_whole w q offset value whole there = by_request (requested IDENTITIES offs
 
 -- memory is 0
 pub zero_bit : (words : List ℕ) (count place : ℕ) → words ≡ replicate count 0 → place < count → has_bit (slice_index words place) 0 ≡ false
-zero_bit words count place is low = ap (λ (ws : List ℕ). has_bit (slice_index ws place) 0) is ∙ ap (λ x. has_bit x 0) (get_or-replicate count place 0 0 low)
+zero_bit words count place is low = ap (λ (ws : List ℕ). has_bit (slice_index ws place) 0) is
+    ∙ ap (λ x. has_bit x 0) (get_or-replicate count place 0 0 low)

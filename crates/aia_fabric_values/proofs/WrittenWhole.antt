@@ -16,7 +16,8 @@ use Rattle.aia_fabric_values.specs.World.{World}
 use Rattle.aia_fabric_values.specs.Whole.{IsWhole}
 
 -- a file of as many identities stands in the place of another
-pub file_whole : (w : World) (spot : Spot) (file : FileState) → IsWhole w → place_of w.imsic spot < length w.imsic.files → file.n ≡ (file_at w.imsic spot).n
+pub file_whole : (w : World) (spot : Spot) (file : FileState) → IsWhole w → place_of w.imsic spot < length w.imsic.files
+    → file.n ≡ (file_at w.imsic spot).n
     → IsWhole (record w { imsic = with_file w.imsic spot file })
 file_whole w spot file whole within same =
     let IsWide = λ (f : FileState). f.n ≡ w.n in
@@ -34,12 +35,14 @@ file_whole w spot file whole within same =
       tables = whole.tables;
       flights = whole.flights;
       vcpus = whole.vcpus;
-      vms = λ v low. let is = whole.vms v low in record { mask = is.mask; numbers = is.numbers; notice_hart = is.notice_hart; same_mask = is.same_mask; start = is.start; entries = is.entries };
+      vms = λ v low. let is = whole.vms v low in record
+          { mask = is.mask; numbers = is.numbers; notice_hart = is.notice_hart; same_mask = is.same_mask; start = is.start; entries = is.entries };
       stages = whole.stages;
     }
 
 -- memory of as many words, without identity 0 in any slot
-pub memory_whole : (w : World) (words : List ℕ) → IsWhole w → length words ≡ length w.memory → ((q : ℕ) → q < VCPUS → has_bit (slice_index words (pending_place q 0)) 0 ≡ false)
+pub memory_whole : (w : World) (words : List ℕ) → IsWhole w → length words ≡ length w.memory
+    → ((q : ℕ) → q < VCPUS → has_bit (slice_index words (pending_place q 0)) 0 ≡ false)
     → ((q : ℕ) → q < VCPUS → has_bit (slice_index words (enable_place q 0)) 0 ≡ false) → IsWhole (record w { memory = words })
 memory_whole w words whole size pending enabled = record {
   harts = whole.harts;
@@ -54,12 +57,14 @@ memory_whole w words whole size pending enabled = record {
   tables = whole.tables;
   flights = whole.flights;
   vcpus = whole.vcpus;
-  vms = λ v low. let is = whole.vms v low in record { mask = is.mask; numbers = is.numbers; notice_hart = is.notice_hart; same_mask = is.same_mask; start = is.start; entries = is.entries };
+  vms = λ v low. let is = whole.vms v low in record
+      { mask = is.mask; numbers = is.numbers; notice_hart = is.notice_hart; same_mask = is.same_mask; start = is.start; entries = is.entries };
   stages = whole.stages;
 }
 
 -- a bit of a word is clear still where that word, or another, is written
-clear_still : (words : List ℕ) (place at v : ℕ) → at < length words → has_bit (get_or words place 0) 0 ≡ false → (place ≡ at → has_bit v 0 ≡ false) → has_bit (slice_index (set words at v) place) 0 ≡ false
+clear_still : (words : List ℕ) (place at v : ℕ) → at < length words → has_bit (get_or words place 0) 0 ≡ false
+    → (place ≡ at → has_bit v 0 ≡ false) → has_bit (slice_index (set words at v) place) 0 ≡ false
 clear_still words place at v within was zero = elim (cases_eq place at) [
   | inl e ↦ ap (λ x. has_bit x 0) (get_or-set_at words at place v 0 e within) ∙ zero e
   | inr ne ↦ ap (λ x. has_bit x 0) (get_or-set_other words at place v 0 ne) ∙ was
@@ -69,11 +74,15 @@ module _ (w : World) (q k v : ℕ) (whole : IsWhole w) (there : q < VCPUS) (low 
   -- word k of the pending set of a slot
   pub pending_whole : IsWhole (record w { memory = set w.memory (pending_place q k) v })
   pending_whole = memory_whole w (set w.memory (pending_place q k) v) whole (length-set w.memory (pending_place q k) v)
-      (λ p lt. clear_still w.memory (pending_place p 0) (pending_place q k) v (omega (arith, whole.memory, there, low)) (whole.no_pending_zero p lt) (λ e. zero (omega (arith, e))))
-      (λ p lt. clear_still w.memory (enable_place p 0) (pending_place q k) v (omega (arith, whole.memory, there, low)) (whole.no_enabled_zero p lt) (λ e. absurd (omega (arith, e))))
+      (λ p lt. clear_still w.memory (pending_place p 0) (pending_place q k) v (omega (arith, whole.memory, there, low))
+      (whole.no_pending_zero p lt) (λ e. zero (omega (arith, e))))
+      (λ p lt. clear_still w.memory (enable_place p 0) (pending_place q k) v (omega (arith, whole.memory, there, low))
+      (whole.no_enabled_zero p lt) (λ e. absurd (omega (arith, e))))
 
   -- and of the enabled set
   pub enables_whole : IsWhole (record w { memory = set w.memory (enable_place q k) v })
   enables_whole = memory_whole w (set w.memory (enable_place q k) v) whole (length-set w.memory (enable_place q k) v)
-      (λ p lt. clear_still w.memory (pending_place p 0) (enable_place q k) v (omega (arith, whole.memory, there, low)) (whole.no_pending_zero p lt) (λ e. absurd (omega (arith, e))))
-      (λ p lt. clear_still w.memory (enable_place p 0) (enable_place q k) v (omega (arith, whole.memory, there, low)) (whole.no_enabled_zero p lt) (λ e. zero (omega (arith, e))))
+      (λ p lt. clear_still w.memory (pending_place p 0) (enable_place q k) v (omega (arith, whole.memory, there, low))
+      (whole.no_pending_zero p lt) (λ e. absurd (omega (arith, e))))
+      (λ p lt. clear_still w.memory (enable_place p 0) (enable_place q k) v (omega (arith, whole.memory, there, low)) (whole.no_enabled_zero p lt)
+      (λ e. zero (omega (arith, e))))

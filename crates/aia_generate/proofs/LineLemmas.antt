@@ -23,7 +23,8 @@ pub line_at-place : (x k : ℕ) → 1 ≤ k → line_at x k ≡ unwrap_or (slice
 line_at-place x k some =
     elim (cases_lt k 32) [
       | inl h ↦ line_at-head x k (omega arith) ∙ sym (unwrap_or-slice_get head_lines (k - 1) (line_drawn x))
-      | inr h ↦ line_at-body x k h ∙ ap (λ (o : Option Line). unwrap_or o (line_drawn x)) (sym (slice_get_past head_lines (k - 1) (let past : 31 ≤ k - 1 = omega arith in past)))
+      | inr h ↦ line_at-body x k h ∙ ap (λ (o : Option Line). unwrap_or o (line_drawn x))
+          (sym (slice_get_past head_lines (k - 1) (let past : 31 ≤ k - 1 = omega arith in past)))
     ]
 
 -- ---- each is listed
@@ -68,7 +69,8 @@ unfolding body_lines
 no_body zero number none = refl
 no_body (suc left) number none = absurd (omega arith)
 
-first_of_body : (left later number : ℕ) → left ≡ later + 1 → body_lines left number ≡ line_drawn (next_number number) ∷ body_lines later (next_number number)
+first_of_body : (left later number : ℕ) → left ≡ later + 1
+    → body_lines left number ≡ line_drawn (next_number number) ∷ body_lines later (next_number number)
 unfolding body_lines
 first_of_body left later number more = ap (λ n. body_lines n number) (more ∙ add-one later)
 
@@ -78,25 +80,30 @@ lines_left-none lines past none =
     ap (λ (head : List Line). head ++ body_lines lines.left lines.number) (drop_all lines.given head_lines past)
     ∙ no_body lines.left lines.number none
 
-pub lines_left-head : (lines : GeneratedLines) (line : Line) (next : GeneratedLines) → lines.given < 31 → next.given ≡ lines.given + 1 → next.left ≡ lines.left → next.number ≡ lines.number → line ≡ line_at next.number next.given → lines_left lines ≡ line ∷ lines_left next
+pub lines_left-head : (lines : GeneratedLines) (line : Line) (next : GeneratedLines) → lines.given < 31 → next.given ≡ lines.given + 1
+    → next.left ≡ lines.left → next.number ≡ lines.number → line ≡ line_at next.number next.given → lines_left lines ≡ line ∷ lines_left next
 unfolding lines_left
 lines_left-head lines line next within given left number is =
     let here : next.given - 1 ≡ lines.given = omega arith in
-    let at_place : line ≡ get_or head_lines lines.given (line_drawn next.number) = is ∙ line_at-head next.number next.given (omega arith) ∙ ap (λ place. get_or head_lines place (line_drawn next.number)) here in
+    let at_place : line ≡ get_or head_lines lines.given (line_drawn next.number) = is ∙ line_at-head next.number next.given (omega arith)
+    ∙ ap (λ place. get_or head_lines place (line_drawn next.number)) here in
     ap (λ (head : List Line). head ++ body_lines lines.left lines.number) (drop-cons head_lines lines.given (line_drawn next.number) within)
     ∙ ap (λ (x : Line). x ∷ (drop (suc lines.given) head_lines ++ body_lines lines.left lines.number)) (sym at_place)
     ∙ ap (λ n. line ∷ (drop n head_lines ++ body_lines lines.left lines.number)) (sym (given ∙ add-one lines.given))
     ∙ ap (λ n. line ∷ (drop next.given head_lines ++ body_lines n lines.number)) (sym left)
     ∙ ap (λ n. line ∷ (drop next.given head_lines ++ body_lines next.left n)) (sym number)
 
-pub lines_left-body : (lines : GeneratedLines) (line : Line) (next : GeneratedLines) → 31 ≤ lines.given → 31 < next.given → lines.left ≡ next.left + 1 → next.number ≡ next_number lines.number → line ≡ line_at next.number next.given → lines_left lines ≡ line ∷ lines_left next
+pub lines_left-body : (lines : GeneratedLines) (line : Line) (next : GeneratedLines) → 31 ≤ lines.given → 31 < next.given
+    → lines.left ≡ next.left + 1 → next.number ≡ next_number lines.number → line ≡ line_at next.number next.given
+    → lines_left lines ≡ line ∷ lines_left next
 unfolding lines_left
 lines_left-body lines line next past given left number is =
     ap (λ (head : List Line). head ++ body_lines lines.left lines.number) (drop_all lines.given head_lines past)
     ∙ first_of_body lines.left next.left lines.number left
     ∙ ap (λ n. line_drawn n ∷ body_lines next.left n) (sym number)
     ∙ ap (λ (x : Line). x ∷ body_lines next.left next.number) (sym (is ∙ line_at-body next.number next.given given))
-    ∙ ap (λ (head : List Line). line ∷ (head ++ body_lines next.left next.number)) (sym (drop_all next.given head_lines (let along : 31 ≤ next.given = omega arith in along)))
+    ∙ ap (λ (head : List Line). line ∷ (head ++ body_lines next.left next.number))
+    (sym (drop_all next.given head_lines (let along : 31 ≤ next.given = omega arith in along)))
 
 -- ---- each of these is listed
 

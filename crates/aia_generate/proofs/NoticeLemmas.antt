@@ -50,7 +50,8 @@ use Rattle.aia_model.proofs.FlightLemmas.{same_first}
 abbrev IsSmall : History → Type 0
 IsSmall h = greatest_identity_of h ≤ IDENTITIES
 
-size_accepted : (stands size : Bool) → ◌≡◌ {A = Option Answer} (cond stands (Some Again) (cond (not size) (Some (Refused Range)) None)) None → size ≡ true
+size_accepted : (stands size : Bool) → ◌≡◌ {A = Option Answer} (cond stands (Some Again) (cond (not size) (Some (Refused Range)) None)) None
+    → size ≡ true
 size_accepted true size e = absurd (cc)
 size_accepted false true e = refl
 size_accepted false false e = absurd (cc)
@@ -60,7 +61,8 @@ size-small harts guests n sources is = grind (arith, nat_tests)
 
 machine_delivered : (msis : List Msi) (h : History) → machine_of (delivered msis h) ≡ machine_of h
 machine_delivered [] h = refl
-machine_delivered (msi ∷ later) h = machine_delivered later (msi_taken msi h) ∙ msi_by_pass (λ k. machine_of k ≡ machine_of h) msi h refl (λ p e r. refl)
+machine_delivered (msi ∷ later) h = machine_delivered later (msi_taken msi h)
+    ∙ msi_by_pass (λ k. machine_of k ≡ machine_of h) msi h refl (λ p e r. refl)
 
 machine_stepped : (count : ℕ) (g : Vcpu) (h : History) → machine_of (steps_taken count g h) ≡ machine_of h
 machine_stepped zero g h = refl
@@ -74,13 +76,16 @@ moved-small count g move h small = same_small (steps_taken count g (Began move �
 
 line-small : (h : History) (line : Line) → refusal h line ≡ None → IsSmall h → IsSmall (line_taken h line)
 line-small h (Machine harts guests n sources) good small =
-    size-small harts guests n sources (size_accepted (has_machine h) (is_machine_size harts guests n sources) (sym (machine_refusal h harts guests n sources) ∙ good))
-line-small h (lines.Move vm number want) good small = let move = wanted_move (vcpu vm number) want in moved-small (steps_of (file_words h) move + passes_for h (mover move)) (mover move) move h small
+    size-small harts guests n sources (size_accepted (has_machine h) (is_machine_size harts guests n sources)
+    (sym (machine_refusal h harts guests n sources) ∙ good))
+line-small h (lines.Move vm number want) good small = let move = wanted_move (vcpu vm number) want in
+    moved-small (steps_of (file_words h) move + passes_for h (mover move)) (mover move) move h small
 line-small h (Step vm number) good small = same_small (step_taken (vcpu vm number) h) h (same_first (vcpu vm number) h).1 small
 line-small h line good small = small
 
 answer-small : (h : History) (line : Line) (o : Option Answer) → refusal h line ≡ o → IsSmall h → IsSmall (history_after o h line)
-answer-small h line None good small = same_small (delivered (msis_sent_by h line) (line_taken h line)) (line_taken h line) (machine_delivered (msis_sent_by h line) (line_taken h line)) (line-small h line good small)
+answer-small h line None good small = same_small (delivered (msis_sent_by h line) (line_taken h line)) (line_taken h line)
+    (machine_delivered (msis_sent_by h line) (line_taken h line)) (line-small h line good small)
 answer-small h line (Some word) bad small = small
 
 after-small : (h : History) (line : Line) → IsSmall h → IsSmall (after h line)
@@ -93,7 +98,8 @@ after-small h line small = answer-small h line (refusal h line) refl small
 abbrev FewFly : History → Type 0
 FewFly h = (vm : ℕ) → length (flight h vm) ≤ STORES_IN_FLIGHT
 
-room_accepted : (lacks out full : Bool) (later : Option Answer) → cond lacks (Some NoMachine) (cond out (Some (Refused Range)) (cond full (Some (Refused Full)) later)) ≡ None → full ≡ false
+room_accepted : (lacks out full : Bool) (later : Option Answer)
+    → cond lacks (Some NoMachine) (cond out (Some (Refused Range)) (cond full (Some (Refused Full)) later)) ≡ None → full ≡ false
 room_accepted true out full later e = absurd (cc)
 room_accepted false true full later e = absurd (cc)
 room_accepted false false true later e = absurd (cc)
@@ -113,7 +119,8 @@ unfolding flight
 landing-few v k h few vm = by_vm (nat_eq v vm)
   where
     by_vm : (own : Bool) → length (cond own (remove (flight h vm) k) (flight h vm)) ≤ STORES_IN_FLIGHT
-    by_vm true = let fewer : length (remove (flight h vm) k) ≤ length (flight h vm) = fewer_left (flight h vm) k in let most : length (flight h vm) ≤ STORES_IN_FLIGHT = few vm in omega arith
+    by_vm true = let fewer : length (remove (flight h vm) k) ≤ length (flight h vm) = fewer_left (flight h vm) k in
+        let most : length (flight h vm) ≤ STORES_IN_FLIGHT = few vm in omega arith
     by_vm false = few vm
 
 landings-few : (count vm : ℕ) (h : History) → FewFly h → FewFly (oldest_landed count vm h)
@@ -140,11 +147,14 @@ deed-few : (h : History) (line : Line) → refusal h line ≡ None → FewFly h 
 unfolding flight
 deed-few h (Send v addr value) good few NoMove vm = by_vm (nat_eq v vm) refl
   where
-    by_vm : (own : Bool) → nat_eq v vm ≡ own → length (cond own (flight h vm ++ record { before = h; addr = addr; value = value } ∷ []) (flight h vm)) ≤ STORES_IN_FLIGHT
-    by_vm true own = one_more_flies (flight h vm) (record { before = h; addr = addr; value = value }) (subst (λ m. nat_le STORES_IN_FLIGHT (length (flight h m)) ≡ false) (eqb-true v vm own) (room_accepted _ _ _ _ good))
+    by_vm : (own : Bool) → nat_eq v vm ≡ own → length
+        (cond own (flight h vm ++ record { before = h; addr = addr; value = value } ∷ []) (flight h vm)) ≤ STORES_IN_FLIGHT
+    by_vm true own = one_more_flies (flight h vm) (record { before = h; addr = addr; value = value })
+        (subst (λ m. nat_le STORES_IN_FLIGHT (length (flight h m)) ≡ false) (eqb-true v vm own) (room_accepted _ _ _ _ good))
     by_vm false other = few vm
 deed-few h line good few NoMove vm = few vm
-deed-few h line good few (Whole move) vm = steps-few (steps_of (file_words h) move + passes_for h (mover move)) (mover move) (Began move ∷ h) (began-few move h few) vm
+deed-few h line good few (Whole move) vm = steps-few (steps_of (file_words h) move + passes_for h (mover move)) (mover move) (Began move ∷ h)
+    (began-few move h few) vm
 deed-few h line good few (Begins move) vm = began-few move h few vm
 deed-few h line good few (Steps g) vm = step-few g h few vm
 deed-few h line good few (Lands v k) vm = landing-few v k h few vm
@@ -188,7 +198,8 @@ count_either P Q [] = omega arith
 count_either P Q (x ∷ xs) = by_tests (P x) (Q x) (count_either P Q xs)
   where
     by_tests : (p q : Bool) → count (λ s. P s || Q s) xs ≤ count P xs + count Q xs
-        → cond (p || q) (suc (count (λ s. P s || Q s) xs)) (count (λ s. P s || Q s) xs) ≤ cond p (suc (count P xs)) (count P xs) + cond q (suc (count Q xs)) (count Q xs)
+        → cond (p || q) (suc (count (λ s. P s || Q s) xs)) (count (λ s. P s || Q s) xs) ≤ cond p (suc (count P xs)) (count P xs) + cond q
+        (suc (count Q xs)) (count Q xs)
     by_tests true true rest = omega (arith, rest)
     by_tests true false rest = omega (arith, rest)
     by_tests false true rest = omega (arith, rest)
@@ -224,7 +235,8 @@ source_at (x ∷ xs) zero s low e = ap (λ b. b || is_source_of xs s) e
 source_at (x ∷ xs) (suc p) s low e = or_right (nat_eq x.source s) (is_source_of xs s) (source_at xs p s (omega (arith, low)) e)
 
 is_source : (h : History) (s p : ℕ) → passed_by h (Some s) ≡ Some p → is_source_of (passes_of h) s ≡ true
-is_source h s p e = let least = least_of_is (λ q. nat_eq (nth_pass h q).source s) 0 (length (passes_of h)) p e in source_at (passes_of h) p s (let high = least.1 in omega (arith, high)) least.2
+is_source h s p e = let least = least_of_is (λ q. nat_eq (nth_pass h q).source s) 0 (length (passes_of h)) p e in
+    source_at (passes_of h) p s (let high = least.1 in omega (arith, high)) least.2
 
 -- how many of some senders forward a source of a pass
 abbrev given : List PassedSource → List Sender → ℕ
@@ -232,13 +244,19 @@ given xs [] = 0
 given xs (ByGenMsi d ∷ senders) = given xs senders
 given xs (BySource d s ∷ senders) = if is_source_of xs s then suc (given xs senders) else given xs senders
 
-given_sources : (xs : List PassedSource) (numbers : List ℕ) → given xs (flat_map (λ s. BySource Root s ∷ BySource Child s ∷ []) numbers) ≡ count (is_source_of xs) numbers + count (is_source_of xs) numbers
+given_sources : (xs : List PassedSource) (numbers : List ℕ)
+    → given xs (flat_map (λ s. BySource Root s ∷ BySource Child s ∷ []) numbers) ≡ count (is_source_of xs) numbers + count (is_source_of xs) numbers
 given_sources xs [] = refl
 given_sources xs (s ∷ later) = by_test (is_source_of xs s) (given_sources xs later)
   where
-    by_test : (b : Bool) → given xs (flat_map (λ s. BySource Root s ∷ BySource Child s ∷ []) later) ≡ count (is_source_of xs) later + count (is_source_of xs) later
-        → cond b (suc (cond b (suc (given xs (flat_map (λ s. BySource Root s ∷ BySource Child s ∷ []) later))) (given xs (flat_map (λ s. BySource Root s ∷ BySource Child s ∷ []) later)))) (cond b (suc (given xs (flat_map (λ s. BySource Root s ∷ BySource Child s ∷ []) later))) (given xs (flat_map (λ s. BySource Root s ∷ BySource Child s ∷ []) later)))
-        ≡ cond b (suc (count (is_source_of xs) later)) (count (is_source_of xs) later) + cond b (suc (count (is_source_of xs) later)) (count (is_source_of xs) later)
+    by_test : (b : Bool) → given xs (flat_map (λ s. BySource Root s ∷ BySource Child s ∷ []) later) ≡ count (is_source_of xs) later + count
+        (is_source_of xs) later
+        → cond b (suc (cond b (suc (given xs (flat_map (λ s. BySource Root s ∷ BySource Child s ∷ []) later)))
+        (given xs (flat_map (λ s. BySource Root s ∷ BySource Child s ∷ []) later))))
+        (cond b (suc (given xs (flat_map (λ s. BySource Root s ∷ BySource Child s ∷ []) later)))
+        (given xs (flat_map (λ s. BySource Root s ∷ BySource Child s ∷ []) later)))
+        ≡ cond b (suc (count (is_source_of xs) later)) (count (is_source_of xs) later) + cond b (suc (count (is_source_of xs) later))
+        (count (is_source_of xs) later)
     by_test true e = omega (arith, e)
     by_test false e = e
 
@@ -246,7 +264,8 @@ few_given : (xs : List PassedSource) (n : ℕ) → given xs (all_senders n) ≤ 
 unfolding all_senders
 few_given xs n = let sum = given_sources xs (range_with_len 1 n) in let few = few_sources xs 1 n in omega (arith, sum, few)
 
-same_passes : (msi : Msi) (p : ℕ) (h : History) → (passes_of (Delivered msi ∷ h) ≡ passes_of h) × (passes_of (Relayed p ∷ Delivered msi ∷ h) ≡ passes_of h)
+same_passes : (msi : Msi) (p : ℕ) (h : History) → (passes_of (Delivered msi ∷ h) ≡ passes_of h)
+    × (passes_of (Relayed p ∷ Delivered msi ∷ h) ≡ passes_of h)
 unfolding passes_of
 same_passes msi p h = (refl, refl)
 
@@ -266,11 +285,15 @@ taken-sends msi h = msi_by_pass (λ k. notices_sent k ≤ notices_sent h + 1) ms
     (λ p e r. let one = event-sends (Relayed p) (Delivered msi ∷ h) in let same = delivered_sends msi h in omega (arith, one, same))
 
 -- of all that wait
-waiting-sends : (past : Past) (xs : List Sender) (h : History) (passes : List PassedSource) → passes_of h ≡ passes → notices_sent (delivered (map (msi_of past) (filter (has_msi past) xs)) h) ≤ notices_sent h + given passes xs
+waiting-sends : (past : Past) (xs : List Sender) (h : History) (passes : List PassedSource) → passes_of h ≡ passes
+    → notices_sent (delivered (map (msi_of past) (filter (has_msi past) xs)) h) ≤ notices_sent h + given passes xs
 waiting-sends past [] h passes same = omega arith
 waiting-sends past (x ∷ xs) h passes same = by_test (has_msi past x) (λ k e. waiting-sends past xs k passes e)
   where
-    by_test : (b : Bool) → ((k : History) → passes_of k ≡ passes → notices_sent (delivered (map (msi_of past) (filter (has_msi past) xs)) k) ≤ notices_sent k + given passes xs) → notices_sent (delivered (map (msi_of past) (cond b (x ∷ filter (has_msi past) xs) (filter (has_msi past) xs))) h) ≤ notices_sent h + given passes (x ∷ xs)
+    by_test : (b : Bool) → ((k : History) → passes_of k ≡ passes
+        → notices_sent (delivered (map (msi_of past) (filter (has_msi past) xs)) k) ≤ notices_sent k + given passes xs)
+        → notices_sent (delivered (map (msi_of past) (cond b (x ∷ filter (has_msi past) xs) (filter (has_msi past) xs))) h) ≤ notices_sent
+        h + given passes (x ∷ xs)
     by_test true rest =
         let later = rest (msi_taken (msi_of past x) h) (taken_passes (msi_of past x) h ∙ same) in
         let one = by_sender x in omega (arith, later, one)
@@ -279,11 +302,14 @@ waiting-sends past (x ∷ xs) h passes same = by_test (has_msi past x) (λ k e. 
         by_sender (ByGenMsi d) = let same = silent_taken (msi_of past (ByGenMsi d)) h refl in omega (arith, same)
         by_sender (BySource d s) = by_source (is_source_of passes s) refl
           where
-            by_pass : (o : Option ℕ) → passed_by h (Some s) ≡ o → is_source_of passes s ≡ false → notices_sent (msi_taken (msi_of past (BySource d s)) h) ≡ notices_sent h
+            by_pass : (o : Option ℕ) → passed_by h (Some s) ≡ o → is_source_of passes s ≡ false
+                → notices_sent (msi_taken (msi_of past (BySource d s)) h) ≡ notices_sent h
             by_pass None e other = silent_taken (msi_of past (BySource d s)) h e
             by_pass (Some p) e other = absurd (false≢true (sym other ∙ ap (λ ys. is_source_of ys s) (sym same) ∙ is_source h s p e))
 
-            by_source : (b : Bool) → is_source_of passes s ≡ b → notices_sent (msi_taken (msi_of past (BySource d s)) h) + given passes xs ≤ notices_sent h + cond b (suc (given passes xs)) (given passes xs)
+            by_source : (b : Bool) → is_source_of passes s ≡ b
+                → notices_sent (msi_taken (msi_of past (BySource d s)) h) + given passes xs ≤ notices_sent h + cond b (suc (given passes xs))
+                (given passes xs)
             by_source true e = let one = taken-sends (msi_of past (BySource d s)) h in omega (arith, one)
             by_source false e = let none = by_pass (passed_by h (Some s)) refl e in omega (arith, none)
     by_test false rest =
@@ -297,7 +323,8 @@ waiting-sends past (x ∷ xs) h passes same = by_test (has_msi past x) (λ k e. 
             by_source true = omega arith
             by_source false = omega arith
 
-line-delivers : (h k : History) (line : Line) → length (passes_of k) ≤ PASSES → notices_sent (delivered (msis_sent_by h line) k) ≤ notices_sent k + 2 * PASSES
+line-delivers : (h k : History) (line : Line) → length (passes_of k) ≤ PASSES
+    → notices_sent (delivered (msis_sent_by h line) k) ≤ notices_sent k + 2 * PASSES
 line-delivers h k line few =
     let past = acts_by h line in
     let sends = waiting-sends past (all_senders (sources_in past)) k (passes_of k) refl in
@@ -308,11 +335,14 @@ abbrev sent_or_flying : History → ℕ → ℕ
 sent_or_flying h vm = notices_sent h + length (flight h vm)
 
 -- a landing may send a notice, and takes a store out
-landing_gives : (h : History) (vm n : ℕ) (xs : List Sending) (k : ℕ) → with_notice (noticed_by_landing h vm (slice_get xs k)) n + length (remove xs k) ≤ n + length xs
+landing_gives : (h : History) (vm n : ℕ) (xs : List Sending) (k : ℕ)
+    → with_notice (noticed_by_landing h vm (slice_get xs k)) n + length (remove xs k) ≤ n + length xs
 landing_gives h vm n [] zero = omega arith
 landing_gives h vm n [] (suc k) = omega arith
-landing_gives h vm n (x ∷ xs) zero = let one : with_notice (noticed_by_landing h vm (Some x)) n ≤ n + 1 = one_at_most (noticed_by_landing h vm (Some x)) n in omega arith
-landing_gives h vm n (x ∷ xs) (suc k) = let rest : with_notice (noticed_by_landing h vm (slice_get xs k)) n + length (remove xs k) ≤ n + length xs = landing_gives h vm n xs k in omega arith
+landing_gives h vm n (x ∷ xs) zero = let one : with_notice (noticed_by_landing h vm (Some x)) n ≤ n + 1 =
+    one_at_most (noticed_by_landing h vm (Some x)) n in omega arith
+landing_gives h vm n (x ∷ xs) (suc k) = let rest : with_notice (noticed_by_landing h vm (slice_get xs k)) n + length (remove xs k) ≤ n + length
+    xs = landing_gives h vm n xs k in omega arith
 
 landing-sends : (vm k : ℕ) (h : History) → sent_or_flying (Landed vm k ∷ h) vm ≤ sent_or_flying h vm
 unfolding notices_sent flight
@@ -322,7 +352,8 @@ landings-send : (count vm : ℕ) (h : History) → sent_or_flying (oldest_landed
 landings-send zero vm h = omega arith
 landings-send (suc count) vm h =
     let first : sent_or_flying (Landed vm 0 ∷ h) vm ≤ sent_or_flying h vm = landing-sends vm 0 h in
-    let later : sent_or_flying (oldest_landed count vm (Landed vm 0 ∷ h)) vm ≤ sent_or_flying (Landed vm 0 ∷ h) vm = landings-send count vm (Landed vm 0 ∷ h) in
+    let later : sent_or_flying (oldest_landed count vm (Landed vm 0 ∷ h)) vm ≤ sent_or_flying (Landed vm 0 ∷ h) vm =
+    landings-send count vm (Landed vm 0 ∷ h) in
     omega arith
 
 first-sends : (g : Vcpu) (h : History) → sent_or_flying (landed_first g h) g.vm ≤ sent_or_flying h g.vm
@@ -340,14 +371,16 @@ step-sends : (g : Vcpu) (h : History) → sent_or_flying (step_taken g h) g.vm �
 step-sends g h =
     let landed : sent_or_flying (landed_first g h) g.vm ≤ sent_or_flying h g.vm = first-sends g h in
     let one : notices_sent (step_taken g h) ≤ notices_sent (landed_first g h) + 1 = event-sends (Stepped g) (landed_first g h) in
-    let same : length (flight (step_taken g h) g.vm) ≡ length (flight (landed_first g h) g.vm) = ap length (stepped_flight g g.vm (landed_first g h)) in
+    let same : length (flight (step_taken g h) g.vm) ≡ length (flight (landed_first g h) g.vm) =
+    ap length (stepped_flight g g.vm (landed_first g h)) in
     omega arith
 
 steps-send : (count : ℕ) (g : Vcpu) (h : History) → sent_or_flying (steps_taken count g h) g.vm ≤ sent_or_flying h g.vm + count
 steps-send zero g h = omega arith
 steps-send (suc count) g h =
     let first : sent_or_flying (step_taken g h) g.vm ≤ sent_or_flying h g.vm + 1 = step-sends g h in
-    let later : sent_or_flying (steps_taken count g (step_taken g h)) g.vm ≤ sent_or_flying (step_taken g h) g.vm + count = steps-send count g (step_taken g h) in
+    let later : sent_or_flying (steps_taken count g (step_taken g h)) g.vm ≤ sent_or_flying (step_taken g h) g.vm + count =
+    steps-send count g (step_taken g h) in
     omega arith
 
 -- no move has more than a leave of the greatest files
@@ -368,22 +401,27 @@ own_passes g (x ∷ xs) = by_test (is_vcpu x.to g) (own_passes g xs)
     by_test true rest = omega (arith, rest)
     by_test false rest = omega (arith, rest)
 
-deed-sends : (h : History) (line : Line) (deed : LineDeed) → IsSmall h → FewFly h → length (passes_of h) ≤ PASSES → notices_sent (deed_taken h line deed) ≤ notices_sent h + (most_steps + PASSES + 1 + STORES_IN_FLIGHT)
-deed-sends h line NoMove small few passes = let one : notices_sent (Accepted line ∷ h) ≤ notices_sent h + 1 = event-sends (Accepted line) h in omega arith
+deed-sends : (h : History) (line : Line) (deed : LineDeed) → IsSmall h → FewFly h → length (passes_of h) ≤ PASSES
+    → notices_sent (deed_taken h line deed) ≤ notices_sent h + (most_steps + PASSES + 1 + STORES_IN_FLIGHT)
+deed-sends h line NoMove small few passes = let one : notices_sent (Accepted line ∷ h) ≤ notices_sent h + 1 =
+    event-sends (Accepted line) h in omega arith
 deed-sends h line (Whole move) small few passes =
     let count = steps_of (file_words h) move + passes_for h (mover move) in
     let steps : steps_of (file_words h) move ≤ most_steps = few_steps (file_words h) move (omega arith) in
     let own : passes_for h (mover move) ≤ length (passes_of h) = own_passes (mover move) (passes_of h) in
     let first : notices_sent (Began move ∷ h) ≤ notices_sent h + 1 = event-sends (Began move) h in
     let flying : length (flight (Began move ∷ h) (mover move).vm) ≤ STORES_IN_FLIGHT = began-few move h few (mover move).vm in
-    let later : sent_or_flying (steps_taken count (mover move) (Began move ∷ h)) (mover move).vm ≤ sent_or_flying (Began move ∷ h) (mover move).vm + count = steps-send count (mover move) (Began move ∷ h) in
+    let later : sent_or_flying (steps_taken count (mover move) (Began move ∷ h)) (mover move).vm ≤ sent_or_flying (Began move ∷ h)
+    (mover move).vm + count = steps-send count (mover move) (Began move ∷ h) in
     omega arith
-deed-sends h line (Begins move) small few passes = let one : notices_sent (Began move ∷ h) ≤ notices_sent h + 1 = event-sends (Began move) h in omega arith
+deed-sends h line (Begins move) small few passes = let one : notices_sent (Began move ∷ h) ≤ notices_sent h + 1 =
+    event-sends (Began move) h in omega arith
 deed-sends h line (Steps g) small few passes =
     let flying : length (flight h g.vm) ≤ STORES_IN_FLIGHT = few g.vm in
     let one : sent_or_flying (step_taken g h) g.vm ≤ sent_or_flying h g.vm + 1 = step-sends g h in
     omega arith
-deed-sends h line (Lands vm k) small few passes = let one : notices_sent (Landed vm k ∷ h) ≤ notices_sent h + 1 = event-sends (Landed vm k) h in omega arith
+deed-sends h line (Lands vm k) small few passes = let one : notices_sent (Landed vm k ∷ h) ≤ notices_sent h + 1 =
+    event-sends (Landed vm k) h in omega arith
 
 -- a line that may send MSIs is one event, which sends one notice at most, and the others send no
 -- MSI
@@ -394,10 +432,12 @@ sending_line (Load addr) e = refl
 sending_line (Store addr value) e = refl
 sending_line line e = absurd (cc)
 
-taken-notices : (h : History) (line : Line) → refusal h line ≡ None → IsHistory h → IsSmall h → FewFly h → (b : Bool) → may_send line ≡ b → notices_sent (delivered (msis_sent_by h line) (line_taken h line)) ≤ notices_sent h + 200
+taken-notices : (h : History) (line : Line) → refusal h line ≡ None → IsHistory h → IsSmall h → FewFly h → (b : Bool) → may_send line ≡ b
+    → notices_sent (delivered (msis_sent_by h line) (line_taken h line)) ≤ notices_sent h + 200
 taken-notices h line e good small few true sends =
     let is : line_taken h line ≡ Accepted line ∷ h = ap (deed_taken h line) (sending_line line sends) in
-    let one : notices_sent (line_taken h line) ≤ notices_sent h + 1 = subst (λ k. notices_sent k ≤ notices_sent h + 1) (sym is) (event-sends (Accepted line) h) in
+    let one : notices_sent (line_taken h line) ≤ notices_sent h + 1 =
+    subst (λ k. notices_sent k ≤ notices_sent h + 1) (sym is) (event-sends (Accepted line) h) in
     let passes = (passes_stand (line_taken h line) (line_happens h line e good)).few in
     let msis = line-delivers h (line_taken h line) line passes in
     omega (arith, one, msis)
@@ -405,7 +445,8 @@ taken-notices h line e good small few false silent =
     let one = deed-sends h line (line_deed line) small few (passes_stand h good).few in
     subst (λ sent. notices_sent (delivered sent (line_taken h line)) ≤ notices_sent h + 200) (sym (none_sent_by h line silent)) (omega (arith, one))
 
-answer-sends : (h : History) (line : Line) (o : Option Answer) → refusal h line ≡ o → IsHistory h → IsSmall h → FewFly h → notices_sent (history_after o h line) ≤ notices_sent h + 200
+answer-sends : (h : History) (line : Line) (o : Option Answer) → refusal h line ≡ o → IsHistory h → IsSmall h → FewFly h
+    → notices_sent (history_after o h line) ≤ notices_sent h + 200
 answer-sends h line None e good small few = taken-notices h line e good small few (may_send line) refl
 answer-sends h line (Some word) e good small few = omega arith
 
@@ -413,11 +454,13 @@ after-sends : (h : History) (line : Line) → IsHistory h → IsSmall h → FewF
 unfolding after
 after-sends h line good small few = answer-sends h line (refusal h line) refl good small few
 
-lines-send : (h : History) (lines : List Line) → IsHistory h → IsSmall h → FewFly h → notices_sent (after_lines h lines) ≤ notices_sent h + 200 * length lines
+lines-send : (h : History) (lines : List Line) → IsHistory h → IsSmall h → FewFly h
+    → notices_sent (after_lines h lines) ≤ notices_sent h + 200 * length lines
 lines-send h [] good small few = omega arith
 lines-send h (line ∷ lines) good small few =
     let first : notices_sent (after h line) ≤ notices_sent h + 200 = after-sends h line good small few in
-    let later : notices_sent (after_lines (after h line) lines) ≤ notices_sent (after h line) + 200 * length lines = lines-send (after h line) lines (after_happens h line good) (after-small h line small) (after-few h line few) in
+    let later : notices_sent (after_lines (after h line) lines) ≤ notices_sent (after h line) + 200 * length lines =
+    lines-send (after h line) lines (after_happens h line good) (after-small h line small) (after-few h line few) in
     omega arith
 
 none_fly : FewFly []

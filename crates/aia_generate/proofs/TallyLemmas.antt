@@ -21,12 +21,14 @@ with_claim-append None xs ys = refl
 with_claim-append (Some i) xs ys = refl
 
 -- what one line more claims comes after what the lines before claimed
-claims_from-append : (h : History) (lines : List Line) (line : Line) → claims_from h (lines ++ line ∷ []) ≡ claims_from h lines ++ with_claim (claim_of line (answer (after_lines h lines) line)) []
+claims_from-append : (h : History) (lines : List Line) (line : Line)
+    → claims_from h (lines ++ line ∷ []) ≡ claims_from h lines ++ with_claim (claim_of line (answer (after_lines h lines) line)) []
 unfolding claims_from
 claims_from-append h [] line = refl
 claims_from-append h (x ∷ lines) line =
     ap (with_claim (claim_of x (answer h x))) (claims_from-append (after h x) lines line)
-    ∙ with_claim-append (claim_of x (answer h x)) (claims_from (after h x) lines) (with_claim (claim_of line (answer (after_lines (after h x) lines) line)) [])
+    ∙ with_claim-append (claim_of x (answer h x)) (claims_from (after h x) lines)
+    (with_claim (claim_of line (answer (after_lines (after h x) lines) line)) [])
 
 total-append : (xs : List ℕ) (i : ℕ) → total (xs ++ i ∷ []) ≡ total xs + i
 total-append [] i = omega arith
@@ -35,7 +37,9 @@ total-append (x ∷ xs) i = let more : total (xs ++ i ∷ []) ≡ total xs + i =
 counted_more : (n : ℕ) → counted (counted n + 1) ≡ counted (n + 1)
 counted_more n = omega arith
 
-tallied : (t : Tally) (lines : List Line) (line : Line) (claim : Option ℕ) → claims_from [] (lines ++ line ∷ []) ≡ claims_from [] lines ++ with_claim claim [] → Tallies t lines → Tallies (tally_after t claim) (lines ++ line ∷ [])
+tallied : (t : Tally) (lines : List Line) (line : Line) (claim : Option ℕ)
+    → claims_from [] (lines ++ line ∷ []) ≡ claims_from [] lines ++ with_claim claim [] → Tallies t lines
+    → Tallies (tally_after t claim) (lines ++ line ∷ [])
 tallied t lines line None more of_lines =
     let same : claims_from [] (lines ++ line ∷ []) ≡ claims_from [] lines = more ∙ append-nil (claims_from [] lines) in
     record {
@@ -46,11 +50,14 @@ tallied t lines line None more of_lines =
 tallied t lines line (Some i) more of_lines =
     record {
       all_lines = ap (λ n. counted (n + 1)) of_lines.all_lines ∙ counted_more (length lines) ∙ ap counted (sym (length-append lines (line ∷ [])));
-      all_claims = ap (λ n. counted (n + 1)) of_lines.all_claims ∙ counted_more (length (claims_from [] lines)) ∙ ap counted (sym (ap length more ∙ length-append (claims_from [] lines) (i ∷ [])));
-      all_summed = ap (λ n. (n + i) % 2 ^ 64) of_lines.all_summed ∙ mod-add-mod (total (claims_from [] lines)) (2 ^ 64) i ∙ ap (λ n. n % 2 ^ 64) (sym (ap total more ∙ total-append (claims_from [] lines) i));
+      all_claims = ap (λ n. counted (n + 1)) of_lines.all_claims ∙ counted_more (length (claims_from [] lines))
+          ∙ ap counted (sym (ap length more ∙ length-append (claims_from [] lines) (i ∷ [])));
+      all_summed = ap (λ n. (n + i) % 2 ^ 64) of_lines.all_summed ∙ mod-add-mod (total (claims_from [] lines)) (2 ^ 64) i
+          ∙ ap (λ n. n % 2 ^ 64) (sym (ap total more ∙ total-append (claims_from [] lines) i));
     }
 
-pub tally_of_more : (t u : Tally) (lines : List Line) (line : Line) (given : Answer) → u ≡ tally_after t (claim_of line given) → Tallies t lines → given ≡ answer (after_lines [] lines) line → Tallies u (lines ++ line ∷ [])
+pub tally_of_more : (t u : Tally) (lines : List Line) (line : Line) (given : Answer) → u ≡ tally_after t (claim_of line given) → Tallies t lines
+    → given ≡ answer (after_lines [] lines) line → Tallies u (lines ++ line ∷ [])
 tally_of_more t u lines line given after_it of_lines is =
     subst (λ (v : Tally). Tallies v (lines ++ line ∷ [])) (sym after_it)
     (tallied t lines line (claim_of line given)
@@ -68,7 +75,8 @@ unfolding claims_from
 claims_from-length h [] = omega arith
 claims_from-length h (line ∷ lines) =
     let claim : Option ℕ = claim_of line (answer h line) in
-    let first : length (with_claim (claim_of line (answer h line)) (claims_from (after h line) lines)) ≤ length (claims_from (after h line) lines) + 1 = with_claim-length (claim_of line (answer h line)) (claims_from (after h line) lines) in
+    let first : length (with_claim (claim_of line (answer h line)) (claims_from (after h line) lines)) ≤ length
+    (claims_from (after h line) lines) + 1 = with_claim-length (claim_of line (answer h line)) (claims_from (after h line) lines) in
     let later : length (claims_from (after h line) lines) ≤ length lines = claims_from-length (after h line) lines in
     omega arith
 
@@ -82,13 +90,15 @@ exact_claims t lines of_lines few =
     of_lines.all_claims ∙ (let e : counted (length (claims_from [] lines)) ≡ length (claims_from [] lines) = omega arith in e)
 
 -- so the text of its numbers is the summary of the lines
-pub summary_told : (t : Tally) (lines : List Line) (notices : ℕ) → Tallies t lines → length lines < 2 ^ 64 → notices ≡ notices_sent (after_lines [] lines) → summary_text t.lines t.claims notices t.sum ≡ summary_of lines
+pub summary_told : (t : Tally) (lines : List Line) (notices : ℕ) → Tallies t lines → length lines < 2 ^ 64
+    → notices ≡ notices_sent (after_lines [] lines) → summary_text t.lines t.claims notices t.sum ≡ summary_of lines
 summary_told t lines notices of_lines few sent =
     ap (λ n. summary_text n t.claims notices t.sum) (exact_lines t lines of_lines few)
     ∙ ap (λ n. summary_text (length lines) n notices t.sum) (exact_claims t lines of_lines few)
     ∙ ap (λ n. summary_text (length lines) (length (claims_from [] lines)) n t.sum) sent
     ∙ ap (summary_text (length lines) (length (claims_from [] lines)) (notices_sent (after_lines [] lines))) of_lines.all_summed
 
-pub generated_told : (t : Tally) (count seed notices : ℕ) → Tallies t (generated count seed) → length (generated count seed) < 2 ^ 64 → notices ≡ notices_sent (after_lines [] (generated count seed)) → summary_text t.lines t.claims notices t.sum ≡ summary count seed
+pub generated_told : (t : Tally) (count seed notices : ℕ) → Tallies t (generated count seed) → length (generated count seed) < 2 ^ 64
+    → notices ≡ notices_sent (after_lines [] (generated count seed)) → summary_text t.lines t.claims notices t.sum ≡ summary count seed
 unfolding summary
 generated_told t count seed notices = summary_told t (generated count seed) notices

@@ -218,7 +218,7 @@ impl Core {
         ensures { CoreGoes self.old self.new (Relayed number) }
     {
         self.fabric.recall();
-        self.passes.recall();
+        self.passes.recall_count();
         let pass = self.passes.at(number);
         let notice = self.fabric.notice_hart(pass.vm);
         let slot = self.fabric.slot_of(pass.vm, pass.number);

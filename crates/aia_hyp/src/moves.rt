@@ -159,7 +159,7 @@ impl Core {
         ensures harts { self.new.world.imsic.harts ≡ (T.map targets.new).harts }
     {
         self.fabric.recall();
-        self.passes.recall();
+        self.passes.recall_count();
         let made = carry_on(&mut self.vcpus, found.slot, &mut self.fabric, targets);
         self.fabric.recall();
         made

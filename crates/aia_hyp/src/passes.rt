@@ -46,9 +46,10 @@ impl Passes {
     }
 
     /// Recalls how many there are at most, for a caller's proof. It does nothing.
-    pub fn recall(&self)
+    pub fn recall_count(&self)
         ensures { length self.now ≤ PASSES }
     {
+        self.count();
     }
 
     /// Gives the pass of a number below their count.

@@ -61,20 +61,25 @@ of_file levels.Machine csr host listed = listed
 
 -- the register of the file is reached by the reg CSR alone, and is the one that the select number
 -- names
-pub file_reached : (level : Level) (csr : Csr) (op : Op) (select : ℕ) (reg : FileReg) → IsFileCsr csr → reaches.File reg ≡ csr_access level csr op select false → (csr ≡ csrs.Reg) × (register_of select ≡ reg)
+pub file_reached : (level : Level) (csr : Csr) (op : Op) (select : ℕ) (reg : FileReg) → IsFileCsr csr
+    → reaches.File reg ≡ csr_access level csr op select false → (csr ≡ csrs.Reg) × (register_of select ≡ reg)
 file_reached level csrs.Select op select reg listed e = absurd (cc)
 file_reached level csrs.Topei op select reg listed e = absurd (cc)
-file_reached level csrs.Reg op select reg listed e = (refl, subst (IsFileOrFault (register_of select)) (sym e) (register_kind level (register_of select)))
+file_reached level csrs.Reg op select reg listed e =
+    (refl, subst (IsFileOrFault (register_of select)) (sym e) (register_kind level (register_of select)))
 file_reached level csr op select reg listed e = absurd listed
 
 -- the select number by the select CSR alone, the identity on top by the topei CSR alone
-pub select_reached : (level : Level) (csr : Csr) (op : Op) (select : ℕ) → IsFileCsr csr → reaches.Select ≡ csr_access level csr op select false → csr ≡ csrs.Select
+pub select_reached : (level : Level) (csr : Csr) (op : Op) (select : ℕ) → IsFileCsr csr → reaches.Select ≡ csr_access level csr op select false
+    → csr ≡ csrs.Select
 select_reached level csrs.Select op select listed e = refl
 select_reached level csrs.Topei op select listed e = absurd (cc)
-select_reached level csrs.Reg op select listed e = absurd (subst (IsFileOrFault (register_of select)) (sym e) (register_kind level (register_of select)))
+select_reached level csrs.Reg op select listed e =
+    absurd (subst (IsFileOrFault (register_of select)) (sym e) (register_kind level (register_of select)))
 select_reached level csr op select listed e = absurd listed
 
-pub top_reached : (level : Level) (csr : Csr) (op : Op) (select : ℕ) → IsFileCsr csr → reaches.Top ≡ csr_access level csr op select false → csr ≡ csrs.Topei
+pub top_reached : (level : Level) (csr : Csr) (op : Op) (select : ℕ) → IsFileCsr csr → reaches.Top ≡ csr_access level csr op select false
+    → csr ≡ csrs.Topei
 top_reached level csrs.Select op select listed e = absurd (cc)
 top_reached level csrs.Topei op select listed e = refl
 top_reached level csrs.Reg op select listed e = absurd (subst (IsFileOrFault (register_of select)) (sym e) (register_kind level (register_of select)))
@@ -109,29 +114,34 @@ guest_reached_by csrs.Sip op select false = refl
 guest_reached_by csrs.Sie op select true = tt
 guest_reached_by csrs.Sie op select false = refl
 
-pub reached_by : (csr : Csr) (op : Op) (select : ℕ) (vti : Bool) (access : CsrAccess) → access ≡ csr_access levels.Guest csr op select vti → IsReachedBy csr op select access
+pub reached_by : (csr : Csr) (op : Op) (select : ℕ) (vti : Bool) (access : CsrAccess) → access ≡ csr_access levels.Guest csr op select vti
+    → IsReachedBy csr op select access
 reached_by csr op select vti access e = subst (IsReachedBy csr op select) (sym e) (guest_reached_by csr op select vti)
 
 -- ---- the line of an access
 
 csr_refusal : (level : Level) → IsHost level → (h : History) (hart : ℕ) (csr : Csr) (op : Op) → has_machine h ≡ true
-    → refusal h (csr_line level hart csr op) ≡ access_refusal h hart (raises_illegal (csr_access level csr op (select_of h (name_of level hart)) false))
+    → refusal h (csr_line level hart csr op) ≡ access_refusal h hart
+    (raises_illegal (csr_access level csr op (select_of h (name_of level hart)) false))
 csr_refusal levels.Machine host h hart csr op there = machine_csr_refusal h hart csr op there
 csr_refusal levels.Host host h hart csr op there = host_csr_refusal h hart csr op there
 csr_refusal levels.Guest host h hart csr op there = absurd host
 
-csr_accepted : (level : Level) → IsHost level → (h : History) (hart : ℕ) (csr : Csr) (op : Op) → accepted_answer h (csr_line level hart csr op) ≡ Wide (csr_value h (name_of level hart) csr)
+csr_accepted : (level : Level) → IsHost level → (h : History) (hart : ℕ) (csr : Csr) (op : Op)
+    → accepted_answer h (csr_line level hart csr op) ≡ Wide (csr_value h (name_of level hart) csr)
 csr_accepted levels.Machine host h hart csr op = refl
 csr_accepted levels.Host host h hart csr op = refl
 csr_accepted levels.Guest host h hart csr op = absurd host
 
 -- it is a deed at its own hart's file
-own_access : (level : Level) → IsHost level → (h : History) (hart : ℕ) (csr : Csr) (op : Op) → deed_at (name_of level hart) h (Accepted (csr_line level hart csr op)) ≡ Accesses csr op
+own_access : (level : Level) → IsHost level → (h : History) (hart : ℕ) (csr : Csr) (op : Op)
+    → deed_at (name_of level hart) h (Accepted (csr_line level hart csr op)) ≡ Accesses csr op
 own_access levels.Machine host h hart csr op = cond-true _ _ _ (is_file-itself (MachineFile hart) (MachineFile hart) refl)
 own_access levels.Host host h hart csr op = cond-true _ _ _ (is_file-itself (SupervisorFile hart) (SupervisorFile hart) refl)
 own_access levels.Guest host h hart csr op = absurd host
 
-other_access : (level : Level) → IsHost level → (h : History) (hart : ℕ) (g : FileName) (csr : Csr) (op : Op) → g ≢ name_of level hart → deed_at g h (Accepted (csr_line level hart csr op)) ≡ Rests
+other_access : (level : Level) → IsHost level → (h : History) (hart : ℕ) (g : FileName) (csr : Csr) (op : Op) → g ≢ name_of level hart
+    → deed_at g h (Accepted (csr_line level hart csr op)) ≡ Rests
 other_access levels.Machine host h hart g csr op ne = cond-false _ _ _ (is_file-other g (MachineFile hart) ne)
 other_access levels.Host host h hart g csr op ne = cond-false _ _ _ (is_file-other g (SupervisorFile hart) ne)
 other_access levels.Guest host h hart g csr op ne = absurd host
@@ -153,40 +163,54 @@ plain_access levels.Guest host hart csr op = absurd host
 
 -- ---- what the core promises of it
 
-pub no_hart : (x : CoreState) (level : Level) → IsHost level → (hart : ℕ) (csr : Csr) (op : Op) → x.world.imsic.harts ≤ hart → CoreTakes x x (csr_line level hart csr op) (Refused Range)
+pub no_hart : (x : CoreState) (level : Level) → IsHost level → (hart : ℕ) (csr : Csr) (op : Op) → x.world.imsic.harts ≤ hart
+    → CoreTakes x x (csr_line level hart csr op) (Refused Range)
 no_hart x level host hart csr op past = refused x (csr_line level hart csr op) (Refused Range) (λ h stands.
     csr_refusal level host h hart csr op stands.there ∙ cond-true _ _ _ (ap not (le-ltb hart (harts_of h) (omega (arith, stands.harts)))))
 
 -- the refusal of an access of a hart that is there, by the select number that the core keeps
-refusal_there : (x : CoreState) (level : Level) (host : IsHost level) (hart : ℕ) (csr : Csr) (op : Op) (access : CsrAccess) (h : History) → hart < x.world.imsic.harts → access ≡ csr_access level csr op (select_in x (name_of level hart)) false → CoreStands x h
+refusal_there : (x : CoreState) (level : Level) (host : IsHost level) (hart : ℕ) (csr : Csr) (op : Op) (access : CsrAccess) (h : History)
+    → hart < x.world.imsic.harts → access ≡ csr_access level csr op (select_in x (name_of level hart)) false → CoreStands x h
     → refusal h (csr_line level hart csr op) ≡ cond (raises_illegal access) (Some (Refused Illegal)) None
 refusal_there x level host hart csr op access h inside table stands =
     csr_refusal level host h hart csr op stands.there ∙ cond-false _ _ _ (ap not (lt-ltb hart (harts_of h) (omega (arith, stands.harts))))
-    ∙ ap (λ s. cond (raises_illegal (csr_access level csr op s false)) (Some (Refused Illegal)) None) (sym (stands.host (name_of level hart) (named_there level host x.world.imsic hart inside)).select)
+    ∙ ap (λ s. cond (raises_illegal (csr_access level csr op s false)) (Some (Refused Illegal)) None)
+    (sym (stands.host (name_of level hart) (named_there level host x.world.imsic hart inside)).select)
     ∙ ap (λ (a : CsrAccess). cond (raises_illegal a) (Some (Refused Illegal)) None) (sym table)
 
-pub illegal : (x : CoreState) (level : Level) → IsHost level → (hart : ℕ) (csr : Csr) (op : Op) → hart < x.world.imsic.harts → reaches.Illegal ≡ csr_access level csr op (select_in x (name_of level hart)) false
+pub illegal : (x : CoreState) (level : Level) → IsHost level → (hart : ℕ) (csr : Csr) (op : Op) → hart < x.world.imsic.harts
+    → reaches.Illegal ≡ csr_access level csr op (select_in x (name_of level hart)) false
     → CoreTakes x x (csr_line level hart csr op) (Refused Illegal)
-illegal x level host hart csr op inside table = refused x (csr_line level hart csr op) (Refused Illegal) (λ h stands. refusal_there x level host hart csr op reaches.Illegal h inside table stands)
+illegal x level host hart csr op inside table =
+    refused x (csr_line level hart csr op) (Refused Illegal)
+    (λ h stands. refusal_there x level host hart csr op reaches.Illegal h inside table stands)
 
 -- an access that was done, and answered by what its CSR, of this kind, read
-pub accessed : (x y : CoreState) (level : Level) → IsHost level → (hart : ℕ) (csr kind : Csr) (op : Op) (access : CsrAccess) (value : ℕ) → hart < x.world.imsic.harts → access ≡ csr_access level csr op (select_in x (name_of level hart)) false → raises_illegal access ≡ false
-    → csr ≡ kind → value ≡ csr_shown (select_in x (name_of level hart)) (shown (file_at x.world.imsic (host_spot (name_of level hart)))) kind → HasDone x y (name_of level hart) (Accesses kind op) → CoreTakes x y (csr_line level hart csr op) (Wide value)
+pub accessed : (x y : CoreState) (level : Level) → IsHost level → (hart : ℕ) (csr kind : Csr) (op : Op) (access : CsrAccess) (value : ℕ)
+    → hart < x.world.imsic.harts → access ≡ csr_access level csr op (select_in x (name_of level hart)) false → raises_illegal access ≡ false
+    → csr ≡ kind → value ≡ csr_shown (select_in x (name_of level hart)) (shown (file_at x.world.imsic (host_spot (name_of level hart)))) kind
+    → HasDone x y (name_of level hart) (Accesses kind op) → CoreTakes x y (csr_line level hart csr op) (Wide value)
 accessed x y level host hart csr kind op access value inside table legal named read done =
     let f = name_of level hart in
     let there = named_there level host x.world.imsic hart inside in
     let line = csr_line level hart csr op in
-    accepted x y line (Wide value) (plain_access level host hart csr op) (no_move level host hart csr op) (λ h stands. let file = stands.host f there in let deed : deed_at f h (Accepted line) ≡ Accesses kind op = own_access level host h hart csr op ∙ ap (λ (k : Csr). Accesses k op) named in (
+    accepted x y line (Wide value) (plain_access level host hart csr op) (no_move level host hart csr op)
+    (λ h stands. let file = stands.host f there in let deed : deed_at f h (Accepted line) ≡ Accesses kind op =
+    own_access level host h hart csr op ∙ ap (λ (k : Csr). Accesses k op) named in (
       refusal_there x level host hart csr op access h inside table stands ∙ cond-false _ _ _ legal,
       ap Wide (read ∙ ap (λ (k : Csr). csr_shown (select_in x f) (shown (file_at x.world.imsic (host_spot f))) k) (sym named)
-          ∙ ap (λ s. csr_shown s (shown (file_at x.world.imsic (host_spot f))) csr) file.select ∙ ap (λ (i : InterruptFile). csr_shown (select_of h f) i csr) file.file) ∙ sym (csr_accepted level host h hart csr op),
-      one_done x y h (Accepted line) f stands (subst (HasDone x y f) (sym deed) done) (is_hosts_line level host h hart csr op) (λ g inside ne. other_access level host h hart g csr op ne),
+          ∙ ap (λ s. csr_shown s (shown (file_at x.world.imsic (host_spot f))) csr) file.select
+          ∙ ap (λ (i : InterruptFile). csr_shown (select_of h f) i csr) file.file) ∙ sym (csr_accepted level host h hart csr op),
+      one_done x y h (Accepted line) f stands (subst (HasDone x y f) (sym deed) done) (is_hosts_line level host h hart csr op)
+          (λ g inside ne. other_access level host h hart g csr op ne),
     ))
 
 -- ---- what each access does
 
 -- the select number alone is written
-pub select_done : (x y : CoreState) (f : FileName) (op : Op) → y.world ≡ x.world → y.leases ≡ x.leases → y.passes ≡ x.passes → y.vcpus ≡ x.vcpus → select_in y f ≡ select_written op (select_in x f) → ((g : FileName) → g ≢ f → select_in y g ≡ select_in x g) → HasDone x y f (Accesses csrs.Select op)
+pub select_done : (x y : CoreState) (f : FileName) (op : Op) → y.world ≡ x.world → y.leases ≡ x.leases → y.passes ≡ x.passes → y.vcpus ≡ x.vcpus
+    → select_in y f ≡ select_written op (select_in x f) → ((g : FileName) → g ≢ f → select_in y g ≡ select_in x g)
+    → HasDone x y f (Accesses csrs.Select op)
 select_done x y f op world leases passes vcpus own others = record {
   harts = ap (λ (w : World). w.imsic.harts) world;
   guests = ap (λ (w : World). w.imsic.guests) world;
@@ -194,7 +218,11 @@ select_done x y f op world leases passes vcpus own others = record {
   leases = leases;
   passes = passes;
   vcpus = vcpus;
-  done = record { file = subst (λ (w : World). SameFile (shown (file_at w.imsic (host_spot f))) (shown (file_at x.world.imsic (host_spot f)))) (sym world) (as_it_was (shown (file_at x.world.imsic (host_spot f)))); select = own };
+  done = record {
+    file = subst (λ (w : World). SameFile (shown (file_at w.imsic (host_spot f))) (shown (file_at x.world.imsic (host_spot f))))
+        (sym world) (as_it_was (shown (file_at x.world.imsic (host_spot f))));
+    select = own;
+  };
   files = λ spot inside ne. ap (λ (w : World). file_at w.imsic spot) world;
   selects = others;
 }

@@ -76,7 +76,8 @@ aimed_moves there = refl
 
 -- its next step is not the last one
 pub aim_is_not_last : (passes words : ℕ) (there : Home) → is_aiming passes there ≡ true → is_at_last words there ≡ false
-aim_is_not_last passes words (OnWay way at) e = let here : nat_eq at.steps (aims_step (OnWay way at)) ≡ true = (and_parts _ _ e).0 in let far = not_the_last way words in grind (arith, nat_tests)
+aim_is_not_last passes words (OnWay way at) e = let here : nat_eq at.steps (aims_step (OnWay way at)) ≡ true = (and_parts _ _ e).0 in let far =
+    not_the_last way words in grind (arith, nat_tests)
 aim_is_not_last passes words there e = absurd (cc)
 
 aim_ends_none : (passes words : ℕ) (there : Home) → is_aiming passes there ≡ true → ends_leave words there ≡ false
@@ -168,19 +169,22 @@ module _ (x y : CoreState) (h : History) (g : Vcpu) (plan later : PlanState) (r 
   same_notice = planned.0.notice ∙ (λ k. notice_hart (a.stands.vms k) (is_mover k))
 
   same_seen : a_look_saw (Stepped g ∷ h) g ≡ a_look_saw h g
-  same_seen = seen_stepped h g ∙ ap (λ b. a_look_saw h g || b) (aim_sees_none (passes_for h g) (file_words h) (home h g) (is_live (guest_file h g)) a.some a.aiming) ∙ or_none (a_look_saw h g)
+  same_seen = seen_stepped h g ∙ ap (λ b. a_look_saw h g || b)
+      (aim_sees_none (passes_for h g) (file_words h) (home h g) (is_live (guest_file h g)) a.some a.aiming) ∙ or_none (a_look_saw h g)
     where
       or_none : (b : Bool) → (b || false) ≡ b
       or_none true = refl
       or_none false = refl
 
   same_reach : in_force_of (Stepped g ∷ h) g ≡ in_force_of h g
-  same_reach = reach_step (Stepped g) h g ∙ cond-true _ _ _ (is_itself g) ∙ ap (λ b. cond b (entry_names (home h g)) (in_force_of h g)) (aim_is_no_fence (passes_for h g) (home h g) a.aiming)
+  same_reach = reach_step (Stepped g) h g ∙ cond-true _ _ _ (is_itself g)
+      ∙ ap (λ b. cond b (entry_names (home h g)) (in_force_of h g)) (aim_is_no_fence (passes_for h g) (home h g) a.aiming)
 
   same_hand : (moving_of plan).hand ≡ hand_in (record_of x g).stay
   same_hand = ap hand_in (sym a.was)
 
-  held : Holds (width x.world) (moving_of plan).who.found.slot (moving_of plan).who.found.notice (in_force_of h g) (places_of x.world (mover (moving_of plan)) (moving_of plan).home) (moving_of plan).home (moving_of plan).hand (guest_file h g) (a_look_saw h g)
+  held : Holds (width x.world) (moving_of plan).who.found.slot (moving_of plan).who.found.notice (in_force_of h g)
+      (places_of x.world (mover (moving_of plan)) (moving_of plan).home) (moving_of plan).home (moving_of plan).hand (guest_file h g) (a_look_saw h g)
   held = subst IsHeld (λ k. record {
     words = sym same_words k;
     slot = sym same_slot k;
@@ -207,10 +211,12 @@ module _ (x y : CoreState) (h : History) (g : Vcpu) (plan later : PlanState) (r 
       record {
         same_home = ap home_in stay ∙ later_home;
         select = ap (λ (r : VcpuRecord). r.select) kept ∙ a.select ∙ stood.select ∙ sym (select_rests h (Stepped g) g (moved.rests g));
-        majors = ap (λ (r : VcpuRecord). majors_shown r.majors) kept ∙ ap majors_shown a.majors ∙ stood.majors ∙ sym (majors_rest h (Stepped g) g (moved.majors g));
+        majors = ap (λ (r : VcpuRecord). majors_shown r.majors) kept ∙ ap majors_shown a.majors ∙ stood.majors
+            ∙ sym (majors_rest h (Stepped g) g (moved.majors g));
         two_files = subst AreApart (sym aimed_home) (aimed_apart (home h g) stood.two_files);
         plan = subst (PlanStands y.world g) (sym stay) (a.fits, a.phase, later_mover, later_moves);
-        passes = subst (HasItsPasses (passes_of (Stepped g ∷ h)) g) (sym stay) (ap (λ (who : Who). who.passes.items) same_who ∙ its_passes ∙ ap (own_passes 0 g) (sym moved.passes));
+        passes = subst (HasItsPasses (passes_of (Stepped g ∷ h)) g) (sym stay)
+            (ap (λ (who : Who). who.passes.items) same_who ∙ its_passes ∙ ap (own_passes 0 g) (sym moved.passes));
         holds = subst IsHeld (λ k. record {
           words = then_words k;
           slot = (ap (λ (who : Who). who.found.slot) same_who ∙ same_slot) k;
@@ -225,7 +231,8 @@ module _ (x y : CoreState) (h : History) (g : Vcpu) (plan later : PlanState) (r 
       }
 
   -- a file that another holds is not its own
-  its_alone : (other : Vcpu) (p : GuestPlace) → has_vcpu h other ≡ true → is_vcpu other g ≡ false → holds p (home h g) ≡ true → holds p (home h other) ≡ false
+  its_alone : (other : Vcpu) (p : GuestPlace) → has_vcpu h other ≡ true → is_vcpu other g ≡ false → holds p (home h g) ≡ true
+      → holds p (home h other) ≡ false
   its_alone other p inside ne mine = elim (cases_Bool (holds p (home h other))) [
     | inl its ↦ absurd (false≢true (sym ne ∙ ap (λ z. is_vcpu z g) (a.stands.apart other g p inside a.there its mine) ∙ is_itself g))
     | inr none ↦ none
@@ -246,7 +253,8 @@ module _ (x y : CoreState) (h : History) (g : Vcpu) (plan later : PlanState) (r 
     passes = a.passes;
     count = ap (λ (w : World). w.notices) a.goes.world ∙ ap (λ who. count_after who x.world.notices) (sym quiet);
     host = λ f inside. subst (λ who. FileDone x y f (notice_deed h f who)) (sym quiet) (record {
-      file = subst (λ (w : World). SameFile (shown (file_at w.imsic (host_spot f))) (shown (file_at x.world.imsic (host_spot f)))) (sym a.goes.world) (as_it_was (shown (file_at x.world.imsic (host_spot f))));
+      file = subst (λ (w : World). SameFile (shown (file_at w.imsic (host_spot f))) (shown (file_at x.world.imsic (host_spot f))))
+          (sym a.goes.world) (as_it_was (shown (file_at x.world.imsic (host_spot f))));
       select = ap (λ xs. get_or xs (select_place f) 0) a.selects;
     });
     records = ap (λ (rs : List VcpuRecord). length rs) a.vcpus ∙ length-set x.vcpus (slot_of x.world.vms g) r;

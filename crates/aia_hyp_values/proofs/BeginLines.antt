@@ -62,8 +62,10 @@ pub record Given (x y : CoreState) (h : History) (g : Vcpu) (who : Who) (plan : 
 empty_is_empty : (n : ℕ) → IsEmpty (empty_file n)
 empty_is_empty n = record { pending = λ i. refl; enabled = λ i. refl; delivery = refl; threshold = refl }
 
-free_is_empty : (x : CoreState) (h : History) (hart : ℕ) (p : GuestPlace) → CoreStands x h → IsFreeAt x h hart p → IsEmpty (shown (file_at x.world.imsic (spot_of p)))
-free_is_empty x h hart p stands free = subst (λ (f : InterruptFile). IsEmpty f) (sym (stands.free p free.inside free.none)) (empty_is_empty (greatest_identity_of h))
+free_is_empty : (x : CoreState) (h : History) (hart : ℕ) (p : GuestPlace) → CoreStands x h → IsFreeAt x h hart p
+    → IsEmpty (shown (file_at x.world.imsic (spot_of p)))
+free_is_empty x h hart p stands free = subst (λ (f : InterruptFile). IsEmpty f) (sym (stands.free p free.inside free.none))
+    (empty_is_empty (greatest_identity_of h))
 
 -- what looks saw is nothing but to a leave
 saw_any : (a : Wanted) (saw : Bool) → is_leaving a.there ≡ false → IsHeld a → IsHeld (record a { saw = saw })
@@ -76,11 +78,14 @@ saw_any a saw e h = record {
 
 -- the places of the virtual hart as it was, by where it was
 held_at : (x : CoreState) (h : History) (g : Vcpu) (there : Home) → CoreStands x h → has_vcpu h g ≡ true → home h g ≡ there
-    → Holds (file_words h) (slot_of (vms_of h) g) (notice_hart (vms_of h) g) (in_force_of h g) (places_of x.world g there) there (hand_in (record_of x g).stay) (guest_file h g) (a_look_saw h g)
+    → Holds (file_words h) (slot_of (vms_of h) g) (notice_hart (vms_of h) g) (in_force_of h g) (places_of x.world g there) there
+    (hand_in (record_of x g).stay) (guest_file h g) (a_look_saw h g)
 held_at x h g there stands inside e =
-    subst (λ (t : Home). Holds (file_words h) (slot_of (vms_of h) g) (notice_hart (vms_of h) g) (in_force_of h g) (places_of x.world g t) t (hand_in (record_of x g).stay) (guest_file h g) (a_look_saw h g)) e (stands.vcpus g inside).holds
+    subst (λ (t : Home). Holds (file_words h) (slot_of (vms_of h) g) (notice_hart (vms_of h) g) (in_force_of h g) (places_of x.world g t) t
+    (hand_in (record_of x g).stay) (guest_file h g) (a_look_saw h g)) e (stands.vcpus g inside).holds
 
-pub home_at : (x : CoreState) (h : History) (g : Vcpu) (stay : Stay) → CoreStands x h → has_vcpu h g ≡ true → (record_of x g).stay ≡ stay → home h g ≡ home_in stay
+pub home_at : (x : CoreState) (h : History) (g : Vcpu) (stay : Stay) → CoreStands x h → has_vcpu h g ≡ true → (record_of x g).stay ≡ stay
+    → home h g ≡ home_in stay
 home_at x h g stay stands inside e = sym (stands.vcpus g inside).same_home ∙ ap home_in e
 
 or_nothing : (b : Bool) → b ≡ (b || false)
@@ -88,9 +93,13 @@ or_nothing true = refl
 or_nothing false = refl
 
 -- the move of one begins at a way, and its places hold what they held
-begun_at : (x y : CoreState) (h : History) (move : WantedMove) (who : Who) (plan : PlanState) (r : VcpuRecord) (way : Way) (hand : Hand) (taken : Option GuestPlace) → Given x y h (mover move) who plan r → y.leases ≡ with_taken taken x.leases → IsFreeIn x h taken
-    → moving_of plan ≡ record { who = who; home = OnWay way at_first; hand = hand } → home (Began move ∷ h) (mover move) ≡ OnWay way at_first → ((q : GuestPlace) → holds q (OnWay way at_first) ≡ (holds q (home h (mover move)) || is_taken q taken)) → HasApart way
-    → Holds (file_words h) (slot_of (vms_of h) (mover move)) (notice_hart (vms_of h) (mover move)) (in_force_of h (mover move)) (places_of x.world (mover move) (OnWay way at_first)) (OnWay way at_first) hand (guest_file h (mover move)) (a_look_saw (Began move ∷ h) (mover move))
+begun_at : (x y : CoreState) (h : History) (move : WantedMove) (who : Who) (plan : PlanState) (r : VcpuRecord) (way : Way) (hand : Hand)
+    (taken : Option GuestPlace) → Given x y h (mover move) who plan r → y.leases ≡ with_taken taken x.leases → IsFreeIn x h taken
+    → moving_of plan ≡ record { who = who; home = OnWay way at_first; hand = hand } → home (Began move ∷ h) (mover move) ≡ OnWay way at_first
+    → ((q : GuestPlace) → holds q (OnWay way at_first) ≡ (holds q (home h (mover move)) || is_taken q taken)) → HasApart way
+    → Holds (file_words h) (slot_of (vms_of h) (mover move)) (notice_hart (vms_of h) (mover move)) (in_force_of h (mover move))
+    (places_of x.world (mover move) (OnWay way at_first)) (OnWay way at_first) hand (guest_file h (mover move))
+    (a_look_saw (Began move ∷ h) (mover move))
     → CoreStands y (Began move ∷ h)
 begun_at x y h move who plan r way hand taken b leases free begins after holding apart held = begun_stands x y h move plan r taken (record {
   planned = b.planned;
@@ -120,53 +129,86 @@ begun_at x y h move who plan r way hand taken b leases free begins after holding
 
 -- ---- a leave
 
-pub leave_begun : (x y : CoreState) (h : History) (g : Vcpu) (who : Who) (plan : PlanState) (r : VcpuRecord) (from : GuestPlace) → Given x y h g who plan r → y.leases ≡ x.leases → (record_of x g).stay ≡ stays.Resident from
-    → moving_of plan ≡ record { who = who; home = OnWay (Outward from) at_first; hand = record { word = 0; delivery = 0; threshold = 0; seen = false } } → CoreStands y (Began (Leaves g) ∷ h)
+pub leave_begun : (x y : CoreState) (h : History) (g : Vcpu) (who : Who) (plan : PlanState) (r : VcpuRecord) (from : GuestPlace)
+    → Given x y h g who plan r → y.leases ≡ x.leases → (record_of x g).stay ≡ stays.Resident from
+    → moving_of plan ≡ record {
+      who = who;
+      home = OnWay (Outward from) at_first;
+      hand =
+          record { word = 0; delivery = 0; threshold = 0; seen = false };
+    } → CoreStands y (Began (Leaves g) ∷ h)
 leave_begun x y h g who plan r from b leases was begins =
     let hand : Hand = record { word = 0; delivery = 0; threshold = 0; seen = false } in
     let before : home h g ≡ Resident from = home_at x h g (stays.Resident from) b.planned.stands b.planned.there was in
-    let after : home (Began (Leaves g) ∷ h) g ≡ OnWay (Outward from) at_first = home_step (Began (Leaves g)) h g ∙ cond-true _ _ _ (is_itself g) ∙ ap leaving before in
-    let held : Holds (file_words h) (slot_of (vms_of h) g) (notice_hart (vms_of h) g) (in_force_of h g) (places_of x.world g (OnWay (Outward from) at_first)) (OnWay (Outward from) at_first) hand (guest_file h g) false =
-    leave_begins (greatest_identity_of h) (file_words h) (slot_of (vms_of h) g) (notice_hart (vms_of h) g) (in_force_of h g) (places_of x.world g (Resident from)) (hand_in (record_of x g).stay) hand (guest_file h g) (a_look_saw h g) from refl
+    let after : home (Began (Leaves g) ∷ h) g ≡ OnWay (Outward from) at_first = home_step (Began (Leaves g)) h g ∙ cond-true _ _ _ (is_itself g)
+    ∙ ap leaving before in
+    let held : Holds (file_words h) (slot_of (vms_of h) g) (notice_hart (vms_of h) g) (in_force_of h g)
+    (places_of x.world g (OnWay (Outward from) at_first)) (OnWay (Outward from) at_first) hand (guest_file h g) false =
+    leave_begins (greatest_identity_of h) (file_words h) (slot_of (vms_of h) g) (notice_hart (vms_of h) g) (in_force_of h g)
+    (places_of x.world g (Resident from)) (hand_in (record_of x g).stay) hand (guest_file h g) (a_look_saw h g) from refl
     (held_at x h g (Resident from) b.planned.stands b.planned.there before) in
-    begun_at x y h (Leaves g) who plan r (Outward from) hand None b leases tt begins after (λ q. ap (holds q) (sym before) ∙ or_nothing (holds q (home h g))) tt
-    (subst (λ saw. Holds (file_words h) (slot_of (vms_of h) g) (notice_hart (vms_of h) g) (in_force_of h g) (places_of x.world g (OnWay (Outward from) at_first)) (OnWay (Outward from) at_first) hand (guest_file h g) saw) (sym (seen_begun h g)) held)
+    begun_at x y h (Leaves g) who plan r (Outward from) hand None b leases tt begins after
+    (λ q. ap (holds q) (sym before) ∙ or_nothing (holds q (home h g))) tt
+    (subst (λ saw. Holds (file_words h) (slot_of (vms_of h) g) (notice_hart (vms_of h) g) (in_force_of h g)
+    (places_of x.world g (OnWay (Outward from) at_first)) (OnWay (Outward from) at_first) hand (guest_file h g) saw) (sym (seen_begun h g)) held)
 
 -- ---- an arrival
 
-pub arrive_begun : (x y : CoreState) (h : History) (g : Vcpu) (hart : ℕ) (who : Who) (plan : PlanState) (r : VcpuRecord) (to : GuestPlace) (kept : KeptNumbers) → Given x y h g who plan r → IsFreeAt x h hart to → y.leases ≡ with_out x.leases to true
-    → (record_of x g).stay ≡ stays.InMemory Parked kept → moving_of plan ≡ record { who = who; home = OnWay (Inward to) at_first; hand = record { word = 0; delivery = kept.delivery; threshold = kept.threshold; seen = false } } → CoreStands y (Began (Arrives g hart) ∷ h)
+pub arrive_begun : (x y : CoreState) (h : History) (g : Vcpu) (hart : ℕ) (who : Who) (plan : PlanState) (r : VcpuRecord) (to : GuestPlace)
+    (kept : KeptNumbers) → Given x y h g who plan r → IsFreeAt x h hart to → y.leases ≡ with_out x.leases to true
+    → (record_of x g).stay ≡ stays.InMemory Parked kept
+    → moving_of plan ≡ record {
+      who = who;
+      home = OnWay (Inward to) at_first;
+      hand =
+          record { word = 0; delivery = kept.delivery; threshold = kept.threshold; seen = false };
+    } → CoreStands y (Began (Arrives g hart) ∷ h)
 arrive_begun x y h g hart who plan r to kept b free leases was begins =
     let hand : Hand = record { word = 0; delivery = kept.delivery; threshold = kept.threshold; seen = false } in
     let before : home h g ≡ InMemory Parked = home_at x h g (stays.InMemory Parked kept) b.planned.stands b.planned.there was in
     let after : home (Began (Arrives g hart) ∷ h) g ≡ OnWay (Inward to) at_first =
-    home_step (Began (Arrives g hart)) h g ∙ cond-true _ _ _ (is_itself g) ∙ ap (λ o. option_map_or (λ file. arriving (guest_place hart file) (home h g)) o (home h g)) free.found
+    home_step (Began (Arrives g hart)) h g ∙ cond-true _ _ _ (is_itself g)
+    ∙ ap (λ o. option_map_or (λ file. arriving (guest_place hart file) (home h g)) o (home h g)) free.found
     ∙ ap (arriving (guest_place hart to.file)) before ∙ ap (λ t. OnWay (Inward (guest_place t to.file)) at_first) (sym free.hart_of) in
-    let held : Holds (file_words h) (slot_of (vms_of h) g) (notice_hart (vms_of h) g) (in_force_of h g) (places_of x.world g (OnWay (Inward to) at_first)) (OnWay (Inward to) at_first) hand (guest_file h g) false =
-    arrive_begins (greatest_identity_of h) (file_words h) (slot_of (vms_of h) g) (notice_hart (vms_of h) g) (in_force_of h g) (places_of x.world g (InMemory Parked)) (hand_in (record_of x g).stay) hand (guest_file h g) (a_look_saw h g) to (places_of x.world g (OnWay (Inward to) at_first)) refl
-    (free_is_empty x h hart to b.planned.stands free) (ap (λ s. (hand_in s).delivery) (sym was)) (ap (λ s. (hand_in s).threshold) (sym was)) (held_at x h g (InMemory Parked) b.planned.stands b.planned.there before) in
-    begun_at x y h (Arrives g hart) who plan r (Inward to) hand (Some to) b leases (free.inside, free.none) begins after (λ q. sym (ap (λ t. holds q t || is_place q to) before)) tt
+    let held : Holds (file_words h) (slot_of (vms_of h) g) (notice_hart (vms_of h) g) (in_force_of h g)
+    (places_of x.world g (OnWay (Inward to) at_first)) (OnWay (Inward to) at_first) hand (guest_file h g) false =
+    arrive_begins (greatest_identity_of h) (file_words h) (slot_of (vms_of h) g) (notice_hart (vms_of h) g) (in_force_of h g)
+    (places_of x.world g (InMemory Parked)) (hand_in (record_of x g).stay) hand (guest_file h g) (a_look_saw h g) to
+    (places_of x.world g (OnWay (Inward to) at_first)) refl
+    (free_is_empty x h hart to b.planned.stands free) (ap (λ s. (hand_in s).delivery) (sym was)) (ap (λ s. (hand_in s).threshold) (sym was))
+    (held_at x h g (InMemory Parked) b.planned.stands b.planned.there before) in
+    begun_at x y h (Arrives g hart) who plan r (Inward to) hand (Some to) b leases (free.inside, free.none) begins after
+    (λ q. sym (ap (λ t. holds q t || is_place q to) before)) tt
     (saw_any _ (a_look_saw (Began (Arrives g hart) ∷ h) g) refl held)
 
 -- ---- a shift
 
-pub shift_begun : (x y : CoreState) (h : History) (g : Vcpu) (hart : ℕ) (who : Who) (plan : PlanState) (r : VcpuRecord) (from to : GuestPlace) → Given x y h g who plan r → IsFreeAt x h hart to → y.leases ≡ with_out x.leases to true
-    → (record_of x g).stay ≡ stays.Resident from → moving_of plan ≡ record { who = who; home = OnWay (Across from to) at_first; hand = record { word = 0; delivery = 0; threshold = 0; seen = false } } → CoreStands y (Began (Shifts g hart) ∷ h)
+pub shift_begun : (x y : CoreState) (h : History) (g : Vcpu) (hart : ℕ) (who : Who) (plan : PlanState) (r : VcpuRecord) (from to : GuestPlace)
+    → Given x y h g who plan r → IsFreeAt x h hart to → y.leases ≡ with_out x.leases to true
+    → (record_of x g).stay ≡ stays.Resident from → moving_of plan ≡ record
+    { who = who; home = OnWay (Across from to) at_first; hand = record { word = 0; delivery = 0; threshold = 0; seen = false } }
+    → CoreStands y (Began (Shifts g hart) ∷ h)
 shift_begun x y h g hart who plan r from to b free leases was begins =
     let hand : Hand = record { word = 0; delivery = 0; threshold = 0; seen = false } in
     let before : home h g ≡ Resident from = home_at x h g (stays.Resident from) b.planned.stands b.planned.there was in
     let after : home (Began (Shifts g hart) ∷ h) g ≡ OnWay (Across from to) at_first =
-    home_step (Began (Shifts g hart)) h g ∙ cond-true _ _ _ (is_itself g) ∙ ap (λ o. option_map_or (λ file. shifting (guest_place hart file) (home h g)) o (home h g)) free.found
+    home_step (Began (Shifts g hart)) h g ∙ cond-true _ _ _ (is_itself g)
+    ∙ ap (λ o. option_map_or (λ file. shifting (guest_place hart file) (home h g)) o (home h g)) free.found
     ∙ ap (shifting (guest_place hart to.file)) before ∙ ap (λ t. OnWay (Across from (guest_place t to.file)) at_first) (sym free.hart_of) in
-    let held : Holds (file_words h) (slot_of (vms_of h) g) (notice_hart (vms_of h) g) (in_force_of h g) (places_of x.world g (OnWay (Across from to) at_first)) (OnWay (Across from to) at_first) hand (guest_file h g) false =
-    shift_begins (greatest_identity_of h) (file_words h) (slot_of (vms_of h) g) (notice_hart (vms_of h) g) (in_force_of h g) (places_of x.world g (Resident from)) (hand_in (record_of x g).stay) hand (guest_file h g) (a_look_saw h g) from to (places_of x.world g (OnWay (Across from to) at_first)) refl
+    let held : Holds (file_words h) (slot_of (vms_of h) g) (notice_hart (vms_of h) g) (in_force_of h g)
+    (places_of x.world g (OnWay (Across from to) at_first)) (OnWay (Across from to) at_first) hand (guest_file h g) false =
+    shift_begins (greatest_identity_of h) (file_words h) (slot_of (vms_of h) g) (notice_hart (vms_of h) g) (in_force_of h g)
+    (places_of x.world g (Resident from)) (hand_in (record_of x g).stay) hand (guest_file h g) (a_look_saw h g) from to
+    (places_of x.world g (OnWay (Across from to) at_first)) refl
     (free_is_empty x h hart to b.planned.stands free) (held_at x h g (Resident from) b.planned.stands b.planned.there before) in
-    begun_at x y h (Shifts g hart) who plan r (Across from to) hand (Some to) b leases (free.inside, free.none) begins after (λ q. sym (ap (λ t. holds q t || is_place q to) before)) (apart before)
+    begun_at x y h (Shifts g hart) who plan r (Across from to) hand (Some to) b leases (free.inside, free.none) begins after
+    (λ q. sym (ap (λ t. holds q t || is_place q to) before)) (apart before)
     (saw_any _ (a_look_saw (Began (Shifts g hart) ∷ h) g) refl held)
   where
     -- its own file is held, the other one is not
     apart : home h g ≡ Resident from → is_place from to ≡ false
     apart before = elim (cases_Bool (is_place from to)) [
-      | inl e ↦ absurd (false≢true (sym (of_none (vms_of h) (λ z. holds to (home h z)) g free.none b.planned.there) ∙ ap (holds to) before ∙ ap (λ (p : GuestPlace). is_place p from) (sym (same_place from to e)) ∙ is_itself_place from))
+      | inl e ↦ absurd (false≢true (sym (of_none (vms_of h) (λ z. holds to (home h z)) g free.none b.planned.there) ∙ ap (holds to) before
+          ∙ ap (λ (p : GuestPlace). is_place p from) (sym (same_place from to e)) ∙ is_itself_place from))
       | inr ne ↦ ne
     ]

@@ -114,9 +114,11 @@ ended_apart there = tt
 -- ---- what is held then
 
 -- at rest nothing is carried
-change_word : (words : ℕ) (v : Places) (there : Home) (word now : ℕ) (file : InterruptFile) → steps_done there ≡ 0 → HoldsSets words v there word file → HoldsSets words v there now file
+change_word : (words : ℕ) (v : Places) (there : Home) (word now : ℕ) (file : InterruptFile) → steps_done there ≡ 0
+    → HoldsSets words v there word file → HoldsSets words v there now file
 change_word words v there word now file first h = record {
-  union = λ i l. h.union i l ∙ (λ k. (old_place v there).pending i || ((new_place v there).pending i || (pending_no (i / 64) k && has_bit word (i % 64))))
+  union = λ i l. h.union i l ∙ (λ k. (old_place v there).pending
+      i || ((new_place v there).pending i || (pending_no (i / 64) k && has_bit word (i % 64))))
       ∙ (λ k. (old_place v there).pending i || ((new_place v there).pending i || (sym (pending_no (i / 64)) k && has_bit now (i % 64))));
   drained = h.drained;
   fresh = h.fresh;
@@ -133,7 +135,8 @@ change_word words v there word now file first h = record {
     enables_no : (w : ℕ) → is_last_made words there (TakeEnables w) ≡ false
     enables_no w = ne_eqb (steps_done there) (step_of words there (TakeEnables w) + 1) (λ e. omega (arith, first, e))
 
-in_its_file : (p : GuestPlace) (hand now : Hand) (words slot hart : ℕ) (reach : Option GuestPlace) (v : Places) (file : InterruptFile) (saw : Bool) → Holds words slot hart reach v (Resident p) hand file false → Holds words slot hart reach v (Resident p) now file saw
+in_its_file : (p : GuestPlace) (hand now : Hand) (words slot hart : ℕ) (reach : Option GuestPlace) (v : Places) (file : InterruptFile)
+    (saw : Bool) → Holds words slot hart reach v (Resident p) hand file false → Holds words slot hart reach v (Resident p) now file saw
 in_its_file p hand now words slot hart reach v file saw h = record {
   sets = change_word words v (Resident p) hand.word now.word file refl h.sets;
   numbers = record {
@@ -148,7 +151,9 @@ in_its_file p hand now words slot hart reach v file saw h = record {
   looks = refl;
 }
 
-rested : (o : Outcome) (there : Home) (hand : Hand) (words slot hart : ℕ) (reach : Option GuestPlace) (v : Places) (file : InterruptFile) (saw : Bool) → GivesBack o there hand → Holds words slot hart reach v (ended there) hand file false → Holds words slot hart reach v (ended there) (hand_in (stay_after o)) file saw
+rested : (o : Outcome) (there : Home) (hand : Hand) (words slot hart : ℕ) (reach : Option GuestPlace) (v : Places) (file : InterruptFile)
+    (saw : Bool) → GivesBack o there hand → Holds words slot hart reach v (ended there) hand file false
+    → Holds words slot hart reach v (ended there) (hand_in (stay_after o)) file saw
 rested (Left place kept) (OnWay (Outward from) at) hand words slot hart reach v file saw g h = record {
   sets = change_word words v (InMemory Parked) hand.word 0 file refl h.sets;
   numbers = record {
@@ -162,8 +167,10 @@ rested (Left place kept) (OnWay (Outward from) at) hand words slot hart reach v 
   routes = h.routes;
   looks = refl;
 }
-rested (Arrived place) (OnWay (Inward to) at) hand words slot hart reach v file saw g h = in_its_file to hand (hand_in (stay_after (Arrived place))) words slot hart reach v file saw h
-rested (Shifted old new) (OnWay (Across from to) at) hand words slot hart reach v file saw g h = in_its_file to hand (hand_in (stay_after (Shifted old new))) words slot hart reach v file saw h
+rested (Arrived place) (OnWay (Inward to) at) hand words slot hart reach v file saw g h =
+    in_its_file to hand (hand_in (stay_after (Arrived place))) words slot hart reach v file saw h
+rested (Shifted old new) (OnWay (Across from to) at) hand words slot hart reach v file saw g h =
+    in_its_file to hand (hand_in (stay_after (Shifted old new))) words slot hart reach v file saw h
 rested o there hand words slot hart reach v file saw g h = absurd g
 
 -- ---- the last step
@@ -185,7 +192,8 @@ module _ (x y : CoreState) (h : History) (g : Vcpu) (plan : PlanState) (o : Outc
   home_is = steps.same_home x y h g plan r hand b.step_of
 
   pub at_end : home (Stepped g ∷ h) g ≡ ended (home h g)
-  at_end = unaimed_home h g b.step_of.unaimed ∙ cond-true _ _ _ ((λ k. is_at_last (sym (steps.same_words x y h g plan r hand b.step_of) k) (sym home_is k)) ∙ b.ends.ends.last)
+  at_end = unaimed_home h g b.step_of.unaimed ∙ cond-true _ _ _
+      ((λ k. is_at_last (sym (steps.same_words x y h g plan r hand b.step_of) k) (sym home_is k)) ∙ b.ends.ends.last)
 
   rest_home : ended (moving_of plan).home ≡ home (Stepped g ∷ h) g
   rest_home = ap ended home_is ∙ sym at_end
@@ -193,7 +201,8 @@ module _ (x y : CoreState) (h : History) (g : Vcpu) (plan : PlanState) (o : Outc
   rest_reach : reach_stepped (moving_of plan).home (in_force_of h g) ≡ in_force_of (Stepped g ∷ h) g
   rest_reach = ap (λ t. reach_stepped t (in_force_of h g)) home_is ∙ sym (reach_step (Stepped g) h g ∙ cond-true _ _ _ (is_itself g))
 
-  held_before : Holds (width x.world) (moving_of plan).who.found.slot (moving_of plan).who.found.notice (in_force_of h g) (places_of x.world (mover (moving_of plan)) (moving_of plan).home) (moving_of plan).home (moving_of plan).hand (guest_file h g) (a_look_saw h g)
+  held_before : Holds (width x.world) (moving_of plan).who.found.slot (moving_of plan).who.found.notice (in_force_of h g)
+      (places_of x.world (mover (moving_of plan)) (moving_of plan).home) (moving_of plan).home (moving_of plan).hand (guest_file h g) (a_look_saw h g)
   held_before = steps.held x y h g plan r hand b.step_of
 
   ends_own : VcpuStands y (Stepped g ∷ h) g
@@ -204,8 +213,10 @@ module _ (x y : CoreState) (h : History) (g : Vcpu) (plan : PlanState) (o : Outc
       let file = file_rests h (Stepped g) g ((stepped_move h g).rests g) in
       record {
         same_home = ap home_in stay ∙ ended_home o (moving_of plan).home hand b.ends.gives ∙ rest_home;
-        select = ap (λ (r : VcpuRecord). r.select) kept ∙ s.select ∙ (s.stands.vcpus g s.there).select ∙ sym (select_rests h (Stepped g) g ((stepped_move h g).rests g));
-        majors = ap (λ (r : VcpuRecord). majors_shown r.majors) kept ∙ ap majors_shown s.majors ∙ (s.stands.vcpus g s.there).majors ∙ sym (majors_rest h (Stepped g) g ((stepped_move h g).majors g));
+        select = ap (λ (r : VcpuRecord). r.select) kept ∙ s.select ∙ (s.stands.vcpus g s.there).select
+            ∙ sym (select_rests h (Stepped g) g ((stepped_move h g).rests g));
+        majors = ap (λ (r : VcpuRecord). majors_shown r.majors) kept ∙ ap majors_shown s.majors ∙ (s.stands.vcpus g s.there).majors
+            ∙ sym (majors_rest h (Stepped g) g ((stepped_move h g).majors g));
         two_files = subst AreApart (sym at_end) (ended_apart (home h g));
         plan = subst (PlanStands y.world g) (sym stay) (no_plan o);
         passes = subst (HasItsPasses (passes_of (Stepped g ∷ h)) g) (sym stay) (no_passes o);
@@ -219,8 +230,11 @@ module _ (x y : CoreState) (h : History) (g : Vcpu) (plan : PlanState) (o : Outc
           hand = hand_in (sym stay k);
           file = sym file k;
           saw = a_look_saw (Stepped g ∷ h) g;
-        }) (rested o (moving_of plan).home hand (width x.world) (moving_of plan).who.found.slot (moving_of plan).who.found.notice (reach_stepped (moving_of plan).home (in_force_of h g)) (places_of y.world (mover (moving_of plan)) (ended (moving_of plan).home)) (guest_file h g) (a_look_saw (Stepped g ∷ h) g) b.ends.gives
-            (ends_kept x.world y.world (moving_of plan) s.whole (steps.fits x y h g plan r hand s) (steps.apart x y h g plan r hand s) (in_force_of h g) (guest_file h g) (a_look_saw h g) hand b.ends.ends
+        }) (rested o (moving_of plan).home hand (width x.world) (moving_of plan).who.found.slot (moving_of plan).who.found.notice
+            (reach_stepped (moving_of plan).home (in_force_of h g)) (places_of y.world (mover (moving_of plan)) (ended (moving_of plan).home))
+            (guest_file h g) (a_look_saw (Stepped g ∷ h) g) b.ends.gives
+            (ends_kept x.world y.world (moving_of plan) s.whole (steps.fits x y h g plan r hand s) (steps.apart x y h g plan r hand s)
+            (in_force_of h g) (guest_file h g) (a_look_saw h g) hand b.ends.ends
             (steps.within x y h g plan r hand s) held_before));
       }
     where
@@ -241,9 +255,11 @@ module _ (x y : CoreState) (h : History) (g : Vcpu) (plan : PlanState) (o : Outc
   pub back_held : (p : GuestPlace) → back_of o ≡ Some p → holds p (home h g) ≡ true
   back_held p e = ended_held p (home h g) (sym back_is ∙ e)
 
-  out_held : (back : Option GuestPlace) → back_of o ≡ back → (q : GuestPlace) → IsThere x.world.imsic (spot_of q) → is_out (with_back back x.leases) q ≡ is_held (Stepped g ∷ h) q
+  out_held : (back : Option GuestPlace) → back_of o ≡ back → (q : GuestPlace) → IsThere x.world.imsic (spot_of q)
+      → is_out (with_back back x.leases) q ≡ is_held (Stepped g ∷ h) q
   out_held None e q inside =
-      b.step_of.stands.leases q inside ∙ sym (held_as h (Stepped g) g q (stepped_move h g) (ap (holds q) at_end ∙ ended_same q (home h g) (sym back_is ∙ e)))
+      b.step_of.stands.leases q inside ∙ sym (held_as h (Stepped g) g q (stepped_move h g)
+      (ap (holds q) at_end ∙ ended_same q (home h g) (sym back_is ∙ e)))
   out_held (Some p) e q inside = elim (cases_Bool (is_place q p)) [
     | inl same ↦
         let it = same_place q p same in
@@ -251,7 +267,8 @@ module _ (x y : CoreState) (h : History) (g : Vcpu) (plan : PlanState) (o : Outc
         ∙ sym (ap (is_held (Stepped g ∷ h)) it ∙ no_vcpu (vms_of h) (λ z. holds p (home (Stepped g ∷ h) z)) nobody)
     | inr ne ↦
         out_elsewhere x.leases p q false (in_pool x h p b.step_of.stands there) (in_pool x h q b.step_of.stands inside) ne
-        ∙ b.step_of.stands.leases q inside ∙ sym (held_as h (Stepped g) g q (stepped_move h g) (ap (holds q) at_end ∙ ended_others q p (home h g) (sym back_is ∙ e) ne))
+        ∙ b.step_of.stands.leases q inside ∙ sym (held_as h (Stepped g) g q (stepped_move h g)
+        (ap (holds q) at_end ∙ ended_others q p (home h g) (sym back_is ∙ e) ne))
   ]
     where
       mine : holds p (home h g) ≡ true
@@ -265,20 +282,24 @@ module _ (x y : CoreState) (h : History) (g : Vcpu) (plan : PlanState) (o : Outc
 
       nobody : (z : Vcpu) → has_vcpu h z ≡ true → holds p (home (Stepped g ∷ h) z) ≡ false
       nobody z inside = elim (cases_Bool (is_vcpu z g)) [
-        | inl is ↦ ap (λ z. holds p (home (Stepped g ∷ h) z)) (same_vcpu z g is) ∙ ap (holds p) at_end ∙ ended_unheld p (home h g) (b.step_of.stands.vcpus g b.step_of.there).two_files (sym back_is ∙ e)
+        | inl is ↦ ap (λ z. holds p (home (Stepped g ∷ h) z)) (same_vcpu z g is) ∙ ap (holds p) at_end
+            ∙ ended_unheld p (home h g) (b.step_of.stands.vcpus g b.step_of.there).two_files (sym back_is ∙ e)
         | inr ne ↦ ap (holds p) ((stepped_move h g).homes z ne) ∙ steps.its_alone x y h g plan r hand b.step_of z p inside ne mine
       ]
 
   -- it is empty
-  left_is_empty : (q : GuestPlace) → IsThere x.world.imsic (spot_of q) → holds q (home h g) ≡ true → holds q (home (Stepped g ∷ h) g) ≡ false → shown (file_at y.world.imsic (spot_of q)) ≡ empty_file (greatest_identity_of h)
+  left_is_empty : (q : GuestPlace) → IsThere x.world.imsic (spot_of q) → holds q (home h g) ≡ true → holds q (home (Stepped g ∷ h) g) ≡ false
+      → shown (file_at y.world.imsic (spot_of q)) ≡ empty_file (greatest_identity_of h)
   left_is_empty q inside mine not_mine =
       let s = b.step_of in
       let leaves : old_file (home h g) ≡ Some q = ended_left q (home h g) mine (ap (holds q) (sym at_end) ∙ not_mine) in
       let empty : IsEmpty (shown (file_at y.world.imsic (spot_of q))) =
-      ends_empty x.world y.world (moving_of plan) s.whole (steps.fits x y h g plan r hand s) (steps.apart x y h g plan r hand s) (in_force_of h g) (guest_file h g) (a_look_saw h g) hand q b.ends.ends (ap old_file home_is ∙ leaves) held_before in
+      ends_empty x.world y.world (moving_of plan) s.whole (steps.fits x y h g plan r hand s) (steps.apart x y h g plan r hand s) (in_force_of h g)
+      (guest_file h g) (a_look_saw h g) hand q b.ends.ends (ap old_file home_is ∙ leaves) held_before in
       let machine = steps.machine x y h g plan r hand s in
       same_file _ (empty_file (greatest_identity_of h)) (record {
-        n = width_at y.world (spot_of q) b.whole_then (guest_too x.world.imsic y.world.imsic q (sym machine.harts) (sym machine.guests) inside) ∙ machine.n ∙ s.stands.greatest;
+        n = width_at y.world (spot_of q) b.whole_then (guest_too x.world.imsic y.world.imsic q (sym machine.harts) (sym machine.guests) inside)
+            ∙ machine.n ∙ s.stands.greatest;
         pending = λ i. empty.pending i;
         enabled = λ i. empty.enabled i;
         threshold = empty.threshold;

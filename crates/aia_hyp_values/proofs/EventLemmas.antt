@@ -68,14 +68,16 @@ pub record Changes (x y : CoreState) (h : History) (event : Event) : Type 0 wher
   pub count : y.world.notices ≡ count_after (noticed h event) x.world.notices
   pub host : (f : FileName) → IsThere x.world.imsic (host_spot f) → FileDone x y f (deed_at f h event)
   pub vcpus : (g : Vcpu) → has_vcpu h g ≡ true → VcpuStands x h g → VcpuStands y (event ∷ h) g
-  pub free_files : (p : GuestPlace) → IsThere x.world.imsic (spot_of p) → is_held h p ≡ false → file_at y.world.imsic (spot_of p) ≡ file_at x.world.imsic (spot_of p)
+  pub free_files : (p : GuestPlace) → IsThere x.world.imsic (spot_of p) → is_held h p ≡ false
+      → file_at y.world.imsic (spot_of p) ≡ file_at x.world.imsic (spot_of p)
   pub no_vcpu : (g : Vcpu) → has_vcpu h g ≡ false → guest_deed g h event ≡ Rests
   pub no_majors : (g : Vcpu) → has_vcpu h g ≡ false → MajorsRest g event
   pub no_slot : (q : ℕ) → vcpus_in (vms_of h) ≤ q → q < VCPUS → mrif_in y.world.memory q ≡ mrif_in x.world.memory q
 
 pub changed : (x y : CoreState) (h : History) (event : Event) → Changes x y h event → CoreStands x h → Becomes x y h event
 changed x y h event c stands = record {
-  keeps = keeps_by x y h event c.quiet.plain (built_as x.world y.world y.world.imsic.files y.world.memory x.world.vms x.world.tables x.world.flights x.world.stages y.world.notices c.rest);
+  keeps = keeps_by x y h event c.quiet.plain (built_as x.world y.world y.world.imsic.files y.world.memory x.world.vms x.world.tables
+      x.world.flights x.world.stages y.world.notices c.rest);
   vms = ap (λ (w : World). w.vms) c.rest ∙ stands.vms ∙ sym c.quiet.stays.vms;
   count = c.count;
   host = c.host;
@@ -109,7 +111,9 @@ changed x y h event c stands = record {
     still_held g p holding = ap (holds p) (sym (c.quiet.stays.homes g)) ∙ holding
 
 pub one_more : (x y : CoreState) (h : History) (event : Event) → Changes x y h event → IsStill h event → CoreStands x h → CoreStands y (event ∷ h)
-one_more x y h event changes still stands = stands_after x y h event (changed x y h event changes stands) (flights_stay x y h event still (ap (λ (w : World). w.flights) changes.rest) stands) (none_passes x y h event still.passes still.rest changes.passes stands) stands
+one_more x y h event changes still stands = stands_after x y h event (changed x y h event changes stands)
+    (flights_stay x y h event still (ap (λ (w : World). w.flights) changes.rest) stands)
+    (none_passes x y h event still.passes still.rest changes.passes stands) stands
 
 -- ---- events of the host, which are nothing to guests
 
@@ -119,12 +123,19 @@ pub record IsHosts (h : History) (event : Event) : Type 0 where
   pub guests : (g : Vcpu) → guest_deed g h event ≡ Rests
   pub majors : (g : Vcpu) → MajorsRest g event
 
-pub hosts_line : (h : History) (line : Line) → is_quiet_line line ≡ true → noticed h (Accepted line) ≡ None → ((g : Vcpu) → guest_deed g h (Accepted line) ≡ Rests) → ((g : Vcpu) → MajorsRest g (Accepted line)) → IsHosts h (Accepted line)
+pub hosts_line : (h : History) (line : Line) → is_quiet_line line ≡ true → noticed h (Accepted line) ≡ None
+    → ((g : Vcpu) → guest_deed g h (Accepted line) ≡ Rests) → ((g : Vcpu) → MajorsRest g (Accepted line)) → IsHosts h (Accepted line)
 hosts_line h line plain none guests majors = record { quiet = quiet_line h line plain; none = none; guests = guests; majors = majors }
 
 -- an MSI that is of no passed source
 pub hosts_msi : (h : History) (msi : Msi) → passed_by h msi.source ≡ None → IsHosts h (Delivered msi)
-hosts_msi h msi unpassed = record { quiet = quiet_msi h msi; none = refl; guests = λ g. ap (λ o. cond (goes_to_guest h msi) (passed_deed g h o) Rests) unpassed ∙ either (goes_to_guest h msi); majors = λ g m. refl }
+hosts_msi h msi unpassed = record {
+  quiet = quiet_msi h msi;
+  none = refl;
+  guests =
+      λ g. ap (λ o. cond (goes_to_guest h msi) (passed_deed g h o) Rests) unpassed ∙ either (goes_to_guest h msi);
+  majors = λ g m. refl;
+}
   where
     either : (b : Bool) → ◌≡◌ {A = FileDeed} (cond b Rests Rests) Rests
     either true = refl
@@ -135,7 +146,9 @@ pub as_it_was : (file : InterruptFile) → SameFile file file
 as_it_was file = record { n = refl; pending = λ i. refl; enabled = λ i. refl; threshold = refl; delivery = refl }
 
 -- an event of the host, where its files alone may have changed
-host_alone : (x y : CoreState) (h : History) (event : Event) → IsHosts h event → y.world ≡ record x.world { imsic = y.world.imsic } → y.leases ≡ x.leases → y.passes ≡ x.passes → y.vcpus ≡ x.vcpus → y.world.imsic.harts ≡ x.world.imsic.harts → y.world.imsic.guests ≡ x.world.imsic.guests
+host_alone : (x y : CoreState) (h : History) (event : Event) → IsHosts h event → y.world ≡ record x.world { imsic = y.world.imsic }
+    → y.leases ≡ x.leases → y.passes ≡ x.passes → y.vcpus ≡ x.vcpus → y.world.imsic.harts ≡ x.world.imsic.harts
+    → y.world.imsic.guests ≡ x.world.imsic.guests
     → ((f : FileName) → IsThere x.world.imsic (host_spot f) → FileDone x y f (deed_at f h event))
     → ((p : GuestPlace) → IsThere x.world.imsic (spot_of p) → file_at y.world.imsic (spot_of p) ≡ file_at x.world.imsic (spot_of p))
     → ((g : Vcpu) (p : GuestPlace) → has_vcpu h g ≡ true → holds p (home h g) ≡ true → IsThere x.world.imsic (spot_of p))
@@ -150,7 +163,9 @@ host_alone x y h event hosts rest leases passes vcpus harts guests files guest_f
       records = ap (λ (rs : List VcpuRecord). length rs) vcpus;
       count = ap (λ (w : World). w.notices) rest ∙ ap (λ who. count_after who x.world.notices) (sym hosts.none);
       host = files;
-      vcpus = λ g inside p. guest_rests x y h event g hosts.quiet.stays (record { n = ap (λ (w : World). w.n) rest; vms = vms; harts = harts; guests = guests }) (hosts.guests g) (hosts.majors g) (λ k. get_or (vcpus k) (slot_of (vms k) g) no_record)
+      vcpus = λ g inside p. guest_rests x y h event g hosts.quiet.stays
+          (record { n = ap (λ (w : World). w.n) rest; vms = vms; harts = harts; guests = guests }) (hosts.guests g) (hosts.majors g)
+          (λ k. get_or (vcpus k) (slot_of (vms k) g) no_record)
           (files_alone x.world y.world g (home h g) rest (λ q holding. guest_files q (held g q inside holding))) p;
       free_files = λ p inside none. guest_files p inside;
       no_vcpu = λ g outside. hosts.guests g;
@@ -159,14 +174,19 @@ host_alone x y h event hosts rest leases passes vcpus harts guests files guest_f
     }
 
 -- an event that is nothing to any file that is there
-pub nothing_done : (x : CoreState) (h : History) (event : Event) → CoreStands x h → IsHosts h event → ((f : FileName) → IsThere x.world.imsic (host_spot f) → deed_at f h event ≡ Rests) → Changes x x h event
+pub nothing_done : (x : CoreState) (h : History) (event : Event) → CoreStands x h → IsHosts h event
+    → ((f : FileName) → IsThere x.world.imsic (host_spot f) → deed_at f h event ≡ Rests) → Changes x x h event
 nothing_done x h event stands hosts rests =
-    host_alone x x h event hosts refl refl refl refl refl refl (λ f inside. subst (FileDone x x f) (sym (rests f inside)) (record { file = as_it_was (shown (file_at x.world.imsic (host_spot f))); select = refl })) (λ p inside. refl) stands.held
+    host_alone x x h event hosts refl refl refl refl refl refl
+    (λ f inside. subst (FileDone x x f) (sym (rests f inside))
+    (record { file = as_it_was (shown (file_at x.world.imsic (host_spot f))); select = refl })) (λ p inside. refl) stands.held
 
 -- nothing was done at one file where something was done at another
-pub nothing_elsewhere : (x y : CoreState) (f g : FileName) (deed : FileDeed) → HasDone x y f deed → IsThere x.world.imsic (host_spot g) → g ≢ f → FileDone x y g Rests
+pub nothing_elsewhere : (x y : CoreState) (f g : FileName) (deed : FileDeed) → HasDone x y f deed → IsThere x.world.imsic (host_spot g) → g ≢ f
+    → FileDone x y g Rests
 nothing_elsewhere x y f g deed done inside ne = record {
-  file = subst (λ (file : FileState). SameFile (shown file) (shown (file_at x.world.imsic (host_spot g)))) (sym (done.files (host_spot g) inside (other_spot f g ne))) (as_it_was (shown (file_at x.world.imsic (host_spot g))));
+  file = subst (λ (file : FileState). SameFile (shown file) (shown (file_at x.world.imsic (host_spot g))))
+      (sym (done.files (host_spot g) inside (other_spot f g ne))) (as_it_was (shown (file_at x.world.imsic (host_spot g))));
   select = done.selects g ne;
 }
 
@@ -183,8 +203,11 @@ one_done x y h event f stands done hosts rests =
     stands.held
 
 -- a deed was done at one file, which stands now in the place of the old one
-pub file_done : (x y : CoreState) (f : FileName) (deed : FileDeed) (spot : Spot) → spot ≡ host_spot f → IsThere x.world.imsic spot → y.world ≡ record x.world { imsic = with_file x.world.imsic spot (file_at y.world.imsic spot) } → y.leases ≡ x.leases → y.vcpus ≡ x.vcpus → y.selects ≡ x.selects → y.passes ≡ x.passes
-    → SameFile (shown (file_at y.world.imsic spot)) (file_after (select_in x f) deed (shown (file_at x.world.imsic spot))) → select_after deed (select_in x f) ≡ select_in x f → HasDone x y f deed
+pub file_done : (x y : CoreState) (f : FileName) (deed : FileDeed) (spot : Spot) → spot ≡ host_spot f → IsThere x.world.imsic spot
+    → y.world ≡ record x.world { imsic = with_file x.world.imsic spot (file_at y.world.imsic spot) } → y.leases ≡ x.leases → y.vcpus ≡ x.vcpus
+    → y.selects ≡ x.selects → y.passes ≡ x.passes
+    → SameFile (shown (file_at y.world.imsic spot)) (file_after (select_in x f) deed (shown (file_at x.world.imsic spot)))
+    → select_after deed (select_in x f) ≡ select_in x f → HasDone x y f deed
 file_done x y f deed spot named there world leases vcpus selects passes done select =
     let imsic : y.world.imsic ≡ with_file x.world.imsic spot (file_at y.world.imsic spot) = ap (λ (w : World). w.imsic) world in
     record {
@@ -195,19 +218,24 @@ file_done x y f deed spot named there world leases vcpus selects passes done sel
       passes = passes;
       vcpus = vcpus;
       done = record {
-        file = subst (λ (s : Spot). SameFile (shown (file_at y.world.imsic s)) (file_after (select_in x f) deed (shown (file_at x.world.imsic s)))) named done;
+        file = subst (λ (s : Spot). SameFile (shown (file_at y.world.imsic s))
+            (file_after (select_in x f) deed (shown (file_at x.world.imsic s)))) named done;
         select = ap (λ xs. get_or xs (select_place f) 0) selects ∙ sym select;
       };
-      files = λ other inside ne. ap (λ (i : ImsicState). file_at i other) imsic ∙ kept_elsewhere x.world.imsic spot other (file_at y.world.imsic spot) there inside (λ e. ne (e ∙ named));
+      files = λ other inside ne. ap (λ (i : ImsicState). file_at i other) imsic
+          ∙ kept_elsewhere x.world.imsic spot other (file_at y.world.imsic spot) there inside (λ e. ne (e ∙ named));
       selects = λ g ne. ap (λ xs. get_or xs (select_place g) 0) selects;
     }
 
 -- a file in its own place changes nothing
 pub kept_file : (w : World) (spot : Spot) → w ≡ record w { imsic = with_file w.imsic spot (file_at w.imsic spot) }
-kept_file w spot = ap (λ (files : List FileState). record w { imsic = record w.imsic { files = files } }) (sym (set-get_or w.imsic.files (place_of w.imsic spot) no_file))
+kept_file w spot = ap (λ (files : List FileState). record w { imsic = record w.imsic { files = files } })
+    (sym (set-get_or w.imsic.files (place_of w.imsic spot) no_file))
 
 -- a deed that leaves its file and select number
-pub none_done : (x : CoreState) (f : FileName) (deed : FileDeed) → file_after (select_in x f) deed (shown (file_at x.world.imsic (host_spot f))) ≡ shown (file_at x.world.imsic (host_spot f)) → select_after deed (select_in x f) ≡ select_in x f → HasDone x x f deed
+pub none_done : (x : CoreState) (f : FileName) (deed : FileDeed)
+    → file_after (select_in x f) deed (shown (file_at x.world.imsic (host_spot f))) ≡ shown (file_at x.world.imsic (host_spot f))
+    → select_after deed (select_in x f) ≡ select_in x f → HasDone x x f deed
 none_done x f deed file select = record {
   harts = refl;
   guests = refl;
@@ -215,7 +243,11 @@ none_done x f deed file select = record {
   leases = refl;
   passes = refl;
   vcpus = refl;
-  done = record { file = subst (SameFile (shown (file_at x.world.imsic (host_spot f)))) (sym file) (as_it_was (shown (file_at x.world.imsic (host_spot f)))); select = sym select };
+  done = record {
+    file = subst (SameFile (shown (file_at x.world.imsic (host_spot f)))) (sym file)
+        (as_it_was (shown (file_at x.world.imsic (host_spot f))));
+    select = sym select;
+  };
   files = λ spot inside ne. refl;
   selects = λ g ne. refl;
 }
@@ -224,7 +256,8 @@ none_done x f deed file select = record {
 
 -- for each history its refusal, the answer and what is left
 pub by_refusal : (x y : CoreState) (line : Line) (given : Answer)
-    → ((h : History) → CoreStands x h → (r : Option Answer) × (refusal h line ≡ r) × (given ≡ unwrap_or r (accepted_answer h line)) × CoreStands y (line_served r h line) × ((word : Answer) → r ≡ Some word → y ≡ x)) → CoreTakes x y line given
+    → ((h : History) → CoreStands x h → (r : Option Answer) × (refusal h line ≡ r) × (given ≡ unwrap_or r (accepted_answer h line))
+    × CoreStands y (line_served r h line) × ((word : Answer) → r ≡ Some word → y ≡ x)) → CoreTakes x y line given
 by_refusal x y line given by = record {
   answers = λ h stands. let r = by h stands in r.2 ∙ sym (answered h line r.0 r.1);
   stands = λ h stands. let r = by h stands in subst (λ (o : Option Answer). CoreStands y (line_served o h line)) (sym r.1) r.3;
@@ -233,19 +266,31 @@ by_refusal x y line given by = record {
 
 -- an accepted line that makes no move, whatever it makes of the core
 pub taken : (x y : CoreState) (line : Line) (given : Answer) → line_deed line ≡ NoMove
-    → ((h : History) → CoreStands x h → (refusal h line ≡ None) × (given ≡ accepted_answer h line) × CoreStands y (Accepted line ∷ h)) → CoreTakes x y line given
-taken x y line given still by = by_refusal x y line given (λ h stands. let r = by h stands in (None, r.0, r.1, subst (λ d. CoreStands y (deed_taken h line d)) (sym still) r.2, λ word e. absurd (none-some word e)))
+    → ((h : History) → CoreStands x h → (refusal h line ≡ None) × (given ≡ accepted_answer h line) × CoreStands y (Accepted line ∷ h))
+    → CoreTakes x y line given
+taken x y line given still by = by_refusal x y line given
+    (λ h stands. let r = by h stands in (
+      None,
+      r.0,
+      r.1,
+      subst (λ d. CoreStands y (deed_taken h line d)) (sym still) r.2,
+      λ word e. absurd (none-some word e),
+    ))
 
 pub accepted : (x y : CoreState) (line : Line) (given : Answer) → is_quiet_line line ≡ true → line_deed line ≡ NoMove
-    → ((h : History) → CoreStands x h → (refusal h line ≡ None) × (given ≡ accepted_answer h line) × Changes x y h (Accepted line)) → CoreTakes x y line given
-accepted x y line given plain still by = taken x y line given still (λ h stands. let r = by h stands in (r.0, r.1, one_more x y h (Accepted line) r.2 (still_line h line plain) stands))
+    → ((h : History) → CoreStands x h → (refusal h line ≡ None) × (given ≡ accepted_answer h line) × Changes x y h (Accepted line))
+    → CoreTakes x y line given
+accepted x y line given plain still by = taken x y line given still
+    (λ h stands. let r = by h stands in (r.0, r.1, one_more x y h (Accepted line) r.2 (still_line h line plain) stands))
 
 pub refused : (x : CoreState) (line : Line) (word : Answer) → ((h : History) → CoreStands x h → refusal h line ≡ Some word) → CoreTakes x x line word
 refused x line word is = by_refusal x x line word (λ h stands. (Some word, is h stands, refl, stands, λ w e. refl))
 
 -- ---- signals
 
-pub signals_there : (x : CoreState) (h : History) (hart : ℕ) (machine supervisor : Bool) → hart < x.world.imsic.harts → machine ≡ signals (shown (file_at x.world.imsic (spots.MachineFile hart))) → supervisor ≡ signals (shown (file_at x.world.imsic (spots.SupervisorFile hart)))
+pub signals_there : (x : CoreState) (h : History) (hart : ℕ) (machine supervisor : Bool) → hart < x.world.imsic.harts
+    → machine ≡ signals (shown (file_at x.world.imsic (spots.MachineFile hart)))
+    → supervisor ≡ signals (shown (file_at x.world.imsic (spots.SupervisorFile hart)))
     → CoreStands x h → ◌≡◌ {A = Result (Bool × Bool) Refusal} (Ok (machine, supervisor)) (signals_of h hart)
 signals_there x h hart machine supervisor inside by_machine by_supervisor stands =
     ap (λ b. Ok (b, supervisor)) (by_machine ∙ ap signals (stands.host (MachineFile hart) inside).file)

@@ -211,7 +211,8 @@ steps_of_another zero x g h e = refl
 steps_of_another (suc count) x g h e = steps_of_another count x g (Stepped x ∷ h) e ∙ home_step (Stepped x) h g ∙ cond-false _ _ _ e
 
 arrival_of_another : (aims : ℕ) (x g : Vcpu) (hart : ℕ) (h : History) → is_vcpu g x ≡ false → home (moved_whole aims h (Arrives x hart)) g ≡ home h g
-arrival_of_another aims x g hart h e = steps_of_another (steps_of (file_words h) (Arrives x hart) + aims) x g (Began (Arrives x hart) ∷ h) e ∙ home_step (Began (Arrives x hart)) h g ∙ cond-false _ _ _ e
+arrival_of_another aims x g hart h e = steps_of_another (steps_of (file_words h) (Arrives x hart) + aims) x g (Began (Arrives x hart) ∷ h) e
+    ∙ home_step (Began (Arrives x hart)) h g ∙ cond-false _ _ _ e
 
 parked_as_made : (g : Vcpu) → home made_history g ≡ InMemory Parked
 unfolding passes_of home
@@ -256,7 +257,8 @@ drained_shown = same_file _ _ (record { n = refl; pending = nothing_in; enabled 
 -- ---- the slots
 
 low_word : (k : ℕ) → k < WORDS_OF_SLOTS → get_or example_memory k 0 ≡ 0
-low_word k low = get_or-append (replicate WORDS_OF_SLOTS 0) (entry_words ++ replicate (MEMORY_WORDS - WORDS_OF_SLOTS - length entry_words) 0) 0 k low ∙ each_same 0 WORDS_OF_SLOTS k
+low_word k low = get_or-append (replicate WORDS_OF_SLOTS 0) (entry_words ++ replicate (MEMORY_WORDS - WORDS_OF_SLOTS - length entry_words) 0) 0 k
+    low ∙ each_same 0 WORDS_OF_SLOTS k
 
 no_low_bit : (b : Bool) (k n : ℕ) → (b ≡ true → k < WORDS_OF_SLOTS) → (b && has_bit (get_or example_memory k 0) n) ≡ false
 no_low_bit false k n low = refl
@@ -274,7 +276,9 @@ held_is : (p : GuestPlace) → is_held leaving_history p ≡ (is_place p stayer_
 unfolding passes_of home least_of
 held_is p = refl
 
-out_by : (hart file : ℕ) → hart < 1 → 1 ≤ file → file ≤ 3 → is_out leaving_core.leases (guest_place hart file) ≡ (is_place (guest_place hart file) stayer_file || (is_place (guest_place hart file) leaver_file || false))
+out_by : (hart file : ℕ) → hart < 1 → 1 ≤ file → file ≤ 3
+    → is_out leaving_core.leases (guest_place hart file)
+    ≡ (is_place (guest_place hart file) stayer_file || (is_place (guest_place hart file) leaver_file || false))
 out_by zero zero low first last = absurd (omega (arith, first))
 out_by zero (suc zero) low first last = refl
 out_by zero (suc (suc zero)) low first last = refl
@@ -282,7 +286,8 @@ out_by zero (suc (suc (suc zero))) low first last = refl
 out_by zero (suc (suc (suc (suc file)))) low first last = absurd (omega (arith, last))
 out_by (suc hart) file low first last = absurd (omega (arith, low))
 
-free_by : (hart file : ℕ) → hart < 1 → 1 ≤ file → file ≤ 3 → (is_place (guest_place hart file) stayer_file || (is_place (guest_place hart file) leaver_file || false)) ≡ false
+free_by : (hart file : ℕ) → hart < 1 → 1 ≤ file → file ≤ 3
+    → (is_place (guest_place hart file) stayer_file || (is_place (guest_place hart file) leaver_file || false)) ≡ false
     → shown (file_at example_files (spot_of (guest_place hart file))) ≡ empty_file 63
 free_by zero zero low first last none = absurd (omega (arith, first))
 free_by zero (suc zero) low first last none = absurd (false≢true (sym none))
@@ -297,7 +302,8 @@ stayer_holds p e = same_place p stayer_file (ap (holds p) (sym stayer_home) ∙ 
 leaver_holds : (p : GuestPlace) → holds p (home leaving_history leaver) ≡ true → p ≡ leaver_file
 leaver_holds p e = same_place p leaver_file (ap (holds p) (sym leaver_home) ∙ e)
 
-held_there : (g : Vcpu) → has_vcpu leaving_history g ≡ true → (p : GuestPlace) → holds p (home leaving_history g) ≡ true → IsThere example_files (spot_of p)
+held_there : (g : Vcpu) → has_vcpu leaving_history g ≡ true → (p : GuestPlace) → holds p (home leaving_history g) ≡ true
+    → IsThere example_files (spot_of p)
 held_there = of_both (λ g. (p : GuestPlace) → holds p (home leaving_history g) ≡ true → IsThere example_files (spot_of p))
     (λ p e. subst (λ (p : GuestPlace). IsThere example_files (spot_of p)) (sym (stayer_holds p e)) (omega arith, omega arith, omega arith))
     (λ p e. subst (λ (p : GuestPlace). IsThere example_files (spot_of p)) (sym (leaver_holds p e)) (omega arith, omega arith, omega arith))
@@ -330,7 +336,8 @@ host_stands (SupervisorFile (suc hart)) inside = absurd (omega (arith, inside))
 
 -- ---- what nobody has
 
-no_entry_by : (vm number : ℕ) → nat_lt vm 1 ≡ true → is_vcpu_in (vms_of leaving_history) (vcpu vm number) ≡ false → entry_in_force (table_of example_world.tables vm) number ≡ NotValid
+no_entry_by : (vm number : ℕ) → nat_lt vm 1 ≡ true → is_vcpu_in (vms_of leaving_history) (vcpu vm number) ≡ false
+    → entry_in_force (table_of example_world.tables vm) number ≡ NotValid
 no_entry_by zero zero inside outside = absurd (false≢true (sym outside))
 no_entry_by zero (suc zero) inside outside = absurd (false≢true (sym outside))
 no_entry_by zero (suc (suc number)) inside outside = each_same NotValid 14 number
@@ -485,7 +492,8 @@ leave_fits = record {
   there = refl;
   slot = refl;
   notice = refl;
-  own = λ p e. let same : leaver_file ≡ p = cc in subst (λ (p : GuestPlace). IsThere example_files (spot_of p)) same (omega arith, omega arith, omega arith);
+  own = λ p e. let same : leaver_file ≡ p = cc in
+      subst (λ (p : GuestPlace). IsThere example_files (spot_of p)) same (omega arith, omega arith, omega arith);
   next = λ p e. let bad : ◌≡◌ {A = Option GuestPlace} None (Some p) = e in absurd (cc);
   no_pending_zero = λ e. refl;
   no_enabled_zero = λ e. refl;
@@ -517,14 +525,17 @@ leaver_stands = record {
 aimed_all : AllAreAimed leaving_history
 aimed_all g = elim (cases_Bool (has_vcpu leaving_history g)) [
   | inl there ↦ of_both (λ g. AreAimed (passes_for leaving_history g) (home leaving_history g)) aimed_stayer aimed_leaver g there
-  | inr outside ↦ subst (AreAimed (passes_for leaving_history g)) (sym (other_home g outside)) (record { late = λ e. absurd (false≢true e); all = λ e. absurd (false≢true e) })
+  | inr outside ↦ subst (AreAimed (passes_for leaving_history g)) (sym (other_home g outside))
+      (record { late = λ e. absurd (false≢true e); all = λ e. absurd (false≢true e) })
 ]
   where
     aimed_stayer : AreAimed (passes_for leaving_history stayer) (home leaving_history stayer)
-    aimed_stayer = subst (AreAimed (passes_for leaving_history stayer)) (sym stayer_home) (record { late = λ e. absurd (false≢true e); all = λ e. absurd (false≢true e) })
+    aimed_stayer = subst (AreAimed (passes_for leaving_history stayer)) (sym stayer_home)
+        (record { late = λ e. absurd (false≢true e); all = λ e. absurd (false≢true e) })
 
     aimed_leaver : AreAimed (passes_for leaving_history leaver) (home leaving_history leaver)
-    aimed_leaver = subst (AreAimed (passes_for leaving_history leaver)) (sym leaver_home) (record { late = λ e. refl; all = λ e. ap (λ passes. nat_lt 1 (passes_to leaver passes)) passed_one })
+    aimed_leaver = subst (AreAimed (passes_for leaving_history leaver)) (sym leaver_home)
+        (record { late = λ e. refl; all = λ e. ap (λ passes. nat_lt 1 (passes_to leaver passes)) passed_one })
 
 passes_stand : PassesKept leaving_core leaving_history
 passes_stand = record {
@@ -623,5 +634,6 @@ leaving_whole = record {
 -- ---- the lines that lead there
 
 pub leaving_lines : after_lines [] (earlier_lines ++ leave_lines) ≡ leaving_history
-unfolding passes_of addresses_of domain_register_of wire_of enabled target pending after home flight in_force_of least_of look_saw file_by select_by ones all_senders genmsi_waits newest
+unfolding passes_of addresses_of domain_register_of wire_of enabled target pending after home flight in_force_of least_of look_saw file_by
+    select_by ones all_senders genmsi_waits newest
 leaving_lines = refl

@@ -38,7 +38,8 @@ some_of : (o : Option ℕ) → is_some o ≡ true → (i : ℕ) × (o ≡ Some i
 some_of (Some i) is = (i, refl)
 some_of None is = absurd (cc)
 
-pub is_live_in : (n words : ℕ) (pending enabled : ℕ → Bool) → n + 1 ≡ 64 * words → pending 0 ≡ false → is_some (least_of (is_shared pending enabled) 0 words) ≡ is_some (top_identity n pending enabled 0)
+pub is_live_in : (n words : ℕ) (pending enabled : ℕ → Bool) → n + 1 ≡ 64 * words → pending 0 ≡ false
+    → is_some (least_of (is_shared pending enabled) 0 words) ≡ is_some (top_identity n pending enabled 0)
 is_live_in n words pending enabled all none = by_found (least_of (is_shared pending enabled) 0 words) (top_identity n pending enabled 0) refl refl
   where
     not_both : (i : ℕ) → (pending i && enabled i) ≡ true → (pending i && enabled i && lets_through 0 i) ≡ false → ⊥
@@ -50,12 +51,14 @@ is_live_in n words pending enabled all none = by_found (least_of (is_shared pend
       | inr more ↦ omega (arith, more)
     ]
 
-    no_member : (w : ℕ) → is_shared pending enabled w ≡ false → (i : ℕ) → 64 * w ≤ i → i < 64 * w + 64 → (pending i && enabled i && lets_through 0 i) ≡ true → ⊥
+    no_member : (w : ℕ) → is_shared pending enabled w ≡ false → (i : ℕ) → 64 * w ≤ i → i < 64 * w + 64
+        → (pending i && enabled i && lets_through 0 i) ≡ true → ⊥
     no_member w word i low high here = by_word (least_of (λ i. pending i && enabled i) (64 * w) 64) refl word
       where
         by_word : (o : Option ℕ) → least_of (λ i. pending i && enabled i) (64 * w) 64 ≡ o → is_some o ≡ false → ⊥
         by_word (Some j) e none = false≢true (sym none)
-        by_word None e none = false≢true (ap (λ b. b && lets_through 0 i) (sym (least_of_is_none (λ i. pending i && enabled i) (64 * w) 64 e i low high)) ∙ here)
+        by_word None e none = false≢true (ap (λ b. b && lets_through 0 i)
+            (sym (least_of_is_none (λ i. pending i && enabled i) (64 * w) 64 e i low high)) ∙ here)
 
     by_found : (a b : Option ℕ) → least_of (is_shared pending enabled) 0 words ≡ a → top_identity n pending enabled 0 ≡ b → is_some a ≡ is_some b
     by_found (Some w) (Some i) e f = refl
@@ -64,7 +67,8 @@ is_live_in n words pending enabled all none = by_found (least_of (is_shared pend
         let word = least_of_is (is_shared pending enabled) 0 words w e in
         let inside = some_of (least_of (λ i. pending i && enabled i) (64 * w) 64) word.2 in
         let at = least_of_is (λ i. pending i && enabled i) (64 * w) 64 inside.0 inside.1 in
-        absurd (not_both inside.0 at.2 (least_of_is_none (λ j. pending j && enabled j && lets_through 0 j) 1 n f inside.0 (some inside.0 at.2) (omega (arith, at.1, word.1, all))))
+        absurd (not_both inside.0 at.2 (least_of_is_none (λ j. pending j && enabled j && lets_through 0 j) 1 n f inside.0 (some inside.0 at.2)
+        (omega (arith, at.1, word.1, all))))
     by_found None (Some i) e f =
         let at = least_of_is (λ j. pending j && enabled j && lets_through 0 j) 1 n i f in
         let word = least_of_is_none (is_shared pending enabled) 0 words e (i / 64) (omega arith) (omega (arith, at.1, all)) in
@@ -77,7 +81,8 @@ pub no_zero : (w : World) (q : ℕ) → IsWhole w → q < VCPUS → ((mrif_in w.
 no_zero w q whole low = (whole.no_pending_zero q low, whole.no_enabled_zero q low)
 
 -- the sets of a slot as an interrupt file has them
-pub in_sets : (n words : ℕ) (slot file : ℕ → Bool) → n + 1 ≡ 64 * words → slot 0 ≡ false → ((i : ℕ) → i / 64 < words → slot i ≡ file i) → ((i : ℕ) → n < i → file i ≡ false) → (i : ℕ) → file i ≡ (is_in_range 1 n i && slot i)
+pub in_sets : (n words : ℕ) (slot file : ℕ → Bool) → n + 1 ≡ 64 * words → slot 0 ≡ false → ((i : ℕ) → i / 64 < words → slot i ≡ file i)
+    → ((i : ℕ) → n < i → file i ≡ false) → (i : ℕ) → file i ≡ (is_in_range 1 n i && slot i)
 in_sets n words slot file all zero same none i = elim (cases_Bool (is_in_range 1 n i)) [
   | inl e ↦
       let low : i ≤ n = grind (arith, nat_tests) in
@@ -91,12 +96,15 @@ in_sets n words slot file all zero same none i = elim (cases_Bool (is_in_range 1
       | inr some ↦ none i (let past : n < i = grind (arith, nat_tests) in past)
     ]
 
-module _ (x : CoreState) (h : History) (g : Vcpu) (kept : KeptNumbers) (stands : CoreStands x h) (whole : IsWhole x.world) (there : has_vcpu h g ≡ true) (rests : rests_in_memory (home h g) ≡ true) (hand : hand_in (record_of x g).stay ≡ hand_of kept) where
+module _ (x : CoreState) (h : History) (g : Vcpu) (kept : KeptNumbers) (stands : CoreStands x h) (whole : IsWhole x.world)
+    (there : has_vcpu h g ≡ true) (rests : rests_in_memory (home h g) ≡ true) (hand : hand_in (record_of x g).stay ≡ hand_of kept) where
   greatest : is_greatest_identity (greatest_identity_of h) ≡ true
   greatest = subst (λ n. is_greatest_identity n ≡ true) stands.greatest whole.greatest
 
   pub has_its_sets : HasSets (file_words h) (mrif_in x.world.memory (slot_of x.world.vms g)) (guest_file h g)
-  has_its_sets = memory_has (greatest_identity_of h) (file_words h) (slot_of (vms_of h) g) (notice_hart (vms_of h) g) (in_force_of h g) (places_of x.world g (home h g)) (hand_in (record_of x g).stay) (guest_file h g) (a_look_saw h g) (home h g) rests (guest_within h g greatest) (stands.vcpus g there).holds
+  has_its_sets = memory_has (greatest_identity_of h) (file_words h) (slot_of (vms_of h) g) (notice_hart (vms_of h) g) (in_force_of h g)
+      (places_of x.world g (home h g)) (hand_in (record_of x g).stay) (guest_file h g) (a_look_saw h g) (home h g) rests
+      (guest_within h g greatest) (stands.vcpus g there).holds
 
   -- it is the history's
   pub file_is : guest_file h g ≡ file_in_memory x.world (slot_of x.world.vms g) kept
@@ -106,11 +114,15 @@ module _ (x : CoreState) (h : History) (g : Vcpu) (kept : KeptNumbers) (stands :
       let zero = no_zero x.world (slot_of x.world.vms g) whole (slot_few x h g stands whole there) in
       let n : (guest_file h g).n ≡ x.world.n = within.greatest ∙ sym stands.greatest in
       let all : x.world.n + 1 ≡ 64 * file_words h = ap (λ n. n + 1) stands.greatest ∙ within.all_words in
-      let numbers = memory_kept (file_words h) (slot_of (vms_of h) g) (notice_hart (vms_of h) g) (in_force_of h g) (places_of x.world g (home h g)) (hand_in (record_of x g).stay) (guest_file h g) (a_look_saw h g) (home h g) rests (stands.vcpus g there).holds in
+      let numbers = memory_kept (file_words h) (slot_of (vms_of h) g) (notice_hart (vms_of h) g) (in_force_of h g)
+      (places_of x.world g (home h g)) (hand_in (record_of x g).stay) (guest_file h g) (a_look_saw h g) (home h g) rests
+      (stands.vcpus g there).holds in
       same_file _ _ (record {
         n = n;
-        pending = in_sets x.world.n (file_words h) (mrif_in x.world.memory (slot_of x.world.vms g)).pending (guest_file h g).pending all zero.0 (λ i low. (has_its_sets.inside i low).0) (λ i past. sound.pending i (subst (λ m. m < i) (sym n) past));
-        enabled = in_sets x.world.n (file_words h) (mrif_in x.world.memory (slot_of x.world.vms g)).enabled (guest_file h g).enabled all zero.1 (λ i low. (has_its_sets.inside i low).1) (λ i past. sound.enabled i (subst (λ m. m < i) (sym n) past));
+        pending = in_sets x.world.n (file_words h) (mrif_in x.world.memory (slot_of x.world.vms g)).pending (guest_file h g).pending all zero.0
+            (λ i low. (has_its_sets.inside i low).0) (λ i past. sound.pending i (subst (λ m. m < i) (sym n) past));
+        enabled = in_sets x.world.n (file_words h) (mrif_in x.world.memory (slot_of x.world.vms g)).enabled (guest_file h g).enabled all zero.1
+            (λ i low. (has_its_sets.inside i low).1) (λ i past. sound.enabled i (subst (λ m. m < i) (sym n) past));
         threshold = sym numbers.1 ∙ ap (λ (hand : Hand). hand.threshold) hand;
         delivery = sym numbers.0 ∙ ap (λ (hand : Hand). hand.delivery) hand;
       })
@@ -121,6 +133,7 @@ module _ (x : CoreState) (h : History) (g : Vcpu) (kept : KeptNumbers) (stands :
       let within = guest_within h g greatest in
       let n : greatest_identity_of h ≡ x.world.n = sym stands.greatest in
       let file = file_of_slot x.world (slot_of x.world.vms g) 0 in
-      is_live_in (greatest_identity_of h) (file_words h) (guest_file h g).pending (guest_file h g).enabled within.all_words (ap (λ (f : InterruptFile). f.pending 0) file_is)
+      is_live_in (greatest_identity_of h) (file_words h) (guest_file h g).pending (guest_file h g).enabled within.all_words
+      (ap (λ (f : InterruptFile). f.pending 0) file_is)
       ∙ ap (λ (f : InterruptFile). is_some (top_identity (greatest_identity_of h) f.pending f.enabled 0)) file_is
       ∙ ap (λ m. is_some (top_identity m file.pending file.enabled 0)) n

@@ -55,10 +55,12 @@ each_at P (x ∷ xs) (suc k) none low all = each_at P xs k none (omega (arith, l
 pub pass_to_one : (x : CoreState) (h : History) (p : ℕ) → CoreStands x h → p < length (passes_of h) → IsToOne h (nth_pass h p)
 pass_to_one x h p stands low = each_at (IsToOne h) (passes_of h) p no_pass low stands.passes.to_one
 
-pub pass_may : (x : CoreState) (h : History) (p : ℕ) → CoreStands x h → p < length (passes_of h) → MayLand (file_words h) (home h (nth_pass h p).to) (pass_reach h p)
+pub pass_may : (x : CoreState) (h : History) (p : ℕ) → CoreStands x h → p < length (passes_of h)
+    → MayLand (file_words h) (home h (nth_pass h p).to) (pass_reach h p)
 pass_may x h p stands low = pass_may_land h p stands.passes.aimed (lt-ltb p (length (passes_of h)) low)
 
-pub pass_hart_there : (x : CoreState) (h : History) (p : ℕ) → CoreStands x h → IsWhole x.world → p < length (passes_of h) → pass_notice_hart h p < x.world.imsic.harts
+pub pass_hart_there : (x : CoreState) (h : History) (p : ℕ) → CoreStands x h → IsWhole x.world → p < length (passes_of h)
+    → pass_notice_hart h p < x.world.imsic.harts
 pass_hart_there x h p stands whole low =
     let g = (nth_pass h p).to in
     subst (λ hart. hart < x.world.imsic.harts) (ap (λ vms. notice_hart vms g) stands.vms)
@@ -70,16 +72,20 @@ abbrev pub spot_to : ℕ → Option GuestPlace → Spot
 spot_to hart None = spots.SupervisorFile hart
 spot_to hart (Some q) = spot_of q
 
-at_page : (i : ImsicState) (hart : ℕ) (reach : Option GuestPlace) (addr : ℕ) → i.harts ≤ HARTS → i.guests ≤ GUEST_FILES → addr ≡ page_to hart reach → IsThere i (spot_to hart reach) → spot_at i.harts i.guests addr ≡ spot_to hart reach
-at_page i hart None addr few fewer is there = spot_of_host i.harts i.guests addr hart few there (in_page (supervisor_page hart) addr (omega (arith, is)) (omega (arith, is)))
+at_page : (i : ImsicState) (hart : ℕ) (reach : Option GuestPlace) (addr : ℕ) → i.harts ≤ HARTS → i.guests ≤ GUEST_FILES
+    → addr ≡ page_to hart reach → IsThere i (spot_to hart reach) → spot_at i.harts i.guests addr ≡ spot_to hart reach
+at_page i hart None addr few fewer is there = spot_of_host i.harts i.guests addr hart few there
+    (in_page (supervisor_page hart) addr (omega (arith, is)) (omega (arith, is)))
 at_page i hart (Some q) addr few fewer is there =
-    spot_of_guest i.harts i.guests addr q.hart q.file few fewer there.0 there.1 there.2 (in_page (guest_page q.hart q.file) addr (omega (arith, is)) (omega (arith, is)))
+    spot_of_guest i.harts i.guests addr q.hart q.file few fewer there.0 there.1 there.2
+    (in_page (guest_page q.hart q.file) addr (omega (arith, is)) (omega (arith, is)))
 
 at_start : (hart : ℕ) (reach : Option GuestPlace) (addr : ℕ) → addr ≡ page_to hart reach → addr % PAGE ≡ 0
 at_start hart None addr is = omega (arith, is)
 at_start hart (Some q) addr is = omega (arith, is)
 
-spot_there : (x : CoreState) (h : History) (p : ℕ) → CoreStands x h → IsWhole x.world → p < length (passes_of h) → (reach : Option GuestPlace) → pass_reach h p ≡ reach → IsThere x.world.imsic (spot_to (pass_notice_hart h p) reach)
+spot_there : (x : CoreState) (h : History) (p : ℕ) → CoreStands x h → IsWhole x.world → p < length (passes_of h) → (reach : Option GuestPlace)
+    → pass_reach h p ≡ reach → IsThere x.world.imsic (spot_to (pass_notice_hart h p) reach)
 spot_there x h p stands whole low None is = pass_hart_there x h p stands whole low
 spot_there x h p stands whole low (Some q) is =
     let g = (nth_pass h p).to in
@@ -93,7 +99,9 @@ pub record IsOfPass (x : CoreState) (h : History) (p : ℕ) (msi : Msi) (spot : 
   pub leads : IsForward h p msi
   pub at : spot ≡ spot_at x.world.imsic.harts x.world.imsic.guests msi.address
 
-pub of_pass : (x : CoreState) (h : History) (p : ℕ) (msi : Msi) (spot : Spot) → CoreStands x h → IsWhole x.world → spot ≡ spot_at x.world.imsic.harts x.world.imsic.guests msi.address → number_of_pass x.passes msi.source ≡ Some p → IsForwardIf h msi (passed_by h msi.source) → IsOfPass x h p msi spot
+pub of_pass : (x : CoreState) (h : History) (p : ℕ) (msi : Msi) (spot : Spot) → CoreStands x h → IsWhole x.world
+    → spot ≡ spot_at x.world.imsic.harts x.world.imsic.guests msi.address → number_of_pass x.passes msi.source ≡ Some p
+    → IsForwardIf h msi (passed_by h msi.source) → IsOfPass x h p msi spot
 of_pass x h p msi spot stands whole at pass may =
     let is : passed_by h msi.source ≡ Some p = sym (pass_is x h msi.source stands) ∙ pass in
     record { stands = stands; whole = whole; is = is; leads = subst (IsForwardIf h msi) is may; at = at }
@@ -107,7 +115,8 @@ module _ (x : CoreState) (h : History) (p : ℕ) (msi : Msi) (spot : Spot) (c : 
 
   pub forward_spot : (reach : Option GuestPlace) → pass_reach h p ≡ reach → spot ≡ spot_to (pass_notice_hart h p) reach
   forward_spot reach is =
-      c.at ∙ at_page x.world.imsic (pass_notice_hart h p) reach msi.address c.whole.harts c.whole.guests (c.leads.page ∙ ap (page_to (pass_notice_hart h p)) is) (there_to reach is)
+      c.at ∙ at_page x.world.imsic (pass_notice_hart h p) reach msi.address c.whole.harts c.whole.guests
+      (c.leads.page ∙ ap (page_to (pass_notice_hart h p)) is) (there_to reach is)
 
   pub forward_there : IsThere x.world.imsic spot
   forward_there = subst (IsThere x.world.imsic) (sym (forward_spot (pass_reach h p) refl)) (there_to (pass_reach h p) refl)
@@ -151,7 +160,8 @@ module _ (x y : CoreState) (h : History) (p : ℕ) (msi : Msi) (spot : Spot) (c 
         selects = d.selects;
         passes = d.passes;
       }) refl
-      (λ f inside. cond-false _ _ _ (elsewhere x.world.imsic msi.address spot f c.whole.harts c.at inside (λ e. no_guest (host_spot f) (is_hosts f) q.hart q.file (sym (e ∙ named)))))
+      (λ f inside. cond-false _ _ _ (elsewhere x.world.imsic msi.address spot f c.whole.harts c.at inside
+      (λ e. no_guest (host_spot f) (is_hosts f) q.hart q.file (sym (e ∙ named)))))
       (subst (λ (s : Spot). StoresIn x.world y.world s 0 (nth_pass h p).identity) named
       (subst (λ offset. StoresIn x.world y.world spot offset (nth_pass h p).identity) start
       (subst (λ v. StoresIn x.world y.world spot (msi.address % PAGE) v) value d.stores)))
@@ -190,18 +200,23 @@ pub record IsForwarding (x : CoreState) (number : ℕ) (msi : Msi) (spot : Spot)
   pub at : spot ≡ spot_at x.world.imsic.harts x.world.imsic.guests msi.address
   pub pass : number_of_pass x.passes msi.source ≡ Some number
 
-pub forwarding : (x z : CoreState) (number : ℕ) (msi : Msi) (spot : Spot) → x ≡ z → IsWhole x.world → spot ≡ spot_at z.world.imsic.harts z.world.imsic.guests msi.address → number_of_pass z.passes msi.source ≡ Some number → IsForwarding x number msi spot
+pub forwarding : (x z : CoreState) (number : ℕ) (msi : Msi) (spot : Spot) → x ≡ z → IsWhole x.world
+    → spot ≡ spot_at z.world.imsic.harts z.world.imsic.guests msi.address → number_of_pass z.passes msi.source ≡ Some number
+    → IsForwarding x number msi spot
 forwarding x z number msi spot same whole at pass = record {
   whole = whole;
   at = at ∙ ap (λ (z : CoreState). spot_at z.world.imsic.harts z.world.imsic.guests msi.address) (sym same);
   pass = ap (λ (z : CoreState). number_of_pass z.passes msi.source) same ∙ pass;
 }
 
-pub goes_there : (x : CoreState) (number : ℕ) (msi : Msi) (spot : Spot) → IsForwarding x number msi spot → MayGo x (Delivered msi) → IsThere x.world.imsic spot
+pub goes_there : (x : CoreState) (number : ℕ) (msi : Msi) (spot : Spot) → IsForwarding x number msi spot → MayGo x (Delivered msi)
+    → IsThere x.world.imsic spot
 goes_there x number msi spot c m = forward_there x m.past number msi spot (of_pass x m.past number msi spot m.stands c.whole c.at c.pass m.may.1)
 
-pub forward_goes : (x y : CoreState) (number : ℕ) (msi : Msi) (spot : Spot) → IsForwarding x number msi spot → IsForwarded x y msi spot → CoreGoes x y (Delivered msi)
-forward_goes x y number msi spot c d = λ h stands may. forward_stands x y h number msi spot (of_pass x h number msi spot stands c.whole c.at c.pass may.1) d
+pub forward_goes : (x y : CoreState) (number : ℕ) (msi : Msi) (spot : Spot) → IsForwarding x number msi spot → IsForwarded x y msi spot
+    → CoreGoes x y (Delivered msi)
+forward_goes x y number msi spot c d = λ h stands may. forward_stands x y h number msi spot
+    (of_pass x h number msi spot stands c.whole c.at c.pass may.1) d
 
 -- ---- so it stands for some history still
 
@@ -209,7 +224,8 @@ pub goes_on : (x y : CoreState) (event : Event) → MayGo x event → CoreGoes x
 goes_on x y event m goes = record { past = event ∷ m.past; happens = (m.may, m.happens); stands = goes m.past m.stands m.may }
 
 -- of no passed source
-pub hears_on : (x y : CoreState) (msi : Msi) → number_of_pass x.passes msi.source ≡ None → MayGo x (Delivered msi) → CoreHears x y msi → StandsForSome y
+pub hears_on : (x y : CoreState) (msi : Msi) → number_of_pass x.passes msi.source ≡ None → MayGo x (Delivered msi) → CoreHears x y msi
+    → StandsForSome y
 hears_on x y msi none m hears =
     let unpassed : passed_by m.past msi.source ≡ None = sym (pass_is x m.past msi.source m.stands) ∙ none in
     record {
@@ -236,11 +252,14 @@ is_none_then : {A : Type 0} (o : Option A) → is_none o ≡ true → o ≡ None
 is_none_then None e = refl
 is_none_then (Some x) e = absurd (cc)
 
-reach_told : (x : CoreState) (h : History) (p : ℕ) (msi : Msi) (spot : Spot) → IsOfPass x h p msi spot → is_none (pass_reach (Delivered msi ∷ h) p) ≡ is_host_spot spot
+reach_told : (x : CoreState) (h : History) (p : ℕ) (msi : Msi) (spot : Spot) → IsOfPass x h p msi spot
+    → is_none (pass_reach (Delivered msi ∷ h) p) ≡ is_host_spot spot
 reach_told x h p msi spot c =
-    ap (λ (o : Option GuestPlace). is_none o) (reach_heard h msi p) ∙ sym (ap is_host_spot (forward_spot x h p msi spot c (pass_reach h p) refl) ∙ at_host_or_guest (pass_notice_hart h p) (pass_reach h p))
+    ap (λ (o : Option GuestPlace). is_none o) (reach_heard h msi p)
+    ∙ sym (ap is_host_spot (forward_spot x h p msi spot c (pass_reach h p) refl) ∙ at_host_or_guest (pass_notice_hart h p) (pass_reach h p))
 
-pub then_relays : (x y : CoreState) (number : ℕ) (msi : Msi) (spot : Spot) → IsForwarding x number msi spot → is_host_spot spot ≡ true → MayGo x (Delivered msi) → CoreGoes x y (Delivered msi) → MayGo y (Relayed number)
+pub then_relays : (x y : CoreState) (number : ℕ) (msi : Msi) (spot : Spot) → IsForwarding x number msi spot → is_host_spot spot ≡ true
+    → MayGo x (Delivered msi) → CoreGoes x y (Delivered msi) → MayGo y (Relayed number)
 then_relays x y number msi spot c host m goes =
     let h = m.past in
     let of = of_pass x h number msi spot m.stands c.whole c.at c.pass m.may.1 in
@@ -254,15 +273,18 @@ then_relays x y number msi spot c host m goes =
       );
     }
 
-pub relayed_too : (x y z : CoreState) (number : ℕ) (msi : Msi) (spot : Spot) → IsForwarding x number msi spot → is_host_spot spot ≡ true → CoreGoes x y (Delivered msi) → CoreGoes y z (Relayed number) → CoreHears x z msi
+pub relayed_too : (x y z : CoreState) (number : ℕ) (msi : Msi) (spot : Spot) → IsForwarding x number msi spot → is_host_spot spot ≡ true
+    → CoreGoes x y (Delivered msi) → CoreGoes y z (Relayed number) → CoreHears x z msi
 relayed_too x y z number msi spot c host lands relays = λ h stands may.
     let of = of_pass x h number msi spot stands c.whole c.at c.pass may.1 in
     let memory = reach_told x h number msi spot of ∙ host in
     let low = subst (λ (ps : List PassedSource). number < length ps) (sym (none_heard h msi)) (number_found h msi.source number of.is) in
     subst (λ (o : Option ℕ). CoreStands z (given_on o (Delivered msi ∷ h))) (sym of.is)
-    (subst (CoreStands z) (sym (cond-true _ _ _ memory)) (relays (Delivered msi ∷ h) (lands h stands may) (low, is_none_then (pass_reach (Delivered msi ∷ h) number) memory)))
+    (subst (CoreStands z) (sym (cond-true _ _ _ memory))
+    (relays (Delivered msi ∷ h) (lands h stands may) (low, is_none_then (pass_reach (Delivered msi ∷ h) number) memory)))
 
-pub landed_alone : (x y : CoreState) (number : ℕ) (msi : Msi) (spot : Spot) → IsForwarding x number msi spot → is_host_spot spot ≡ false → CoreGoes x y (Delivered msi) → CoreHears x y msi
+pub landed_alone : (x y : CoreState) (number : ℕ) (msi : Msi) (spot : Spot) → IsForwarding x number msi spot → is_host_spot spot ≡ false
+    → CoreGoes x y (Delivered msi) → CoreHears x y msi
 landed_alone x y number msi spot c guest lands = λ h stands may.
     let of = of_pass x h number msi spot stands c.whole c.at c.pass may.1 in
     subst (λ (o : Option ℕ). CoreStands y (given_on o (Delivered msi ∷ h))) (sym of.is)

@@ -62,7 +62,9 @@ module _ (x y : CoreState) (h : History) (g : Vcpu) (plan later : PlanState) (r 
   hand = (moving_of later).hand
 
   pub further : home (Stepped g ∷ h) g ≡ one_more (home h g)
-  further = unaimed_home h g b.step_of.unaimed ∙ cond-false _ _ _ ((λ k. is_at_last (sym (steps.same_words x y h g plan r hand b.step_of) k) (sym (steps.same_home x y h g plan r hand b.step_of) k)) ∙ b.goes.more)
+  further = unaimed_home h g b.step_of.unaimed ∙ cond-false _ _ _
+      ((λ k. is_at_last (sym (steps.same_words x y h g plan r hand b.step_of) k) (sym (steps.same_home x y h g plan r hand b.step_of) k))
+      ∙ b.goes.more)
 
   later_home : (moving_of later).home ≡ home (Stepped g ∷ h) g
   later_home = b.goes.home ∙ ap one_more (steps.same_home x y h g plan r hand b.step_of) ∙ sym further
@@ -78,11 +80,13 @@ module _ (x y : CoreState) (h : History) (g : Vcpu) (plan later : PlanState) (r 
 
   later_seen : (a_look_saw h g || sees (width x.world) (moving_of plan).home (guest_file h g)) ≡ a_look_saw (Stepped g ∷ h) g
   later_seen =
-      (λ k. a_look_saw h g || sees (steps.same_words x y h g plan r hand b.step_of k) (steps.same_home x y h g plan r hand b.step_of k) (guest_file h g))
+      (λ k. a_look_saw h g || sees (steps.same_words x y h g plan r hand b.step_of k) (steps.same_home x y h g plan r hand b.step_of k)
+      (guest_file h g))
       ∙ sym (seen_stepped h g)
 
   later_reach : reach_stepped (moving_of plan).home (in_force_of h g) ≡ in_force_of (Stepped g ∷ h) g
-  later_reach = ap (λ t. reach_stepped t (in_force_of h g)) (steps.same_home x y h g plan r hand b.step_of) ∙ sym (reach_step (Stepped g) h g ∙ cond-true _ _ _ (is_itself g))
+  later_reach = ap (λ t. reach_stepped t (in_force_of h g)) (steps.same_home x y h g plan r hand b.step_of)
+      ∙ sym (reach_step (Stepped g) h g ∙ cond-true _ _ _ (is_itself g))
 
   goes_own : VcpuStands y (Stepped g ∷ h) g
   goes_own =
@@ -92,11 +96,15 @@ module _ (x y : CoreState) (h : History) (g : Vcpu) (plan later : PlanState) (r 
       let file = file_rests h (Stepped g) g ((stepped_move h g).rests g) in
       record {
         same_home = ap home_in stay ∙ later_home;
-        select = ap (λ (r : VcpuRecord). r.select) kept ∙ s.select ∙ (s.stands.vcpus g s.there).select ∙ sym (select_rests h (Stepped g) g ((stepped_move h g).rests g));
-        majors = ap (λ (r : VcpuRecord). majors_shown r.majors) kept ∙ ap majors_shown s.majors ∙ (s.stands.vcpus g s.there).majors ∙ sym (majors_rest h (Stepped g) g ((stepped_move h g).majors g));
+        select = ap (λ (r : VcpuRecord). r.select) kept ∙ s.select ∙ (s.stands.vcpus g s.there).select
+            ∙ sym (select_rests h (Stepped g) g ((stepped_move h g).rests g));
+        majors = ap (λ (r : VcpuRecord). majors_shown r.majors) kept ∙ ap majors_shown s.majors ∙ (s.stands.vcpus g s.there).majors
+            ∙ sym (majors_rest h (Stepped g) g ((stepped_move h g).majors g));
         two_files = subst AreApart (sym further) (one_more_apart (home h g) (s.stands.vcpus g s.there).two_files);
         plan = subst (PlanStands y.world g) (sym stay) (b.fits, b.phase, later_mover, later_moving);
-        passes = subst (HasItsPasses (passes_of (Stepped g ∷ h)) g) (sym stay) (ap (λ (who : Who). who.passes.items) b.goes.same_who ∙ steps.its_passes x y h g plan r hand s ∙ ap (own_passes 0 g) (sym (stepped_move h g).passes));
+        passes = subst (HasItsPasses (passes_of (Stepped g ∷ h)) g) (sym stay)
+            (ap (λ (who : Who). who.passes.items) b.goes.same_who ∙ steps.its_passes x y h g plan r hand s
+            ∙ ap (own_passes 0 g) (sym (stepped_move h g).passes));
         holds = subst IsHeld (λ k. record {
           words = steps.same_words x y h g plan r hand s k;
           slot = (ap (λ (who : Who). who.found.slot) b.goes.same_who ∙ steps.same_slot x y h g plan r hand s) k;
@@ -107,7 +115,8 @@ module _ (x y : CoreState) (h : History) (g : Vcpu) (plan later : PlanState) (r 
           hand = hand_in (sym stay k);
           file = sym file k;
           saw = later_seen k;
-        }) (goes_kept x.world y.world (moving_of plan) s.whole (steps.fits x y h g plan r hand s) (steps.apart x y h g plan r hand s) (in_force_of h g) (guest_file h g) (a_look_saw h g) (moving_of later) b.goes
+        }) (goes_kept x.world y.world (moving_of plan) s.whole (steps.fits x y h g plan r hand s) (steps.apart x y h g plan r hand s)
+            (in_force_of h g) (guest_file h g) (a_look_saw h g) (moving_of later) b.goes
             (steps.within x y h g plan r hand s) (steps.held x y h g plan r hand s));
       }
 
@@ -118,6 +127,7 @@ module _ (x y : CoreState) (h : History) (g : Vcpu) (plan later : PlanState) (r 
     lease_harts = ap (λ (l : Leases). l.harts) b.leases;
     lease_guests = ap (λ (l : Leases). l.guests) b.leases;
     lease_count = ap (λ (l : Leases). length l.out) b.leases;
-    leases = λ q inside. ap (λ l. is_out l q) b.leases ∙ b.step_of.stands.leases q inside ∙ sym (held_as h (Stepped g) g q (stepped_move h g) (same_holds q));
+    leases = λ q inside. ap (λ l. is_out l q) b.leases ∙ b.step_of.stands.leases q inside
+        ∙ sym (held_as h (Stepped g) g q (stepped_move h g) (same_holds q));
     left = λ q inside mine not_mine. absurd (false≢true (sym not_mine ∙ same_holds q ∙ mine));
   })) b.step_of.stands

@@ -11,11 +11,13 @@ use Rattle.aia_regs.specs.declared.limits.TheConstants.{IDENTITIES}
 
 -- ---- a store that asks of more identities says the same of those of the file
 
-said_within_by : (o : Option ℕ) (n i : ℕ) → n ≤ IDENTITIES → i ≤ n → cond (names (implemented IDENTITIES o) i) Ask Nothing ≡ cond (names (implemented n o) i) Ask Nothing
+said_within_by : (o : Option ℕ) (n i : ℕ) → n ≤ IDENTITIES → i ≤ n
+    → cond (names (implemented IDENTITIES o) i) Ask Nothing ≡ cond (names (implemented n o) i) Ask Nothing
 said_within_by None n i few low = refl
 said_within_by (Some x) n i few low =
     elim (cases_eq x i) [
-      | inl e ↦ let same : is_in_range 1 IDENTITIES x ≡ is_in_range 1 n x = in_both x i n few low e in ap (λ b. cond (names (cond b (Some x) None) i) Ask Nothing) same
+      | inl e ↦ let same : is_in_range 1 IDENTITIES x ≡ is_in_range 1 n x = in_both x i n few low e in
+          ap (λ b. cond (names (cond b (Some x) None) i) Ask Nothing) same
       | inr ne ↦ ap (λ b. cond b Ask Nothing) (not_named (is_in_range 1 IDENTITIES x) x i ne ∙ sym (not_named (is_in_range 1 n x) x i ne))
     ]
   where
@@ -55,7 +57,8 @@ each_size P p63 p127 p255 p511 p1023 p2047 n greatest =
                                   elim (cases_eq n 2047) [
                                     | inl e ↦ subst P (sym e) p2047
                                     | inr n2047 ↦
-                                        let none : is_greatest_identity n ≡ false = grind (arith, nat_tests) in absurd (false≢true (sym none ∙ greatest))
+                                        let none : is_greatest_identity n ≡ false = grind (arith, nat_tests) in
+                                        absurd (false≢true (sym none ∙ greatest))
                                   ]
                             ]
                       ]

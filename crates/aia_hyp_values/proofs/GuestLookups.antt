@@ -14,17 +14,20 @@ use Rattle.aia_hyp_values.proofs.AccessLemmas.{IsReachedBy, reached_by}
 use Rattle.aia_hyp_values.proofs.GuestAccesses.{access_by}
 use Rattle.aia_hyp_values.proofs.MoveCalls.{who_low}
 
-pub reached : (x y : CoreState) (g : Vcpu) (access was : CsrAccess) (csr : Csr) (op : Op) → x ≡ y → was ≡ access → was ≡ access_by (record_of y g) csr op → access ≡ access_by (record_of x g) csr op
+pub reached : (x y : CoreState) (g : Vcpu) (access was : CsrAccess) (csr : Csr) (op : Op) → x ≡ y → was ≡ access
+    → was ≡ access_by (record_of y g) csr op → access ≡ access_by (record_of x g) csr op
 reached x y g access was csr op e is table = sym is ∙ table ∙ ap (λ (z : CoreState). access_by (record_of z g) csr op) (sym e)
 
-pub names : (x : CoreState) (g : Vcpu) (access : CsrAccess) (csr : Csr) (op : Op) → access ≡ access_by (record_of x g) csr op → IsReachedBy csr op (record_of x g).select access
+pub names : (x : CoreState) (g : Vcpu) (access : CsrAccess) (csr : Csr) (op : Op) → access ≡ access_by (record_of x g) csr op
+    → IsReachedBy csr op (record_of x g).select access
 names x g access csr op e = reached_by csr op (record_of x g).select (vti_of (majors_shown (record_of x g).majors).hvictl) access e
 
 -- the slot of one that is found, in a core x that is seen as y
 pub slot_is : (x y : CoreState) (found : Found) → x ≡ y → IsFound y.world found → found.slot ≡ slot_of x.world.vms (vcpu found.vm found.number)
 slot_is x y found e is = subst (λ (z : CoreState). found.slot ≡ slot_of z.world.vms (vcpu found.vm found.number)) (sym e) is.slot
 
-pub slot_low : (x y : CoreState) (found : Found) → x ≡ y → StandsForSome x → IsFound y.world found → slot_of x.world.vms (vcpu found.vm found.number) < length x.vcpus
+pub slot_low : (x y : CoreState) (found : Found) → x ≡ y → StandsForSome x → IsFound y.world found
+    → slot_of x.world.vms (vcpu found.vm found.number) < length x.vcpus
 slot_low x y found e some is =
     let slot = slot_is x y found e is in
     let low = who_low x found some (subst (λ (z : CoreState). IsFound z.world found) (sym e) is) in

@@ -70,7 +70,8 @@ use Rattle.aia_hyp_values.proofs.WithinLemmas.{guest_sound}
 
 -- ---- a virtual hart that is parked
 
-module _ (x : CoreState) (h : History) (g : Vcpu) (kept : KeptNumbers) (stands : CoreStands x h) (there : has_vcpu h g ≡ true) (at : (record_of x g).stay ≡ stays.InMemory Parked kept) where
+module _ (x : CoreState) (h : History) (g : Vcpu) (kept : KeptNumbers) (stands : CoreStands x h) (there : has_vcpu h g ≡ true)
+    (at : (record_of x g).stay ≡ stays.InMemory Parked kept) where
   pub parked_home : home h g ≡ InMemory Parked
   parked_home = sym (stands.vcpus g there).same_home ∙ ap home_in at
 
@@ -84,15 +85,18 @@ module _ (x : CoreState) (h : History) (g : Vcpu) (kept : KeptNumbers) (stands :
   its_state whole = λ k. record { select = (stands.vcpus g there).select k; file = sym (its_file whole) k; majors = (stands.vcpus g there).majors k }
 
 -- the numbers that are kept of it are small
-pub small_threshold : (x : CoreState) (h : History) (g : Vcpu) (kept : KeptNumbers) → CoreStands x h → IsWhole x.world → has_vcpu h g ≡ true → (record_of x g).stay ≡ stays.InMemory Parked kept → kept.threshold ≤ x.world.n
+pub small_threshold : (x : CoreState) (h : History) (g : Vcpu) (kept : KeptNumbers) → CoreStands x h → IsWhole x.world → has_vcpu h g ≡ true
+    → (record_of x g).stay ≡ stays.InMemory Parked kept → kept.threshold ≤ x.world.n
 small_threshold x h g kept stands whole there at =
     let file = its_file x h g kept stands there at whole in
     let sound = (guest_sound h g).threshold in
     omega (arith, sound, ap (λ (f : InterruptFile). f.threshold) file, guest_greatest h g, stands.greatest)
 
 -- one that is not is refused by the word for where it is
-pub not_parked : (x : CoreState) (h : History) (g : Vcpu) (stay : Stay) (word : Refusal) → CoreStands x h → has_vcpu h g ≡ true → (record_of x g).stay ≡ stay → parked_at stay ≡ Err word → unless_parked (home h g) None ≡ Some (Refused word)
-not_parked x h g stay word stands there was e = ap (λ t. unless_parked t None) at ∙ word_is x.world g stay word None (subst (PlanStands x.world g) was (stands.vcpus g there).plan) e
+pub not_parked : (x : CoreState) (h : History) (g : Vcpu) (stay : Stay) (word : Refusal) → CoreStands x h → has_vcpu h g ≡ true
+    → (record_of x g).stay ≡ stay → parked_at stay ≡ Err word → unless_parked (home h g) None ≡ Some (Refused word)
+not_parked x h g stay word stands there was e = ap (λ t. unless_parked t None) at
+    ∙ word_is x.world g stay word None (subst (PlanStands x.world g) was (stands.vcpus g there).plan) e
   where
     at : home h g ≡ home_in stay
     at = sym (stands.vcpus g there).same_home ∙ ap home_in was
@@ -104,11 +108,13 @@ found_below w found is = let below = slot_below w.vms (vcpu found.vm found.numbe
 pub found_few : (w : World) (found : Found) → IsWhole w → IsFound w found → found.slot < VCPUS
 found_few w found whole is = let below = found_below w found is in omega (arith, below, whole.vcpus)
 
-pub found_stay : (x : CoreState) (found : Found) → IsFound x.world found → {A : Type 0} (r : A) (of : Stay → A) → r ≡ of (get_or x.vcpus found.slot no_record).stay → r ≡ of (record_of x (vcpu found.vm found.number)).stay
+pub found_stay : (x : CoreState) (found : Found) → IsFound x.world found → {A : Type 0} (r : A) (of : Stay → A)
+    → r ≡ of (get_or x.vcpus found.slot no_record).stay → r ≡ of (record_of x (vcpu found.vm found.number)).stay
 found_stay x found is r of e = e ∙ ap (λ q. of (get_or x.vcpus q no_record).stay) is.slot
 
 -- the threshold that is kept fits
-pub small_number : (x : CoreState) (g : Vcpu) (kept : KeptNumbers) → StandsForSome x → IsWhole x.world → is_vcpu_in x.world.vms g ≡ true → (record_of x g).stay ≡ stays.InMemory Parked kept → kept.threshold < 2 ^ 32
+pub small_number : (x : CoreState) (g : Vcpu) (kept : KeptNumbers) → StandsForSome x → IsWhole x.world → is_vcpu_in x.world.vms g ≡ true
+    → (record_of x g).stay ≡ stays.InMemory Parked kept → kept.threshold < 2 ^ 32
 small_number x g kept some whole inside at =
     let small = small_threshold x some.past g kept some.stands whole (there_in x some.past g some.stands inside) at in
     let most = few_identities x.world.n whole.greatest in
@@ -130,60 +136,81 @@ not_neither true true e f = refl
 not_neither true false e f = absurd (cc)
 not_neither false b e f = absurd (cc)
 
-pub no_vcpu_to_save : (x : CoreState) (vm number k : ℕ) → is_vcpu_in x.world.vms (vcpu vm number) ≡ false → CoreTakes x x (Save vm number k) (Refused words.Range)
+pub no_vcpu_to_save : (x : CoreState) (vm number k : ℕ) → is_vcpu_in x.world.vms (vcpu vm number) ≡ false
+    → CoreTakes x x (Save vm number k) (Refused words.Range)
 no_vcpu_to_save x vm number k none = refused x (Save vm number k) (Refused words.Range) (λ h stands.
-    save_refusal h vm number k stands.there ∙ cond-true _ _ _ (not_first (has_vcpu h (vcpu vm number)) (nat_lt k (parts_in (file_words h))) (missing_in x h (vcpu vm number) stands none)))
+    save_refusal h vm number k stands.there ∙ cond-true _ _ _
+    (not_first (has_vcpu h (vcpu vm number)) (nat_lt k (parts_in (file_words h))) (missing_in x h (vcpu vm number) stands none)))
 
 pub no_such_part : (x : CoreState) (vm number k : ℕ) → (x.world.n + 1) / 64 + 3 ≤ k → CoreTakes x x (Save vm number k) (Refused words.Range)
 no_such_part x vm number k past = refused x (Save vm number k) (Refused words.Range) (λ h stands.
-    let beyond : nat_lt k (parts_in (file_words h)) ≡ false = ap (λ n. nat_lt k ((n + 1) / 64 + 3)) (sym stands.greatest) ∙ (let out : nat_lt k ((x.world.n + 1) / 64 + 3) ≡ false = grind (arith, nat_tests) in out) in
+    let beyond : nat_lt k (parts_in (file_words h)) ≡ false = ap (λ n. nat_lt k ((n + 1) / 64 + 3)) (sym stands.greatest)
+    ∙ (let out : nat_lt k ((x.world.n + 1) / 64 + 3) ≡ false = grind (arith, nat_tests) in out) in
     save_refusal h vm number k stands.there ∙ cond-true _ _ _ (not_second (has_vcpu h (vcpu vm number)) (nat_lt k (parts_in (file_words h))) beyond))
 
 in_image : (x : CoreState) (h : History) (k : ℕ) → CoreStands x h → k < (x.world.n + 1) / 64 + 3 → nat_lt k (parts_in (file_words h)) ≡ true
-in_image x h k stands low = ap (λ n. nat_lt k ((n + 1) / 64 + 3)) (sym stands.greatest) ∙ (let inside : nat_lt k ((x.world.n + 1) / 64 + 3) ≡ true = grind (arith, nat_tests) in inside)
+in_image x h k stands low = ap (λ n. nat_lt k ((n + 1) / 64 + 3)) (sym stands.greatest)
+    ∙ (let inside : nat_lt k ((x.world.n + 1) / 64 + 3) ≡ true = grind (arith, nat_tests) in inside)
 
-pub not_parked_to_save : (x : CoreState) (vm number k : ℕ) (word : Refusal) → is_vcpu_in x.world.vms (vcpu vm number) ≡ true → k < (x.world.n + 1) / 64 + 3 → parked_at (record_of x (vcpu vm number)).stay ≡ Err word → CoreTakes x x (Save vm number k) (Refused word)
+pub not_parked_to_save : (x : CoreState) (vm number k : ℕ) (word : Refusal) → is_vcpu_in x.world.vms (vcpu vm number) ≡ true
+    → k < (x.world.n + 1) / 64 + 3 → parked_at (record_of x (vcpu vm number)).stay ≡ Err word → CoreTakes x x (Save vm number k) (Refused word)
 not_parked_to_save x vm number k word inside low e = refused x (Save vm number k) (Refused word) (λ h stands.
     let there = there_in x h (vcpu vm number) stands inside in
     save_refusal h vm number k stands.there
     ∙ cond-false _ _ _ (not_neither (has_vcpu h (vcpu vm number)) (nat_lt k (parts_in (file_words h))) there (in_image x h k stands low))
     ∙ not_parked x h (vcpu vm number) (record_of x (vcpu vm number)).stay word stands there refl e)
 
-pub no_vcpu_to_load : (x : CoreState) (vm number : ℕ) (part : Part) → is_vcpu_in x.world.vms (vcpu vm number) ≡ false → CoreTakes x x (LoadPart vm number part) (Refused words.Range)
+pub no_vcpu_to_load : (x : CoreState) (vm number : ℕ) (part : Part) → is_vcpu_in x.world.vms (vcpu vm number) ≡ false
+    → CoreTakes x x (LoadPart vm number part) (Refused words.Range)
 no_vcpu_to_load x vm number part none = refused x (LoadPart vm number part) (Refused words.Range) (λ h stands.
-    load_part_refusal h vm number part stands.there ∙ cond-true _ _ _ (not_first (has_vcpu h (vcpu vm number)) (is_loadable (greatest_identity_of h) part) (missing_in x h (vcpu vm number) stands none)))
+    load_part_refusal h vm number part stands.there
+    ∙ cond-true _ _ _ (not_first (has_vcpu h (vcpu vm number)) (is_loadable (greatest_identity_of h) part)
+    (missing_in x h (vcpu vm number) stands none)))
 
-pub not_loadable : (x : CoreState) (vm number : ℕ) (part : Part) → is_loadable x.world.n part ≡ false → CoreTakes x x (LoadPart vm number part) (Refused words.Range)
+pub not_loadable : (x : CoreState) (vm number : ℕ) (part : Part) → is_loadable x.world.n part ≡ false
+    → CoreTakes x x (LoadPart vm number part) (Refused words.Range)
 not_loadable x vm number part bad = refused x (LoadPart vm number part) (Refused words.Range) (λ h stands.
-    load_part_refusal h vm number part stands.there ∙ cond-true _ _ _ (not_second (has_vcpu h (vcpu vm number)) (is_loadable (greatest_identity_of h) part) (ap (λ n. is_loadable n part) (sym stands.greatest) ∙ bad)))
+    load_part_refusal h vm number part stands.there
+    ∙ cond-true _ _ _ (not_second (has_vcpu h (vcpu vm number)) (is_loadable (greatest_identity_of h) part)
+    (ap (λ n. is_loadable n part) (sym stands.greatest) ∙ bad)))
 
-pub not_parked_to_load : (x : CoreState) (vm number : ℕ) (part : Part) (word : Refusal) → is_vcpu_in x.world.vms (vcpu vm number) ≡ true → is_loadable x.world.n part ≡ true → parked_at (record_of x (vcpu vm number)).stay ≡ Err word → CoreTakes x x (LoadPart vm number part) (Refused word)
+pub not_parked_to_load : (x : CoreState) (vm number : ℕ) (part : Part) (word : Refusal) → is_vcpu_in x.world.vms (vcpu vm number) ≡ true
+    → is_loadable x.world.n part ≡ true → parked_at (record_of x (vcpu vm number)).stay ≡ Err word
+    → CoreTakes x x (LoadPart vm number part) (Refused word)
 not_parked_to_load x vm number part word inside good e = refused x (LoadPart vm number part) (Refused word) (λ h stands.
     let there = there_in x h (vcpu vm number) stands inside in
     load_part_refusal h vm number part stands.there
-    ∙ cond-false _ _ _ (not_neither (has_vcpu h (vcpu vm number)) (is_loadable (greatest_identity_of h) part) there (ap (λ n. is_loadable n part) (sym stands.greatest) ∙ good))
+    ∙ cond-false _ _ _ (not_neither (has_vcpu h (vcpu vm number)) (is_loadable (greatest_identity_of h) part) there
+    (ap (λ n. is_loadable n part) (sym stands.greatest) ∙ good))
     ∙ not_parked x h (vcpu vm number) (record_of x (vcpu vm number)).stay word stands there refl e)
 
 -- ---- a part is given
 
-pub saves : (x : CoreState) (vm number k : ℕ) (kept : KeptNumbers) (part : Part) → is_vcpu_in x.world.vms (vcpu vm number) ≡ true → IsWhole x.world → (record_of x (vcpu vm number)).stay ≡ stays.InMemory Parked kept → k < (x.world.n + 1) / 64 + 3
+pub saves : (x : CoreState) (vm number k : ℕ) (kept : KeptNumbers) (part : Part) → is_vcpu_in x.world.vms (vcpu vm number) ≡ true
+    → IsWhole x.world → (record_of x (vcpu vm number)).stay ≡ stays.InMemory Parked kept → k < (x.world.n + 1) / 64 + 3
     → part ≡ part_of (state_in x (slot_of x.world.vms (vcpu vm number)) kept) k → CoreTakes x x (Save vm number k) (kinds.Part part)
 saves x vm number k kept part inside whole at low is = accepted x x (Save vm number k) (kinds.Part part) refl refl (λ h stands.
     let g = vcpu vm number in
     let there = there_in x h g stands inside in (
-      save_refusal h vm number k stands.there ∙ cond-false _ _ _ (not_neither (has_vcpu h g) (nat_lt k (parts_in (file_words h))) there (in_image x h k stands low)) ∙ is_not_refused x h g kept stands there at,
+      save_refusal h vm number k stands.there ∙ cond-false _ _ _
+          (not_neither (has_vcpu h g) (nat_lt k (parts_in (file_words h))) there (in_image x h k stands low))
+          ∙ is_not_refused x h g kept stands there at,
       ap kinds.Part (is ∙ ap (λ s. part_of s k) (its_state x h g kept stands there at whole)),
       nothing_done x h (Accepted (Save vm number k)) stands (hosts_line h (Save vm number k) refl refl (λ g. refl) (λ g m. refl)) (λ f inside. refl),
     ))
 
 -- ---- a part is loaded
 
-loads : (x y : CoreState) (vm number : ℕ) (part : Part) (kept : KeptNumbers) → is_vcpu_in x.world.vms (vcpu vm number) ≡ true → (record_of x (vcpu vm number)).stay ≡ stays.InMemory Parked kept → is_loadable x.world.n part ≡ true
-    → ((h : History) → CoreStands x h → has_vcpu h (vcpu vm number) ≡ true → Changes x y h (Accepted (LoadPart vm number part))) → CoreTakes x y (LoadPart vm number part) Okay
+loads : (x y : CoreState) (vm number : ℕ) (part : Part) (kept : KeptNumbers) → is_vcpu_in x.world.vms (vcpu vm number) ≡ true
+    → (record_of x (vcpu vm number)).stay ≡ stays.InMemory Parked kept → is_loadable x.world.n part ≡ true
+    → ((h : History) → CoreStands x h → has_vcpu h (vcpu vm number) ≡ true → Changes x y h (Accepted (LoadPart vm number part)))
+    → CoreTakes x y (LoadPart vm number part) Okay
 loads x y vm number part kept inside at good changes = accepted x y (LoadPart vm number part) Okay refl refl (λ h stands.
     let g = vcpu vm number in
     let there = there_in x h g stands inside in (
-      load_part_refusal h vm number part stands.there ∙ cond-false _ _ _ (not_neither (has_vcpu h g) (is_loadable (greatest_identity_of h) part) there (ap (λ n. is_loadable n part) (sym stands.greatest) ∙ good)) ∙ is_not_refused x h g kept stands there at,
+      load_part_refusal h vm number part stands.there
+          ∙ cond-false _ _ _ (not_neither (has_vcpu h g) (is_loadable (greatest_identity_of h) part) there
+          (ap (λ n. is_loadable n part) (sym stands.greatest) ∙ good)) ∙ is_not_refused x h g kept stands there at,
       refl,
       changes h stands there,
     ))
@@ -199,7 +226,8 @@ pub record IsLoad (x y : CoreState) (vm number : ℕ) (kept : KeptNumbers) (part
   pub passes : y.passes ≡ x.passes
 
 -- its majors, or their registers
-of_majors : (h : History) (vm number injected enabled : ℕ) → IsOfMajors h (Accepted (LoadPart vm number (parts.Majors injected enabled))) (vcpu vm number) (majors_loaded (parts.Majors injected enabled))
+of_majors : (h : History) (vm number injected enabled : ℕ)
+    → IsOfMajors h (Accepted (LoadPart vm number (parts.Majors injected enabled))) (vcpu vm number) (majors_loaded (parts.Majors injected enabled))
 of_majors h vm number injected enabled = record {
   quiet = quiet_line h (LoadPart vm number (parts.Majors injected enabled)) refl;
   none = refl;
@@ -211,7 +239,8 @@ of_majors h vm number injected enabled = record {
   own = λ m. cond-true _ _ _ (is_itself (vcpu vm number));
 }
 
-of_registers : (h : History) (vm number hviprio hvictl : ℕ) → IsOfMajors h (Accepted (LoadPart vm number (parts.Prio hviprio hvictl))) (vcpu vm number) (majors_loaded (parts.Prio hviprio hvictl))
+of_registers : (h : History) (vm number hviprio hvictl : ℕ)
+    → IsOfMajors h (Accepted (LoadPart vm number (parts.Prio hviprio hvictl))) (vcpu vm number) (majors_loaded (parts.Prio hviprio hvictl))
 of_registers h vm number hviprio hvictl = record {
   quiet = quiet_line h (LoadPart vm number (parts.Prio hviprio hvictl)) refl;
   none = refl;
@@ -223,16 +252,25 @@ of_registers h vm number hviprio hvictl = record {
   own = λ m. cond-true _ _ _ (is_itself (vcpu vm number));
 }
 
-pub majors_are_loaded : (x y : CoreState) (vm number injected enabled : ℕ) (kept : KeptNumbers) → IsLoad x y vm number kept (parts.Majors injected enabled) → HasMajors x y (vcpu vm number) (majors_loaded (parts.Majors injected enabled)) → CoreTakes x y (LoadPart vm number (parts.Majors injected enabled)) Okay
-majors_are_loaded x y vm number injected enabled kept c has = loads x y vm number (parts.Majors injected enabled) kept c.inside c.at c.good (λ h stands there.
-    majors_change x y h (Accepted (LoadPart vm number (parts.Majors injected enabled))) (vcpu vm number) (majors_loaded (parts.Majors injected enabled)) has (of_majors h vm number injected enabled) stands there)
+pub majors_are_loaded : (x y : CoreState) (vm number injected enabled : ℕ) (kept : KeptNumbers)
+    → IsLoad x y vm number kept (parts.Majors injected enabled) → HasMajors x y (vcpu vm number) (majors_loaded (parts.Majors injected enabled))
+    → CoreTakes x y (LoadPart vm number (parts.Majors injected enabled)) Okay
+majors_are_loaded x y vm number injected enabled kept c has =
+    loads x y vm number (parts.Majors injected enabled) kept c.inside c.at c.good (λ h stands there.
+    majors_change x y h (Accepted (LoadPart vm number (parts.Majors injected enabled))) (vcpu vm number)
+    (majors_loaded (parts.Majors injected enabled)) has (of_majors h vm number injected enabled) stands there)
 
-pub registers_are_loaded : (x y : CoreState) (vm number hviprio hvictl : ℕ) (kept : KeptNumbers) → IsLoad x y vm number kept (parts.Prio hviprio hvictl) → HasMajors x y (vcpu vm number) (majors_loaded (parts.Prio hviprio hvictl)) → CoreTakes x y (LoadPart vm number (parts.Prio hviprio hvictl)) Okay
-registers_are_loaded x y vm number hviprio hvictl kept c has = loads x y vm number (parts.Prio hviprio hvictl) kept c.inside c.at c.good (λ h stands there.
-    majors_change x y h (Accepted (LoadPart vm number (parts.Prio hviprio hvictl))) (vcpu vm number) (majors_loaded (parts.Prio hviprio hvictl)) has (of_registers h vm number hviprio hvictl) stands there)
+pub registers_are_loaded : (x y : CoreState) (vm number hviprio hvictl : ℕ) (kept : KeptNumbers)
+    → IsLoad x y vm number kept (parts.Prio hviprio hvictl) → HasMajors x y (vcpu vm number) (majors_loaded (parts.Prio hviprio hvictl))
+    → CoreTakes x y (LoadPart vm number (parts.Prio hviprio hvictl)) Okay
+registers_are_loaded x y vm number hviprio hvictl kept c has =
+    loads x y vm number (parts.Prio hviprio hvictl) kept c.inside c.at c.good (λ h stands there.
+    majors_change x y h (Accepted (LoadPart vm number (parts.Prio hviprio hvictl))) (vcpu vm number) (majors_loaded (parts.Prio hviprio hvictl))
+    has (of_registers h vm number hviprio hvictl) stands there)
 
 -- its numbers
-numbers_loaded : (w : World) (q : ℕ) (was now : KeptNumbers) (version n threshold select : ℕ) (delivery : Bool) → now.delivery ≡ bit_number delivery → now.threshold ≡ threshold → threshold ≤ w.n
+numbers_loaded : (w : World) (q : ℕ) (was now : KeptNumbers) (version n threshold select : ℕ) (delivery : Bool)
+    → now.delivery ≡ bit_number delivery → now.threshold ≡ threshold → threshold ≤ w.n
     → SameFile (file_in_memory w q now) (file_loaded (parts.Image version n delivery threshold select) (file_in_memory w q was))
 numbers_loaded w q was now version n threshold select delivery is_delivery is_threshold low = record {
   n = refl;
@@ -254,11 +292,17 @@ pub record IsNumbersLoad (x y : CoreState) (vm number : ℕ) (kept now : KeptNum
   pub load : IsLoad x y vm number kept (parts.Image version n delivery threshold select)
   pub world : y.world ≡ x.world
   pub low : slot_of x.world.vms (vcpu vm number) < length x.vcpus
-  pub vcpus : y.vcpus ≡ set x.vcpus (slot_of x.world.vms (vcpu vm number)) (record (record_of x (vcpu vm number)) { stay = stays.InMemory Parked now; select = select_written (ops.Write select) (record_of x (vcpu vm number)).select })
+  pub vcpus : y.vcpus ≡ set x.vcpus (slot_of x.world.vms (vcpu vm number))
+      (record (record_of x (vcpu vm number)) {
+        stay = stays.InMemory Parked now;
+        select =
+            select_written (ops.Write select) (record_of x (vcpu vm number)).select;
+      })
   pub is_delivery : now.delivery ≡ bit_number delivery
   pub is_threshold : now.threshold ≡ threshold
 
-module _ (x y : CoreState) (vm number : ℕ) (kept now : KeptNumbers) (version n threshold select : ℕ) (delivery : Bool) (c : IsNumbersLoad x y vm number kept now version n threshold select delivery) where
+module _ (x y : CoreState) (vm number : ℕ) (kept now : KeptNumbers) (version n threshold select : ℕ) (delivery : Bool)
+    (c : IsNumbersLoad x y vm number kept now version n threshold select delivery) where
   abbrev image_g : Vcpu
   image_g = vcpu vm number
 
@@ -271,7 +315,8 @@ module _ (x y : CoreState) (vm number : ℕ) (kept now : KeptNumbers) (version n
   slot : (other : Vcpu) → slot_of y.world.vms other ≡ slot_of x.world.vms other
   slot other = ap (λ (w : World). slot_of w.vms other) c.world
 
-  own : record_of y image_g ≡ record (record_of x image_g) { stay = stays.InMemory Parked now; select = select_written (ops.Write select) (record_of x image_g).select }
+  own : record_of y image_g ≡ record (record_of x image_g)
+      { stay = stays.InMemory Parked now; select = select_written (ops.Write select) (record_of x image_g).select }
   own = (λ k. get_or (c.vcpus k) (slot image_g k) no_record) ∙ get_or-set_same x.vcpus (slot_of x.world.vms image_g) _ no_record c.low
 
   stay : (record_of y image_g).stay ≡ stays.InMemory Parked now
@@ -302,15 +347,25 @@ module _ (x y : CoreState) (vm number : ℕ) (kept now : KeptNumbers) (version n
         other_majors = λ other ne m. cond-false _ _ _ ne;
         threshold = 0;
         slot_deed = λ file. file;
-        slot = subst (λ (w : World). DoneInSlot x.world (with_memory x.world w) (slot_of x.world.vms image_g) 0 (λ file. file)) (sym c.world) (record { done = as_it_was (file_of_slot x.world (slot_of x.world.vms image_g) 0); kept = λ i outside. (refl, refl); elsewhere = λ place apart. refl; rest = refl });
+        slot = subst (λ (w : World). DoneInSlot x.world (with_memory x.world w) (slot_of x.world.vms image_g) 0 (λ file. file)) (sym c.world)
+            (record {
+              done = as_it_was (file_of_slot x.world (slot_of x.world.vms image_g) 0);
+              kept = λ i outside. (refl, refl);
+              elsewhere =
+                  λ place apart. refl;
+              rest = refl;
+            });
         notifies = nothing_told x (but_memory x y) h image_event (ap (λ (w : World). with_memory w x.world) c.world) c.load.selects refl (λ f. refl);
         leases = c.load.leases;
         passes = c.load.passes;
         records = ap (λ (rs : List VcpuRecord). length rs) c.vcpus ∙ length-set x.vcpus (slot_of x.world.vms image_g) _;
         select = ap (λ (r : VcpuRecord). r.select) own;
         majors = ap (λ (r : VcpuRecord). majors_shown r.majors) own ∙ sym (cond-true _ _ _ (is_itself image_g));
-        others = λ other ne. (λ k. get_or (c.vcpus k) (slot other k) no_record) ∙ get_or-set_other x.vcpus (slot_of x.world.vms image_g) (slot_of x.world.vms other) _ no_record ne;
-        file = subst (λ (w : World). SameFile (file_in_memory w (slot_of x.world.vms image_g) now) (file_loaded image (file_in_memory x.world (slot_of x.world.vms image_g) kept))) (sym c.world) (numbers_loaded x.world (slot_of x.world.vms image_g) kept now version n threshold select delivery c.is_delivery c.is_threshold small);
+        others = λ other ne. (λ k. get_or (c.vcpus k) (slot other k) no_record)
+            ∙ get_or-set_other x.vcpus (slot_of x.world.vms image_g) (slot_of x.world.vms other) _ no_record ne;
+        file = subst (λ (w : World). SameFile (file_in_memory w (slot_of x.world.vms image_g) now)
+            (file_loaded image (file_in_memory x.world (slot_of x.world.vms image_g) kept))) (sym c.world)
+            (numbers_loaded x.world (slot_of x.world.vms image_g) kept now version n threshold select delivery c.is_delivery c.is_threshold small);
       }))
 
 -- a word of its sets
@@ -322,7 +377,8 @@ pub record IsWordLoad (x y : CoreState) (m : World) (vm number : ℕ) (kept : Ke
   pub done : DoneInSlot x.world m (slot_of x.world.vms (vcpu vm number)) 0 (sets_loaded w pending enable)
   pub memory : y.world.memory ≡ m.memory
 
-module _ (x y : CoreState) (m : World) (vm number : ℕ) (kept : KeptNumbers) (w pending enable : ℕ) (c : IsWordLoad x y m vm number kept w pending enable) where
+module _ (x y : CoreState) (m : World) (vm number : ℕ) (kept : KeptNumbers) (w pending enable : ℕ)
+    (c : IsWordLoad x y m vm number kept w pending enable) where
   abbrev g : Vcpu
   g = vcpu vm number
 
@@ -339,12 +395,14 @@ module _ (x y : CoreState) (m : World) (vm number : ℕ) (kept : KeptNumbers) (w
   sets = record { n = c.done.done.n; pending = c.done.done.pending; enabled = c.done.done.enabled; threshold = refl; delivery = refl }
 
   -- whether an identity of the word is both pending and enabled then
-  pub live_after : (h : History) → CoreStands x h → has_vcpu h g ≡ true → is_live (file_of_slot m (slot_of x.world.vms g) 0) w ≡ is_live (file_loaded part (guest_file h g)) w
+  pub live_after : (h : History) → CoreStands x h → has_vcpu h g ≡ true
+      → is_live (file_of_slot m (slot_of x.world.vms g) 0) w ≡ is_live (file_loaded part (guest_file h g)) w
   live_after h stands there =
       ap (λ (f : InterruptFile). is_live f w) (same_file _ _ sets)
       ∙ ap (λ f. is_live (file_loaded part f) w) (sym (its_file x h g kept stands there c.load.at c.load.whole))
 
-  word_changes : (h : History) → CoreStands x h → has_vcpu h g ≡ true → y.world.n ≡ x.world.n → y.world.vms ≡ x.world.vms → OnlyNotifies x (but_memory x y) h event → Changes x y h event
+  word_changes : (h : History) → CoreStands x h → has_vcpu h g ≡ true → y.world.n ≡ x.world.n → y.world.vms ≡ x.world.vms
+      → OnlyNotifies x (but_memory x y) h event → Changes x y h event
   word_changes h stands there n vms notifies = memory_deed x y h event g (InMemory Parked) kept kept (Loads part) (record {
     stands = stands;
     whole = c.load.whole;
@@ -362,7 +420,8 @@ module _ (x y : CoreState) (m : World) (vm number : ℕ) (kept : KeptNumbers) (w
     other_majors = λ other ne s. cond-false _ _ _ ne;
     threshold = 0;
     slot_deed = sets_loaded w pending enable;
-    slot = subst (λ (u : World). DoneInSlot x.world u (slot_of x.world.vms g) 0 (sets_loaded w pending enable)) (c.done.rest ∙ ap (λ memory. record x.world { memory = memory }) (sym c.memory)) c.done;
+    slot = subst (λ (u : World). DoneInSlot x.world u (slot_of x.world.vms g) 0 (sets_loaded w pending enable))
+        (c.done.rest ∙ ap (λ memory. record x.world { memory = memory }) (sym c.memory)) c.done;
     notifies = notifies;
     leases = c.load.leases;
     passes = c.load.passes;
@@ -391,7 +450,8 @@ module _ (x y : CoreState) (m : World) (vm number : ℕ) (kept : KeptNumbers) (w
       (nothing_told x (but_memory x y) h event (ap (λ (u : World). with_memory u x.world) rest) c.load.selects quiet (λ f. refl)))
 
   -- and else its notice is sent
-  pub word_told : Posts m y.world (spots.SupervisorFile (notice_hart x.world.vms g)) (notice_identity x.world.vms g) → is_live (file_of_slot m (slot_of x.world.vms g) 0) w ≡ true → CoreTakes x y (LoadPart vm number part) Okay
+  pub word_told : Posts m y.world (spots.SupervisorFile (notice_hart x.world.vms g)) (notice_identity x.world.vms g)
+      → is_live (file_of_slot m (slot_of x.world.vms g) 0) w ≡ true → CoreTakes x y (LoadPart vm number part) Okay
   word_told posts some = loads x y vm number part kept c.load.inside c.load.at c.load.good (λ h stands there.
       let loud : noticed h event ≡ Some g = cond-true _ _ _ (sym (live_after h stands there) ∙ some) in
       word_changes h stands there (ap (λ (u : World). u.n) rest) (ap (λ (u : World). u.vms) rest)
@@ -402,7 +462,8 @@ module _ (x y : CoreState) (m : World) (vm number : ℕ) (kept : KeptNumbers) (w
 
       but_posts : Posts x.world (with_memory y.world x.world) (spots.SupervisorFile (notice_hart x.world.vms g)) (notice_identity x.world.vms g)
       but_posts = record {
-        lands = subst (λ (i : ImsicState). LandsIn i y.world.imsic (spots.SupervisorFile (notice_hart x.world.vms g)) 0 (notice_identity x.world.vms g)) (ap (λ (u : World). u.imsic) c.done.rest) posts.lands;
+        lands = subst (λ (i : ImsicState). LandsIn i y.world.imsic (spots.SupervisorFile (notice_hart x.world.vms g)) 0
+            (notice_identity x.world.vms g)) (ap (λ (u : World). u.imsic) c.done.rest) posts.lands;
         count = posts.count ∙ ap (λ (u : World). counted u.notices) c.done.rest;
         rest = ap (λ (u : World). with_memory u x.world) rest;
       }

@@ -67,17 +67,20 @@ landed_from : (h : History) (v vm k : ℕ) → flight (Landed v k ∷ h) vm ≡ 
 unfolding flight
 landed_from h v vm k = refl
 
-sent_on : (h : History) (v addr value vm : ℕ) → flight (Accepted (Send v addr value) ∷ h) vm ≡ cond (nat_eq v vm) (flight h vm ++ record { before = h; addr = addr; value = value } ∷ []) (flight h vm)
+sent_on : (h : History) (v addr value vm : ℕ) → flight (Accepted (Send v addr value) ∷ h) vm ≡ cond (nat_eq v vm)
+    (flight h vm ++ record { before = h; addr = addr; value = value } ∷ []) (flight h vm)
 unfolding flight
 sent_on h v addr value vm = refl
 
 -- the list of one VM is another one, and that of every other VM stays
-module _ (x y : CoreState) (vm : ℕ) (stores : List Flying) (there : vm < length x.world.flights) (is : y.world.flights ≡ (with_flight x.world vm stores).flights) where
+module _ (x y : CoreState) (vm : ℕ) (stores : List Flying) (there : vm < length x.world.flights)
+    (is : y.world.flights ≡ (with_flight x.world vm stores).flights) where
   own_flight : flight_of y.world vm ≡ stores
   own_flight = ap (λ flights. get_or flights vm []) is ∙ get_or-set_same x.world.flights vm stores [] there
 
   other_flight : (v : ℕ) → nat_eq vm v ≡ false → flight_of y.world v ≡ flight_of x.world v
-  other_flight v ne = ap (λ flights. get_or flights v []) is ∙ get_or-set_other x.world.flights vm v stores [] (λ e. false≢true (sym ne ∙ eq-eqb vm v (sym e)))
+  other_flight v ne = ap (λ flights. get_or flights v []) is
+      ∙ get_or-set_other x.world.flights vm v stores [] (λ e. false≢true (sym ne ∙ eq-eqb vm v (sym e)))
 
 -- ---- what a store in flight reaches as it lands
 
@@ -87,16 +90,20 @@ module _ (x : CoreState) (h : History) (u : World) (vm k : ℕ) (stands : CoreSt
 
   -- it goes where its virtual hart's entry led as it was sent
   pub reaches_as_sent : (s : Sending) → flying h vm k ≡ Some s
-      → ReachesBy (leads_to (slot_of (vms_of h) (sent_to vm s)) (notice_hart (vms_of h) (sent_to vm s)) (sent_into vm s)) x.world landing.stored (s.addr % PAGE) s.value
+      → ReachesBy (leads_to (slot_of (vms_of h) (sent_to vm s)) (notice_hart (vms_of h) (sent_to vm s)) (sent_into vm s)) x.world landing.stored
+      (s.addr % PAGE) s.value
   reaches_as_sent s is =
       let g = sent_to vm s in
       let into = sent_into vm s in
       let one : IsForOne h vm s = all_at (IsForOne h vm) k (flight h vm) s is (stands.for_one vm) in
-      let store : flying_of vm s ≡ landing.store = let both : Some (flying_of vm s) ≡ Some landing.store = ap (option_map (flying_of vm)) (sym is) ∙ found in cc in
-      let as_sent : ReachesBy (leads_to (slot_of (vms_of s.before) g) (notice_hart (vms_of s.before) g) into) x.world landing.stored (s.addr % PAGE) s.value =
+      let store : flying_of vm s ≡ landing.store = let both : Some (flying_of vm s) ≡ Some landing.store = ap (option_map (flying_of vm)) (sym is)
+      ∙ found in cc in
+      let as_sent : ReachesBy (leads_to (slot_of (vms_of s.before) g) (notice_hart (vms_of s.before) g) into) x.world landing.stored
+      (s.addr % PAGE) s.value =
       subst (λ (f : Flying). ReachesBy f.entry x.world landing.stored f.offset f.value) (sym store) landing.reaches in
       subst (λ q. ReachesBy (leads_to q (notice_hart (vms_of h) g) into) x.world landing.stored (s.addr % PAGE) s.value) (sym one.slot)
-      (subst (λ hart. ReachesBy (leads_to (slot_of (vms_of s.before) g) hart into) x.world landing.stored (s.addr % PAGE) s.value) (sym one.notice) as_sent)
+      (subst (λ hart. ReachesBy (leads_to (slot_of (vms_of s.before) g) hart into) x.world landing.stored (s.addr % PAGE) s.value)
+      (sym one.notice) as_sent)
 
 -- neither passes a source
 none_by_landing : (h : History) (vm k : ℕ) → passes_of (Landed vm k ∷ h) ≡ passes_of h
@@ -147,12 +154,15 @@ module _ (x y : CoreState) (h : History) (vm k : ℕ) (c : IsLanding x y vm k) (
         };
         notices = ap (noticed_by_landing h vm) is;
         host = λ f. refl;
-        stores = reached x between h g (s.addr % PAGE) s.value into stands c.whole one.there (λ p e. stands.held g p one.there (landing_is_held (file_words h) (home h g) into p leads e))
-            (by_entry into (slot_of (vms_of h) g) (notice_hart (vms_of h) g) x.world c.lands.stored (s.addr % PAGE) s.value (reaches_as_sent x h y.world vm k stands c.lands s is));
+        stores = reached x between h g (s.addr % PAGE) s.value into stands c.whole one.there
+            (λ p e. stands.held g p one.there (landing_is_held (file_words h) (home h g) into p leads e))
+            (by_entry into (slot_of (vms_of h) g) (notice_hart (vms_of h) g) x.world c.lands.stored (s.addr % PAGE) s.value
+            (reaches_as_sent x h y.world vm k stands c.lands s is));
       })
 
   stored_somewhere : (o : Option Sending) → flying h vm k ≡ o → Changes x between h (Landed vm k)
-  stored_somewhere None is = let bad : ◌≡◌ {A = Option Flying} None (Some c.lands.store) = ap (option_map (flying_of vm)) (sym is) ∙ found x h y.world vm k stands c.lands in absurd (cc)
+  stored_somewhere None is = let bad : ◌≡◌ {A = Option Flying} None (Some c.lands.store) = ap (option_map (flying_of vm)) (sym is)
+      ∙ found x h y.world vm k stands c.lands in absurd (cc)
   stored_somewhere (Some s) is = stored_so s is
 
   landing_changes : Changes x between h (Landed vm k)
@@ -165,7 +175,8 @@ module _ (x y : CoreState) (h : History) (vm k : ℕ) (c : IsLanding x y vm k) (
   taken_out = remove (flight_of c.lands.stored vm) k
 
   out_of : taken_out ≡ map (flying_of vm) (remove (flight h vm) k)
-  out_of = ap (λ flights. remove (get_or flights vm []) k) same_flights ∙ ap (λ stores. remove stores k) (stands.flights vm) ∙ remove_map (flying_of vm) (flight h vm) k
+  out_of = ap (λ flights. remove (get_or flights vm []) k) same_flights ∙ ap (λ stores. remove stores k) (stands.flights vm)
+      ∙ remove_map (flying_of vm) (flight h vm) k
 
   in_lists : vm < length c.lands.stored.flights
   in_lists = omega (arith, c.low, c.whole.flights, ap length same_flights)
@@ -173,18 +184,23 @@ module _ (x y : CoreState) (h : History) (vm k : ℕ) (c : IsLanding x y vm k) (
   flights_then : (v : ℕ) → flight_of y.world v ≡ map (flying_of v) (flight (Landed vm k ∷ h) v)
   flights_then v = elim (cases_Bool (nat_eq vm v)) [
     | inl own ↦ subst (λ v. flight_of y.world v ≡ map (flying_of v) (flight (Landed vm k ∷ h) v)) (eqb-true vm v own)
-        (own_flight between y vm taken_out in_lists (ap (λ (w : World). w.flights) c.lands.taken) ∙ out_of ∙ ap (map (flying_of vm)) (sym (landed_from h vm vm k ∙ cond-true _ _ _ (eq-eqb vm vm refl))))
+        (own_flight between y vm taken_out in_lists (ap (λ (w : World). w.flights) c.lands.taken) ∙ out_of
+        ∙ ap (map (flying_of vm)) (sym (landed_from h vm vm k ∙ cond-true _ _ _ (eq-eqb vm vm refl))))
     | inr other ↦
-        other_flight between y vm taken_out in_lists (ap (λ (w : World). w.flights) c.lands.taken) v other ∙ ap (λ flights. get_or flights v []) same_flights ∙ stands.flights v
+        other_flight between y vm taken_out in_lists (ap (λ (w : World). w.flights) c.lands.taken) v other
+        ∙ ap (λ flights. get_or flights v []) same_flights ∙ stands.flights v
         ∙ ap (map (flying_of v)) (sym (landed_from h vm v k ∙ cond-false _ _ _ other))
   ]
 
   becomes : Becomes x y h (Landed vm k)
   becomes = subst (λ (w : World). Becomes x (record y { world = w }) h (Landed vm k)) (sym c.lands.taken)
-      (with_flights x between h (Landed vm k) (with_flight c.lands.stored vm taken_out).flights (changed x between h (Landed vm k) landing_changes stands))
+      (with_flights x between h (Landed vm k) (with_flight c.lands.stored vm taken_out).flights
+      (changed x between h (Landed vm k) landing_changes stands))
 
 pub landing_stands : (x y : CoreState) (h : History) (vm k : ℕ) → IsLanding x y vm k → CoreStands x h → CoreStands y (Landed vm k ∷ h)
-landing_stands x y h vm k c stands = stands_after x y h (Landed vm k) (becomes x y h vm k c stands) (record { first = tt; one = tt; flights = flights_then x y h vm k c stands }) (none_passes x y h (Landed vm k) (none_by_landing h vm k) tt c.passes stands) stands
+landing_stands x y h vm k c stands = stands_after x y h (Landed vm k) (becomes x y h vm k c stands)
+    (record { first = tt; one = tt; flights = flights_then x y h vm k c stands })
+    (none_passes x y h (Landed vm k) (none_by_landing h vm k) tt c.passes stands) stands
 
 -- ---- all of a VM land, the oldest first
 
@@ -192,7 +208,8 @@ last_landed : (count vm : ℕ) (h : History) → oldest_landed (suc count) vm h 
 last_landed zero vm h = refl
 last_landed (suc count) vm h = last_landed count vm (Landed vm 0 ∷ h)
 
-all_landed : (count : ℕ) (x : CoreState) (u : World) (vm : ℕ) → vm < length x.world.vms → LandsOldest count x.world u vm → (h : History) → CoreStands x h → CoreStands (record x { world = u }) (oldest_landed count vm h)
+all_landed : (count : ℕ) (x : CoreState) (u : World) (vm : ℕ) → vm < length x.world.vms → LandsOldest count x.world u vm → (h : History)
+    → CoreStands x h → CoreStands (record x { world = u }) (oldest_landed count vm h)
 all_landed zero x u vm low same h stands = subst (λ (w : World). CoreStands (record x { world = w }) h) (sym same) stands
 all_landed (suc count) x u vm low (mid, before, whole, lands) h stands =
     let rest = all_landed_rest count x.world mid vm before in
@@ -216,7 +233,8 @@ how_many x h vm stands = ap length (stands.flights vm) ∙ length-map (flight h 
 abbrev pub once_landed : CoreState → World → CoreState
 once_landed x landed = record x { world = landed }
 
-pub first_stands : (x : CoreState) (landed : World) (m : Moving) (h : History) → m.who.found.vm < length x.world.vms → m.home ≡ home h (mover m) → LandsFirst x.world m landed → CoreStands x h → CoreStands (once_landed x landed) (landed_first (mover m) h)
+pub first_stands : (x : CoreState) (landed : World) (m : Moving) (h : History) → m.who.found.vm < length x.world.vms → m.home ≡ home h (mover m)
+    → LandsFirst x.world m landed → CoreStands x h → CoreStands (once_landed x landed) (landed_first (mover m) h)
 first_stands x landed m h low same first stands = by_fence (is_at_fence (home h (mover m))) refl
   where
     by_fence : (b : Bool) → is_at_fence (home h (mover m)) ≡ b → CoreStands (once_landed x landed) (landed_first (mover m) h)
@@ -249,22 +267,27 @@ has_room n few = grind (arith, nat_tests)
 
 -- the words that are left when the VM is there and has room, and the address is aligned
 left : (x y : CoreState) (h : History) (vm addr value : ℕ) → IsSending x y h vm addr value
-    → refusal h (Send vm addr value) ≡ cond (not (is_msi_address (mask_of h vm) addr)) (Some (Refused words.Other)) (cond (not (has_vcpu h (named_by h vm addr))) (Some (Refused words.NotValid)) None)
+    → refusal h (Send vm addr value) ≡ cond (not (is_msi_address (mask_of h vm) addr)) (Some (Refused words.Other))
+    (cond (not (has_vcpu h (named_by h vm addr))) (Some (Refused words.NotValid)) None)
 left x y h vm addr value c =
-    let rest = cond (not (is_msi_address (mask_of h vm) addr)) (Some (Refused words.Other)) (cond (not (has_vcpu h (named_by h vm addr))) (Some (Refused words.NotValid)) None) in
+    let rest = cond (not (is_msi_address (mask_of h vm) addr)) (Some (Refused words.Other))
+    (cond (not (has_vcpu h (named_by h vm addr))) (Some (Refused words.NotValid)) None) in
     let aligned = cond (not (nat_eq (addr % 4) 0)) (Some (Refused words.Fault)) rest in
     let few : length (flight h vm) < STORES_IN_FLIGHT = subst (λ n. n < STORES_IN_FLIGHT) (how_many x h vm c.at.stands) c.room in
     send_refusal h vm addr value c.at.stands.there
-    ∙ ap (λ b. cond (not b) (Some (Refused words.Range)) (cond (nat_le STORES_IN_FLIGHT (length (flight h vm))) (Some (Refused words.Full)) aligned)) (vm_there x h vm c.at)
+    ∙ ap (λ b. cond (not b) (Some (Refused words.Range))
+    (cond (nat_le STORES_IN_FLIGHT (length (flight h vm))) (Some (Refused words.Full)) aligned)) (vm_there x h vm c.at)
     ∙ ap (λ b. cond b (Some (Refused words.Full)) aligned) (has_room (length (flight h vm)) few)
     ∙ ap (λ b. cond (not b) (Some (Refused words.Fault)) rest) (eq-eqb (addr % 4) 0 c.aligned)
 
 inside : (x y : CoreState) (h : History) (vm addr value : ℕ) → IsSending x y h vm addr value → is_msi_address (mask_of h vm) addr ≡ true
     → refusal h (Send vm addr value) ≡ cond (not (has_vcpu h (named_by h vm addr))) (Some (Refused words.NotValid)) None
-inside x y h vm addr value c is = left x y h vm addr value c ∙ ap (λ b. cond (not b) (Some (Refused words.Other)) (cond (not (has_vcpu h (named_by h vm addr))) (Some (Refused words.NotValid)) None)) is
+inside x y h vm addr value c is = left x y h vm addr value c
+    ∙ ap (λ b. cond (not b) (Some (Refused words.Other)) (cond (not (has_vcpu h (named_by h vm addr))) (Some (Refused words.NotValid)) None)) is
 
 -- one that goes nowhere
-nowhere : (x y : CoreState) (h : History) (vm addr value : ℕ) (route : Route) (word : Answer) → IsSending x y h vm addr value → refusal h (Send vm addr value) ≡ Some word → route_of (table_of x.world.tables vm) addr ≡ route → route_answer route ≡ word
+nowhere : (x y : CoreState) (h : History) (vm addr value : ℕ) (route : Route) (word : Answer) → IsSending x y h vm addr value
+    → refusal h (Send vm addr value) ≡ Some word → route_of (table_of x.world.tables vm) addr ≡ route → route_answer route ≡ word
     → (Sends route x.world y.world vm (addr % PAGE) value → y.world ≡ x.world) → Answered x y h vm addr value
 nowhere x y h vm addr value route word c refuses is answers kept =
     let same : y.world ≡ x.world = kept (subst (λ (r : Route). Sends r x.world y.world vm (addr % PAGE) value) is c.sends) in
@@ -272,22 +295,26 @@ nowhere x y h vm addr value route word c refuses is answers kept =
     (Some word, refuses, ap route_answer is ∙ answers, subst (λ z. CoreStands z h) (sym core) c.at.stands, λ other e. core)
 
 -- one that is for a virtual hart that is there
-sent_by : (o : Option GuestPlace) (q hart : ℕ) (w u : World) (vm offset value : ℕ) → Sends (leads_by (leads_to q hart o)) w u vm offset value → u ≡ with_flight w vm (flight_of w vm ++ record { entry = leads_to q hart o; offset = offset; value = value } ∷ [])
+sent_by : (o : Option GuestPlace) (q hart : ℕ) (w u : World) (vm offset value : ℕ) → Sends (leads_by (leads_to q hart o)) w u vm offset value
+    → u ≡ with_flight w vm (flight_of w vm ++ record { entry = leads_to q hart o; offset = offset; value = value } ∷ [])
 sent_by None q hart w u vm offset value sends = sends
 sent_by (Some p) q hart w u vm offset value sends = sends
 
-module _ (x y : CoreState) (h : History) (vm addr value : ℕ) (c : IsSending x y h vm addr value) (is : is_msi_address (mask_of h vm) addr ≡ true) (there : has_vcpu h (named_by h vm addr) ≡ true) where
+module _ (x y : CoreState) (h : History) (vm addr value : ℕ) (c : IsSending x y h vm addr value) (is : is_msi_address (mask_of h vm) addr ≡ true)
+    (there : has_vcpu h (named_by h vm addr) ≡ true) where
   abbrev new : Sending
   new = record { before = h; addr = addr; value = value }
 
   abbrev stores : List Flying
   stores = flight_of x.world vm ++ flying_of vm new ∷ []
 
-  route : route_of (table_of x.world.tables vm) addr ≡ leads_by (leads_to (slot_of (vms_of h) (named_by h vm addr)) (notice_hart (vms_of h) (named_by h vm addr)) (in_force_of h (named_by h vm addr)))
+  route : route_of (table_of x.world.tables vm) addr ≡ leads_by
+      (leads_to (slot_of (vms_of h) (named_by h vm addr)) (notice_hart (vms_of h) (named_by h vm addr)) (in_force_of h (named_by h vm addr)))
   route = own_route x h vm addr c.at is there
 
   sent : y.world ≡ with_flight x.world vm stores
-  sent = sent_by (in_force_of h (named_by h vm addr)) (slot_of (vms_of h) (named_by h vm addr)) (notice_hart (vms_of h) (named_by h vm addr)) x.world y.world vm (addr % PAGE) value
+  sent = sent_by (in_force_of h (named_by h vm addr)) (slot_of (vms_of h) (named_by h vm addr)) (notice_hart (vms_of h) (named_by h vm addr))
+      x.world y.world vm (addr % PAGE) value
       (subst (λ (r : Route). Sends r x.world y.world vm (addr % PAGE) value) route c.sends)
 
   sent_core : y ≡ record x { world = with_flight x.world vm stores }
@@ -299,10 +326,12 @@ module _ (x y : CoreState) (h : History) (vm addr value : ℕ) (c : IsSending x 
   with_new : (v : ℕ) → flight_of y.world v ≡ map (flying_of v) (flight (Accepted (Send vm addr value) ∷ h) v)
   with_new v = elim (cases_Bool (nat_eq vm v)) [
     | inl own ↦ subst (λ v. flight_of y.world v ≡ map (flying_of v) (flight (Accepted (Send vm addr value) ∷ h) v)) (eqb-true vm v own)
-        (own_flight x y vm stores in_its_list (ap (λ (w : World). w.flights) sent) ∙ ap (λ xs. xs ++ flying_of vm new ∷ []) (c.at.stands.flights vm) ∙ sym (map-append (flying_of vm) (flight h vm) (new ∷ []))
+        (own_flight x y vm stores in_its_list (ap (λ (w : World). w.flights) sent)
+        ∙ ap (λ xs. xs ++ flying_of vm new ∷ []) (c.at.stands.flights vm) ∙ sym (map-append (flying_of vm) (flight h vm) (new ∷ []))
         ∙ ap (map (flying_of vm)) (sym (sent_on h vm addr value vm ∙ cond-true _ _ _ (eq-eqb vm vm refl))))
     | inr other ↦
-        other_flight x y vm stores in_its_list (ap (λ (w : World). w.flights) sent) v other ∙ c.at.stands.flights v ∙ ap (map (flying_of v)) (sym (sent_on h vm addr value v ∙ cond-false _ _ _ other))
+        other_flight x y vm stores in_its_list (ap (λ (w : World). w.flights) sent) v other ∙ c.at.stands.flights v
+        ∙ ap (map (flying_of v)) (sym (sent_on h vm addr value v ∙ cond-false _ _ _ other))
   ]
 
   hosts : IsHosts h (Accepted (Send vm addr value))
@@ -311,14 +340,17 @@ module _ (x y : CoreState) (h : History) (vm addr value : ℕ) (c : IsSending x 
   sent_becomes : Becomes x y h (Accepted (Send vm addr value))
   sent_becomes = subst (λ z. Becomes x z h (Accepted (Send vm addr value))) (sym sent_core)
       (with_flights x x h (Accepted (Send vm addr value)) (with_flight x.world vm stores).flights
-      (changed x x h (Accepted (Send vm addr value)) (nothing_done x h (Accepted (Send vm addr value)) c.at.stands hosts (λ f inside. refl)) c.at.stands))
+      (changed x x h (Accepted (Send vm addr value)) (nothing_done x h (Accepted (Send vm addr value)) c.at.stands hosts (λ f inside. refl))
+      c.at.stands))
 
   in_flight : Answered x y h vm addr value
   in_flight = (
     None,
     inside x y h vm addr value c is ∙ ap (λ b. cond (not b) (Some (Refused words.NotValid)) None) there,
-    ap route_answer route ∙ goes_to (in_force_of h (named_by h vm addr)) (slot_of (vms_of h) (named_by h vm addr)) (notice_hart (vms_of h) (named_by h vm addr)),
-    stands_after x y h (Accepted (Send vm addr value)) sent_becomes (record { first = tt; one = there; flights = with_new }) (none_passes x y h (Accepted (Send vm addr value)) (none_by_sending h vm addr value) tt c.passes c.at.stands) c.at.stands,
+    ap route_answer route ∙ goes_to (in_force_of h (named_by h vm addr)) (slot_of (vms_of h) (named_by h vm addr))
+        (notice_hart (vms_of h) (named_by h vm addr)),
+    stands_after x y h (Accepted (Send vm addr value)) sent_becomes (record { first = tt; one = there; flights = with_new })
+        (none_passes x y h (Accepted (Send vm addr value)) (none_by_sending h vm addr value) tt c.passes c.at.stands) c.at.stands,
     λ word e. absurd (none-some word e),
   )
 
@@ -326,16 +358,23 @@ send_answered : (x y : CoreState) (h : History) (vm addr value : ℕ) → IsSend
 send_answered x y h vm addr value c = elim (cases_Bool (is_msi_address (mask_of h vm) addr)) [
   | inl is ↦ elim (cases_Bool (has_vcpu h (named_by h vm addr))) [
     | inl there ↦ in_flight x y h vm addr value c is there
-    | inr lacks ↦ nowhere x y h vm addr value (Fault entries.NotValid) (Refused words.NotValid) c (inside x y h vm addr value c is ∙ ap (λ b. cond (not b) (Some (Refused words.NotValid)) None) lacks) (lost_route x h vm addr c.at is lacks) refl (λ same. same)
+    | inr lacks ↦ nowhere x y h vm addr value (Fault entries.NotValid) (Refused words.NotValid) c
+        (inside x y h vm addr value c is ∙ ap (λ b. cond (not b) (Some (Refused words.NotValid)) None) lacks)
+        (lost_route x h vm addr c.at is lacks) refl (λ same. same)
   ]
-  | inr none ↦ nowhere x y h vm addr value Other (Refused words.Other) c (left x y h vm addr value c ∙ ap (λ b. cond (not b) (Some (Refused words.Other)) (cond (not (has_vcpu h (named_by h vm addr))) (Some (Refused words.NotValid)) None)) none)
+  | inr none ↦ nowhere x y h vm addr value Other (Refused words.Other) c
+      (left x y h vm addr value c ∙ ap (λ b. cond (not b) (Some (Refused words.Other))
+      (cond (not (has_vcpu h (named_by h vm addr))) (Some (Refused words.NotValid)) None)) none)
       (no_route x h vm addr c.at none) refl (λ same. same)
 ]
 
-pub send_taken : (x y : CoreState) (vm addr value : ℕ) (route : Route) → IsWhole x.world → vm < length x.world.vms → length (flight_of x.world vm) < STORES_IN_FLIGHT → addr % 4 ≡ 0 → route ≡ route_of (table_of x.world.tables vm) addr
-    → Sends route x.world y.world vm (addr % PAGE) value → y.leases ≡ x.leases → y.vcpus ≡ x.vcpus → y.selects ≡ x.selects → y.passes ≡ x.passes → CoreTakes x y (Send vm addr value) (route_answer route)
+pub send_taken : (x y : CoreState) (vm addr value : ℕ) (route : Route) → IsWhole x.world → vm < length x.world.vms
+    → length (flight_of x.world vm) < STORES_IN_FLIGHT → addr % 4 ≡ 0 → route ≡ route_of (table_of x.world.tables vm) addr
+    → Sends route x.world y.world vm (addr % PAGE) value → y.leases ≡ x.leases → y.vcpus ≡ x.vcpus → y.selects ≡ x.selects → y.passes ≡ x.passes
+    → CoreTakes x y (Send vm addr value) (route_answer route)
 send_taken x y vm addr value route whole low room aligned is sends leases vcpus selects passes =
-    rw (is) (by_refusal x y (Send vm addr value) (route_answer (route_of (table_of x.world.tables vm) addr)) (λ h stands. send_answered x y h vm addr value (record {
+    rw (is) (by_refusal x y (Send vm addr value) (route_answer (route_of (table_of x.world.tables vm) addr))
+    (λ h stands. send_answered x y h vm addr value (record {
       at = record { stands = stands; whole = whole; low = low };
       room = room;
       aligned = aligned;
@@ -356,15 +395,20 @@ is_full_now n past = grind (arith, nat_tests)
 
 pub no_vm_for_sending : (x : CoreState) (vm addr value : ℕ) → length x.world.vms ≤ vm → CoreTakes x x (Send vm addr value) (Refused words.Range)
 no_vm_for_sending x vm addr value past = refused x (Send vm addr value) (Refused words.Range) (λ h stands.
-    send_refusal h vm addr value stands.there ∙ cond-true _ _ _ (ap not (le-ltb vm (length (vms_of h)) (subst (λ (vs : List Vm). length vs ≤ vm) stands.vms past))))
+    send_refusal h vm addr value stands.there ∙ cond-true _ _ _
+    (ap not (le-ltb vm (length (vms_of h)) (subst (λ (vs : List Vm). length vs ≤ vm) stands.vms past))))
 
-pub no_room_for_sending : (x : CoreState) (vm addr value : ℕ) → vm < length x.world.vms → STORES_IN_FLIGHT ≤ length (flight_of x.world vm) → CoreTakes x x (Send vm addr value) (Refused words.Full)
+pub no_room_for_sending : (x : CoreState) (vm addr value : ℕ) → vm < length x.world.vms → STORES_IN_FLIGHT ≤ length (flight_of x.world vm)
+    → CoreTakes x x (Send vm addr value) (Refused words.Full)
 no_room_for_sending x vm addr value low past = refused x (Send vm addr value) (Refused words.Full) (λ h stands.
-    send_refusal h vm addr value stands.there ∙ cond-false _ _ _ (ap not (standing x h vm stands low)) ∙ cond-true _ _ _ (is_full_now (length (flight h vm)) (subst (λ n. STORES_IN_FLIGHT ≤ n) (how_many x h vm stands) past)))
+    send_refusal h vm addr value stands.there ∙ cond-false _ _ _ (ap not (standing x h vm stands low))
+    ∙ cond-true _ _ _ (is_full_now (length (flight h vm)) (subst (λ n. STORES_IN_FLIGHT ≤ n) (how_many x h vm stands) past)))
 
-pub misaligned_sending : (x : CoreState) (vm addr value : ℕ) → vm < length x.world.vms → length (flight_of x.world vm) < STORES_IN_FLIGHT → addr % 4 ≢ 0 → CoreTakes x x (Send vm addr value) (Refused words.Fault)
+pub misaligned_sending : (x : CoreState) (vm addr value : ℕ) → vm < length x.world.vms → length (flight_of x.world vm) < STORES_IN_FLIGHT
+    → addr % 4 ≢ 0 → CoreTakes x x (Send vm addr value) (Refused words.Fault)
 misaligned_sending x vm addr value low room off = refused x (Send vm addr value) (Refused words.Fault) (λ h stands.
-    send_refusal h vm addr value stands.there ∙ cond-false _ _ _ (ap not (standing x h vm stands low)) ∙ cond-false _ _ _ (has_room (length (flight h vm)) (subst (λ n. n < STORES_IN_FLIGHT) (how_many x h vm stands) room))
+    send_refusal h vm addr value stands.there ∙ cond-false _ _ _ (ap not (standing x h vm stands low))
+    ∙ cond-false _ _ _ (has_room (length (flight h vm)) (subst (λ n. n < STORES_IN_FLIGHT) (how_many x h vm stands) room))
     ∙ cond-true _ _ _ (ap not (ne_eqb (addr % 4) 0 off)))
 
 -- ---- the line that lands one

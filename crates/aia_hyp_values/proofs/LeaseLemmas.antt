@@ -36,7 +36,8 @@ in_machine x h p stands there =
     (omega (arith, hart, stands.harts, stands.lease_harts), there.1, omega (arith, file, stands.guests, stands.lease_guests))
 
 -- the least that is not out is the least that nobody holds
-pub same_free : (x : CoreState) (h : History) (hart : ℕ) → CoreStands x h → hart < x.world.imsic.harts → least_free x.leases hart ≡ free_file h (home h) hart
+pub same_free : (x : CoreState) (h : History) (hart : ℕ) → CoreStands x h → hart < x.world.imsic.harts
+    → least_free x.leases hart ≡ free_file h (home h) hart
 same_free x h hart stands low =
     ap (least_of (λ file. not (is_out x.leases (guest_place hart file))) 1) stands.lease_guests
     ∙ least_alike (λ file. not (is_out x.leases (guest_place hart file))) (λ file. not (is_held h (guest_place hart file))) 1 (guests_of h)
@@ -49,7 +50,8 @@ pub record IsFreeAt (x : CoreState) (h : History) (hart : ℕ) (p : GuestPlace) 
   pub inside : IsThere x.world.imsic (spot_of p)
   pub none : is_held h p ≡ false
 
-pub free_there : (x : CoreState) (h : History) (hart : ℕ) (p : GuestPlace) → CoreStands x h → hart < x.world.imsic.harts → least_free x.leases hart ≡ Some p.file → p.hart ≡ hart → IsFreeAt x h hart p
+pub free_there : (x : CoreState) (h : History) (hart : ℕ) (p : GuestPlace) → CoreStands x h → hart < x.world.imsic.harts
+    → least_free x.leases hart ≡ Some p.file → p.hart ≡ hart → IsFreeAt x h hart p
 free_there x h hart p stands low found same =
     let least = least_of_is (λ file. not (is_out x.leases (guest_place hart file))) 1 x.leases.guests p.file found in
     let high = least.1 in

@@ -78,7 +78,8 @@ pub record HasMajors (x y : CoreState) (g : Vcpu) (done : VsMajorState → VsMaj
   pub low : slot_of x.world.vms g < length x.vcpus
   pub is_done : MajorsDone x.vcpus y.vcpus (slot_of x.world.vms g) done
 
-module _ (x y : CoreState) (h : History) (event : Event) (g : Vcpu) (done : VsMajorState → VsMajorState) (c : HasMajors x y g done) (e : IsOfMajors h event g done) where
+module _ (x y : CoreState) (h : History) (event : Event) (g : Vcpu) (done : VsMajorState → VsMajorState) (c : HasMajors x y g done)
+    (e : IsOfMajors h event g done) where
   same_slot : (other : Vcpu) → slot_of y.world.vms other ≡ slot_of x.world.vms other
   same_slot other = ap (λ (w : World). slot_of w.vms other) c.world
 
@@ -90,7 +91,8 @@ module _ (x y : CoreState) (h : History) (event : Event) (g : Vcpu) (done : VsMa
   own_majors = (λ k. majors_shown (get_or y.vcpus (same_slot g k) no_record).majors) ∙ c.is_done.majors
 
   other_record : (other : Vcpu) → slot_of x.world.vms other ≢ slot_of x.world.vms g → record_of y other ≡ record_of x other
-  other_record other ne = (λ k. get_or (c.is_done.rest k) (same_slot other k) no_record) ∙ get_or-set_other x.vcpus (slot_of x.world.vms g) (slot_of x.world.vms other) _ no_record ne
+  other_record other ne = (λ k. get_or (c.is_done.rest k) (same_slot other k) no_record)
+      ∙ get_or-set_other x.vcpus (slot_of x.world.vms g) (slot_of x.world.vms other) _ no_record ne
 
   machine : SameMachine x.world y.world
   machine = record {
@@ -101,7 +103,8 @@ module _ (x y : CoreState) (h : History) (event : Event) (g : Vcpu) (done : VsMa
   }
 
   shows : (other : Vcpu) → SameFor x.world y.world other (home h other)
-  shows other = subst (λ (w : World). SameFor x.world w other (home h other)) (sym c.world) (record { n = refl; files = λ p held. refl; slot = refl; word0 = refl; word1 = refl; in_force = refl; stage = refl })
+  shows other = subst (λ (w : World). SameFor x.world w other (home h other)) (sym c.world)
+      (record { n = refl; files = λ p held. refl; slot = refl; word0 = refl; word1 = refl; in_force = refl; stage = refl })
 
   pub majors_change : CoreStands x h → has_vcpu h g ≡ true → Changes x y h event
   majors_change stands there = record {
@@ -112,7 +115,8 @@ module _ (x y : CoreState) (h : History) (event : Event) (g : Vcpu) (done : VsMa
     records = ap (λ (rs : List VcpuRecord). length rs) c.is_done.rest ∙ length-set x.vcpus (slot_of x.world.vms g) _;
     count = ap (λ (w : World). w.notices) c.world ∙ ap (λ who. count_after who x.world.notices) (sym e.none);
     host = λ f inside. subst (FileDone x y f) (sym (e.host f)) (record {
-      file = subst (λ (w : World). SameFile (shown (file_at w.imsic (host_spot f))) (shown (file_at x.world.imsic (host_spot f)))) (sym c.world) (as_it_was (shown (file_at x.world.imsic (host_spot f))));
+      file = subst (λ (w : World). SameFile (shown (file_at w.imsic (host_spot f))) (shown (file_at x.world.imsic (host_spot f)))) (sym c.world)
+          (as_it_was (shown (file_at x.world.imsic (host_spot f))));
       select = ap (λ xs. get_or xs (select_place f) 0) c.selects;
     });
     vcpus = λ other inside stood. elim (cases_Bool (is_vcpu other g)) [
@@ -120,7 +124,8 @@ module _ (x y : CoreState) (h : History) (event : Event) (g : Vcpu) (done : VsMa
           let it = same_vcpu other g is in
           subst (VcpuStands y (event ∷ h)) (sym it) (own_stands (subst (VcpuStands x h) it stood))
       | inr ne ↦ guest_rests x y h event other e.quiet.stays machine (e.others other ne) (e.other_majors other ne)
-          (other_record other (slots_apart x h g other stands there inside (λ z. false≢true (sym ne ∙ ap (λ z. is_vcpu z g) z ∙ is_itself g)))) (shows other) stood
+          (other_record other (slots_apart x h g other stands there inside (λ z. false≢true (sym ne ∙ ap (λ z. is_vcpu z g) z ∙ is_itself g))))
+          (shows other) stood
     ];
     free_files = λ p inside none. ap (λ (w : World). file_at w.imsic (spot_of p)) c.world;
     no_vcpu = λ other outside. e.others other (missing other outside);
@@ -163,7 +168,8 @@ majors_stay x g low = record {
 own_test : {A : Type 0} (vm number : ℕ) (a b : A) → cond (is_vcpu (vcpu vm number) (vcpu vm number)) a b ≡ a
 own_test vm number a b = cond-true _ _ _ (is_itself (vcpu vm number))
 
-pub injects : (h : History) (vm number bit : ℕ) (level : Bool) → IsOfMajors h (Accepted (Inject vm number bit level)) (vcpu vm number) (with_injection bit level)
+pub injects : (h : History) (vm number bit : ℕ) (level : Bool)
+    → IsOfMajors h (Accepted (Inject vm number bit level)) (vcpu vm number) (with_injection bit level)
 injects h vm number bit level = record {
   quiet = quiet_line h (Inject vm number bit level) refl;
   none = refl;
@@ -239,7 +245,8 @@ module _ (h : History) (vm number : ℕ) (op : Op) where
 
 -- ---- what the core promises
 
-there_too : (x : CoreState) (h : History) (vm number : ℕ) (b : Bool) → CoreStands x h → is_vcpu_in x.world.vms (vcpu vm number) ≡ b → has_vcpu h (vcpu vm number) ≡ b
+there_too : (x : CoreState) (h : History) (vm number : ℕ) (b : Bool) → CoreStands x h → is_vcpu_in x.world.vms (vcpu vm number) ≡ b
+    → has_vcpu h (vcpu vm number) ≡ b
 there_too x h vm number b stands is = subst (λ (vs : List Vm). is_vcpu_in vs (vcpu vm number) ≡ b) stands.vms is
 
 -- a line that is refused where the virtual hart isn't there, or a value is none that it takes
@@ -252,7 +259,8 @@ takes_it h vm number takes there e = λ k. cond (not (there k && e k)) (Some (Re
 not_there : (h : History) (vm number : ℕ) (takes : Bool) → has_vcpu h (vcpu vm number) ≡ false → takes_value h vm number takes ≡ Some (Refused Range)
 not_there h vm number takes there = ap (λ b. cond (not (b && takes)) (Some (Refused Range)) None) there
 
-not_taken : (h : History) (vm number : ℕ) (takes : Bool) → has_vcpu h (vcpu vm number) ≡ true → takes ≡ false → takes_value h vm number takes ≡ Some (Refused Range)
+not_taken : (h : History) (vm number : ℕ) (takes : Bool) → has_vcpu h (vcpu vm number) ≡ true → takes ≡ false
+    → takes_value h vm number takes ≡ Some (Refused Range)
 not_taken h vm number takes there e = λ k. cond (not (there k && e k)) (Some (Refused Range)) None
 
 -- a line of the hypervisor on majors, whatever it is
@@ -264,10 +272,23 @@ pub record IsMajorsLine (line : Line) (vm number : ℕ) (takes : Bool) (done : V
   pub is_of : (h : History) → IsOfMajors h (Accepted line) (vcpu vm number) done
 
 pub inject_line : (vm number bit : ℕ) (level : Bool) → IsMajorsLine (Inject vm number bit level) vm number (is_major bit) (with_injection bit level)
-inject_line vm number bit level = record { plain = refl; still = refl; refusal_is = λ h machine. inject_refusal h vm number bit level machine; okay = λ h. refl; is_of = λ h. injects h vm number bit level }
+inject_line vm number bit level = record {
+  plain = refl;
+  still = refl;
+  refusal_is = λ h machine. inject_refusal h vm number bit level machine;
+  okay = λ h. refl;
+  is_of = λ h. injects h vm number bit level;
+}
 
 pub hvictl_line : (vm number value : ℕ) → IsMajorsLine (Hvictl vm number value) vm number (is_hvictl value) (with_hvictl value)
-hvictl_line vm number value = record { plain = refl; still = refl; refusal_is = λ h machine. hvictl_refusal h vm number value machine; okay = λ h. refl; is_of = λ h. writes_hvictl h vm number value }
+hvictl_line vm number value = record {
+  plain = refl;
+  still = refl;
+  refusal_is = λ h machine. hvictl_refusal h vm number value machine;
+  okay =
+      λ h. refl;
+  is_of = λ h. writes_hvictl h vm number value;
+}
 
 and_true : (b : Bool) → (b && true) ≡ b
 and_true true = refl
@@ -277,12 +298,14 @@ pub hviprio_line : (vm number value : ℕ) → IsMajorsLine (Hviprio vm number v
 hviprio_line vm number value = record {
   plain = refl;
   still = refl;
-  refusal_is = λ h machine. hviprio_refusal h vm number value machine ∙ ap (λ b. cond (not b) (Some (Refused Range)) None) (sym (and_true (has_vcpu h (vcpu vm number))));
+  refusal_is = λ h machine. hviprio_refusal h vm number value machine
+      ∙ ap (λ b. cond (not b) (Some (Refused Range)) None) (sym (and_true (has_vcpu h (vcpu vm number))));
   okay = λ h. refl;
   is_of = λ h. writes_hviprio h vm number value;
 }
 
-module _ (x y : CoreState) (line : Line) (vm number : ℕ) (takes : Bool) (done : VsMajorState → VsMajorState) (l : IsMajorsLine line vm number takes done) where
+module _ (x y : CoreState) (line : Line) (vm number : ℕ) (takes : Bool) (done : VsMajorState → VsMajorState)
+    (l : IsMajorsLine line vm number takes done) where
   pub majors_taken : takes ≡ true → is_vcpu_in x.world.vms (vcpu vm number) ≡ true → HasMajors x y (vcpu vm number) done → CoreTakes x y line Okay
   majors_taken e there c = accepted x y line Okay l.plain l.still (λ h stands.
       let inside = there_too x h vm number true stands there in (
@@ -292,26 +315,37 @@ module _ (x y : CoreState) (line : Line) (vm number : ℕ) (takes : Bool) (done 
       ))
 
   pub no_such : is_vcpu_in x.world.vms (vcpu vm number) ≡ false → CoreTakes x x line (Refused Range)
-  no_such outside = refused x line (Refused Range) (λ h stands. l.refusal_is h stands.there ∙ not_there h vm number takes (there_too x h vm number false stands outside))
+  no_such outside = refused x line (Refused Range)
+      (λ h stands. l.refusal_is h stands.there ∙ not_there h vm number takes (there_too x h vm number false stands outside))
 
   pub none_taken : takes ≡ false → is_vcpu_in x.world.vms (vcpu vm number) ≡ true → CoreTakes x x line (Refused Range)
-  none_taken e there = refused x line (Refused Range) (λ h stands. l.refusal_is h stands.there ∙ not_taken h vm number takes (there_too x h vm number true stands there) e)
+  none_taken e there = refused x line (Refused Range)
+      (λ h stands. l.refusal_is h stands.there ∙ not_taken h vm number takes (there_too x h vm number true stands there) e)
 
 -- by what the call on its record gives
-pub majors_answered : (x y : CoreState) (line : Line) (vm number : ℕ) (takes : Bool) (done : VsMajorState → VsMajorState) → IsMajorsLine line vm number takes done → (given : Result (Unit {0}) Refusal) → result_err given ≡ cond takes None (Some Range) → OnOk given (MajorsDone x.vcpus y.vcpus (slot_of x.world.vms (vcpu vm number)) done) → OnErr given (y.vcpus ≡ x.vcpus)
-    → is_vcpu_in x.world.vms (vcpu vm number) ≡ true → slot_of x.world.vms (vcpu vm number) < length x.vcpus → y.world ≡ x.world → y.leases ≡ x.leases → y.selects ≡ x.selects → y.passes ≡ x.passes → CoreTakes x y line (answer_by (λ _. Okay) given)
-majors_answered x y line vm number true done l (Ok u) e ok err there low world leases selects passes = majors_taken x y line vm number true done l refl there (record { world = world; leases = leases; selects = selects; passes = passes; low = low; is_done = ok })
+pub majors_answered : (x y : CoreState) (line : Line) (vm number : ℕ) (takes : Bool) (done : VsMajorState → VsMajorState)
+    → IsMajorsLine line vm number takes done → (given : Result (Unit {0}) Refusal) → result_err given ≡ cond takes None (Some Range)
+    → OnOk given (MajorsDone x.vcpus y.vcpus (slot_of x.world.vms (vcpu vm number)) done) → OnErr given (y.vcpus ≡ x.vcpus)
+    → is_vcpu_in x.world.vms (vcpu vm number) ≡ true → slot_of x.world.vms (vcpu vm number) < length x.vcpus → y.world ≡ x.world
+    → y.leases ≡ x.leases → y.selects ≡ x.selects → y.passes ≡ x.passes → CoreTakes x y line (answer_by (λ _. Okay) given)
+majors_answered x y line vm number true done l (Ok u) e ok err there low world leases selects passes =
+    majors_taken x y line vm number true done l refl there
+    (record { world = world; leases = leases; selects = selects; passes = passes; low = low; is_done = ok })
 majors_answered x y line vm number false done l (Err word) e ok err there low world leases selects passes =
     let is : word ≡ Range = cc in
     let same : y ≡ x = λ k. record { world = world k; leases = leases k; vcpus = err k; selects = selects k; passes = passes k } in
-    subst (λ (z : CoreState). CoreTakes x z line (Refused word)) (sym same) (subst (λ w. CoreTakes x x line (Refused w)) (sym is) (none_taken x x line vm number false done l refl there))
+    subst (λ (z : CoreState). CoreTakes x z line (Refused word)) (sym same)
+    (subst (λ w. CoreTakes x x line (Refused w)) (sym is) (none_taken x x line vm number false done l refl there))
 majors_answered x y line vm number false done l (Ok u) e ok err there low world leases selects passes = absurd (cc)
 majors_answered x y line vm number true done l (Err word) e ok err there low world leases selects passes = absurd (cc)
 
 -- an access of a resident virtual hart to a CSR of its majors
-module _ (x y : CoreState) (vm number : ℕ) (csr : Csr) (op : Op) (p : GuestPlace) (access : CsrAccess) (value : ℕ) (done : VsMajorState → VsMajorState) where
-  pub majors_accessed : is_vcpu_in x.world.vms (vcpu vm number) ≡ true → resident_at (record_of x (vcpu vm number)).stay ≡ Some p → access ≡ access_by (record_of x (vcpu vm number)) csr op → raises_illegal access ≡ false → raises_virtual access ≡ false
-      → ((h : History) → IsOfMajors h (Accepted (GuestCsr vm number csr op)) (vcpu vm number) done) → ((h : History) → CoreStands x h → has_vcpu h (vcpu vm number) ≡ true → value ≡ guest_csr_value h (vcpu vm number) csr)
+module _ (x y : CoreState) (vm number : ℕ) (csr : Csr) (op : Op) (p : GuestPlace) (access : CsrAccess) (value : ℕ)
+    (done : VsMajorState → VsMajorState) where
+  pub majors_accessed : is_vcpu_in x.world.vms (vcpu vm number) ≡ true → resident_at (record_of x (vcpu vm number)).stay ≡ Some p
+      → access ≡ access_by (record_of x (vcpu vm number)) csr op → raises_illegal access ≡ false → raises_virtual access ≡ false
+      → ((h : History) → IsOfMajors h (Accepted (GuestCsr vm number csr op)) (vcpu vm number) done)
+      → ((h : History) → CoreStands x h → has_vcpu h (vcpu vm number) ≡ true → value ≡ guest_csr_value h (vcpu vm number) csr)
       → HasMajors x y (vcpu vm number) done → CoreTakes x y (GuestCsr vm number csr op) (Wide value)
   majors_accessed inside at table legal kept is_of reads c = accepted x y (GuestCsr vm number csr op) (Wide value) refl refl (λ h stands.
       let there = there_in x h (vcpu vm number) stands inside in (
@@ -321,11 +355,13 @@ module _ (x y : CoreState) (vm number : ℕ) (csr : Csr) (op : Op) (p : GuestPla
       ))
 
 -- what is read, by the file of a virtual hart that is resident
-module _ (x : CoreState) (g : Vcpu) (p : GuestPlace) (whole : IsWhole x.world) (at : resident_at (record_of x g).stay ≡ Some p) (h : History) (stands : CoreStands x h) (there : has_vcpu h g ≡ true) where
+module _ (x : CoreState) (g : Vcpu) (p : GuestPlace) (whole : IsWhole x.world) (at : resident_at (record_of x g).stay ≡ Some p) (h : History)
+    (stands : CoreStands x h) (there : has_vcpu h g ≡ true) where
   own_file_is : shown (file_at x.world.imsic (spot_of p)) ≡ guest_file h g
   own_file_is = own_is x h g p stands whole there (is_home_at x h g p stands there at)
 
-  pub stopi_read : stopi_value (majors_shown (record_of x g).majors) (top_value (top_of (shown (file_at x.world.imsic (spot_of p))))) (signals (shown (file_at x.world.imsic (spot_of p)))) ≡ guest_csr_value h g csrs.Topi
+  pub stopi_read : stopi_value (majors_shown (record_of x g).majors) (top_value (top_of (shown (file_at x.world.imsic (spot_of p)))))
+      (signals (shown (file_at x.world.imsic (spot_of p)))) ≡ guest_csr_value h g csrs.Topi
   stopi_read = λ k. stopi_value ((stands.vcpus g there).majors k) (top_value (top_of (own_file_is k))) (signals (own_file_is k))
 
   pub sip_read : sip_value (majors_shown (record_of x g).majors) (signals (shown (file_at x.world.imsic (spot_of p)))) ≡ guest_csr_value h g csrs.Sip

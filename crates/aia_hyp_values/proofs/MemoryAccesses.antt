@@ -64,7 +64,8 @@ pub record MemoryHasDone (x y : CoreState) (g : Vcpu) (kept now : KeptNumbers) (
   pub select : (record_of y g).select ≡ select_after deed (record_of x g).select
   pub majors : (record_of y g).majors ≡ (record_of x g).majors
   pub others : (other : Vcpu) → slot_of x.world.vms other ≢ slot_of x.world.vms g → record_of y other ≡ record_of x other
-  pub file : SameFile (file_in_memory y.world (slot_of x.world.vms g) now) (file_after (record_of x g).select deed (file_in_memory x.world (slot_of x.world.vms g) kept))
+  pub file : SameFile (file_in_memory y.world (slot_of x.world.vms g) now)
+      (file_after (record_of x g).select deed (file_in_memory x.world (slot_of x.world.vms g) kept))
 
 -- what is known of an access
 pub record IsMemoryAccess (x y : CoreState) (h : History) (vm number : ℕ) (csr : Csr) (op : Op) (kept now : KeptNumbers) : Type 0 where
@@ -75,7 +76,8 @@ pub record IsMemoryAccess (x y : CoreState) (h : History) (vm number : ℕ) (csr
   pub done : MemoryHasDone x y (vcpu vm number) kept now (Accesses csr op)
   pub majors : (other : Vcpu) → MajorsRest other (Accepted (GuestCsr vm number csr op))
 
-pub memory_changes : (x y : CoreState) (h : History) (vm number : ℕ) (csr : Csr) (op : Op) (kept now : KeptNumbers) → IsMemoryAccess x y h vm number csr op kept now → Changes x y h (Accepted (GuestCsr vm number csr op))
+pub memory_changes : (x y : CoreState) (h : History) (vm number : ℕ) (csr : Csr) (op : Op) (kept now : KeptNumbers)
+    → IsMemoryAccess x y h vm number csr op kept now → Changes x y h (Accepted (GuestCsr vm number csr op))
 memory_changes x y h vm number csr op kept now c =
     let g = vcpu vm number in
     let event = Accepted (GuestCsr vm number csr op) in
@@ -111,16 +113,27 @@ memory_changes x y h vm number csr op kept now c =
 -- ---- what each access does
 
 -- its record alone is changed
-pub memory_record_done : (x y : CoreState) (g : Vcpu) (kept now : KeptNumbers) (deed : FileDeed) → y.world ≡ x.world → y.leases ≡ x.leases → y.selects ≡ x.selects → y.passes ≡ x.passes → slot_of x.world.vms g < length x.vcpus
-    → (after : VcpuRecord) → y.vcpus ≡ set x.vcpus (slot_of x.world.vms g) after → after.stay ≡ stays.InMemory Entered now → after.select ≡ select_after deed (record_of x g).select → after.majors ≡ (record_of x g).majors
-    → SameFile (file_in_memory x.world (slot_of x.world.vms g) now) (file_after (record_of x g).select deed (file_in_memory x.world (slot_of x.world.vms g) kept)) → MemoryHasDone x y g kept now deed
+pub memory_record_done : (x y : CoreState) (g : Vcpu) (kept now : KeptNumbers) (deed : FileDeed) → y.world ≡ x.world → y.leases ≡ x.leases
+    → y.selects ≡ x.selects → y.passes ≡ x.passes → slot_of x.world.vms g < length x.vcpus
+    → (after : VcpuRecord) → y.vcpus ≡ set x.vcpus (slot_of x.world.vms g) after → after.stay ≡ stays.InMemory Entered now
+    → after.select ≡ select_after deed (record_of x g).select → after.majors ≡ (record_of x g).majors
+    → SameFile (file_in_memory x.world (slot_of x.world.vms g) now)
+    (file_after (record_of x g).select deed (file_in_memory x.world (slot_of x.world.vms g) kept)) → MemoryHasDone x y g kept now deed
 memory_record_done x y g kept now deed world leases selects passes low after vcpus stay select majors file =
     let slot : (other : Vcpu) → slot_of y.world.vms other ≡ slot_of x.world.vms other = λ other. ap (λ (w : World). slot_of w.vms other) world in
-    let own : record_of y g ≡ after = (λ k. get_or (vcpus k) (slot g k) no_record) ∙ get_or-set_same x.vcpus (slot_of x.world.vms g) _ no_record low in
+    let own : record_of y g ≡ after = (λ k. get_or (vcpus k) (slot g k) no_record)
+    ∙ get_or-set_same x.vcpus (slot_of x.world.vms g) _ no_record low in
     record {
       threshold = 0;
       slot_deed = λ file. file;
-      slot = subst (λ (w : World). DoneInSlot x.world w (slot_of x.world.vms g) 0 (λ file. file)) (sym world) (record { done = as_it_was (file_of_slot x.world (slot_of x.world.vms g) 0); kept = λ i outside. (refl, refl); elsewhere = λ place apart. refl; rest = refl });
+      slot = subst (λ (w : World). DoneInSlot x.world w (slot_of x.world.vms g) 0 (λ file. file)) (sym world)
+          (record {
+            done = as_it_was (file_of_slot x.world (slot_of x.world.vms g) 0);
+            kept = λ i outside. (refl, refl);
+            elsewhere =
+                λ place apart. refl;
+            rest = refl;
+          });
       leases = leases;
       selects = selects;
       passes = passes;
@@ -128,14 +141,19 @@ memory_record_done x y g kept now deed world leases selects passes low after vcp
       stay = ap (λ (r : VcpuRecord). r.stay) own ∙ stay;
       select = ap (λ (r : VcpuRecord). r.select) own ∙ select;
       majors = ap (λ (r : VcpuRecord). r.majors) own ∙ majors;
-      others = λ other ne. (λ k. get_or (vcpus k) (slot other k) no_record) ∙ get_or-set_other x.vcpus (slot_of x.world.vms g) (slot_of x.world.vms other) _ no_record ne;
-      file = subst (λ (w : World). SameFile (file_in_memory w (slot_of x.world.vms g) now) (file_after (record_of x g).select deed (file_in_memory x.world (slot_of x.world.vms g) kept))) (sym world) file;
+      others = λ other ne. (λ k. get_or (vcpus k) (slot other k) no_record)
+          ∙ get_or-set_other x.vcpus (slot_of x.world.vms g) (slot_of x.world.vms other) _ no_record ne;
+      file = subst (λ (w : World). SameFile (file_in_memory w (slot_of x.world.vms g) now)
+          (file_after (record_of x g).select deed (file_in_memory x.world (slot_of x.world.vms g) kept))) (sym world) file;
     }
 
 -- its slot alone is changed
-pub memory_slot_done : (x y : CoreState) (g : Vcpu) (kept : KeptNumbers) (deed : FileDeed) (threshold : ℕ) (slot_deed : InterruptFile → InterruptFile) → DoneInSlot x.world y.world (slot_of x.world.vms g) threshold slot_deed → y.leases ≡ x.leases → y.vcpus ≡ x.vcpus → y.selects ≡ x.selects → y.passes ≡ x.passes
+pub memory_slot_done : (x y : CoreState) (g : Vcpu) (kept : KeptNumbers) (deed : FileDeed) (threshold : ℕ)
+    (slot_deed : InterruptFile → InterruptFile) → DoneInSlot x.world y.world (slot_of x.world.vms g) threshold slot_deed → y.leases ≡ x.leases
+    → y.vcpus ≡ x.vcpus → y.selects ≡ x.selects → y.passes ≡ x.passes
     → (record_of x g).stay ≡ stays.InMemory Entered kept → select_after deed (record_of x g).select ≡ (record_of x g).select
-    → SameFile (file_in_memory y.world (slot_of x.world.vms g) kept) (file_after (record_of x g).select deed (file_in_memory x.world (slot_of x.world.vms g) kept)) → MemoryHasDone x y g kept kept deed
+    → SameFile (file_in_memory y.world (slot_of x.world.vms g) kept)
+    (file_after (record_of x g).select deed (file_in_memory x.world (slot_of x.world.vms g) kept)) → MemoryHasDone x y g kept kept deed
 memory_slot_done x y g kept deed threshold slot_deed slot leases vcpus selects passes at select file =
     let same : (other : Vcpu) → record_of y other ≡ record_of x other = λ other k. get_or (vcpus k) (slot_of ((slot.rest k).vms) other) no_record in
     record {
@@ -154,16 +172,20 @@ memory_slot_done x y g kept deed threshold slot_deed slot leases vcpus selects p
     }
 
 -- a register of the sets
-pub sets_accessed : (w u : World) (q : ℕ) (kept : KeptNumbers) (reg : FileReg) (op : Op) → is_outside_sets reg ≡ false → DoneInSlot w u q 0 (accessed reg op) → SameFile (file_in_memory u q kept) (accessed reg op (file_in_memory w q kept))
-sets_accessed w u q kept (Pending k) op sets d = record { n = d.done.n; pending = d.done.pending; enabled = d.done.enabled; threshold = refl; delivery = refl }
-sets_accessed w u q kept (Enable k) op sets d = record { n = d.done.n; pending = d.done.pending; enabled = d.done.enabled; threshold = refl; delivery = refl }
+pub sets_accessed : (w u : World) (q : ℕ) (kept : KeptNumbers) (reg : FileReg) (op : Op) → is_outside_sets reg ≡ false
+    → DoneInSlot w u q 0 (accessed reg op) → SameFile (file_in_memory u q kept) (accessed reg op (file_in_memory w q kept))
+sets_accessed w u q kept (Pending k) op sets d =
+    record { n = d.done.n; pending = d.done.pending; enabled = d.done.enabled; threshold = refl; delivery = refl }
+sets_accessed w u q kept (Enable k) op sets d =
+    record { n = d.done.n; pending = d.done.pending; enabled = d.done.enabled; threshold = refl; delivery = refl }
 sets_accessed w u q kept Delivery op sets d = absurd (cc)
 sets_accessed w u q kept Threshold op sets d = absurd (cc)
 sets_accessed w u q kept Reserved op sets d = absurd (cc)
 sets_accessed w u q kept Odd op sets d = absurd (cc)
 sets_accessed w u q kept Outside op sets d = absurd (cc)
 
-pub sets_value : (w : World) (q : ℕ) (kept : KeptNumbers) (reg : FileReg) → is_outside_sets reg ≡ false → register_value (file_of_slot w q 0) reg ≡ register_value (file_in_memory w q kept) reg
+pub sets_value : (w : World) (q : ℕ) (kept : KeptNumbers) (reg : FileReg) → is_outside_sets reg ≡ false
+    → register_value (file_of_slot w q 0) reg ≡ register_value (file_in_memory w q kept) reg
 sets_value w q kept (Pending k) sets = refl
 sets_value w q kept (Enable k) sets = refl
 sets_value w q kept Delivery sets = absurd (cc)
@@ -182,16 +204,28 @@ of_sets Odd usable sets = absurd (cc)
 of_sets Outside usable sets = absurd (cc)
 
 -- a register of the numbers
-pub number_accessed : (w : World) (q modulus : ℕ) (kept : KeptNumbers) (reg : FileReg) (op : Op) → is_outside_sets reg ≡ true → modulus ≡ w.n + 1 → SameFile (file_in_memory w q (kept_after modulus reg op kept)) (accessed reg op (file_in_memory w q kept))
-number_accessed w q modulus kept Delivery op number all = record { n = refl; pending = λ i. refl; enabled = λ i. refl; threshold = refl; delivery = refl }
-number_accessed w q modulus kept Threshold op number all = record { n = refl; pending = λ i. refl; enabled = λ i. refl; threshold = ap (λ m. number_after (λ v. v % m) op kept.threshold) all; delivery = refl }
-number_accessed w q modulus kept Reserved op number all = record { n = refl; pending = λ i. refl; enabled = λ i. refl; threshold = refl; delivery = refl }
+pub number_accessed : (w : World) (q modulus : ℕ) (kept : KeptNumbers) (reg : FileReg) (op : Op) → is_outside_sets reg ≡ true → modulus ≡ w.n + 1
+    → SameFile (file_in_memory w q (kept_after modulus reg op kept)) (accessed reg op (file_in_memory w q kept))
+number_accessed w q modulus kept Delivery op number all =
+    record { n = refl; pending = λ i. refl; enabled = λ i. refl; threshold = refl; delivery = refl }
+number_accessed w q modulus kept Threshold op number all =
+    record {
+      n = refl;
+      pending = λ i. refl;
+      enabled = λ i. refl;
+      threshold = ap (λ m. number_after (λ v. v % m) op kept.threshold) all;
+      delivery = refl;
+    }
+number_accessed w q modulus kept Reserved op number all =
+    record { n = refl; pending = λ i. refl; enabled = λ i. refl; threshold = refl; delivery = refl }
 number_accessed w q modulus kept Odd op number all = record { n = refl; pending = λ i. refl; enabled = λ i. refl; threshold = refl; delivery = refl }
-number_accessed w q modulus kept Outside op number all = record { n = refl; pending = λ i. refl; enabled = λ i. refl; threshold = refl; delivery = refl }
+number_accessed w q modulus kept Outside op number all =
+    record { n = refl; pending = λ i. refl; enabled = λ i. refl; threshold = refl; delivery = refl }
 number_accessed w q modulus kept (Pending k) op number all = absurd (cc)
 number_accessed w q modulus kept (Enable k) op number all = absurd (cc)
 
-pub number_value : (w : World) (q : ℕ) (kept : KeptNumbers) (reg : FileReg) → is_outside_sets reg ≡ true → kept_value kept reg ≡ register_value (file_in_memory w q kept) reg
+pub number_value : (w : World) (q : ℕ) (kept : KeptNumbers) (reg : FileReg) → is_outside_sets reg ≡ true
+    → kept_value kept reg ≡ register_value (file_in_memory w q kept) reg
 number_value w q kept Delivery number = refl
 number_value w q kept Threshold number = refl
 number_value w q kept Reserved number = refl
@@ -201,7 +235,8 @@ number_value w q kept (Pending k) number = absurd (cc)
 number_value w q kept (Enable k) number = absurd (cc)
 
 -- the identity on top
-pub top_accessed : (w u : World) (q : ℕ) (kept : KeptNumbers) (writes : Bool) → SameFile (file_of_slot u q kept.threshold) (cond writes (claimed (file_of_slot w q kept.threshold)) (file_of_slot w q kept.threshold))
+pub top_accessed : (w u : World) (q : ℕ) (kept : KeptNumbers) (writes : Bool)
+    → SameFile (file_of_slot u q kept.threshold) (cond writes (claimed (file_of_slot w q kept.threshold)) (file_of_slot w q kept.threshold))
     → SameFile (file_in_memory u q kept) (cond writes (claimed (file_in_memory w q kept)) (file_in_memory w q kept))
 top_accessed w u q kept true d = record { n = d.n; pending = d.pending; enabled = d.enabled; threshold = d.threshold; delivery = refl }
 top_accessed w u q kept false d = record { n = d.n; pending = d.pending; enabled = d.enabled; threshold = d.threshold; delivery = refl }
@@ -214,26 +249,43 @@ file_csr csrs.Reg of_file = refl
 file_csr csrs.Topei of_file = refl
 file_csr csr of_file = absurd of_file
 
-served_there : (x : CoreState) (h : History) (g : Vcpu) (kept : KeptNumbers) (csr : Csr) → CoreStands x h → has_vcpu h g ≡ true → (record_of x g).stay ≡ stays.InMemory Entered kept → IsFileCsr csr → serves (home h g) csr ≡ true
-served_there x h g kept csr stands there at of_file = ap (λ t. serves t csr) (sym (stands.vcpus g there).same_home ∙ ap home_in at) ∙ file_csr csr of_file
+served_there : (x : CoreState) (h : History) (g : Vcpu) (kept : KeptNumbers) (csr : Csr) → CoreStands x h → has_vcpu h g ≡ true
+    → (record_of x g).stay ≡ stays.InMemory Entered kept → IsFileCsr csr → serves (home h g) csr ≡ true
+served_there x h g kept csr stands there at of_file = ap (λ t. serves t csr) (sym (stands.vcpus g there).same_home ∙ ap home_in at)
+    ∙ file_csr csr of_file
 
-pub memory_accessed : (x y : CoreState) (vm number : ℕ) (csr kind : Csr) (op : Op) (kept now : KeptNumbers) (access : CsrAccess) (value : ℕ) → IsWhole x.world → is_vcpu_in x.world.vms (vcpu vm number) ≡ true → (record_of x (vcpu vm number)).stay ≡ stays.InMemory Entered kept
+pub memory_accessed : (x y : CoreState) (vm number : ℕ) (csr kind : Csr) (op : Op) (kept now : KeptNumbers) (access : CsrAccess) (value : ℕ)
+    → IsWhole x.world → is_vcpu_in x.world.vms (vcpu vm number) ≡ true → (record_of x (vcpu vm number)).stay ≡ stays.InMemory Entered kept
     → access ≡ access_by (record_of x (vcpu vm number)) csr op → raises_illegal access ≡ false → raises_virtual access ≡ false → csr ≡ kind
-    → value ≡ csr_shown (record_of x (vcpu vm number)).select (file_in_memory x.world (slot_of x.world.vms (vcpu vm number)) kept) kind → MemoryHasDone x y (vcpu vm number) kept now (Accesses kind op) → IsFileCsr kind → CoreTakes x y (GuestCsr vm number csr op) (Wide value)
+    → value ≡ csr_shown (record_of x (vcpu vm number)).select (file_in_memory x.world (slot_of x.world.vms (vcpu vm number)) kept) kind
+    → MemoryHasDone x y (vcpu vm number) kept now (Accesses kind op) → IsFileCsr kind → CoreTakes x y (GuestCsr vm number csr op) (Wide value)
 memory_accessed x y vm number csr kind op kept now access value whole inside at table legal allowed named read done of_file =
     let g = vcpu vm number in
     let listed = subst (λ (k : Csr). IsFileCsr k) (sym named) of_file in
     accepted x y (GuestCsr vm number csr op) (Wide value) refl refl (λ h stands.
     let there = there_in x h g stands inside in
     let at_home : home h g ≡ InMemory Entered = sym (stands.vcpus g there).same_home ∙ ap home_in at in (
-      refusal_served x h vm number csr op access stands there (served_there x h g kept csr stands there at listed) table ∙ cond-false _ _ _ legal ∙ cond-false _ _ _ allowed,
+      refusal_served x h vm number csr op access stands there (served_there x h g kept csr stands there at listed) table ∙ cond-false _ _ _ legal
+          ∙ cond-false _ _ _ allowed,
       ap Wide (read ∙ ap (λ (k : Csr). csr_shown (record_of x g).select (file_in_memory x.world (slot_of x.world.vms g) kept) k) (sym named)
-          ∙ (λ k. csr_shown ((stands.vcpus g there).select k) (sym (file_is x h g kept stands whole there (ap rests_in_memory at_home) (ap hand_in at)) k) csr)
+          ∙ (λ k. csr_shown ((stands.vcpus g there).select k)
+          (sym (file_is x h g kept stands whole there (ap rests_in_memory at_home) (ap hand_in at)) k) csr)
           ∙ file_read h g csr listed),
-      memory_changes x y h vm number csr op kept now (record { stands = stands; whole = whole; there = there; at = at; done = subst (λ (k : Csr). MemoryHasDone x y g kept now (Accesses k op)) (sym named) done; majors = λ other. file_access vm number csr op other listed }),
+      memory_changes x y h vm number csr op kept now
+          (record {
+            stands = stands;
+            whole = whole;
+            there = there;
+            at = at;
+            done =
+                subst (λ (k : Csr). MemoryHasDone x y g kept now (Accesses k op)) (sym named) done;
+            majors =
+                λ other. file_access vm number csr op other listed;
+          }),
     ))
 
-pub memory_virtual : (x : CoreState) (vm number : ℕ) (csr : Csr) (op : Op) (kept : KeptNumbers) → is_vcpu_in x.world.vms (vcpu vm number) ≡ true → (record_of x (vcpu vm number)).stay ≡ stays.InMemory Entered kept → IsFileCsr csr
+pub memory_virtual : (x : CoreState) (vm number : ℕ) (csr : Csr) (op : Op) (kept : KeptNumbers) → is_vcpu_in x.world.vms (vcpu vm number) ≡ true
+    → (record_of x (vcpu vm number)).stay ≡ stays.InMemory Entered kept → IsFileCsr csr
     → reaches.Virtual ≡ access_by (record_of x (vcpu vm number)) csr op → CoreTakes x x (GuestCsr vm number csr op) (Refused Virtual)
 memory_virtual x vm number csr op kept inside at listed table = refused x (GuestCsr vm number csr op) (Refused Virtual) (λ h stands.
     let there = there_in x h (vcpu vm number) stands inside in

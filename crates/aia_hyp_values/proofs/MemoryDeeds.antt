@@ -59,7 +59,8 @@ abbrev pub but_memory : CoreState → CoreState → CoreState
 but_memory x y = record y { world = with_memory y.world x.world }
 
 -- It was done at its slot, at its record and by a notice, and nothing else changed.
-pub record MemoryDeed (x y : CoreState) (h : History) (event : Event) (g : Vcpu) (there : Home) (kept now : KeptNumbers) (deed : FileDeed) : Type 0 where
+pub record MemoryDeed (x y : CoreState) (h : History) (event : Event) (g : Vcpu) (there : Home) (kept now : KeptNumbers)
+    (deed : FileDeed) : Type 0 where
   pub stands : CoreStands x h
   pub whole : IsWhole x.world
   pub inside : has_vcpu h g ≡ true
@@ -84,12 +85,18 @@ pub record MemoryDeed (x y : CoreState) (h : History) (event : Event) (g : Vcpu)
   pub select : (record_of y g).select ≡ select_after deed (record_of x g).select
   pub majors : majors_shown (record_of y g).majors ≡ majors_after g event (majors_shown (record_of x g).majors)
   pub others : (other : Vcpu) → slot_of x.world.vms other ≢ slot_of x.world.vms g → record_of y other ≡ record_of x other
-  pub file : SameFile (file_in_memory y.world (slot_of x.world.vms g) now) (file_after (record_of x g).select deed (file_in_memory x.world (slot_of x.world.vms g) kept))
+  pub file : SameFile (file_in_memory y.world (slot_of x.world.vms g) now)
+      (file_after (record_of x g).select deed (file_in_memory x.world (slot_of x.world.vms g) kept))
 
 -- what a slot has, where it shows no identity that files don't have
-slot_has : (w : World) (q words : ℕ) (kept : KeptNumbers) → w.n + 1 ≡ 64 * words → (mrif_in w.memory q).pending 0 ≡ false → (mrif_in w.memory q).enabled 0 ≡ false → ((i : ℕ) → words ≤ i / 64 → (mrif_in w.memory q).enabled i ≡ false) → HasSets words (mrif_in w.memory q) (file_in_memory w q kept)
+slot_has : (w : World) (q words : ℕ) (kept : KeptNumbers) → w.n + 1 ≡ 64 * words → (mrif_in w.memory q).pending 0 ≡ false
+    → (mrif_in w.memory q).enabled 0 ≡ false → ((i : ℕ) → words ≤ i / 64 → (mrif_in w.memory q).enabled i ≡ false)
+    → HasSets words (mrif_in w.memory q) (file_in_memory w q kept)
 slot_has w q words kept all pending enabled above = record {
-  inside = λ i low. (shown_alone (mrif_in w.memory q).pending w.n words all pending i low, shown_alone (mrif_in w.memory q).enabled w.n words all enabled i low);
+  inside = λ i low. (
+    shown_alone (mrif_in w.memory q).pending w.n words all pending i low,
+    shown_alone (mrif_in w.memory q).enabled w.n words all enabled i low,
+  );
   above = above;
 }
 
@@ -98,10 +105,12 @@ holds_none (Resident q) p rests = absurd (cc)
 holds_none (OnWay way at) p rests = absurd (cc)
 holds_none there p rests = refl
 
-only_stores : (w u : World) → u ≡ record w { imsic = u.imsic; notices = u.notices; memory = u.memory } → u.imsic ≡ record w.imsic { files = u.imsic.files } → OnlyStores w u
+only_stores : (w u : World) → u ≡ record w { imsic = u.imsic; notices = u.notices; memory = u.memory }
+    → u.imsic ≡ record w.imsic { files = u.imsic.files } → OnlyStores w u
 only_stores w u rest imsic = rest ∙ ap (λ (i : ImsicState). record w { imsic = i; notices = u.notices; memory = u.memory }) imsic
 
-module _ (x y : CoreState) (h : History) (event : Event) (g : Vcpu) (there : Home) (kept now : KeptNumbers) (deed : FileDeed) (c : MemoryDeed x y h event g there kept now deed) where
+module _ (x y : CoreState) (h : History) (event : Event) (g : Vcpu) (there : Home) (kept now : KeptNumbers) (deed : FileDeed)
+    (c : MemoryDeed x y h event g there kept now deed) where
   abbrev q : ℕ
   q = slot_of x.world.vms g
 
@@ -115,20 +124,29 @@ module _ (x y : CoreState) (h : History) (event : Event) (g : Vcpu) (there : Hom
   its_rests = ap rests_in_memory at_home ∙ c.rests
 
   stores : OnlyStores x.world y.world
-  stores = only_stores x.world y.world (ap (λ (w : World). record w { memory = y.world.memory }) c.notifies.rest) (ap (λ (w : World). w.imsic) c.notifies.accesses)
+  stores = only_stores x.world y.world (ap (λ (w : World). record w { memory = y.world.memory }) c.notifies.rest)
+      (ap (λ (w : World). w.imsic) c.notifies.accesses)
 
   same_machine : SameMachine x.world y.world
-  same_machine = record { n = ap (λ (w : World). w.n) stores; vms = ap (λ (w : World). w.vms) stores; harts = ap (λ (w : World). w.imsic.harts) stores; guests = ap (λ (w : World). w.imsic.guests) stores }
+  same_machine = record {
+    n = ap (λ (w : World). w.n) stores;
+    vms = ap (λ (w : World). w.vms) stores;
+    harts =
+        ap (λ (w : World). w.imsic.harts) stores;
+    guests = ap (λ (w : World). w.imsic.guests) stores;
+  }
 
   file_now : guest_file (event ∷ h) g ≡ file_in_memory y.world q now
   file_now =
       file_by_step (guest_deed g) event h
-      ∙ (λ k. file_after (sym (c.stands.vcpus g c.inside).select k) (c.its_deed k) (file_is x h g kept c.stands c.whole c.inside its_rests c.hand_was k))
+      ∙ (λ k. file_after (sym (c.stands.vcpus g c.inside).select k) (c.its_deed k)
+      (file_is x h g kept c.stands c.whole c.inside its_rests c.hand_was k))
       ∙ sym (same_file _ _ c.file)
 
   has_now : HasSets (file_words h) (mrif_in y.world.memory q) (file_in_memory y.world q now)
   has_now =
-      let greatest : is_greatest_identity (greatest_identity_of h) ≡ true = subst (λ n. is_greatest_identity n ≡ true) c.stands.greatest c.whole.greatest in
+      let greatest : is_greatest_identity (greatest_identity_of h) ≡ true =
+      subst (λ n. is_greatest_identity n ≡ true) c.stands.greatest c.whole.greatest in
       let within = guest_within h g greatest in
       let n : y.world.n ≡ greatest_identity_of h = same_machine.n ∙ c.stands.greatest in
       let zero = no_zero x.world q c.whole low in
@@ -160,7 +178,8 @@ module _ (x y : CoreState) (h : History) (event : Event) (g : Vcpu) (there : Hom
       let puts = c.quiet.stays in
       let there_now : home (event ∷ h) g ≡ there = puts.homes g ∙ at_home in
       let shows : places_of y.world g there ≡ record (places_of x.world g there) { slot = mrif_in y.world.memory q } =
-      same_view (with_memory x.world y.world) y.world g there same_after ∙ slot_done-places x.world (with_memory x.world y.world) q c.threshold c.slot_deed low c.slot g there in
+      same_view (with_memory x.world y.world) y.world g there same_after
+      ∙ slot_done-places x.world (with_memory x.world y.world) q c.threshold c.slot_deed low c.slot g there in
       let before = subst IsHeld (λ k. record {
         words = file_words h;
         slot = slot_of (vms_of h) g;
@@ -174,7 +193,8 @@ module _ (x y : CoreState) (h : History) (event : Event) (g : Vcpu) (there : Hom
       }) stood.holds in
       record {
         same_home = c.home_is ∙ sym there_now;
-        select = c.select ∙ ap (λ d. select_after d (record_of x g).select) (sym c.its_deed) ∙ ap (select_after (guest_deed g h event)) stood.select ∙ sym (select_is event h g);
+        select = c.select ∙ ap (λ d. select_after d (record_of x g).select) (sym c.its_deed)
+            ∙ ap (select_after (guest_deed g h event)) stood.select ∙ sym (select_is event h g);
         majors = c.majors ∙ ap (majors_after g event) stood.majors ∙ sym (majors_is event h g);
         two_files = subst AreApart (sym (puts.homes g)) stood.two_files;
         plan = c.plan;
@@ -189,7 +209,9 @@ module _ (x y : CoreState) (h : History) (event : Event) (g : Vcpu) (there : Hom
           hand = sym c.hand_is k;
           file = sym file_now k;
           saw = sym (puts.seen g) k;
-        }) (memory_replaced (file_words h) (slot_of (vms_of h) g) (notice_hart (vms_of h) g) (in_force_of h g) (places_of x.world g there) (hand_of kept) (guest_file h g) (a_look_saw h g) there c.rests (mrif_in y.world.memory q) (hand_of now) (file_in_memory y.world q now) has_now refl refl before);
+        }) (memory_replaced (file_words h) (slot_of (vms_of h) g) (notice_hart (vms_of h) g) (in_force_of h g) (places_of x.world g there)
+            (hand_of kept) (guest_file h g) (a_look_saw h g) there c.rests (mrif_in y.world.memory q) (hand_of now) (file_in_memory y.world q now)
+            has_now refl refl before);
       }
 
   same_for_other : (other : Vcpu) → has_vcpu h other ≡ true → slot_of x.world.vms other ≢ q → SameFor x.world y.world other (home h other)
@@ -198,7 +220,8 @@ module _ (x y : CoreState) (h : History) (event : Event) (g : Vcpu) (there : Hom
       record {
         n = same_machine.n;
         files = λ p holding. c.notifies.files p (c.stands.held other p inside holding);
-        slot = (λ k. mrif_in y.world.memory (slot_of (same_machine.vms k) other)) ∙ other_slot_kept x.world (with_memory x.world y.world) q c.threshold c.slot_deed low c.slot (slot_of x.world.vms other) ne;
+        slot = (λ k. mrif_in y.world.memory (slot_of (same_machine.vms k) other))
+            ∙ other_slot_kept x.world (with_memory x.world y.world) q c.threshold c.slot_deed low c.slot (slot_of x.world.vms other) ne;
         word0 = words.0;
         word1 = words.1;
         in_force = ap (λ (w : World). entry_in_force (table_of w.tables other.vm) other.number) stores;
@@ -218,14 +241,16 @@ module _ (x y : CoreState) (h : History) (event : Event) (g : Vcpu) (there : Hom
       | inl e ↦ subst (VcpuStands y (event ∷ h)) (sym (same_vcpu other g e)) memory_stands
       | inr ne ↦
           let apart = slots_apart x h g other c.stands c.inside inside (λ e. false≢true (sym ne ∙ ap (λ z. is_vcpu z g) e ∙ is_itself g)) in
-          guest_rests x y h event other c.quiet.stays same_machine (c.other_deeds other ne) (c.other_majors other ne) (c.others other apart) (same_for_other other inside apart) stood
+          guest_rests x y h event other c.quiet.stays same_machine (c.other_deeds other ne) (c.other_majors other ne) (c.others other apart)
+          (same_for_other other inside apart) stood
     ];
     free_files = λ p inside none. c.notifies.files p inside;
     no_vcpu = λ other outside. c.other_deeds other (not_it other outside);
     no_majors = λ other outside. c.other_majors other (not_it other outside);
     no_slot = λ r past few.
         let below = slot_below (vms_of h) g c.inside in
-        other_slot_kept x.world (with_memory x.world y.world) q c.threshold c.slot_deed low c.slot r (λ e. omega (arith, below, past, e, slot_is x h g c.stands));
+        other_slot_kept x.world (with_memory x.world y.world) q c.threshold c.slot_deed low c.slot r
+        (λ e. omega (arith, below, past, e, slot_is x h g c.stands));
   }
     where
       not_it : (other : Vcpu) → has_vcpu h other ≡ false → is_vcpu other g ≡ false

@@ -60,13 +60,16 @@ begun_same_reach h (Shifts x hart) g = reach_step (Began (Shifts x hart)) h g
 -- ---- the records of virtual harts
 
 -- that of one is replaced
-pub own_record : (x y : CoreState) (h : History) (g : Vcpu) (r : VcpuRecord) → CoreStands x h → has_vcpu h g ≡ true → y.world.vms ≡ x.world.vms → y.vcpus ≡ set x.vcpus (slot_of x.world.vms g) r → record_of y g ≡ r
+pub own_record : (x y : CoreState) (h : History) (g : Vcpu) (r : VcpuRecord) → CoreStands x h → has_vcpu h g ≡ true → y.world.vms ≡ x.world.vms
+    → y.vcpus ≡ set x.vcpus (slot_of x.world.vms g) r → record_of y g ≡ r
 own_record x y h g r stands there vms vcpus =
     let below = slot_below (vms_of h) g there in
     let mine : slot_of x.world.vms g ≡ slot_of (vms_of h) g = ap (λ vms. slot_of vms g) stands.vms in
-    (λ k. get_or (vcpus k) (slot_of (vms k) g) no_record) ∙ get_or-set_same x.vcpus (slot_of x.world.vms g) r no_record (omega (arith, below, mine, stands.records))
+    (λ k. get_or (vcpus k) (slot_of (vms k) g) no_record)
+    ∙ get_or-set_same x.vcpus (slot_of x.world.vms g) r no_record (omega (arith, below, mine, stands.records))
 
-pub other_record : (x y : CoreState) (h : History) (g other : Vcpu) (r : VcpuRecord) → CoreStands x h → has_vcpu h g ≡ true → has_vcpu h other ≡ true → is_vcpu other g ≡ false → y.world.vms ≡ x.world.vms → y.vcpus ≡ set x.vcpus (slot_of x.world.vms g) r
+pub other_record : (x y : CoreState) (h : History) (g other : Vcpu) (r : VcpuRecord) → CoreStands x h → has_vcpu h g ≡ true
+    → has_vcpu h other ≡ true → is_vcpu other g ≡ false → y.world.vms ≡ x.world.vms → y.vcpus ≡ set x.vcpus (slot_of x.world.vms g) r
     → record_of y other ≡ record_of x other
 other_record x y h g other r stands there inside ne vms vcpus =
     let its : slot_of x.world.vms other ≡ slot_of (vms_of h) other = ap (λ vms. slot_of vms other) stands.vms in
@@ -106,7 +109,7 @@ pub record Planned (x y : CoreState) (h : History) (g : Vcpu) (plan : PlanState)
 
 -- The same of a move of one, with what it takes: the plan is new and leads where the move goes, and its
 -- places hold the interrupt file still.
-pub record Begins (x y : CoreState) (h : History) (move : Move) (plan : PlanState) (r : VcpuRecord) (taken : Option Place) : Type 0 where
+pub record Begins (x y : CoreState) (h : History) (move : WantedMove) (plan : PlanState) (r : VcpuRecord) (taken : Option GuestPlace) : Type 0 where
   pub planned : Planned x y h (moves.mover move) plan r
   pub leases : y.leases ≡ with_taken taken x.leases
   pub is_free : IsFreeIn x h taken
@@ -119,8 +122,10 @@ pub record Begins (x y : CoreState) (h : History) (move : Move) (plan : PlanStat
   pub first : steps_done (moving_of plan).home ≡ 0
   pub holds : (q : GuestPlace) → holds q (home (Began move ∷ h) (moves.mover move)) ≡ (holds q (home h (moves.mover move)) || is_taken q taken)
   pub two_files : AreApart (home (Began move ∷ h) (moves.mover move))
-  pub held : Holds (file_words h) (slot_of (vms_of h) (moves.mover move)) (notice_hart (vms_of h) (moves.mover move)) (in_force_of h (moves.mover move)) (places_of x.world (moves.mover move) (home (Began move ∷ h) (moves.mover move)))
-      (home (Began move ∷ h) (moves.mover move)) (moving_of plan).hand (guest_file h (moves.mover move)) (a_look_saw (Began move ∷ h) (moves.mover move))
+  pub held : Holds (file_words h) (slot_of (vms_of h) (moves.mover move)) (notice_hart (vms_of h) (moves.mover move))
+      (in_force_of h (moves.mover move)) (places_of x.world (moves.mover move) (home (Began move ∷ h) (moves.mover move)))
+      (home (Began move ∷ h) (moves.mover move)) (moving_of plan).hand (guest_file h (moves.mover move))
+      (a_look_saw (Began move ∷ h) (moves.mover move))
 
 or_none : (a b : Bool) → b ≡ false → (a || b) ≡ a
 or_none true b e = refl
@@ -138,7 +143,8 @@ module _ (x y : CoreState) (h : History) (move : WantedMove) (plan : PlanState) 
   g = moves.mover move
 
   -- what it holds then is there
-  held_there : (taken : Option GuestPlace) → Begins x y h move plan r taken → (q : GuestPlace) → holds q (home (Began move ∷ h) (moves.mover move)) ≡ true → IsThere x.world.imsic (spot_of q)
+  held_there : (taken : Option GuestPlace) → Begins x y h move plan r taken → (q : GuestPlace)
+      → holds q (home (Began move ∷ h) (moves.mover move)) ≡ true → IsThere x.world.imsic (spot_of q)
   held_there None b q holding = b.planned.stands.held g q b.planned.there (sym (or_none (holds q (home h g)) false refl) ∙ sym (b.holds q) ∙ holding)
   held_there (Some p) b q holding = elim (either (holds q (home h g)) (is_place q p) (sym (b.holds q) ∙ holding)) [
     | inl e ↦ b.planned.stands.held g q b.planned.there e
@@ -146,7 +152,8 @@ module _ (x y : CoreState) (h : History) (move : WantedMove) (plan : PlanState) 
   ]
 
   -- and nobody else holds it
-  held_apart : (taken : Option GuestPlace) → Begins x y h move plan r taken → (other : Vcpu) (q : GuestPlace) → has_vcpu h other ≡ true → is_vcpu other (moves.mover move) ≡ false → holds q (home (Began move ∷ h) (moves.mover move)) ≡ true → holds q (home h other) ≡ false
+  held_apart : (taken : Option GuestPlace) → Begins x y h move plan r taken → (other : Vcpu) (q : GuestPlace) → has_vcpu h other ≡ true
+      → is_vcpu other (moves.mover move) ≡ false → holds q (home (Began move ∷ h) (moves.mover move)) ≡ true → holds q (home h other) ≡ false
   held_apart taken b other q inside ne holding = by_case taken b (holds q (home h other)) refl
     where
       stood : Begins x y h move plan r taken → holds q (home h g) ≡ true → holds q (home h other) ≡ true → ⊥
@@ -154,25 +161,34 @@ module _ (x y : CoreState) (h : History) (move : WantedMove) (plan : PlanState) 
 
       by_case : (taken : Option GuestPlace) → Begins x y h move plan r taken → (its : Bool) → holds q (home h other) ≡ its → its ≡ false
       by_case taken b false e = refl
-      by_case None b true e = absurd (false≢true (sym ne ∙ ap (λ z. is_vcpu z g) (b.planned.stands.apart other g q inside b.planned.there e (sym (or_none (holds q (home h g)) false refl) ∙ sym (b.holds q) ∙ holding)) ∙ is_itself g))
+      by_case None b true e = absurd (false≢true (sym ne
+          ∙ ap (λ z. is_vcpu z g) (b.planned.stands.apart other g q inside b.planned.there e
+          (sym (or_none (holds q (home h g)) false refl) ∙ sym (b.holds q) ∙ holding)) ∙ is_itself g))
       by_case (Some p) b true e = elim (either (holds q (home h g)) (is_place q p) (sym (b.holds q) ∙ holding)) [
-        | inl mine ↦ absurd (false≢true (sym ne ∙ ap (λ z. is_vcpu z g) (b.planned.stands.apart other g q inside b.planned.there e mine) ∙ is_itself g))
-        | inr new ↦ absurd (false≢true (sym (of_none (vms_of h) (λ z. holds p (home h z)) other b.is_free.1 inside) ∙ ap (λ (z : GuestPlace). holds z (home h other)) (sym (same_place q p new)) ∙ e))
+        | inl mine ↦ absurd (false≢true (sym ne ∙ ap (λ z. is_vcpu z g) (b.planned.stands.apart other g q inside b.planned.there e mine)
+            ∙ is_itself g))
+        | inr new ↦ absurd (false≢true (sym (of_none (vms_of h) (λ z. holds p (home h z)) other b.is_free.1 inside)
+            ∙ ap (λ (z : GuestPlace). holds z (home h other)) (sym (same_place q p new)) ∙ e))
       ]
 
   -- what is handed out is what is held
-  out_held : (taken : Option GuestPlace) → Begins x y h move plan r taken → (q : GuestPlace) → IsThere x.world.imsic (spot_of q) → is_out y.leases q ≡ is_held (Began move ∷ h) q
+  out_held : (taken : Option GuestPlace) → Begins x y h move plan r taken → (q : GuestPlace) → IsThere x.world.imsic (spot_of q)
+      → is_out y.leases q ≡ is_held (Began move ∷ h) q
   out_held None b q inside =
-      ap (λ l. is_out l q) b.leases ∙ b.planned.stands.leases q inside ∙ sym (held_as h event g q (began_move h move) (b.holds q ∙ or_none (holds q (home h g)) false refl))
+      ap (λ l. is_out l q) b.leases ∙ b.planned.stands.leases q inside
+      ∙ sym (held_as h event g q (began_move h move) (b.holds q ∙ or_none (holds q (home h g)) false refl))
   out_held (Some p) b q inside = elim (cases_Bool (is_place q p)) [
     | inl e ↦
         let same = same_place q p e in
         ap (λ l. is_out l q) b.leases ∙ ap (is_out (with_out x.leases p true)) same
         ∙ out_here x.leases p true (in_pool x h p b.planned.stands b.is_free.0) long
-        ∙ sym (any_vcpu (vms_of h) (λ z. holds q (home (Began move ∷ h) z)) g b.planned.there (b.holds q ∙ or_right (holds q (home h g)) (is_place q p) e))
+        ∙ sym (any_vcpu (vms_of h) (λ z. holds q (home (Began move ∷ h) z)) g b.planned.there
+        (b.holds q ∙ or_right (holds q (home h g)) (is_place q p) e))
     | inr ne ↦
-        ap (λ l. is_out l q) b.leases ∙ out_elsewhere x.leases p q true (in_pool x h p b.planned.stands b.is_free.0) (in_pool x h q b.planned.stands inside) ne
-        ∙ b.planned.stands.leases q inside ∙ sym (held_as h event g q (began_move h move) (b.holds q ∙ or_none (holds q (home h g)) (is_place q p) ne))
+        ap (λ l. is_out l q) b.leases ∙ out_elsewhere x.leases p q true (in_pool x h p b.planned.stands b.is_free.0)
+        (in_pool x h q b.planned.stands inside) ne
+        ∙ b.planned.stands.leases q inside ∙ sym (held_as h event g q (began_move h move)
+        (b.holds q ∙ or_none (holds q (home h g)) (is_place q p) ne))
   ]
     where
       long : length x.leases.out ≡ x.leases.harts * x.leases.guests
@@ -180,7 +196,8 @@ module _ (x y : CoreState) (h : History) (move : WantedMove) (plan : PlanState) 
 
   -- what nobody holds then was held by nobody
   unheld : (taken : Option GuestPlace) → Begins x y h move plan r taken → (q : GuestPlace) → is_held (Began move ∷ h) q ≡ false → is_held h q ≡ false
-  unheld taken b q none = sym (held_as h event g q (began_move h move) (b.holds q ∙ or_none (holds q (home h g)) (is_taken q taken) (unnamed taken (b.holds q)))) ∙ none
+  unheld taken b q none = sym (held_as h event g q (began_move h move)
+      (b.holds q ∙ or_none (holds q (home h g)) (is_taken q taken) (unnamed taken (b.holds q)))) ∙ none
     where
       mine : holds q (home (Began move ∷ h) g) ≡ false
       mine = of_none (vms_of h) (λ z. holds q (home (Began move ∷ h) z)) g none b.planned.there
@@ -193,7 +210,13 @@ module _ (x y : CoreState) (h : History) (move : WantedMove) (plan : PlanState) 
       unnamed taken e = part (holds q (home h g)) (is_taken q taken) (sym e ∙ mine)
 
   same_machine : y.world ≡ x.world → SameMachine x.world y.world
-  same_machine world = record { n = ap (λ (w : World). w.n) world; vms = ap (λ (w : World). w.vms) world; harts = ap (λ (w : World). w.imsic.harts) world; guests = ap (λ (w : World). w.imsic.guests) world }
+  same_machine world = record {
+    n = ap (λ (w : World). w.n) world;
+    vms = ap (λ (w : World). w.vms) world;
+    harts =
+        ap (λ (w : World). w.imsic.harts) world;
+    guests = ap (λ (w : World). w.imsic.guests) world;
+  }
 
   -- its plan can be begun
   begun_fits : (taken : Option GuestPlace) → Begins x y h move plan r taken → MoveFits x.world (moving_of plan)
@@ -215,11 +238,15 @@ module _ (x y : CoreState) (h : History) (move : WantedMove) (plan : PlanState) 
       let file = file_rests h event g (moved.rests g) in
       record {
         same_home = ap home_in stay ∙ b.goes;
-        select = ap (λ (r : VcpuRecord). r.select) kept ∙ b.planned.select ∙ (b.planned.stands.vcpus g b.planned.there).select ∙ sym (select_rests h event g (moved.rests g));
-        majors = ap (λ (r : VcpuRecord). majors_shown r.majors) kept ∙ ap majors_shown b.planned.majors ∙ (b.planned.stands.vcpus g b.planned.there).majors ∙ sym (majors_rest h event g (moved.majors g));
+        select = ap (λ (r : VcpuRecord). r.select) kept ∙ b.planned.select ∙ (b.planned.stands.vcpus g b.planned.there).select
+            ∙ sym (select_rests h event g (moved.rests g));
+        majors = ap (λ (r : VcpuRecord). majors_shown r.majors) kept ∙ ap majors_shown b.planned.majors
+            ∙ (b.planned.stands.vcpus g b.planned.there).majors ∙ sym (majors_rest h event g (moved.majors g));
         two_files = b.two_files;
-        plan = subst (PlanStands y.world g) (sym stay) (subst (λ (w : World). PlanStands w g (stays.Moving plan)) (sym b.planned.world) (begun_fits taken b, b.phase, b.same, b.moving));
-        passes = subst (HasItsPasses (passes_of (Began move ∷ h)) g) (sym stay) (b.its_passes ∙ ap (own_passes 0 g) (b.planned.stands.passes.same ∙ sym moved.passes));
+        plan = subst (PlanStands y.world g) (sym stay)
+            (subst (λ (w : World). PlanStands w g (stays.Moving plan)) (sym b.planned.world) (begun_fits taken b, b.phase, b.same, b.moving));
+        passes = subst (HasItsPasses (passes_of (Began move ∷ h)) g) (sym stay)
+            (b.its_passes ∙ ap (own_passes 0 g) (b.planned.stands.passes.same ∙ sym moved.passes));
         holds = subst IsHeld (λ k. record {
           words = file_words h;
           slot = slot_of (vms_of h) g;
@@ -242,11 +269,13 @@ module _ (x y : CoreState) (h : History) (move : WantedMove) (plan : PlanState) 
     passes = b.planned.passes;
     count = ap (λ (w : World). w.notices) b.planned.world;
     host = λ f inside. record {
-      file = subst (λ (w : World). SameFile (shown (file_at w.imsic (host_spot f))) (shown (file_at x.world.imsic (host_spot f)))) (sym b.planned.world) (as_it_was (shown (file_at x.world.imsic (host_spot f))));
+      file = subst (λ (w : World). SameFile (shown (file_at w.imsic (host_spot f))) (shown (file_at x.world.imsic (host_spot f))))
+          (sym b.planned.world) (as_it_was (shown (file_at x.world.imsic (host_spot f))));
       select = ap (λ xs. get_or xs (select_place f) 0) b.planned.selects;
     };
     records = ap (λ (rs : List VcpuRecord). length rs) b.planned.vcpus ∙ length-set x.vcpus (slot_of x.world.vms g) r;
-    other_records = λ other inside ne. other_record x y h g other r b.planned.stands b.planned.there inside ne (ap (λ (w : World). w.vms) b.planned.world) b.planned.vcpus;
+    other_records = λ other inside ne. other_record x y h g other r b.planned.stands b.planned.there inside ne
+        (ap (λ (w : World). w.vms) b.planned.world) b.planned.vcpus;
     other_views = λ other inside ne. ap (λ (w : World). places_of w other (home h other)) b.planned.world;
     own = begun_own taken b;
     lease_harts = ap (λ (l : Leases). l.harts) b.leases ∙ harts_with taken;
@@ -255,7 +284,8 @@ module _ (x y : CoreState) (h : History) (move : WantedMove) (plan : PlanState) 
     leases = out_held taken b;
     held = held_there taken b;
     apart = held_apart taken b;
-    free = λ q inside none. ap (λ (w : World). shown (file_at w.imsic (spot_of q))) b.planned.world ∙ b.planned.stands.free q inside (unheld taken b q none);
+    free = λ q inside none. ap (λ (w : World). shown (file_at w.imsic (spot_of q))) b.planned.world
+        ∙ b.planned.stands.free q inside (unheld taken b q none);
     entries = λ other ne. ap (λ (w : World). entry_in_force (table_of w.tables other.vm) other.number) b.planned.world;
     slots = λ q few apart. ap (λ (w : World). mrif_in w.memory q) b.planned.world;
     stages = λ q apart. ap (λ (w : World). get_or w.stages q no_stage) b.planned.world;
@@ -274,5 +304,6 @@ module _ (x y : CoreState) (h : History) (move : WantedMove) (plan : PlanState) 
       count_with (Some p) = length-set x.leases.out _ true
 
 -- the core then stands for the history with the beginning
-pub begun_stands : (x y : CoreState) (h : History) (move : WantedMove) (plan : PlanState) (r : VcpuRecord) (taken : Option GuestPlace) → Begins x y h move plan r taken → CoreStands y (Began move ∷ h)
+pub begun_stands : (x y : CoreState) (h : History) (move : WantedMove) (plan : PlanState) (r : VcpuRecord) (taken : Option GuestPlace)
+    → Begins x y h move plan r taken → CoreStands y (Began move ∷ h)
 begun_stands x y h move plan r taken b = moved_on x y h (Began move) (moves.mover move) (begun_changes x y h move plan r taken b) b.planned.stands

@@ -78,11 +78,13 @@ who_low x who some is =
     omega (arith, below, mine, is.slot, stands.records)
 
 -- one that is put elsewhere twice
-pub put_twice : (xs ys zs : List VcpuRecord) (slot : ℕ) (a b : Stay) → slot < length xs → ys ≡ set xs slot (at_stay (get_or xs slot no_record) a) → zs ≡ set ys slot (at_stay (get_or ys slot no_record) b)
+pub put_twice : (xs ys zs : List VcpuRecord) (slot : ℕ) (a b : Stay) → slot < length xs → ys ≡ set xs slot (at_stay (get_or xs slot no_record) a)
+    → zs ≡ set ys slot (at_stay (get_or ys slot no_record) b)
     → zs ≡ set xs slot (at_stay (get_or xs slot no_record) b)
 put_twice xs ys zs slot a b low first second =
     second ∙ (λ k. set (first k) slot (at_stay (get_or (first k) slot no_record) b))
-    ∙ ap (λ r. set (set xs slot (at_stay (get_or xs slot no_record) a)) slot (at_stay r b)) (get_or-set_same xs slot (at_stay (get_or xs slot no_record) a) no_record low)
+    ∙ ap (λ r. set (set xs slot (at_stay (get_or xs slot no_record) a)) slot (at_stay r b))
+    (get_or-set_same xs slot (at_stay (get_or xs slot no_record) a) no_record low)
     ∙ set-set xs slot (at_stay (get_or xs slot no_record) a) (at_stay (get_or xs slot no_record) b)
 
 -- What a call did with the record of a virtual hart: it took it out, for another, and put it
@@ -116,19 +118,30 @@ module _ (x y : CoreState) (who : Found) (old new : Stay) (s : Swapped x y who o
 abbrev whole_who : Found → Who → Who
 whole_who found who = record { found = found; passes = who.passes }
 
-pub begin_call : (x y : CoreState) (want : Want) (found : Found) (who : Who) (old new : Stay) (given : Answer) → who ≡ whole_who found who → who.passes.items ≡ own_passes 0 (vcpu found.vm found.number) x.passes → y.world ≡ x.world → Swapped x y found old new
+pub begin_call : (x y : CoreState) (want : Want) (found : Found) (who : Who) (old new : Stay) (given : Answer) → who ≡ whole_who found who
+    → who.passes.items ≡ own_passes 0 (vcpu found.vm found.number) x.passes → y.world ≡ x.world → Swapped x y found old new
     → WantBegins want who old new x.leases y.leases given → MoveBegins x y found.vm found.number want given
 begin_call x y want found who old new given named its world s b =
     want_begins x y want (whole_who found who) new given
-    (record { is_who = record { there = s.is_who.there; slot = s.is_who.slot; notice = s.is_who.notice }; its = its; world = world; selects = s.selects; passes = s.passes; vcpus = put_at x y found old new s })
-    (subst (λ (w : Who). WantBegins want w (record_of x (vcpu found.vm found.number)).stay new x.leases y.leases given) named (subst (λ (o : Stay). WantBegins want who o new x.leases y.leases given) (was_at x y found old new s) b))
+    (record {
+      is_who = record { there = s.is_who.there; slot = s.is_who.slot; notice = s.is_who.notice };
+      its = its;
+      world = world;
+      selects =
+          s.selects;
+      passes = s.passes;
+      vcpus = put_at x y found old new s;
+    })
+    (subst (λ (w : Who). WantBegins want w (record_of x (vcpu found.vm found.number)).stay new x.leases y.leases given) named
+    (subst (λ (o : Stay). WantBegins want who o new x.leases y.leases given) (was_at x y found old new s) b))
 
 -- ---- a step
 
 -- how many steps are left
 pub left_fewer : (words : ℕ) (there : Home) (access : Access) → IsNext words there access → steps_left words (one_more there) < steps_left words there
 left_fewer words (OnWay way at) access next =
-    let low : at.steps < length (plan (old_end way) (new_end way) words) = slice_get_within (plan (old_end way) (new_end way) words) at.steps access (next_in_plan words (OnWay way at) access next) in
+    let low : at.steps < length (plan (old_end way) (new_end way) words) =
+    slice_get_within (plan (old_end way) (new_end way) words) at.steps access (next_in_plan words (OnWay way at) access next) in
     let long = plan-length (old_end way) (new_end way) words in
     omega (arith, low, long)
 left_fewer words there access next = let no : false ≡ true = next.has in absurd (cc)
@@ -138,7 +151,8 @@ aims_stay (OnWay way at) = refl
 aims_stay there = refl
 
 -- the plan that is kept can make its next step
-pub plan_known : (x : CoreState) (who : Found) (plan : PlanState) → StandsForSome x → IsFound x.world who → stays.Moving plan ≡ (get_or x.vcpus who.slot no_record).stay → MoveFits x.world (moving_of plan) × IsInPhase (width x.world) plan
+pub plan_known : (x : CoreState) (who : Found) (plan : PlanState) → StandsForSome x → IsFound x.world who
+    → stays.Moving plan ≡ (get_or x.vcpus who.slot no_record).stay → MoveFits x.world (moving_of plan) × IsInPhase (width x.world) plan
 plan_known x who plan some is was =
     let g = vcpu who.vm who.number in
     let inside : has_vcpu some.past g ≡ true = subst (λ (vs : List Vm). is_vcpu_in vs g ≡ true) some.stands.vms is.there in
@@ -181,10 +195,13 @@ module _ (x y : CoreState) (who : Found) (plan : PlanState) where
   its_there : (h : History) → CoreStands x h → IsFound x.world who → has_vcpu h (vcpu who.vm who.number) ≡ true
   its_there h stands is = subst (λ (vs : List Vm). is_vcpu_in vs its ≡ true) stands.vms is.there
 
-  none_aimed : (next : Next PlanState) (h : History) → CoreStands x h → Made x y who plan next → is_aiming (passes_for h (vcpu who.vm who.number)) (home h (vcpu who.vm who.number)) ≡ false
-  none_aimed next h stands c = sym (aims_alike x h its plan stands (its_there h stands c.swapped.is_who) (sym (was_at x y who (stays.Moving plan) (stay_then next) c.swapped))) ∙ c.unaimed
+  none_aimed : (next : Next PlanState) (h : History) → CoreStands x h → Made x y who plan next
+      → is_aiming (passes_for h (vcpu who.vm who.number)) (home h (vcpu who.vm who.number)) ≡ false
+  none_aimed next h stands c = sym (aims_alike x h its plan stands (its_there h stands c.swapped.is_who)
+      (sym (was_at x y who (stays.Moving plan) (stay_then next) c.swapped))) ∙ c.unaimed
 
-  goes_on : (later : PlanState) (h : History) → NoneAtFence h (Stepped (vcpu who.vm who.number)) → CoreStands x h → Made x y who plan (Again later) → GoesOf x y h (vcpu who.vm who.number) plan later (its_record (stays.Moving later))
+  goes_on : (later : PlanState) (h : History) → NoneAtFence h (Stepped (vcpu who.vm who.number)) → CoreStands x h
+      → Made x y who plan (Again later) → GoesOf x y h (vcpu who.vm who.number) plan later (its_record (stays.Moving later))
   goes_on later h first stands c = record {
     step_of = record {
       first = first;
@@ -207,7 +224,8 @@ module _ (x y : CoreState) (who : Found) (plan : PlanState) where
     phase = c.phase;
   }
 
-  ends_it : (o : Outcome) (h : History) → NoneAtFence h (Stepped (vcpu who.vm who.number)) → CoreStands x h → Made x y who plan (Finished o) → EndsOf x y h (vcpu who.vm who.number) plan o (its_record (stay_after o))
+  ends_it : (o : Outcome) (h : History) → NoneAtFence h (Stepped (vcpu who.vm who.number)) → CoreStands x h → Made x y who plan (Finished o)
+      → EndsOf x y h (vcpu who.vm who.number) plan o (its_record (stay_after o))
   ends_it o h first stands c = record {
     step_of = record {
       first = first;
@@ -229,44 +247,57 @@ module _ (x y : CoreState) (who : Found) (plan : PlanState) where
     ends = c.goes;
   }
 
-  at_last_by : (h : History) (r : VcpuRecord) (hand : Hand) (b : Bool) → StepOf x y h (vcpu who.vm who.number) plan r hand → is_at_last (width x.world) (moving_of plan).home ≡ b → b ≡ is_at_last (file_words h) (home h (vcpu who.vm who.number))
+  at_last_by : (h : History) (r : VcpuRecord) (hand : Hand) (b : Bool) → StepOf x y h (vcpu who.vm who.number) plan r hand
+      → is_at_last (width x.world) (moving_of plan).home ≡ b → b ≡ is_at_last (file_words h) (home h (vcpu who.vm who.number))
   at_last_by h r hand b s e = sym e ∙ (λ k. is_at_last (steps.same_words x y h its plan r hand s k) (steps.same_home x y h its plan r hand s k))
 
   -- the plan of its record is the one that was taken out of it
-  same_plan : (other : PlanState) → stays.Moving plan ≡ stays.Moving other → OneMade x.world (moving_of plan) y.world → OneMade x.world (moving_of other) y.world
+  same_plan : (other : PlanState) → stays.Moving plan ≡ stays.Moving other → OneMade x.world (moving_of plan) y.world
+      → OneMade x.world (moving_of other) y.world
   same_plan other e one = let same : plan ≡ other = cc in subst (λ (p : PlanState). OneMade x.world (moving_of p) y.world) same one
 
   pub step_goes : (next : Next PlanState) → Made x y who plan next → AccessGoes x y (vcpu who.vm who.number) (is_finished next)
   step_goes (Again later) c =
       let some = c.swapped.some in
       let now = goes_on later some.past c.first some.stands c in
-      let kept : record_of y its ≡ its_record (stays.Moving later) = steps.step_record x y some.past its plan (its_record (stays.Moving later)) (moving_of later).hand now.step_of in
+      let kept : record_of y its ≡ its_record (stays.Moving later) =
+      steps.step_record x y some.past its plan (its_record (stays.Moving later)) (moving_of later).hand now.step_of in
       let was : (record_of x its).stay ≡ stays.Moving plan = now.step_of.was in
       let machine = steps.machine x y some.past its plan (its_record (stays.Moving later)) (moving_of later).hand now.step_of in
       let aimed : aims_done (one_more (moving_of plan).home) ≡ aims_done (moving_of plan).home = aims_stay (moving_of plan).home in
-      let same : left_in y its ≡ steps_left (width x.world) (one_more (moving_of plan).home) + (passes_to its x.passes - aims_done (moving_of plan).home) =
-      (λ k. steps_left ((machine.n k + 1) / 64) (home_in (kept k).stay) + (passes_to its (c.swapped.passes k) - aims_done (home_in (kept k).stay))) ∙ ap (λ t. steps_left (width x.world) t + (passes_to its x.passes - aims_done t)) c.goes.home
+      let same : left_in y its ≡ steps_left (width x.world)
+      (one_more (moving_of plan).home) + (passes_to its x.passes - aims_done (moving_of plan).home) =
+      (λ k. steps_left ((machine.n k + 1) / 64) (home_in (kept k).stay) + (passes_to its (c.swapped.passes k) - aims_done
+      (home_in (kept k).stay))) ∙ ap (λ t. steps_left (width x.world) t + (passes_to its x.passes - aims_done t)) c.goes.home
       ∙ ap (λ a. steps_left (width x.world) (one_more (moving_of plan).home) + (passes_to its x.passes - a)) aimed in
       let less = left_fewer (width x.world) (moving_of plan).home c.goes.step.access c.goes.step.is_next in
       record {
         stands = λ h first stands. goes_stands x y h its plan later (its_record (stays.Moving later)) (goes_on later h first stands c);
-        at_last = λ h first stands. at_last_by h (its_record (stays.Moving later)) (moving_of later).hand false (goes_on later h first stands c).step_of c.goes.more;
-        moving = λ e. ap (λ (r : VcpuRecord). is_moving (home_in r.stay)) kept ∙ later_moving x y some.past its plan later (its_record (stays.Moving later)) now;
+        at_last = λ h first stands. at_last_by h (its_record (stays.Moving later)) (moving_of later).hand false
+            (goes_on later h first stands c).step_of c.goes.more;
+        moving = λ e. ap (λ (r : VcpuRecord). is_moving (home_in r.stay)) kept
+            ∙ later_moving x y some.past its plan later (its_record (stays.Moving later)) now;
         makes = λ other e. same_plan other (sym was ∙ e) ((moving_of later).hand, c.goes.step);
-        fewer = λ e. subst (λ n. n < left_in x its) (sym same) (subst (λ s. steps_left (width x.world) (one_more (moving_of plan).home) + (passes_to its x.passes - aims_done (moving_of plan).home) < steps_left (width x.world) (home_in s) + (passes_to its x.passes - aims_done (home_in s))) (sym was) (omega (arith, less)));
+        fewer = λ e. subst (λ n. n < left_in x its) (sym same)
+            (subst (λ s. steps_left (width x.world) (one_more (moving_of plan).home) + (passes_to its x.passes - aims_done
+            (moving_of plan).home) < steps_left (width x.world) (home_in s) + (passes_to its x.passes - aims_done (home_in s))) (sym was)
+            (omega (arith, less)));
       }
   step_goes (Finished o) c = record {
     stands = λ h first stands. ends_stands x y h its plan o (its_record (stay_after o)) (ends_it o h first stands c);
-    at_last = λ h first stands. at_last_by h (its_record (stay_after o)) (moving_of plan).hand true (ends_it o h first stands c).step_of c.goes.ends.last;
+    at_last = λ h first stands. at_last_by h (its_record (stay_after o)) (moving_of plan).hand true (ends_it o h first stands c).step_of
+        c.goes.ends.last;
     moving = λ e. absurd (true≢false e);
     fewer = λ e. absurd (true≢false e);
-    makes = λ other e. same_plan other (sym (ends_it o c.swapped.some.past c.first c.swapped.some.stands c).step_of.was ∙ e) ((moving_of plan).hand, c.goes.ends.step);
+    makes = λ other e. same_plan other (sym (ends_it o c.swapped.some.past c.first c.swapped.some.stands c).step_of.was ∙ e)
+        ((moving_of plan).hand, c.goes.ends.step);
   }
 
 -- ---- before that, what lands first
 
 -- the plan of a virtual hart that is there is its own, and is where the history has it
-its_own : (x : CoreState) (h : History) (g : Vcpu) (plan : PlanState) → CoreStands x h → has_vcpu h g ≡ true → (record_of x g).stay ≡ stays.Moving plan → (mover (moving_of plan) ≡ g) × ((moving_of plan).home ≡ home h g)
+its_own : (x : CoreState) (h : History) (g : Vcpu) (plan : PlanState) → CoreStands x h → has_vcpu h g ≡ true
+    → (record_of x g).stay ≡ stays.Moving plan → (mover (moving_of plan) ≡ g) × ((moving_of plan).home ≡ home h g)
 its_own x h g plan stands there was =
     let stood = stands.vcpus g there in
     let planned : PlanStands x.world g (stays.Moving plan) = subst (PlanStands x.world g) was stood.plan in
@@ -282,7 +313,8 @@ pub record IsFirst (x : CoreState) (landed : World) (who : Found) (plan : PlanSt
 pub vm_low : (x : CoreState) (who : Found) → IsWhole x.world → IsFound x.world who → who.vm < length x.world.vms
 vm_low x who whole is = (vcpu_entry x.world who.vm who.number whole is.there).0
 
-pub landed_stands : (x : CoreState) (landed : World) (who : Found) (plan : PlanState) → IsFirst x landed who plan → (h : History) → CoreStands x h → CoreStands (once_landed x landed) (landed_first (vcpu who.vm who.number) h)
+pub landed_stands : (x : CoreState) (landed : World) (who : Found) (plan : PlanState) → IsFirst x landed who plan → (h : History) → CoreStands x h
+    → CoreStands (once_landed x landed) (landed_first (vcpu who.vm who.number) h)
 landed_stands x landed who plan c h stands =
     let g = vcpu who.vm who.number in
     let there : has_vcpu h g ≡ true = subst (λ (vs : List Vm). is_vcpu_in vs g ≡ true) stands.vms c.is_who.there in
@@ -291,7 +323,8 @@ landed_stands x landed who plan c h stands =
     subst (λ (z : Vcpu). CoreStands (once_landed x landed) (landed_first z h)) own.0
     (first_stands x landed (moving_of plan) h low (own.1 ∙ ap (home h) (sym own.0)) c.first stands)
 
-abbrev pub landed_some : (x : CoreState) (landed : World) (who : Found) (plan : PlanState) → IsFirst x landed who plan → StandsForSome x → StandsForSome (once_landed x landed)
+abbrev pub landed_some : (x : CoreState) (landed : World) (who : Found) (plan : PlanState) → IsFirst x landed who plan → StandsForSome x
+    → StandsForSome (once_landed x landed)
 landed_some x landed who plan c some = record {
   past = landed_first (vcpu who.vm who.number) some.past;
   happens = first_happens (vcpu who.vm who.number) some.past some.happens;
@@ -307,11 +340,13 @@ landed_who x landed who plan c =
       notice = c.is_who.notice ∙ ap (λ vs. notice_hart vs (vcpu who.vm who.number)) (sym vms);
     }
 
-pub landed_goes : (x : CoreState) (landed : World) (y : CoreState) (who : Found) (plan : PlanState) (last : Bool) → aims (moving_of plan) ≡ false → IsFirst x landed who plan → AccessGoes (once_landed x landed) y (vcpu who.vm who.number) last → MoveGoes x y (vcpu who.vm who.number) last
+pub landed_goes : (x : CoreState) (landed : World) (y : CoreState) (who : Found) (plan : PlanState) (last : Bool) → aims (moving_of plan) ≡ false
+    → IsFirst x landed who plan → AccessGoes (once_landed x landed) y (vcpu who.vm who.number) last → MoveGoes x y (vcpu who.vm who.number) last
 landed_goes x landed y who plan last unaimed c a =
     let g = vcpu who.vm who.number in
     let same : record_of (once_landed x landed) g ≡ record_of x g = ap (λ vs. get_or x.vcpus (slot_of vs g) no_record) c.first.same.vms in
-    let left : left_in (once_landed x landed) g ≡ left_in x g = (λ k. steps_left ((c.first.same.n k + 1) / 64) (home_in (same k).stay) + (passes_to g x.passes - aims_done (home_in (same k).stay))) in
+    let left : left_in (once_landed x landed) g ≡ left_in x g =
+    (λ k. steps_left ((c.first.same.n k + 1) / 64) (home_in (same k).stay) + (passes_to g x.passes - aims_done (home_in (same k).stay))) in
     record {
       stands = λ h stands. a.stands (landed_first g h) (lands_first g h) (landed_stands x landed who plan c h stands);
       at_last = λ h stands.
@@ -320,7 +355,8 @@ landed_goes x landed y who plan last unaimed c a =
       moving = a.moving;
       makes = λ other e.
           let is : plan ≡ other = let both : stays.Moving plan ≡ stays.Moving other = sym c.was ∙ e in cc in
-          subst (λ b. MakesOneBy (aim_if b (moving_of other)) x.world (moving_of other) y.world) (sym unaimed ∙ ap (λ (p : PlanState). aims (moving_of p)) is) (record {
+          subst (λ b. MakesOneBy (aim_if b (moving_of other)) x.world (moving_of other) y.world)
+          (sym unaimed ∙ ap (λ (p : PlanState). aims (moving_of p)) is) (record {
             landed = landed;
             first = subst (λ (p : PlanState). moves.LandsFirst x.world (moving_of p) landed) is c.first;
             then = a.makes other (ap (λ (r : VcpuRecord). r.stay) same ∙ e);
@@ -391,25 +427,36 @@ module _ (x y : CoreState) (who : Found) (plan later : PlanState) (c : Aims x y 
   aim_goes =
       let some = c.swapped.some in
       let past = some.past in
-      let kept : record_of y mine ≡ then_kept = own_record x y past mine then_kept some.stands (inside past some.stands) (ap (λ (w : World). w.vms) c.goes.world) (put_at x y who (stays.Moving plan) (stays.Moving later) c.swapped) in
-      let moves : is_moving (moving_of plan).home ≡ true = let planned : PlanStands x.world mine (stays.Moving plan) = subst (PlanStands x.world mine) was_moving (some.stands.vcpus mine (inside past some.stands)).plan in planned.3 in
-      let same_home : (moving_of plan).home ≡ home past mine = ap home_in (sym was_moving) ∙ (some.stands.vcpus mine (inside past some.stands)).same_home in
+      let kept : record_of y mine ≡ then_kept = own_record x y past mine then_kept some.stands (inside past some.stands)
+      (ap (λ (w : World). w.vms) c.goes.world) (put_at x y who (stays.Moving plan) (stays.Moving later) c.swapped) in
+      let moves : is_moving (moving_of plan).home ≡ true = let planned : PlanStands x.world mine (stays.Moving plan) =
+      subst (PlanStands x.world mine) was_moving (some.stands.vcpus mine (inside past some.stands)).plan in planned.3 in
+      let same_home : (moving_of plan).home ≡ home past mine = ap home_in (sym was_moving)
+      ∙ (some.stands.vcpus mine (inside past some.stands)).same_home in
       let count : passes_to mine x.passes ≡ passes_for past mine = ap (passes_to mine) some.stands.passes.same in
-      let low : aims_done (home past mine) < passes_for past mine = ltb-true _ _ (and_parts _ (nat_lt (aims_done (home past mine)) (passes_for past mine)) (aiming_then past some.stands)).1 in
+      let low : aims_done (home past mine) < passes_for past mine =
+      ltb-true _ _ (and_parts _ (nat_lt (aims_done (home past mine)) (passes_for past mine)) (aiming_then past some.stands)).1 in
       let below : aims_done (moving_of plan).home < passes_to mine x.passes = omega (arith, low, count, ap aims_done same_home) in
       let later_home : (moving_of later).home ≡ aimed (moving_of plan).home = ap (λ (m : Moving). m.home) c.goes.moved in
-      let then_left : left_in y mine ≡ steps_left (width x.world) (moving_of plan).home + (passes_to mine x.passes - suc (aims_done (moving_of plan).home)) =
+      let then_left : left_in y mine ≡ steps_left (width x.world)
+      (moving_of plan).home + (passes_to mine x.passes - suc (aims_done (moving_of plan).home)) =
       (λ k. steps_left (width (c.goes.world k)) (home_in (kept k).stay) + (passes_to mine (c.swapped.passes k) - aims_done (home_in (kept k).stay)))
       ∙ (λ k. steps_left (width x.world) (later_home k) + (passes_to mine x.passes - aims_done (later_home k)))
       ∙ (λ k. left_aimed (width x.world) (moving_of plan).home k + (passes_to mine x.passes - aims_once (moving_of plan).home moves k)) in
       record {
-        stands = λ h stands. subst (λ b. CoreStands y (Stepped mine ∷ cond b (oldest_landed (length (flight h who.vm)) who.vm h) h)) (sym (no_fence h stands)) (aim_stands x y h mine plan later then_kept (aim_of_it h stands));
+        stands = λ h stands. subst (λ b. CoreStands y (Stepped mine ∷ cond b (oldest_landed (length (flight h who.vm)) who.vm h) h))
+            (sym (no_fence h stands)) (aim_stands x y h mine plan later then_kept (aim_of_it h stands));
         at_last = λ h stands. sym (aim_is_not_last (passes_for h mine) (file_words h) (home h mine) (aiming_then h stands));
-        moving = λ e. ap (λ (r : VcpuRecord). is_moving (home_in r.stay)) kept ∙ later_moves x y past mine plan later then_kept (aim_of_it past some.stands);
-        fewer = λ e. subst (λ n. n < left_in x mine) (sym then_left) (subst (λ s. steps_left (width x.world) (moving_of plan).home + (passes_to mine x.passes - suc (aims_done (moving_of plan).home)) < steps_left (width x.world) (home_in s) + (passes_to mine x.passes - aims_done (home_in s))) (sym was_moving) (omega (arith, below)));
+        moving = λ e. ap (λ (r : VcpuRecord). is_moving (home_in r.stay)) kept
+            ∙ later_moves x y past mine plan later then_kept (aim_of_it past some.stands);
+        fewer = λ e. subst (λ n. n < left_in x mine) (sym then_left)
+            (subst (λ s. steps_left (width x.world) (moving_of plan).home + (passes_to mine x.passes - suc
+            (aims_done (moving_of plan).home)) < steps_left (width x.world) (home_in s) + (passes_to mine x.passes - aims_done (home_in s)))
+            (sym was_moving) (omega (arith, below)));
         makes = λ other e.
             let is : plan ≡ other = let both : stays.Moving plan ≡ stays.Moving other = sym was_moving ∙ e in cc in
-            subst (λ b. MakesOneBy (aim_if b (moving_of other)) x.world (moving_of other) y.world) (sym c.aiming ∙ ap (λ (p : PlanState). aims (moving_of p)) is) c.goes.world;
+            subst (λ b. MakesOneBy (aim_if b (moving_of other)) x.world (moving_of other) y.world)
+            (sym c.aiming ∙ ap (λ (p : PlanState). aims (moving_of p)) is) c.goes.world;
       }
 
 -- ---- a step, of either kind
@@ -435,9 +482,21 @@ pub record StepCalls (x y : CoreState) (who : Found) (plan : PlanState) (next : 
 
 module _ (x y : CoreState) (who : Found) (plan : PlanState) where
   -- it aims
-  by_aim : (next : Next PlanState) → StepCalls x y who plan next → aims (moving_of plan) ≡ true → MatchNext next (λ p. GoesAiming x.world (moving_of plan) y.world (moving_of p)) (λ o. ⊥) → MoveGoes x y (vcpu who.vm who.number) (is_finished next)
+  by_aim : (next : Next PlanState) → StepCalls x y who plan next → aims (moving_of plan) ≡ true
+      → MatchNext next (λ p. GoesAiming x.world (moving_of plan) y.world (moving_of p)) (λ o. ⊥)
+      → MoveGoes x y (vcpu who.vm who.number) (is_finished next)
   by_aim (Again later) c aiming goes = aim_goes x y who plan later (record {
-    swapped = record { is_who = c.is_who; some = c.some; between = c.between; other = c.other; before = c.was; out = c.out; back = c.back; selects = c.selects; passes = c.passes };
+    swapped = record {
+      is_who = c.is_who;
+      some = c.some;
+      between = c.between;
+      other = c.other;
+      before = c.was;
+      out = c.out;
+      back = c.back;
+      selects = c.selects;
+      passes = c.passes;
+    };
     some = c.one;
     aiming = aiming;
     leases = c.leases;
@@ -448,7 +507,9 @@ module _ (x y : CoreState) (who : Found) (plan : PlanState) where
   by_aim (Finished o) c aiming goes = absurd goes
 
   -- it makes an access
-  by_access : (next : Next PlanState) → StepCalls x y who plan next → aims (moving_of plan) ≡ false → OnceLanded x.world (moving_of plan) (λ landed. MatchNext next (λ p. Goes landed (moving_of plan) y.world (moving_of p)) (λ o. EndsAs landed (moving_of plan) y.world o)) → MoveGoes x y (vcpu who.vm who.number) (is_finished next)
+  by_access : (next : Next PlanState) → StepCalls x y who plan next → aims (moving_of plan) ≡ false
+      → OnceLanded x.world (moving_of plan) (λ landed. MatchNext next (λ p. Goes landed (moving_of plan) y.world (moving_of p))
+      (λ o. EndsAs landed (moving_of plan) y.world o)) → MoveGoes x y (vcpu who.vm who.number) (is_finished next)
   by_access next c unaimed once =
       let landed = once.landed in
       let first : IsFirst x landed who plan = record {
@@ -502,10 +563,12 @@ goes_still x y who last goes some is moving =
 -- ---- the file that comes back
 
 -- it is one that is there, and out
-pub back_known : (x : CoreState) (u : World) (who : Found) (plan : PlanState) (next : Next PlanState) → StandsForSome x → IsFound x.world who → stays.Moving plan ≡ (get_or x.vcpus who.slot no_record).stay
+pub back_known : (x : CoreState) (u : World) (who : Found) (plan : PlanState) (next : Next PlanState) → StandsForSome x → IsFound x.world who
+    → stays.Moving plan ≡ (get_or x.vcpus who.slot no_record).stay
     → StepsTo (next_aim (moving_of plan)) x.world (moving_of plan) u next → IsOutThere x.leases (back_then next)
 back_known x u who plan (Again later) some is was c = tt
-back_known x u who plan (Finished o) some is was c = by_kind (aims (moving_of plan)) (subst (λ b. StepsTo (aim_if b (moving_of plan)) x.world (moving_of plan) u (Finished o)) refl c)
+back_known x u who plan (Finished o) some is was c =
+    by_kind (aims (moving_of plan)) (subst (λ b. StepsTo (aim_if b (moving_of plan)) x.world (moving_of plan) u (Finished o)) refl c)
   where
     inside : has_vcpu some.past (vcpu who.vm who.number) ≡ true
     inside = subst (λ (vs : List Vm). is_vcpu_in vs (vcpu who.vm who.number) ≡ true) some.stands.vms is.there
@@ -516,9 +579,13 @@ back_known x u who plan (Finished o) some is was c = by_kind (aims (moving_of pl
     by_file : (back : Option GuestPlace) → GivesBack o (moving_of plan).home (moving_of plan).hand → back_of o ≡ back → IsOutThere x.leases back
     by_file None gives e = tt
     by_file (Some p) gives e =
-        let mine : holds p (home some.past (vcpu who.vm who.number)) ≡ true = ap (holds p) (sym same) ∙ ended_held p (moving_of plan).home (sym (ended_back o (moving_of plan).home (moving_of plan).hand gives) ∙ e) in
-        let there = some.stands.held (vcpu who.vm who.number) p inside mine in
-        (in_pool x some.past p some.stands there, some.stands.leases p there ∙ any_vcpu (vms_of some.past) (λ z. holds p (home some.past z)) (vcpu who.vm who.number) inside mine)
+        let mine : holds p (home some.past (vcpu who.vm who.number)) ≡ true = ap (holds p) (sym same)
+        ∙ ended_held p (moving_of plan).home (sym (ended_back o (moving_of plan).home (moving_of plan).hand gives) ∙ e) in
+        let there = some.stands.held (vcpu who.vm who.number) p inside mine in (
+          in_pool x some.past p some.stands there,
+          some.stands.leases p there
+              ∙ any_vcpu (vms_of some.past) (λ z. holds p (home some.past z)) (vcpu who.vm who.number) inside mine,
+        )
 
     by_kind : (b : Bool) → StepsTo (aim_if b (moving_of plan)) x.world (moving_of plan) u (Finished o) → IsOutThere x.leases (back_of o)
     by_kind true goes = absurd goes
@@ -526,9 +593,11 @@ back_known x u who plan (Finished o) some is was c = by_kind (aims (moving_of pl
 
 -- ---- who is moved
 
-pub who_still : (x y : CoreState) (who : Found) (last : Bool) → MoveGoes x y (vcpu who.vm who.number) last → StandsForSome x → IsFound x.world who → IsFound y.world who
+pub who_still : (x y : CoreState) (who : Found) (last : Bool) → MoveGoes x y (vcpu who.vm who.number) last → StandsForSome x → IsFound x.world who
+    → IsFound y.world who
 who_still x y who last goes some is =
-    let vms : x.world.vms ≡ y.world.vms = some.stands.vms ∙ sym ((goes.stands some.past some.stands).vms ∙ (same_first (vcpu who.vm who.number) some.past).0) in
+    let vms : x.world.vms ≡ y.world.vms = some.stands.vms
+    ∙ sym ((goes.stands some.past some.stands).vms ∙ (same_first (vcpu who.vm who.number) some.past).0) in
     record {
       there = subst (λ (vs : List Vm). is_vcpu_in vs (vcpu who.vm who.number) ≡ true) vms is.there;
       slot = is.slot ∙ ap (λ vs. slot_of vs (vcpu who.vm who.number)) vms;
@@ -539,9 +608,12 @@ who_still x y who last goes some is =
 
 pub harts_still : (x y : CoreState) (g : Vcpu) (last : Bool) → MoveGoes x y g last → StandsForSome x → y.world.imsic.harts ≡ x.world.imsic.harts
 harts_still x y g last goes some =
-    (goes.stands some.past some.stands).harts ∙ ap (λ (o : Option MachineSize). option_map_or (λ (m : MachineSize). m.harts) o 0) (same_first g some.past).1 ∙ sym some.stands.harts
+    (goes.stands some.past some.stands).harts ∙ ap (λ (o : Option MachineSize). option_map_or (λ (m : MachineSize). m.harts) o 0)
+    (same_first g some.past).1 ∙ sym some.stands.harts
 
 -- an aim leaves how many harts the targets have
-pub told_harts : {T : Type 0} (aim : T → ℕ → ℕ → T → Type 0) (map : T → TargetMap) (one : (old new : T) (source target : ℕ) → aim old source target new → AimsOne (map old) source target (map new)) (o : Option PassAim) (old new : T) → AimsAs aim o old new → (map new).harts ≡ (map old).harts
+pub told_harts : {T : Type 0} (aim : T → ℕ → ℕ → T → Type 0) (map : T → TargetMap)
+    (one : (old new : T) (source target : ℕ) → aim old source target new → AimsOne (map old) source target (map new)) (o : Option PassAim)
+    (old new : T) → AimsAs aim o old new → (map new).harts ≡ (map old).harts
 told_harts {T} aim map one None old new same = ap (λ t. (map t).harts) same
 told_harts {T} aim map one (Some a) old new done = (one old new a.source a.target done).harts

@@ -120,7 +120,8 @@ pub select_rests : (h : History) (event : Event) (g : Vcpu) → guest_deed g h e
 select_rests h event g rests = select_is event h g ∙ ap (λ deed. select_after deed (guest_select h g)) rests
 
 -- another virtual hart, whose places show what they showed
-pub other_stands : (x y : CoreState) (h : History) (event : Event) (g other : Vcpu) → IsMoveOf h event g → SameMachine x.world y.world → is_vcpu other g ≡ false → record_of y other ≡ record_of x other
+pub other_stands : (x y : CoreState) (h : History) (event : Event) (g other : Vcpu) → IsMoveOf h event g → SameMachine x.world y.world
+    → is_vcpu other g ≡ false → record_of y other ≡ record_of x other
     → places_of y.world other (home h other) ≡ places_of x.world other (home h other) → VcpuStands x h other → VcpuStands y (event ∷ h) other
 other_stands x y h event g other moves machine ne kept shows p =
     let words = same_words event h (machine_kept event h moves.plain) in
@@ -128,14 +129,16 @@ other_stands x y h event g other moves machine ne kept shows p =
     let file = file_rests h event other (moves.rests other) in
     let seen = moves.seen other ne in
     let stay = ap (λ (r : VcpuRecord). r.stay) kept in
-    let places : places_of x.world other (home h other) ≡ places_of y.world other (home (event ∷ h) other) = sym shows ∙ (λ k. places_of y.world other (sym homes k)) in
+    let places : places_of x.world other (home h other) ≡ places_of y.world other (home (event ∷ h) other) = sym shows
+    ∙ (λ k. places_of y.world other (sym homes k)) in
     record {
       same_home = ap home_in stay ∙ p.same_home ∙ sym homes;
       select = ap (λ (r : VcpuRecord). r.select) kept ∙ p.select ∙ sym (select_rests h event other (moves.rests other));
       majors = ap (λ (r : VcpuRecord). majors_shown r.majors) kept ∙ p.majors ∙ sym (majors_rest h event other (moves.majors other));
       two_files = subst AreApart (sym homes) p.two_files;
       plan = subst (PlanStands y.world other) (sym stay) (plan_stays x.world y.world other (record_of x other).stay machine p.plan);
-      passes = subst (HasItsPasses (passes_of (event ∷ h)) other) (sym stay) (subst (λ passes. HasItsPasses passes other (record_of x other).stay) (sym moves.passes) p.passes);
+      passes = subst (HasItsPasses (passes_of (event ∷ h)) other) (sym stay)
+          (subst (λ passes. HasItsPasses passes other (record_of x other).stay) (sym moves.passes) p.passes);
       holds = subst IsHeld (λ k. record {
         words = sym words k;
         slot = slot_of (sym moves.vms k) other;
@@ -150,7 +153,8 @@ other_stands x y h event g other moves machine ne kept shows p =
     }
 
 -- who holds a file holds it still, where its own home does as it did
-pub held_as : (h : History) (event : Event) (g : Vcpu) (p : GuestPlace) → IsMoveOf h event g → holds p (home (event ∷ h) g) ≡ holds p (home h g) → is_held (event ∷ h) p ≡ is_held h p
+pub held_as : (h : History) (event : Event) (g : Vcpu) (p : GuestPlace) → IsMoveOf h event g → holds p (home (event ∷ h) g) ≡ holds p (home h g)
+    → is_held (event ∷ h) p ≡ is_held h p
 held_as h event g p moves same = λ k. list_any (λ other. each other k) (all_vcpus (moves.vms k))
   where
     each : (other : Vcpu) → holds p (home (event ∷ h) other) ≡ holds p (home h other)
@@ -173,16 +177,20 @@ pub record MoveChanges (x y : CoreState) (h : History) (event : Event) (g : Vcpu
   pub host : (f : FileName) → IsThere x.world.imsic (host_spot f) → FileDone x y f (deed_at f h event)
   pub records : length y.vcpus ≡ length x.vcpus
   pub other_records : (other : Vcpu) → has_vcpu h other ≡ true → is_vcpu other g ≡ false → record_of y other ≡ record_of x other
-  pub other_views : (other : Vcpu) → has_vcpu h other ≡ true → is_vcpu other g ≡ false → places_of y.world other (home h other) ≡ places_of x.world other (home h other)
+  pub other_views : (other : Vcpu) → has_vcpu h other ≡ true → is_vcpu other g ≡ false
+      → places_of y.world other (home h other) ≡ places_of x.world other (home h other)
   pub own : VcpuStands y (event ∷ h) g
   pub lease_harts : y.leases.harts ≡ x.leases.harts
   pub lease_guests : y.leases.guests ≡ x.leases.guests
   pub lease_count : length y.leases.out ≡ length x.leases.out
   pub leases : (p : GuestPlace) → IsThere x.world.imsic (spot_of p) → is_out y.leases p ≡ is_held (event ∷ h) p
   pub held : (p : GuestPlace) → holds p (home (event ∷ h) g) ≡ true → IsThere x.world.imsic (spot_of p)
-  pub apart : (other : Vcpu) (p : GuestPlace) → has_vcpu h other ≡ true → is_vcpu other g ≡ false → holds p (home (event ∷ h) g) ≡ true → holds p (home h other) ≡ false
-  pub free : (p : GuestPlace) → IsThere x.world.imsic (spot_of p) → is_held (event ∷ h) p ≡ false → shown (file_at y.world.imsic (spot_of p)) ≡ empty_file (greatest_identity_of h)
-  pub entries : (other : Vcpu) → is_vcpu other g ≡ false → entry_in_force (table_of y.world.tables other.vm) other.number ≡ entry_in_force (table_of x.world.tables other.vm) other.number
+  pub apart : (other : Vcpu) (p : GuestPlace) → has_vcpu h other ≡ true → is_vcpu other g ≡ false → holds p (home (event ∷ h) g) ≡ true
+      → holds p (home h other) ≡ false
+  pub free : (p : GuestPlace) → IsThere x.world.imsic (spot_of p) → is_held (event ∷ h) p ≡ false
+      → shown (file_at y.world.imsic (spot_of p)) ≡ empty_file (greatest_identity_of h)
+  pub entries : (other : Vcpu) → is_vcpu other g ≡ false
+      → entry_in_force (table_of y.world.tables other.vm) other.number ≡ entry_in_force (table_of x.world.tables other.vm) other.number
   pub slots : (q : ℕ) → q < VCPUS → q ≢ slot_of x.world.vms g → mrif_in y.world.memory q ≡ mrif_in x.world.memory q
   pub stages : (q : ℕ) → q ≢ slot_of x.world.vms g → slice_index_or y.world.stages q no_stage ≡ slice_index_or x.world.stages q no_stage
 
@@ -199,7 +207,8 @@ module _ (x y : CoreState) (h : History) (event : Event) (g : Vcpu) (c : MoveCha
   own_home : (other : Vcpu) (p : GuestPlace) → is_vcpu other g ≡ true → holds p (home (event ∷ h) other) ≡ true → holds p (home (event ∷ h) g) ≡ true
   own_home other p e holding = ap (λ z. holds p (home (event ∷ h) z)) (sym (same_vcpu other g e)) ∙ holding
 
-  not_both : (other : Vcpu) (p : GuestPlace) → has_vcpu h other ≡ true → is_vcpu other g ≡ false → holds p (home (event ∷ h) g) ≡ true → holds p (home (event ∷ h) other) ≡ true → ⊥
+  not_both : (other : Vcpu) (p : GuestPlace) → has_vcpu h other ≡ true → is_vcpu other g ≡ false → holds p (home (event ∷ h) g) ≡ true
+      → holds p (home (event ∷ h) other) ≡ true → ⊥
   not_both other p inside ne mine its = false≢true (sym (c.apart other p inside ne mine) ∙ ap (holds p) (sym (c.moves.homes other ne)) ∙ its)
 
   slot_apart : (q : ℕ) → vcpus_in (vms_of h) ≤ q → q ≢ slot_of x.world.vms g
@@ -216,7 +225,8 @@ module _ (x y : CoreState) (h : History) (event : Event) (g : Vcpu) (c : MoveCha
     ]
     | inr na ↦ elim (cases_Bool (is_vcpu b g)) [
       | inl eb ↦ absurd (not_both a p (was_there a ia) na (own_home b p eb hb) ha)
-      | inr nb ↦ stands.apart a b p (was_there a ia) (was_there b ib) (ap (holds p) (sym (c.moves.homes a na)) ∙ ha) (ap (holds p) (sym (c.moves.homes b nb)) ∙ hb)
+      | inr nb ↦ stands.apart a b p (was_there a ia) (was_there b ib) (ap (holds p) (sym (c.moves.homes a na)) ∙ ha)
+          (ap (holds p) (sym (c.moves.homes b nb)) ∙ hb)
     ]
   ]
 
@@ -224,7 +234,8 @@ module _ (x y : CoreState) (h : History) (event : Event) (g : Vcpu) (c : MoveCha
   moved_becomes =
       let machine = only_accesses x.world y.world c.rest in
       record {
-        keeps = keeps_by x y h event c.moves.plain (built_as x.world y.world y.world.imsic.files y.world.memory x.world.vms y.world.tables x.world.flights y.world.stages y.world.notices c.rest);
+        keeps = keeps_by x y h event c.moves.plain (built_as x.world y.world y.world.imsic.files y.world.memory x.world.vms y.world.tables
+            x.world.flights y.world.stages y.world.notices c.rest);
         vms = machine.vms ∙ stands.vms ∙ sym c.moves.vms;
         count = c.count;
         host = c.host;
@@ -233,7 +244,8 @@ module _ (x y : CoreState) (h : History) (event : Event) (g : Vcpu) (c : MoveCha
           | inl e ↦ subst (VcpuStands y (event ∷ h)) (sym (same_vcpu other g e)) c.own
           | inr ne ↦
               let before = was_there other inside in
-              other_stands x y h event g other c.moves machine ne (c.other_records other before ne) (c.other_views other before ne) (stands.vcpus other before)
+              other_stands x y h event g other c.moves machine ne (c.other_records other before ne) (c.other_views other before ne)
+              (stands.vcpus other before)
         ];
         lease_harts = c.lease_harts;
         lease_guests = c.lease_guests;
@@ -260,4 +272,6 @@ module _ (x y : CoreState) (h : History) (event : Event) (g : Vcpu) (c : MoveCha
 
 pub moved_on : (x y : CoreState) (h : History) (event : Event) (g : Vcpu) → MoveChanges x y h event g → CoreStands x h → CoreStands y (event ∷ h)
 moved_on x y h event g c stands =
-    stands_after x y h event (moved_becomes x y h event g c stands) (flights_stay x y h event c.still (ap (λ (w : World). w.flights) c.rest) stands) (none_passes x y h event c.still.passes c.still.rest c.passes stands) stands
+    stands_after x y h event (moved_becomes x y h event g c stands)
+    (flights_stay x y h event c.still (ap (λ (w : World). w.flights) c.rest) stands)
+    (none_passes x y h event c.still.passes c.still.rest c.passes stands) stands

@@ -47,15 +47,20 @@ use Rattle.aia_hyp_values.proofs.EventLemmas.{by_refusal, refused}
 okay : (h : History) (vm number : ℕ) (want : Want) → accepted_answer h (lines.Begin vm number want) ≡ accepted_answer h (lines.Move vm number want)
 okay h vm number want = refl
 
-served : (r : Option Answer) (h : History) (vm number : ℕ) (want : Want) → line_served r h (lines.Begin vm number want) ≡ move_begun r h (wanted_move (vcpu vm number) want)
+served : (r : Option Answer) (h : History) (vm number : ℕ) (want : Want)
+    → line_served r h (lines.Begin vm number want) ≡ move_begun r h (wanted_move (vcpu vm number) want)
 served (Some word) h vm number want = refl
 served None h vm number want = refl
 
-pub begin_taken : (x y : CoreState) (vm number : ℕ) (want : Want) (given : Answer) → MoveBegins x y vm number want given → CoreTakes x y (lines.Begin vm number want) given
+pub begin_taken : (x y : CoreState) (vm number : ℕ) (want : Want) (given : Answer) → MoveBegins x y vm number want given
+    → CoreTakes x y (lines.Begin vm number want) given
 begin_taken x y vm number want given begins = record {
   answers = λ h stands. begins.answers h stands ∙ answered h (lines.Move vm number want) (refusal h (lines.Move vm number want)) refl
-      ∙ (λ k. unwrap_or (sym (begin_refusal h vm number want) k) (sym (okay h vm number want) k)) ∙ sym (answered h (lines.Begin vm number want) (refusal h (lines.Begin vm number want)) refl);
-  stands = λ h stands. subst (CoreStands y) (sym (ap (λ r. line_served r h (lines.Begin vm number want)) (begin_refusal h vm number want) ∙ served (refusal h (lines.Move vm number want)) h vm number want)) (begins.begins h stands);
+      ∙ (λ k. unwrap_or (sym (begin_refusal h vm number want) k) (sym (okay h vm number want) k))
+      ∙ sym (answered h (lines.Begin vm number want) (refusal h (lines.Begin vm number want)) refl);
+  stands = λ h stands. subst (CoreStands y) (sym
+      (ap (λ r. line_served r h (lines.Begin vm number want)) (begin_refusal h vm number want)
+      ∙ served (refusal h (lines.Move vm number want)) h vm number want)) (begins.begins h stands);
   unchanged = λ h word stands is. begins.unchanged h word stands (sym (begin_refusal h vm number want) ∙ is);
 }
 
@@ -70,23 +75,28 @@ moved_as x g (stays.Moving plan) p = p.3
 is_there : (x : CoreState) (h : History) (who : Found) → CoreStands x h → IsFound x.world who → has_vcpu h (vcpu who.vm who.number) ≡ true
 is_there x h who stands is = subst (λ (vs : List Vm). is_vcpu_in vs (vcpu who.vm who.number) ≡ true) stands.vms is.there
 
-moving_is : (x : CoreState) (h : History) (who : Found) → CoreStands x h → IsFound x.world who → is_moving (home h (vcpu who.vm who.number)) ≡ has_plan (record_of x (vcpu who.vm who.number)).stay
+moving_is : (x : CoreState) (h : History) (who : Found) → CoreStands x h → IsFound x.world who
+    → is_moving (home h (vcpu who.vm who.number)) ≡ has_plan (record_of x (vcpu who.vm who.number)).stay
 moving_is x h who stands is =
     let g = vcpu who.vm who.number in
     let stood = stands.vcpus g (is_there x h who stands is) in
     ap is_moving (sym stood.same_home) ∙ moved_as x g (record_of x g).stay stood.plan
 
-by_home : (x : CoreState) (h : History) (who : Found) → CoreStands x h → IsFound x.world who → refusal h (Step who.vm who.number) ≡ cond (not (has_plan (record_of x (vcpu who.vm who.number)).stay)) (Some (Refused Idle)) None
+by_home : (x : CoreState) (h : History) (who : Found) → CoreStands x h → IsFound x.world who
+    → refusal h (Step who.vm who.number) ≡ cond (not (has_plan (record_of x (vcpu who.vm who.number)).stay)) (Some (Refused Idle)) None
 by_home x h who stands is =
-    step_refusal h who.vm who.number stands.there ∙ cond-false _ _ _ (ap not (is_there x h who stands is)) ∙ ap (λ b. cond (not b) (Some (Refused Idle)) None) (moving_is x h who stands is)
+    step_refusal h who.vm who.number stands.there ∙ cond-false _ _ _ (ap not (is_there x h who stands is))
+    ∙ ap (λ b. cond (not b) (Some (Refused Idle)) None) (moving_is x h who stands is)
 
-pub moved_now : (x : CoreState) (who : Found) → StandsForSome x → IsFound x.world who → has_plan (record_of x (vcpu who.vm who.number)).stay ≡ true → is_moving (home_in (record_of x (vcpu who.vm who.number)).stay) ≡ true
+pub moved_now : (x : CoreState) (who : Found) → StandsForSome x → IsFound x.world who
+    → has_plan (record_of x (vcpu who.vm who.number)).stay ≡ true → is_moving (home_in (record_of x (vcpu who.vm who.number)).stay) ≡ true
 moved_now x who some is planned =
     let g = vcpu who.vm who.number in
     let stood = some.stands.vcpus g (is_there x some.past who some.stands is) in
     moved_as x g (record_of x g).stay stood.plan ∙ planned
 
-pub step_taken : (x y : CoreState) (who : Found) (last : Bool) → IsFound x.world who → has_plan (record_of x (vcpu who.vm who.number)).stay ≡ true → MoveGoes x y (vcpu who.vm who.number) last → CoreTakes x y (Step who.vm who.number) (step_answer last)
+pub step_taken : (x y : CoreState) (who : Found) (last : Bool) → IsFound x.world who → has_plan (record_of x (vcpu who.vm who.number)).stay ≡ true
+    → MoveGoes x y (vcpu who.vm who.number) last → CoreTakes x y (Step who.vm who.number) (step_answer last)
 step_taken x y who last is planned goes = by_refusal x y (Step who.vm who.number) (step_answer last) (λ h stands. (
   None,
   by_home x h who stands is ∙ cond-false _ _ _ (ap not planned),
@@ -95,16 +105,19 @@ step_taken x y who last is planned goes = by_refusal x y (Step who.vm who.number
   λ word e. absurd (none-some word e),
 ))
 
-pub step_idle : (x : CoreState) (who : Found) → IsFound x.world who → has_plan (record_of x (vcpu who.vm who.number)).stay ≡ false → CoreTakes x x (Step who.vm who.number) (Refused Idle)
+pub step_idle : (x : CoreState) (who : Found) → IsFound x.world who → has_plan (record_of x (vcpu who.vm who.number)).stay ≡ false
+    → CoreTakes x x (Step who.vm who.number) (Refused Idle)
 step_idle x who is idle = refused x (Step who.vm who.number) (Refused Idle) (λ h stands. by_home x h who stands is ∙ cond-true _ _ _ (ap not idle))
 
 pub no_step : (x : CoreState) (vm number : ℕ) → is_vcpu_in x.world.vms (vcpu vm number) ≡ false → CoreTakes x x (Step vm number) (Refused Range)
 no_step x vm number outside = refused x (Step vm number) (Refused Range) (λ h stands.
-    step_refusal h vm number stands.there ∙ cond-true _ _ _ (ap not (subst (λ (vs : List Vm). is_vcpu_in vs (vcpu vm number) ≡ false) stands.vms outside)))
+    step_refusal h vm number stands.there ∙ cond-true _ _ _
+    (ap not (subst (λ (vs : List Vm). is_vcpu_in vs (vcpu vm number) ≡ false) stands.vms outside)))
 
 -- ---- what a plan knows
 
-knows : (x : CoreState) (h : History) (g : Vcpu) (plan : PlanState) → CoreStands x h → has_vcpu h g ≡ true → (record_of x g).stay ≡ stays.Moving plan → KnowsIts x h g plan
+knows : (x : CoreState) (h : History) (g : Vcpu) (plan : PlanState) → CoreStands x h → has_vcpu h g ≡ true
+    → (record_of x g).stay ≡ stays.Moving plan → KnowsIts x h g plan
 knows x h g plan stands there is =
     let stood = stands.vcpus g there in
     let planned : PlanStands x.world g (stays.Moving plan) = subst (PlanStands x.world g) is stood.plan in
@@ -133,25 +146,36 @@ knows x h g plan stands there is =
       };
     }
 
-pub knows_after : (x y : CoreState) (line : Line) (given : Answer) (h : History) (g : Vcpu) (plan : PlanState) → CoreTakes x y line given → CoreStands x h → has_vcpu (line_served (refusal h line) h line) g ≡ true → (record_of y g).stay ≡ stays.Moving plan → KnowsIts y (line_served (refusal h line) h line) g plan
+pub knows_after : (x y : CoreState) (line : Line) (given : Answer) (h : History) (g : Vcpu) (plan : PlanState) → CoreTakes x y line given
+    → CoreStands x h → has_vcpu (line_served (refusal h line) h line) g ≡ true → (record_of y g).stay ≡ stays.Moving plan
+    → KnowsIts y (line_served (refusal h line) h line) g plan
 knows_after x y line given h g plan takes stands there is = knows y (line_served (refusal h line) h line) g plan (takes.stands h stands) there is
 
-pub knows_heard : (x y : CoreState) (msi : Msi) (h : History) (g : Vcpu) (plan : PlanState) → CoreHears x y msi → CoreStands x h → MayHappen h (Delivered msi) → has_vcpu (msi_taken msi h) g ≡ true → (record_of y g).stay ≡ stays.Moving plan → KnowsIts y (msi_taken msi h) g plan
+pub knows_heard : (x y : CoreState) (msi : Msi) (h : History) (g : Vcpu) (plan : PlanState) → CoreHears x y msi → CoreStands x h
+    → MayHappen h (Delivered msi) → has_vcpu (msi_taken msi h) g ≡ true → (record_of y g).stay ≡ stays.Moving plan
+    → KnowsIts y (msi_taken msi h) g plan
 knows_heard x y msi h g plan hears stands may there is = knows y (msi_taken msi h) g plan (hears h stands may) there is
 
-pub in_force : (x : CoreState) (h : History) (g : Vcpu) → CoreStands x h → has_vcpu h g ≡ true → (entry_in_force (table_of x.world.tables g.vm) g.number ≡ leads_to (slot_of (vms_of h) g) (notice_hart (vms_of h) g) (in_force_of h g)) × ((stage_of x.world g).in_force ≡ peers_reach (home h g))
+pub in_force : (x : CoreState) (h : History) (g : Vcpu) → CoreStands x h → has_vcpu h g ≡ true
+    → (entry_in_force (table_of x.world.tables g.vm) g.number ≡ leads_to (slot_of (vms_of h) g) (notice_hart (vms_of h) g) (in_force_of h g))
+    × ((stage_of x.world g).in_force ≡ peers_reach (home h g))
 in_force x h g stands there = let routes = (stands.vcpus g there).holds.routes in (routes.in_force, routes.stage_in_force)
 
 -- ---- what is so of a step that is not refused
 
-pub step_unrefused : (x : CoreState) (h : History) (who : Found) (taken refused : Type 0) → CoreStands x h → IsFound x.world who → has_plan (record_of x (vcpu who.vm who.number)).stay ≡ true → taken → UnlessRefused (refusal h (Step who.vm who.number)) taken refused
+pub step_unrefused : (x : CoreState) (h : History) (who : Found) (taken refused : Type 0) → CoreStands x h → IsFound x.world who
+    → has_plan (record_of x (vcpu who.vm who.number)).stay ≡ true → taken → UnlessRefused (refusal h (Step who.vm who.number)) taken refused
 step_unrefused x h who taken refused stands is planned so =
     subst (λ (o : Option Answer). UnlessRefused o taken refused) (sym (by_home x h who stands is ∙ cond-false _ _ _ (ap not planned))) so
 
-pub step_refused : (x : CoreState) (h : History) (who : Found) (taken refused : Type 0) → CoreStands x h → IsFound x.world who → has_plan (record_of x (vcpu who.vm who.number)).stay ≡ false → refused → UnlessRefused (refusal h (Step who.vm who.number)) taken refused
+pub step_refused : (x : CoreState) (h : History) (who : Found) (taken refused : Type 0) → CoreStands x h → IsFound x.world who
+    → has_plan (record_of x (vcpu who.vm who.number)).stay ≡ false → refused → UnlessRefused (refusal h (Step who.vm who.number)) taken refused
 step_refused x h who taken refused stands is idle so =
     subst (λ (o : Option Answer). UnlessRefused o taken refused) (sym (by_home x h who stands is ∙ cond-true _ _ _ (ap not idle))) so
 
-pub step_of_none : (x : CoreState) (h : History) (vm number : ℕ) (taken refused : Type 0) → CoreStands x h → is_vcpu_in x.world.vms (vcpu vm number) ≡ false → refused → UnlessRefused (refusal h (Step vm number)) taken refused
+pub step_of_none : (x : CoreState) (h : History) (vm number : ℕ) (taken refused : Type 0) → CoreStands x h
+    → is_vcpu_in x.world.vms (vcpu vm number) ≡ false → refused → UnlessRefused (refusal h (Step vm number)) taken refused
 step_of_none x h vm number taken refused stands outside so =
-    subst (λ (o : Option Answer). UnlessRefused o taken refused) (sym (step_refusal h vm number stands.there ∙ cond-true _ _ _ (ap not (subst (λ (vs : List Vm). is_vcpu_in vs (vcpu vm number) ≡ false) stands.vms outside)))) so
+    subst (λ (o : Option Answer). UnlessRefused o taken refused)
+    (sym (step_refusal h vm number stands.there ∙ cond-true _ _ _
+    (ap not (subst (λ (vs : List Vm). is_vcpu_in vs (vcpu vm number) ≡ false) stands.vms outside)))) so

@@ -108,13 +108,15 @@ module _ (x y : CoreState) (h : History) (g : Vcpu) (plan : PlanState) (r : Vcpu
 
   pub within : IsWithin x.world.n (width x.world) (guest_file h g)
   within =
-      let greatest : is_greatest_identity (greatest_identity_of h) ≡ true = subst (λ n. is_greatest_identity n ≡ true) s.stands.greatest s.whole.greatest in
+      let greatest : is_greatest_identity (greatest_identity_of h) ≡ true =
+      subst (λ n. is_greatest_identity n ≡ true) s.stands.greatest s.whole.greatest in
       subst (λ n. IsWithin n ((n + 1) / 64) (guest_file h g)) (sym s.stands.greatest) (guest_within h g greatest)
 
   same_hand : (moving_of plan).hand ≡ hand_in (record_of x g).stay
   same_hand = ap hand_in (sym s.was)
 
-  pub held : Holds (width x.world) (moving_of plan).who.found.slot (moving_of plan).who.found.notice (in_force_of h g) (places_of x.world (mover (moving_of plan)) (moving_of plan).home) (moving_of plan).home (moving_of plan).hand (guest_file h g) (a_look_saw h g)
+  pub held : Holds (width x.world) (moving_of plan).who.found.slot (moving_of plan).who.found.notice (in_force_of h g)
+      (places_of x.world (mover (moving_of plan)) (moving_of plan).home) (moving_of plan).home (moving_of plan).hand (guest_file h g) (a_look_saw h g)
   held = subst IsHeld (λ k. record {
     words = sym same_words k;
     slot = sym same_slot k;
@@ -147,7 +149,8 @@ module _ (x y : CoreState) (h : History) (g : Vcpu) (plan : PlanState) (r : Vcpu
   count = count_sent sent x.world y.world m g touches ∙ ap (λ o. count_after o x.world.notices) (sym who_is)
 
   host : (f : FileName) → IsThere x.world.imsic (host_spot f) → FileDone x y f (notice_deed h f (noticed h (Stepped g)))
-  host f inside = subst (λ o. FileDone x y f (notice_deed h f o)) (sym who_is) (host_sent x y h m g same_notice same_slot s.selects sent f touches inside)
+  host f inside = subst (λ o. FileDone x y f (notice_deed h f o)) (sym who_is)
+      (host_sent x y h m g same_notice same_slot s.selects sent f touches inside)
 
   -- ---- all else
 
@@ -164,19 +167,22 @@ module _ (x y : CoreState) (h : History) (g : Vcpu) (plan : PlanState) (r : Vcpu
   is_other other ne e = false≢true (sym ne ∙ ap (λ z. is_vcpu z g) (e ∙ is_mover) ∙ is_itself g)
 
   -- a file that another holds is not its own
-  pub its_alone : (other : Vcpu) (p : GuestPlace) → has_vcpu h other ≡ true → is_vcpu other g ≡ false → holds p (home h g) ≡ true → holds p (home h other) ≡ false
+  pub its_alone : (other : Vcpu) (p : GuestPlace) → has_vcpu h other ≡ true → is_vcpu other g ≡ false → holds p (home h g) ≡ true
+      → holds p (home h other) ≡ false
   its_alone other p inside ne mine = elim (cases_Bool (holds p (home h other))) [
     | inl its ↦ absurd (false≢true (sym ne ∙ ap (λ z. is_vcpu z g) (s.stands.apart other g p inside s.there its mine) ∙ is_itself g))
     | inr none ↦ none
   ]
 
-  not_its : (other : Vcpu) (p : GuestPlace) → has_vcpu h other ≡ true → is_vcpu other g ≡ false → holds p (home h other) ≡ true → holds p (moving_of plan).home ≡ false
+  not_its : (other : Vcpu) (p : GuestPlace) → has_vcpu h other ≡ true → is_vcpu other g ≡ false → holds p (home h other) ≡ true
+      → holds p (moving_of plan).home ≡ false
   not_its other p inside ne its = elim (cases_Bool (holds p m.home)) [
     | inl mine ↦ absurd (false≢true (sym (its_alone other p inside ne (ap (holds p) (sym same_home) ∙ mine)) ∙ its))
     | inr none ↦ none
   ]
 
-  other_views : (other : Vcpu) → has_vcpu h other ≡ true → is_vcpu other g ≡ false → places_of y.world other (home h other) ≡ places_of x.world other (home h other)
+  other_views : (other : Vcpu) → has_vcpu h other ≡ true → is_vcpu other g ≡ false
+      → places_of y.world other (home h other) ≡ places_of x.world other (home h other)
   other_views other inside ne =
       view_stays sent x.world y.world m other (home h other) s.whole fits touches (inside_world other inside) (is_other other ne)
       (λ p its. (s.stands.held other p inside its, not_its other p inside ne its))
@@ -189,9 +195,11 @@ module _ (x y : CoreState) (h : History) (g : Vcpu) (plan : PlanState) (r : Vcpu
     pub lease_guests : y.leases.guests ≡ x.leases.guests
     pub lease_count : length y.leases.out ≡ length x.leases.out
     pub leases : (q : GuestPlace) → IsThere x.world.imsic (spot_of q) → is_out y.leases q ≡ is_held (Stepped g ∷ h) q
-    pub left : (q : GuestPlace) → IsThere x.world.imsic (spot_of q) → holds q (home h g) ≡ true → holds q (home (Stepped g ∷ h) g) ≡ false → shown (file_at y.world.imsic (spot_of q)) ≡ empty_file (greatest_identity_of h)
+    pub left : (q : GuestPlace) → IsThere x.world.imsic (spot_of q) → holds q (home h g) ≡ true → holds q (home (Stepped g ∷ h) g) ≡ false
+        → shown (file_at y.world.imsic (spot_of q)) ≡ empty_file (greatest_identity_of h)
 
-  free : StepEnds → (q : GuestPlace) → IsThere x.world.imsic (spot_of q) → is_held (Stepped g ∷ h) q ≡ false → shown (file_at y.world.imsic (spot_of q)) ≡ empty_file (greatest_identity_of h)
+  free : StepEnds → (q : GuestPlace) → IsThere x.world.imsic (spot_of q) → is_held (Stepped g ∷ h) q ≡ false
+      → shown (file_at y.world.imsic (spot_of q)) ≡ empty_file (greatest_identity_of h)
   free e q inside none = elim (cases_Bool (holds q (home h g))) [
     | inl mine ↦ e.left q inside mine after
     | inr not_mine ↦
@@ -235,5 +243,6 @@ pub stepped_home : (h : History) (g : Vcpu) → home (Stepped g ∷ h) g ≡ fur
 stepped_home h g = home_step (Stepped g) h g ∙ cond-true _ _ _ (is_itself g)
 
 -- after one that aims no passed source
-pub unaimed_home : (h : History) (g : Vcpu) → is_aiming (passes_for h g) (home h g) ≡ false → home (Stepped g ∷ h) g ≡ stepped (file_words h) (home h g)
+pub unaimed_home : (h : History) (g : Vcpu) → is_aiming (passes_for h g) (home h g) ≡ false
+    → home (Stepped g ∷ h) g ≡ stepped (file_words h) (home h g)
 unaimed_home h g e = stepped_home h g ∙ further_on (passes_for h g) (file_words h) (home h g) e

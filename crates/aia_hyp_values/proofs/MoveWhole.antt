@@ -70,7 +70,8 @@ pub record IsAt (move : WantedMove) (passes i : ℕ) (there : Home) : Type 0 whe
   pub count : steps_done there + aims_done there ≡ i
   pub few : aims_done there ≤ passes
 
-last_at : (move : WantedMove) (passes i : ℕ) (there : Home) (words : ℕ) → AreAimed passes there → IsAt move passes i there → is_at_last words there ≡ true → i + 1 ≡ steps_of words move + passes
+last_at : (move : WantedMove) (passes i : ℕ) (there : Home) (words : ℕ) → AreAimed passes there → IsAt move passes i there
+    → is_at_last words there ≡ true → i + 1 ≡ steps_of words move + passes
 last_at move passes i (OnWay way at) words aimed is last =
     let end : at.steps + 1 ≡ plan_steps (old_end way) (new_end way) words = eqb-true _ _ last in
     let far = not_the_last way words in
@@ -80,15 +81,18 @@ last_at move passes i (OnWay way at) words aimed is last =
     omega (arith, end, most, few, count, same)
 last_at move passes i there words aimed is last = absurd is.on
 
-on_aimed : (move : WantedMove) (there : Home) → IsOn move there → IsOn move (aimed there) × (steps_done (aimed there) ≡ steps_done there) × (aims_done (aimed there) ≡ suc (aims_done there))
+on_aimed : (move : WantedMove) (there : Home) → IsOn move there → IsOn move (aimed there) × (steps_done (aimed there) ≡ steps_done there)
+    × (aims_done (aimed there) ≡ suc (aims_done there))
 on_aimed move (OnWay way at) on = (on, refl, omega arith)
 on_aimed move there on = absurd on
 
-on_more : (move : WantedMove) (there : Home) → IsOn move there → IsOn move (one_more there) × (steps_done (one_more there) ≡ suc (steps_done there)) × (aims_done (one_more there) ≡ aims_done there)
+on_more : (move : WantedMove) (there : Home) → IsOn move there → IsOn move (one_more there)
+    × (steps_done (one_more there) ≡ suc (steps_done there)) × (aims_done (one_more there) ≡ aims_done there)
 on_more move (OnWay way at) on = (on, omega arith, refl)
 on_more move there on = absurd on
 
-next_at : (move : WantedMove) (passes i words : ℕ) (there : Home) → IsAt move passes i there → is_at_last words there ≡ false → IsAt move passes (suc i) (further passes words there)
+next_at : (move : WantedMove) (passes i words : ℕ) (there : Home) → IsAt move passes i there → is_at_last words there ≡ false
+    → IsAt move passes (suc i) (further passes words there)
 next_at move passes i words there is more = by_aim (is_aiming passes there) refl
   where
     by_aim : (b : Bool) → is_aiming passes there ≡ b → IsAt move passes (suc i) (further passes words there)
@@ -109,11 +113,13 @@ moving_at move there e = absurd e
 -- ---- it begins where its line is not refused
 
 -- a word that comes first is not the answer
-passed : (b : Bool) (word : Refusal) (later : Option Answer) → Okay ≡ unwrap_or (cond b (Some (Refused word)) later) Okay → (b ≡ false) × (Okay ≡ unwrap_or later Okay)
+passed : (b : Bool) (word : Refusal) (later : Option Answer) → Okay ≡ unwrap_or (cond b (Some (Refused word)) later) Okay → (b ≡ false)
+    × (Okay ≡ unwrap_or later Okay)
 passed true word later e = absurd (cc)
 passed false word later e = (refl, e)
 
-passed_parked : (there : Home) (later : Option Answer) → Okay ≡ unwrap_or (unless_parked there later) Okay → (there ≡ InMemory Parked) × (Okay ≡ unwrap_or later Okay)
+passed_parked : (there : Home) (later : Option Answer) → Okay ≡ unwrap_or (unless_parked there later) Okay → (there ≡ InMemory Parked)
+    × (Okay ≡ unwrap_or later Okay)
 passed_parked (InMemory Parked) later e = (refl, e)
 passed_parked there later e = absurd (cc)
 
@@ -130,16 +136,19 @@ module _ (h : History) (vm number : ℕ) (machine : has_machine h ≡ true) wher
   abbrev its : Home
   its = home h (vcpu vm number)
 
-  accepts : (want : Want) → refusal h (lines.Move vm number want) ≡ None → Accepts h (refusal h (lines.Move vm number want)) (wanted_move (vcpu vm number) want) (vcpu vm number)
+  accepts : (want : Want) → refusal h (lines.Move vm number want) ≡ None
+      → Accepts h (refusal h (lines.Move vm number want)) (wanted_move (vcpu vm number) want) (vcpu vm number)
   accepts want e =
       let move = wanted_move (vcpu vm number) want in
       let first = begun h vm number want e in
       record {
         accepted = e;
-        begun = subst (IsAt move (passes_for h (vcpu vm number)) 0) (sym first.at_home) (record { on = first.steps; count = refl; few = omega arith });
+        begun = subst (IsAt move (passes_for h (vcpu vm number)) 0) (sym first.at_home)
+            (record { on = first.steps; count = refl; few = omega arith });
       }
 
-  leave_accepts : Okay ≡ unwrap_or (refusal h (lines.Move vm number wants.Leave)) Okay → Accepts h (refusal h (lines.Move vm number wants.Leave)) (Leaves (vcpu vm number)) (vcpu vm number)
+  leave_accepts : Okay ≡ unwrap_or (refusal h (lines.Move vm number wants.Leave)) Okay
+      → Accepts h (refusal h (lines.Move vm number wants.Leave)) (Leaves (vcpu vm number)) (vcpu vm number)
   leave_accepts e =
       let is = leave_refusal h vm number machine in
       let range = passed (not (has_vcpu h (vcpu vm number))) words.Range _ (e ∙ ap (λ o. unwrap_or o Okay) is) in
@@ -147,15 +156,19 @@ module _ (h : History) (vm number : ℕ) (machine : has_machine h ≡ true) wher
       let parked = passed (rests_in_memory its) words.Parked None busy.1 in
       accepts wants.Leave (is ∙ cond-false _ _ _ range.0 ∙ cond-false _ _ _ busy.0 ∙ cond-false _ _ _ parked.0)
 
-  arrive_accepts : (hart : ℕ) → Okay ≡ unwrap_or (refusal h (lines.Move vm number (wants.Arrive hart))) Okay → Accepts h (refusal h (lines.Move vm number (wants.Arrive hart))) (Arrives (vcpu vm number) hart) (vcpu vm number)
+  arrive_accepts : (hart : ℕ) → Okay ≡ unwrap_or (refusal h (lines.Move vm number (wants.Arrive hart))) Okay
+      → Accepts h (refusal h (lines.Move vm number (wants.Arrive hart))) (Arrives (vcpu vm number) hart) (vcpu vm number)
   arrive_accepts hart e =
       let is = arrive_refusal h vm number hart machine in
       let range = passed (not (has_vcpu h (vcpu vm number) && has_hart h hart)) words.Range _ (e ∙ ap (λ o. unwrap_or o Okay) is) in
       let parked = passed_parked its _ range.1 in
       let full = passed (is_none (free_file h (home h) hart)) words.NoFile None parked.1 in
-      accepts (wants.Arrive hart) (is ∙ cond-false _ _ _ range.0 ∙ ap (λ t. unless_parked t (cond (is_none (free_file h (home h) hart)) (Some (Refused words.NoFile)) None)) parked.0 ∙ cond-false _ _ _ full.0)
+      accepts (wants.Arrive hart) (is ∙ cond-false _ _ _ range.0
+      ∙ ap (λ t. unless_parked t (cond (is_none (free_file h (home h) hart)) (Some (Refused words.NoFile)) None)) parked.0
+      ∙ cond-false _ _ _ full.0)
 
-  shift_accepts : (hart : ℕ) → Okay ≡ unwrap_or (refusal h (lines.Move vm number (wants.Shift hart))) Okay → Accepts h (refusal h (lines.Move vm number (wants.Shift hart))) (Shifts (vcpu vm number) hart) (vcpu vm number)
+  shift_accepts : (hart : ℕ) → Okay ≡ unwrap_or (refusal h (lines.Move vm number (wants.Shift hart))) Okay
+      → Accepts h (refusal h (lines.Move vm number (wants.Shift hart))) (Shifts (vcpu vm number) hart) (vcpu vm number)
   shift_accepts hart e =
       let is = shift_refusal h vm number hart machine in
       let range = passed (not (has_vcpu h (vcpu vm number) && has_hart h hart)) words.Range _ (e ∙ ap (λ o. unwrap_or o Okay) is) in
@@ -167,7 +180,8 @@ module _ (h : History) (vm number : ℕ) (machine : has_machine h ≡ true) wher
   answer_is : (want : Want) → answer h (lines.Move vm number want) ≡ unwrap_or (refusal h (lines.Move vm number want)) Okay
   answer_is want = answered h (lines.Move vm number want) _ refl
 
-  pub okay_accepts : (want : Want) → Okay ≡ answer h (lines.Move vm number want) → Accepts h (refusal h (lines.Move vm number want)) (wanted_move (vcpu vm number) want) (vcpu vm number)
+  pub okay_accepts : (want : Want) → Okay ≡ answer h (lines.Move vm number want)
+      → Accepts h (refusal h (lines.Move vm number want)) (wanted_move (vcpu vm number) want) (vcpu vm number)
   okay_accepts wants.Leave e = leave_accepts (e ∙ answer_is wants.Leave)
   okay_accepts (wants.Arrive hart) e = arrive_accepts hart (e ∙ answer_is (wants.Arrive hart))
   okay_accepts (wants.Shift hart) e = shift_accepts hart (e ∙ answer_is (wants.Shift hart))
@@ -175,11 +189,13 @@ module _ (h : History) (vm number : ℕ) (machine : has_machine h ≡ true) wher
 -- ---- the loop
 
 -- Some steps of the move are done, and it is not at its end; and each has aimed what it aims.
-pub record UnderWay {T : Type 0} (aim : T → ℕ → ℕ → T → Type 0) (now : CoreState) (told told_now : T) (h : History) (vm number : ℕ) (want : Want) : Type 0 where
+pub record UnderWay {T : Type 0} (aim : T → ℕ → ℕ → T → Type 0) (now : CoreState) (told told_now : T) (h : History) (vm number : ℕ)
+    (want : Want) : Type 0 where
   pub accepted : refusal h (lines.Move vm number want) ≡ None
   pub steps : ℕ
   pub stands : CoreStands now (steps_taken steps (vcpu vm number) (Began (wanted_move (vcpu vm number) want) ∷ h))
-  pub is_at : IsAt (wanted_move (vcpu vm number) want) (passes_for h (vcpu vm number)) steps (home (steps_taken steps (vcpu vm number) (Began (wanted_move (vcpu vm number) want) ∷ h)) (vcpu vm number))
+  pub is_at : IsAt (wanted_move (vcpu vm number) want) (passes_for h (vcpu vm number)) steps
+      (home (steps_taken steps (vcpu vm number) (Began (wanted_move (vcpu vm number) want) ∷ h)) (vcpu vm number))
   pub aims : StepsAim aim steps (vcpu vm number) (Began (wanted_move (vcpu vm number) want) ∷ h) told told_now
 
 pub record SoFar {T : Type 0} (aim : T → ℕ → ℕ → T → Type 0) (old now : CoreState) (told told_now : T) (who : Found) (want : Want) : Type 0 where
@@ -191,7 +207,8 @@ none_by_begin : (h : History) (move : WantedMove) (g : Vcpu) → passes_for (Beg
 unfolding passes_of
 none_by_begin h move g = refl
 
-pub first_step : {T : Type 0} (aim : T → ℕ → ℕ → T → Type 0) (told : T) (old now : CoreState) (who : Found) (want : Want) → MoveBegins old now who.vm who.number want Okay → StandsForSome old → IsFound now.world who → SoFar aim old now told told who want
+pub first_step : {T : Type 0} (aim : T → ℕ → ℕ → T → Type 0) (told : T) (old now : CoreState) (who : Found) (want : Want)
+    → MoveBegins old now who.vm who.number want Okay → StandsForSome old → IsFound now.world who → SoFar aim old now told told who want
 first_step {T} aim told old now who want begins some is =
     let g = vcpu who.vm who.number in
     let way = λ (h : History) (stands : CoreStands old h). (
@@ -205,12 +222,16 @@ first_step {T} aim told old now who want begins some is =
     } in u) in
     record {
       is_who = is;
-      moving = let u = way some.past some.stands in ap is_moving (u.stands.vcpus g (subst (λ (vs : List Vm). is_vcpu_in vs g ≡ true) u.stands.vms is.there)).same_home ∙ moving_at (wanted_move g want) _ u.is_at.on;
+      moving = let u = way some.past some.stands in ap is_moving
+          (u.stands.vcpus g (subst (λ (vs : List Vm). is_vcpu_in vs g ≡ true) u.stands.vms is.there)).same_home
+          ∙ moving_at (wanted_move g want) _ u.is_at.on;
       under = way;
     }
 
-pub next_step : {T : Type 0} (aim : T → ℕ → ℕ → T → Type 0) (told told_now told_later : T) (old now later : CoreState) (who : Found) (want : Want) → SoFar aim old now told told_now who want → MoveGoes now later (vcpu who.vm who.number) false
-    → ((h : History) → CoreStands now h → AimsBy aim (aimed_by h (Stepped (vcpu who.vm who.number))) told_now told_later) → IsFound later.world who → SoFar aim old later told told_later who want
+pub next_step : {T : Type 0} (aim : T → ℕ → ℕ → T → Type 0) (told told_now told_later : T) (old now later : CoreState) (who : Found) (want : Want)
+    → SoFar aim old now told told_now who want → MoveGoes now later (vcpu who.vm who.number) false
+    → ((h : History) → CoreStands now h → AimsBy aim (aimed_by h (Stepped (vcpu who.vm who.number))) told_now told_later)
+    → IsFound later.world who → SoFar aim old later told told_later who want
 next_step {T} aim told told_now told_later old now later who want so_far goes aims is =
     let g = vcpu who.vm who.number in
     record {
@@ -226,7 +247,8 @@ next_step {T} aim told told_now told_later old now later who want so_far goes ai
             steps = suc u.steps;
             stands = subst (CoreStands later) (sym (one_step_more u.steps g begun)) (goes.stands past u.stands);
             is_at = subst (λ (x : History). IsAt (wanted_move g want) (passes_for h g) (suc u.steps) (home x g)) (sym (one_step_more u.steps g begun))
-                (subst (IsAt (wanted_move g want) (passes_for h g) (suc u.steps)) (sym (home_stepped g past ∙ ap (λ n. further n (file_words past) (home past g)) same))
+                (subst (IsAt (wanted_move g want) (passes_for h g) (suc u.steps))
+                (sym (home_stepped g past ∙ ap (λ n. further n (file_words past) (home past g)) same))
                 (next_at (wanted_move g want) (passes_for h g) u.steps (file_words past) (home past g) u.is_at (sym (goes.at_last past u.stands))));
             aims = (told_now, u.aims, aims past u.stands);
           };
@@ -234,13 +256,17 @@ next_step {T} aim told told_now told_later old now later who want so_far goes ai
 
 -- ---- the end
 
-whole_line : (h : History) (vm number : ℕ) (want : Want) → line_taken h (lines.Move vm number want) ≡ steps_taken (steps_of (file_words h) (wanted_move (vcpu vm number) want) + passes_for h (vcpu vm number)) (vcpu vm number) (Began (wanted_move (vcpu vm number) want) ∷ h)
+whole_line : (h : History) (vm number : ℕ) (want : Want)
+    → line_taken h (lines.Move vm number want) ≡ steps_taken
+    (steps_of (file_words h) (wanted_move (vcpu vm number) want) + passes_for h (vcpu vm number)) (vcpu vm number)
+    (Began (wanted_move (vcpu vm number) want) ∷ h)
 whole_line h vm number wants.Leave = refl
 whole_line h vm number (wants.Arrive hart) = refl
 whole_line h vm number (wants.Shift hart) = refl
 
 -- all its steps are then done
-full_count : {T : Type 0} (aim : T → ℕ → ℕ → T → Type 0) (told told_now : T) (now later : CoreState) (h : History) (who : Found) (want : Want) → MoveGoes now later (vcpu who.vm who.number) true → (u : UnderWay aim now told told_now h who.vm who.number want)
+full_count : {T : Type 0} (aim : T → ℕ → ℕ → T → Type 0) (told told_now : T) (now later : CoreState) (h : History) (who : Found) (want : Want)
+    → MoveGoes now later (vcpu who.vm who.number) true → (u : UnderWay aim now told told_now h who.vm who.number want)
     → suc u.steps ≡ steps_of (file_words h) (wanted_move (vcpu who.vm who.number) want) + passes_for h (vcpu who.vm who.number)
 full_count {T} aim told told_now now later h who want goes u =
     let g = vcpu who.vm who.number in
@@ -253,25 +279,32 @@ full_count {T} aim told told_now now later h who want goes u =
     let words = ap (λ w. steps_of w move) (same_width u.steps g begun) in
     omega (arith, full, words)
 
-pub all_steps : {T : Type 0} (aim : T → ℕ → ℕ → T → Type 0) (told told_now : T) (old now later : CoreState) (who : Found) (want : Want) → SoFar aim old now told told_now who want → MoveGoes now later (vcpu who.vm who.number) true → CoreTakes old later (lines.Move who.vm who.number want) Okay
+pub all_steps : {T : Type 0} (aim : T → ℕ → ℕ → T → Type 0) (told told_now : T) (old now later : CoreState) (who : Found) (want : Want)
+    → SoFar aim old now told told_now who want → MoveGoes now later (vcpu who.vm who.number) true
+    → CoreTakes old later (lines.Move who.vm who.number want) Okay
 all_steps {T} aim told told_now old now later who want so_far goes =
     let g = vcpu who.vm who.number in
     let line = lines.Move who.vm who.number want in
     let move = wanted_move g want in
     record {
-      answers = λ h stands. let u = so_far.under h stands in ap (λ o. unwrap_or o Okay) (sym u.accepted) ∙ sym (answer_is h who.vm who.number stands.there want);
+      answers = λ h stands. let u = so_far.under h stands in ap (λ o. unwrap_or o Okay) (sym u.accepted)
+          ∙ sym (answer_is h who.vm who.number stands.there want);
       stands = λ h stands.
           let u = so_far.under h stands in
           let past = steps_taken u.steps g (Began move ∷ h) in
           let count = full_count aim told told_now now later h who want goes u in
-          let whole : step_taken g past ≡ line_taken h line = sym (one_step_more u.steps g (Began move ∷ h)) ∙ ap (λ n. steps_taken n g (Began move ∷ h)) count ∙ sym (whole_line h who.vm who.number want) in
-          subst (λ (o : Option Answer). CoreStands later (line_served o h line)) (sym u.accepted) (subst (CoreStands later) whole (goes.stands past u.stands));
+          let whole : step_taken g past ≡ line_taken h line = sym (one_step_more u.steps g (Began move ∷ h))
+          ∙ ap (λ n. steps_taken n g (Began move ∷ h)) count ∙ sym (whole_line h who.vm who.number want) in
+          subst (λ (o : Option Answer). CoreStands later (line_served o h line)) (sym u.accepted)
+          (subst (CoreStands later) whole (goes.stands past u.stands));
       unchanged = λ h word stands is. let u = so_far.under h stands in absurd (none-some word (sym u.accepted ∙ is));
     }
 
 -- and all is aimed that they aim
-pub all_aims : {T : Type 0} (aim : T → ℕ → ℕ → T → Type 0) (told told_now told_later : T) (old now later : CoreState) (who : Found) (want : Want) → SoFar aim old now told told_now who want → MoveGoes now later (vcpu who.vm who.number) true
-    → ((h : History) → CoreStands now h → AimsBy aim (aimed_by h (Stepped (vcpu who.vm who.number))) told_now told_later) → (h : History) → CoreStands old h
+pub all_aims : {T : Type 0} (aim : T → ℕ → ℕ → T → Type 0) (told told_now told_later : T) (old now later : CoreState) (who : Found) (want : Want)
+    → SoFar aim old now told told_now who want → MoveGoes now later (vcpu who.vm who.number) true
+    → ((h : History) → CoreStands now h → AimsBy aim (aimed_by h (Stepped (vcpu who.vm who.number))) told_now told_later) → (h : History)
+    → CoreStands old h
     → UnlessRefused (refusal h (lines.Move who.vm who.number want)) (WholeAims aim h who.vm who.number want told told_later) (told_later ≡ told)
 all_aims {T} aim told told_now told_later old now later who want so_far goes aims h stands =
     let g = vcpu who.vm who.number in
@@ -283,25 +316,32 @@ all_aims {T} aim told told_now told_later old now later who want so_far goes aim
 
 -- ---- it is refused
 
-pub refused_whole : (x y : CoreState) (vm number : ℕ) (want : Want) (word : Refusal) → MoveBegins x y vm number want (Refused word) → CoreTakes x y (lines.Move vm number want) (Refused word)
+pub refused_whole : (x y : CoreState) (vm number : ℕ) (want : Want) (word : Refusal) → MoveBegins x y vm number want (Refused word)
+    → CoreTakes x y (lines.Move vm number want) (Refused word)
 refused_whole x y vm number want word begins = record {
   answers = begins.answers;
   stands = λ h stands. by_refusal h stands (refusal h (lines.Move vm number want)) refl;
   unchanged = begins.unchanged;
 }
   where
-    by_refusal : (h : History) → CoreStands x h → (r : Option Answer) → refusal h (lines.Move vm number want) ≡ r → CoreStands y (line_served (refusal h (lines.Move vm number want)) h (lines.Move vm number want))
+    by_refusal : (h : History) → CoreStands x h → (r : Option Answer) → refusal h (lines.Move vm number want) ≡ r
+        → CoreStands y (line_served (refusal h (lines.Move vm number want)) h (lines.Move vm number want))
     by_refusal h stands None e =
-        let bad : Refused word ≡ Okay = begins.answers h stands ∙ answer_is h vm number stands.there want ∙ ap (λ o. unwrap_or o Okay) e in absurd (cc)
+        let bad : Refused word ≡ Okay = begins.answers h stands ∙ answer_is h vm number stands.there want
+        ∙ ap (λ o. unwrap_or o Okay) e in absurd (cc)
     by_refusal h stands (Some w) e =
-        subst (λ (o : Option Answer). CoreStands y (line_served o h (lines.Move vm number want))) (sym e) (subst (λ (o : Option Answer). CoreStands y (move_begun o h (wanted_move (vcpu vm number) want))) e (begins.begins h stands))
+        subst (λ (o : Option Answer). CoreStands y (line_served o h (lines.Move vm number want))) (sym e)
+        (subst (λ (o : Option Answer). CoreStands y (move_begun o h (wanted_move (vcpu vm number) want))) e (begins.begins h stands))
 
 -- and nothing is aimed
-pub none_aims : {T : Type 0} (aim : T → ℕ → ℕ → T → Type 0) (told : T) (x y : CoreState) (vm number : ℕ) (want : Want) (word : Refusal) → MoveBegins x y vm number want (Refused word) → (h : History) → CoreStands x h
+pub none_aims : {T : Type 0} (aim : T → ℕ → ℕ → T → Type 0) (told : T) (x y : CoreState) (vm number : ℕ) (want : Want) (word : Refusal)
+    → MoveBegins x y vm number want (Refused word) → (h : History) → CoreStands x h
     → UnlessRefused (refusal h (lines.Move vm number want)) (WholeAims aim h vm number want told told) (told ≡ told)
 none_aims {T} aim told x y vm number want word begins h stands = by_refusal (refusal h (lines.Move vm number want)) refl
   where
-    by_refusal : (r : Option Answer) → refusal h (lines.Move vm number want) ≡ r → UnlessRefused (refusal h (lines.Move vm number want)) (WholeAims aim h vm number want told told) (told ≡ told)
+    by_refusal : (r : Option Answer) → refusal h (lines.Move vm number want) ≡ r
+        → UnlessRefused (refusal h (lines.Move vm number want)) (WholeAims aim h vm number want told told) (told ≡ told)
     by_refusal None e =
-        let bad : Refused word ≡ Okay = begins.answers h stands ∙ answer_is h vm number stands.there want ∙ ap (λ o. unwrap_or o Okay) e in absurd (cc)
+        let bad : Refused word ≡ Okay = begins.answers h stands ∙ answer_is h vm number stands.there want
+        ∙ ap (λ o. unwrap_or o Okay) e in absurd (cc)
     by_refusal (Some w) e = subst (λ (o : Option Answer). UnlessRefused o (WholeAims aim h vm number want told told) (told ≡ told)) (sym e) refl

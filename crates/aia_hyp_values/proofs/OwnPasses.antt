@@ -39,7 +39,8 @@ own_length n g (x ∷ xs) = elim (cases_Bool (is_vcpu x.to g)) [
 -- the r-th of them is the pass of the r-th of their numbers
 abbrev IsNth : ℕ → Vcpu → List PassedSource → ℕ → ℕ → Type 0
 IsNth n g xs r k = (slice_index_or (numbers_to g n xs) r 0 ≡ n + k)
-    × (slice_index_or (own_passes n g xs) r targets.no_pass ≡ record { source = (slice_index_or xs k no_pass).source; identity = (slice_index_or xs k no_pass).identity; number = n + k })
+    × (slice_index_or (own_passes n g xs) r targets.no_pass ≡ record
+    { source = (slice_index_or xs k no_pass).source; identity = (slice_index_or xs k no_pass).identity; number = n + k })
 
 own_nth : (n : ℕ) (g : Vcpu) (xs : List PassedSource) (r : ℕ) → r < passes_to g xs → (k : ℕ) × IsNth n g xs r k
 own_nth n g [] r low = absurd (omega (arith, low))
@@ -48,32 +49,62 @@ own_nth n g (x ∷ xs) r low = by_own (is_vcpu x.to g) refl r low (own_nth (suc 
     moved : (k : ℕ) → suc n + k ≡ n + suc k
     moved k = omega arith
 
-    by_own : (b : Bool) → is_vcpu x.to g ≡ b → (r : ℕ) → r < cond b (suc (passes_to g xs)) (passes_to g xs) → ((r : ℕ) → r < passes_to g xs → (k : ℕ) × IsNth (suc n) g xs r k) → (k : ℕ) × IsNth n g (x ∷ xs) r k
+    by_own : (b : Bool) → is_vcpu x.to g ≡ b → (r : ℕ) → r < cond b (suc (passes_to g xs)) (passes_to g xs)
+        → ((r : ℕ) → r < passes_to g xs → (k : ℕ) × IsNth (suc n) g xs r k) → (k : ℕ) × IsNth n g (x ∷ xs) r k
     by_own true e zero low later = rw e (0, (omega arith, ap (λ m. record { source = x.source; identity = x.identity; number = m }) (omega arith)))
     by_own true e (suc r) low later =
         let found = later r (omega (arith, low)) in
-        rw e (suc found.0, (found.1.0 ∙ moved found.0, found.1.1 ∙ ap (λ m. record { source = (slice_index_or xs found.0 no_pass).source; identity = (slice_index_or xs found.0 no_pass).identity; number = m }) (moved found.0)))
+        rw e (
+          suc found.0,
+          (
+            found.1.0 ∙ moved found.0,
+            found.1.1
+                ∙ ap (λ m. record {
+                  source = (slice_index_or xs found.0 no_pass).source;
+                  identity = (slice_index_or xs found.0 no_pass).identity;
+                  number = m;
+                }) (moved found.0),
+          ),
+        )
     by_own false e r low later =
         let found = later r low in
-        rw e (suc found.0, (found.1.0 ∙ moved found.0, found.1.1 ∙ ap (λ m. record { source = (slice_index_or xs found.0 no_pass).source; identity = (slice_index_or xs found.0 no_pass).identity; number = m }) (moved found.0)))
+        rw e (
+          suc found.0,
+          (
+            found.1.0 ∙ moved found.0,
+            found.1.1
+                ∙ ap (λ m. record {
+                  source = (slice_index_or xs found.0 no_pass).source;
+                  identity = (slice_index_or xs found.0 no_pass).identity;
+                  number = m;
+                }) (moved found.0),
+          ),
+        )
 
 -- each has an identity that a file may have, and a number below that of all
-own_all : (h : History) (n : ℕ) (g : Vcpu) (xs : List PassedSource) → greatest_identity_of h ≤ IDENTITIES → n + length xs ≤ PASSES → AllByRecursion (IsToOne h) xs → All (λ (p : plans.Pass). (p.identity ≤ IDENTITIES) × (p.number < PASSES)) (own_passes n g xs)
+own_all : (h : History) (n : ℕ) (g : Vcpu) (xs : List PassedSource) → greatest_identity_of h ≤ IDENTITIES → n + length xs ≤ PASSES
+    → AllByRecursion (IsToOne h) xs → All (λ (p : plans.Pass). (p.identity ≤ IDENTITIES) × (p.number < PASSES)) (own_passes n g xs)
 own_all h n g [] most few to = λ k d low. absurd (omega (arith, low))
 own_all h n g (x ∷ xs) most few to = by_own (is_vcpu x.to g) refl (own_all h (suc n) g xs most (omega (arith, few)) to.1)
   where
-    by_own : (b : Bool) → is_vcpu x.to g ≡ b → All (λ (p : plans.Pass). (p.identity ≤ IDENTITIES) × (p.number < PASSES)) (own_passes (suc n) g xs) → All (λ (p : plans.Pass). (p.identity ≤ IDENTITIES) × (p.number < PASSES)) (own_passes n g (x ∷ xs))
+    by_own : (b : Bool) → is_vcpu x.to g ≡ b → All (λ (p : plans.Pass). (p.identity ≤ IDENTITIES) × (p.number < PASSES)) (own_passes (suc n) g xs)
+        → All (λ (p : plans.Pass). (p.identity ≤ IDENTITIES) × (p.number < PASSES)) (own_passes n g (x ∷ xs))
     by_own true e later = rw e (λ k d low. at_place k d low later)
       where
-        at_place : (k : ℕ) (d : plans.Pass) → k < suc (length (own_passes (suc n) g xs)) → All (λ (p : plans.Pass). (p.identity ≤ IDENTITIES) × (p.number < PASSES)) (own_passes (suc n) g xs)
-            → ((slice_index_or (record { source = x.source; identity = x.identity; number = n } ∷ own_passes (suc n) g xs) k d).identity ≤ IDENTITIES) × ((slice_index_or (record { source = x.source; identity = x.identity; number = n } ∷ own_passes (suc n) g xs) k d).number < PASSES)
-        at_place zero d low later = let in_range : is_in_range 1 (greatest_identity_of h) x.identity ≡ true = to.0.1 in let high : x.identity ≤ greatest_identity_of h = grind (arith, nat_tests) in (omega (arith, high, most), omega (arith, few))
+        at_place : (k : ℕ) (d : plans.Pass) → k < suc (length (own_passes (suc n) g xs))
+            → All (λ (p : plans.Pass). (p.identity ≤ IDENTITIES) × (p.number < PASSES)) (own_passes (suc n) g xs)
+            → ((slice_index_or (record { source = x.source; identity = x.identity; number = n } ∷ own_passes (suc n) g xs) k
+            d).identity ≤ IDENTITIES) × ((slice_index_or (record { source = x.source; identity = x.identity; number = n } ∷ own_passes (suc n)
+            g xs) k d).number < PASSES)
+        at_place zero d low later = let in_range : is_in_range 1 (greatest_identity_of h) x.identity ≡ true = to.0.1 in
+            let high : x.identity ≤ greatest_identity_of h = grind (arith, nat_tests) in (omega (arith, high, most), omega (arith, few))
         at_place (suc k) d low later = later k d (omega (arith, low))
     by_own false e later = rw e later
 
 -- ---- of the plan of one that is moved
 
-module _ (x : CoreState) (h : History) (g : Vcpu) (plan : PlanState) (stands : CoreStands x h) (there : has_vcpu h g ≡ true) (was : (record_of x g).stay ≡ stays.Moving plan) where
+module _ (x : CoreState) (h : History) (g : Vcpu) (plan : PlanState) (stands : CoreStands x h) (there : has_vcpu h g ≡ true)
+    (was : (record_of x g).stay ≡ stays.Moving plan) where
   has : (moving_of plan).who.passes.items ≡ own_passes 0 g (passes_of h)
   has = subst (HasItsPasses (passes_of h) g) was (stands.vcpus g there).passes
 
@@ -90,7 +121,8 @@ module _ (x : CoreState) (h : History) (g : Vcpu) (plan : PlanState) (stands : C
   aims_alike = λ k. is_aiming (same_count k) (same_home k)
 
   pub are_passes : greatest_identity_of h ≤ IDENTITIES → length x.passes ≤ PASSES → ArePasses (moving_of plan).who
-  are_passes most few = subst (All (λ (p : plans.Pass). (p.identity ≤ IDENTITIES) × (p.number < PASSES))) (sym has) (own_all h 0 g (passes_of h) most (omega (arith, few, ap (λ (xs : List PassedSource). length xs) stands.passes.same)) stands.passes.to_one)
+  are_passes most few = subst (All (λ (p : plans.Pass). (p.identity ≤ IDENTITIES) × (p.number < PASSES))) (sym has)
+      (own_all h 0 g (passes_of h) most (omega (arith, few, ap (λ (xs : List PassedSource). length xs) stands.passes.same)) stands.passes.to_one)
 
   -- what its step aims is what the history says
   same_notice : (moving_of plan).who.found.notice ≡ notice_hart (vms_of h) g
@@ -99,24 +131,35 @@ module _ (x : CoreState) (h : History) (g : Vcpu) (plan : PlanState) (stands : C
   abbrev its : ℕ
   its = own_pass h g (aims_done (home h g))
 
-  next_is : is_aiming (passes_for h g) (home h g) ≡ true → targets.next_pass (moving_of plan) ≡ record { source = (nth_pass h its).source; identity = (nth_pass h its).identity; number = its }
+  next_is : is_aiming (passes_for h g) (home h g) ≡ true
+      → targets.next_pass (moving_of plan) ≡ record { source = (nth_pass h its).source; identity = (nth_pass h its).identity; number = its }
   next_is aiming =
       let low : aims_done (home h g) < passes_for h g = ltb-true _ _ (and_parts _ (nat_lt (aims_done (home h g)) (passes_for h g)) aiming).1 in
       let found = own_nth 0 g (passes_of h) (aims_done (home h g)) low in
       let zero : 0 + found.0 ≡ its = sym found.1.0 in
       let number : found.0 ≡ its = omega (arith, zero) in
       (λ k. slice_index_or (has k) (aims_done (same_home k)) targets.no_pass) ∙ found.1.1
-      ∙ (λ k. record { source = (slice_index_or (passes_of h) (number k) no_pass).source; identity = (slice_index_or (passes_of h) (number k) no_pass).identity; number = zero k })
+      ∙ (λ k. record {
+        source = (slice_index_or (passes_of h) (number k) no_pass).source;
+        identity =
+            (slice_index_or (passes_of h) (number k) no_pass).identity;
+        number = zero k;
+      })
 
-  aim_is : is_aiming (passes_for h g) (home h g) ≡ true → Aimed (targets.aim_of (moving_of plan)).source (targets.aim_of (moving_of plan)).target ≡ aim_of h g its
-  aim_is aiming = λ k. Aimed (next_is aiming k).source (target_to (same_notice k) (next_is aiming k).number (next_is aiming k).identity ((ap new_file same_home ∙ sym (aim_leads (passes_for h g) (home h g) aiming)) k))
+  aim_is : is_aiming (passes_for h g) (home h g) ≡ true
+      → Aimed (targets.aim_of (moving_of plan)).source (targets.aim_of (moving_of plan)).target ≡ aim_of h g its
+  aim_is aiming = λ k. Aimed (next_is aiming k).source
+      (target_to (same_notice k) (next_is aiming k).number (next_is aiming k).identity
+      ((ap new_file same_home ∙ sym (aim_leads (passes_for h g) (home h g) aiming)) k))
 
-  pub aims_so : {T : Type 0} (aim : T → ℕ → ℕ → T → Type 0) (old new : T) → AimsAs aim (next_aim (moving_of plan)) old new → AimsBy aim (aimed_by h (Stepped g)) old new
+  pub aims_so : {T : Type 0} (aim : T → ℕ → ℕ → T → Type 0) (old new : T) → AimsAs aim (next_aim (moving_of plan)) old new
+      → AimsBy aim (aimed_by h (Stepped g)) old new
   aims_so {T} aim old new done = by_aim (is_aiming (passes_for h g) (home h g)) refl
     where
       by_aim : (b : Bool) → is_aiming (passes_for h g) (home h g) ≡ b → AimsBy aim (aimed_by h (Stepped g)) old new
       by_aim true e =
-          let made : AimsAs aim (Some (targets.aim_of (moving_of plan))) old new = subst (λ b. AimsAs aim (aim_if b (moving_of plan)) old new) (aims_alike ∙ e) done in
+          let made : AimsAs aim (Some (targets.aim_of (moving_of plan))) old new =
+          subst (λ b. AimsAs aim (aim_if b (moving_of plan)) old new) (aims_alike ∙ e) done in
           rw e (subst (λ (a : Act). AimsBy aim (Some a) old new) (aim_is e) made)
       by_aim false e =
           let made : AimsAs aim None old new = subst (λ b. AimsAs aim (aim_if b (moving_of plan)) old new) (aims_alike ∙ e) done in

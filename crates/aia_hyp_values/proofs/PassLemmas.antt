@@ -51,7 +51,8 @@ use Rattle.aia_hyp_values.proofs.EventLemmas.{IsHosts, changed, nothing_done}
 -- ---- the passes to one virtual hart
 
 -- the first one, and those after it
-one_own : (number : ℕ) (g : Vcpu) (x : PassedSource) (later : List PassedSource) → own_passes number g (x ∷ later) ≡ own_passes number g (x ∷ []) ++ own_passes (suc number) g later
+one_own : (number : ℕ) (g : Vcpu) (x : PassedSource) (later : List PassedSource)
+    → own_passes number g (x ∷ later) ≡ own_passes number g (x ∷ []) ++ own_passes (suc number) g later
 one_own number g x later = elim (cases_Bool (is_vcpu x.to g)) [
   | inl own ↦ rw own refl
   | inr other ↦ rw other refl
@@ -74,7 +75,8 @@ none_gathered kept g own none = record {
   few = let size = ap (λ (xs : List plans.Pass). length xs) none in omega (arith, size);
 }
 
-pub one_gathered : (kept : List Passed) (k : ℕ) (g : Vcpu) (old new : List plans.Pass) (none : Passed) → k < length kept → new ≡ old ++ own_passes k g (pass_shown (slice_index_or kept k none) ∷ []) → HasGathered kept k g old → HasGathered kept (k + 1) g new
+pub one_gathered : (kept : List Passed) (k : ℕ) (g : Vcpu) (old new : List plans.Pass) (none : Passed) → k < length kept
+    → new ≡ old ++ own_passes k g (pass_shown (slice_index_or kept k none) ∷ []) → HasGathered kept k g old → HasGathered kept (k + 1) g new
 one_gathered kept k g old new none low is has =
     let x = pass_shown (slice_index_or kept k none) in
     let later = map pass_shown (drop (suc k) kept) in
@@ -87,13 +89,15 @@ one_gathered kept k g old new none low is has =
           ∙ ap (λ (xs : List Passed). old ++ own_passes k g (map pass_shown xs)) (sym more)
           ∙ has.all;
       few =
-          let size : length new ≡ length old + length (own_passes k g (x ∷ [])) = ap (λ (xs : List plans.Pass). length xs) is ∙ length-append old (own_passes k g (x ∷ [])) in
+          let size : length new ≡ length old + length (own_passes k g (x ∷ [])) = ap (λ (xs : List plans.Pass). length xs) is
+          ∙ length-append old (own_passes k g (x ∷ [])) in
           let one = at_most_one k g x in
           let few = has.few in
           omega (arith, size, one, few);
     }
 
-pub all_gathered : (kept : List Passed) (k : ℕ) (g : Vcpu) (own : List plans.Pass) → drop k kept ≡ [] → HasGathered kept k g own → own ≡ own_passes 0 g (map pass_shown kept)
+pub all_gathered : (kept : List Passed) (k : ℕ) (g : Vcpu) (own : List plans.Pass) → drop k kept ≡ [] → HasGathered kept k g own
+    → own ≡ own_passes 0 g (map pass_shown kept)
 all_gathered kept k g own end has = nothing_after own ∙ ap (λ (xs : List Passed). own ++ own_passes k g (map pass_shown xs)) (sym end) ∙ has.all
   where
     nothing_after : (xs : List plans.Pass) → xs ≡ xs ++ []
@@ -102,17 +106,25 @@ all_gathered kept k g own end has = nothing_after own ∙ ap (λ (xs : List Pass
 
 -- ---- the pass of a source
 
-pub first_of_source : (passes : List PassedSource) (source number : ℕ) → number < length passes → (slice_index_or passes number no_pass).source ≡ source → ((j : ℕ) → j < number → nat_eq (slice_index_or passes j no_pass).source source ≡ false) → Some number ≡ number_of_pass passes (Some source)
-first_of_source passes source number low is none = sym (least_of-found (λ p. nat_eq (slice_index_or passes p no_pass).source source) 0 (length passes) number (omega arith) (omega arith) (eq-eqb _ source is) (λ j a b. none j b))
+pub first_of_source : (passes : List PassedSource) (source number : ℕ) → number < length passes
+    → (slice_index_or passes number no_pass).source ≡ source
+    → ((j : ℕ) → j < number → nat_eq (slice_index_or passes j no_pass).source source ≡ false) → Some number ≡ number_of_pass passes (Some source)
+first_of_source passes source number low is none =
+    sym (least_of-found (λ p. nat_eq (slice_index_or passes p no_pass).source source) 0 (length passes) number (omega arith) (omega arith)
+    (eq-eqb _ source is) (λ j a b. none j b))
 
-pub none_of_source : (passes : List PassedSource) (source count : ℕ) → length passes ≤ count → ((j : ℕ) → j < count → nat_eq (slice_index_or passes j no_pass).source source ≡ false) → None ≡ number_of_pass passes (Some source)
-none_of_source passes source count all none = sym (least_of-none (λ p. nat_eq (slice_index_or passes p no_pass).source source) 0 (length passes) (λ j a b. none j (omega arith)))
+pub none_of_source : (passes : List PassedSource) (source count : ℕ) → length passes ≤ count
+    → ((j : ℕ) → j < count → nat_eq (slice_index_or passes j no_pass).source source ≡ false) → None ≡ number_of_pass passes (Some source)
+none_of_source passes source count all none = sym
+    (least_of-none (λ p. nat_eq (slice_index_or passes p no_pass).source source) 0 (length passes) (λ j a b. none j (omega arith)))
 
 -- ---- one more pass
 
-other_own : (number : ℕ) (g : Vcpu) (x : PassedSource) (xs : List PassedSource) → is_vcpu x.to g ≡ false → own_passes number g (xs ++ x ∷ []) ≡ own_passes number g xs
+other_own : (number : ℕ) (g : Vcpu) (x : PassedSource) (xs : List PassedSource) → is_vcpu x.to g ≡ false
+    → own_passes number g (xs ++ x ∷ []) ≡ own_passes number g xs
 other_own number g x [] other = cond-false _ _ _ other
-other_own number g x (y ∷ ys) other = ap (λ (own : List plans.Pass). cond (is_vcpu y.to g) (record { source = y.source; identity = y.identity; number = number } ∷ own) own) (other_own (suc number) g x ys other)
+other_own number g x (y ∷ ys) other = ap (λ (own : List plans.Pass). cond (is_vcpu y.to g)
+    (record { source = y.source; identity = y.identity; number = number } ∷ own) own) (other_own (suc number) g x ys other)
 
 -- a plan of a move is of one that is being moved
 pub plan_moves : (w : World) (g : Vcpu) (stay : Stay) → PlanStands w g stay → is_moving (home_in stay) ≡ has_plan stay
@@ -120,7 +132,8 @@ plan_moves w g (stays.InMemory rest kept) p = refl
 plan_moves w g (stays.Resident lease) p = refl
 plan_moves w g (stays.Moving plan) p = p.3
 
-pub moves_as_kept : (x : CoreState) (h : History) (g : Vcpu) → CoreStands x h → has_vcpu h g ≡ true → is_moving (home h g) ≡ has_plan (record_of x g).stay
+pub moves_as_kept : (x : CoreState) (h : History) (g : Vcpu) → CoreStands x h → has_vcpu h g ≡ true
+    → is_moving (home h g) ≡ has_plan (record_of x g).stay
 moves_as_kept x h g stands there = let v = stands.vcpus g there in ap is_moving (sym v.same_home) ∙ plan_moves x.world g (record_of x g).stay v.plan
 
 -- at rest a pass leads to the guest file where its virtual hart is resident
@@ -138,7 +151,9 @@ pub record IsFree (x : CoreState) (vm number identity : ℕ) : Type 0 where
   pub room : length x.passes < PASSES
   pub rests : has_plan (record_of x (vcpu vm number)).stay ≡ false
 
-by_cascade : (a b c d e : Bool) → cond (not a) (Some (Refused words.Range)) (cond b (Some (Refused words.Full)) (cond c (Some (Refused words.Busy)) (cond d (Some (Refused words.Passed)) (cond e (Some (Refused words.Unready)) None)))) ≡ None → (a ≡ true) × (b ≡ false) × (c ≡ false)
+by_cascade : (a b c d e : Bool) → cond (not a) (Some (Refused words.Range))
+    (cond b (Some (Refused words.Full)) (cond c (Some (Refused words.Busy))
+    (cond d (Some (Refused words.Passed)) (cond e (Some (Refused words.Unready)) None)))) ≡ None → (a ≡ true) × (b ≡ false) × (c ≡ false)
 by_cascade true false false d e is = (refl, refl, refl)
 by_cascade true false true d e is = absurd (cc)
 by_cascade true true c d e is = absurd (cc)
@@ -160,12 +175,17 @@ module _ (x : CoreState) (targets : TargetMap) (source vm number identity : ℕ)
   implemented = is_in_range 1 x.world.n identity
 
   told : (h : History) → CoreStands x h → TellsOf targets h source → refusal h (lines.Pass source vm number identity)
-      ≡ cond (not (there && implemented)) (Some (Refused words.Range)) (cond (nat_le PASSES (length x.passes)) (Some (Refused words.Full)) (cond (is_moving (home h to)) (Some (Refused words.Busy))
-      (cond (is_some (number_of_pass x.passes (Some source))) (Some (Refused words.Passed)) (cond (not (targets.ready source)) (Some (Refused words.Unready)) None))))
+      ≡ cond (not (there && implemented)) (Some (Refused words.Range))
+      (cond (nat_le PASSES (length x.passes)) (Some (Refused words.Full)) (cond (is_moving (home h to)) (Some (Refused words.Busy))
+      (cond (is_some (number_of_pass x.passes (Some source))) (Some (Refused words.Passed))
+      (cond (not (targets.ready source)) (Some (Refused words.Unready)) None))))
   told h stands tells =
-      pass_refusal h source vm number identity stands.there ∙ (λ k. cond (not (tells.there k && is_vcpu_in (sym stands.vms k) to && is_in_range 1 (sym stands.greatest k) identity)) (Some (Refused words.Range))
+      pass_refusal h source vm number identity stands.there
+      ∙ (λ k. cond (not (tells.there k && is_vcpu_in (sym stands.vms k) to && is_in_range 1 (sym stands.greatest k) identity))
+      (Some (Refused words.Range))
       (cond (nat_le PASSES (length (sym stands.passes.same k))) (Some (Refused words.Full)) (cond (is_moving (home h to)) (Some (Refused words.Busy))
-      (cond (is_some (number_of_pass (sym stands.passes.same k) (Some source))) (Some (Refused words.Passed)) (cond (not (sym tells.ready k)) (Some (Refused words.Unready)) None)))))
+      (cond (is_some (number_of_pass (sym stands.passes.same k) (Some source))) (Some (Refused words.Passed))
+      (cond (not (sym tells.ready k)) (Some (Refused words.Unready)) None)))))
 
   moves : (h : History) → CoreStands x h → there ≡ true → is_moving (home h to) ≡ has_plan (record_of x to).stay
   moves h stands is = moves_as_kept x h to stands (ap (λ vms. is_vcpu_in vms to) (sym stands.vms) ∙ is)
@@ -176,34 +196,46 @@ module _ (x : CoreState) (targets : TargetMap) (source vm number identity : ℕ)
   pub no_identity : there ≡ true → implemented ≡ false → RefusesPass x targets source vm number identity (Some (Refused words.Range))
   no_identity is none = λ h stands tells. told h stands tells ∙ cond-true _ _ _ (λ k. not (is k && none k))
 
-  pub no_room : there ≡ true → implemented ≡ true → PASSES ≤ length x.passes → RefusesPass x targets source vm number identity (Some (Refused words.Full))
-  no_room is has full = λ h stands tells. told h stands tells ∙ cond-false _ _ _ (λ k. not (is k && has k)) ∙ cond-true _ _ _ (le-leb PASSES (length x.passes) full)
+  pub no_room : there ≡ true → implemented ≡ true → PASSES ≤ length x.passes
+      → RefusesPass x targets source vm number identity (Some (Refused words.Full))
+  no_room is has full = λ h stands tells. told h stands tells ∙ cond-false _ _ _ (λ k. not (is k && has k))
+      ∙ cond-true _ _ _ (le-leb PASSES (length x.passes) full)
 
   -- with room
   abbrev HasRoom : Type 0
   HasRoom = (there ≡ true) × (implemented ≡ true) × (length x.passes < PASSES)
 
   past_room : HasRoom → (h : History) → CoreStands x h → TellsOf targets h source → refusal h (lines.Pass source vm number identity)
-      ≡ cond (has_plan (record_of x to).stay) (Some (Refused words.Busy)) (cond (is_some (number_of_pass x.passes (Some source))) (Some (Refused words.Passed)) (cond (not (targets.ready source)) (Some (Refused words.Unready)) None))
+      ≡ cond (has_plan (record_of x to).stay) (Some (Refused words.Busy))
+      (cond (is_some (number_of_pass x.passes (Some source))) (Some (Refused words.Passed))
+      (cond (not (targets.ready source)) (Some (Refused words.Unready)) None))
   past_room r h stands tells =
       told h stands tells ∙ cond-false _ _ _ (λ k. not (r.0 k && r.1 k)) ∙ cond-false _ _ _ (lt-leb PASSES (length x.passes) r.2)
-      ∙ ap (λ b. cond b (Some (Refused words.Busy)) (cond (is_some (number_of_pass x.passes (Some source))) (Some (Refused words.Passed)) (cond (not (targets.ready source)) (Some (Refused words.Unready)) None))) (moves h stands r.0)
+      ∙ ap (λ b. cond b (Some (Refused words.Busy)) (cond (is_some (number_of_pass x.passes (Some source))) (Some (Refused words.Passed))
+      (cond (not (targets.ready source)) (Some (Refused words.Unready)) None))) (moves h stands r.0)
 
   pub is_moved : HasRoom → has_plan (record_of x to).stay ≡ true → RefusesPass x targets source vm number identity (Some (Refused words.Busy))
   is_moved r moved = λ h stands tells. past_room r h stands tells ∙ cond-true _ _ _ moved
 
-  pub is_passed : HasRoom → has_plan (record_of x to).stay ≡ false → is_some (number_of_pass x.passes (Some source)) ≡ true → RefusesPass x targets source vm number identity (Some (Refused words.Passed))
+  pub is_passed : HasRoom → has_plan (record_of x to).stay ≡ false → is_some (number_of_pass x.passes (Some source)) ≡ true
+      → RefusesPass x targets source vm number identity (Some (Refused words.Passed))
   is_passed r rests passed = λ h stands tells. past_room r h stands tells ∙ cond-false _ _ _ rests ∙ cond-true _ _ _ passed
 
-  pub is_unready : HasRoom → has_plan (record_of x to).stay ≡ false → is_some (number_of_pass x.passes (Some source)) ≡ false → targets.ready source ≡ false → RefusesPass x targets source vm number identity (Some (Refused words.Unready))
-  is_unready r rests unpassed unready = λ h stands tells. past_room r h stands tells ∙ cond-false _ _ _ rests ∙ cond-false _ _ _ unpassed ∙ cond-true _ _ _ (ap not unready)
+  pub is_unready : HasRoom → has_plan (record_of x to).stay ≡ false → is_some (number_of_pass x.passes (Some source)) ≡ false
+      → targets.ready source ≡ false → RefusesPass x targets source vm number identity (Some (Refused words.Unready))
+  is_unready r rests unpassed unready = λ h stands tells. past_room r h stands tells ∙ cond-false _ _ _ rests ∙ cond-false _ _ _ unpassed
+      ∙ cond-true _ _ _ (ap not unready)
 
-  pub is_free : HasRoom → has_plan (record_of x to).stay ≡ false → is_some (number_of_pass x.passes (Some source)) ≡ false → targets.ready source ≡ true → RefusesPass x targets source vm number identity None
-  is_free r rests unpassed ready = λ h stands tells. past_room r h stands tells ∙ cond-false _ _ _ rests ∙ cond-false _ _ _ unpassed ∙ cond-false _ _ _ (ap not ready)
+  pub is_free : HasRoom → has_plan (record_of x to).stay ≡ false → is_some (number_of_pass x.passes (Some source)) ≡ false
+      → targets.ready source ≡ true → RefusesPass x targets source vm number identity None
+  is_free r rests unpassed ready = λ h stands tells. past_room r h stands tells ∙ cond-false _ _ _ rests ∙ cond-false _ _ _ unpassed
+      ∙ cond-false _ _ _ (ap not ready)
 
-  pub free_so : (h : History) → CoreStands x h → TellsOf targets h source → refusal h (lines.Pass source vm number identity) ≡ None → IsFree x vm number identity
+  pub free_so : (h : History) → CoreStands x h → TellsOf targets h source → refusal h (lines.Pass source vm number identity) ≡ None
+      → IsFree x vm number identity
   free_so h stands tells free =
-      let so = by_cascade (there && implemented) (nat_le PASSES (length x.passes)) (is_moving (home h to)) (is_some (number_of_pass x.passes (Some source))) (not (targets.ready source)) (sym (told h stands tells) ∙ free) in
+      let so = by_cascade (there && implemented) (nat_le PASSES (length x.passes)) (is_moving (home h to))
+      (is_some (number_of_pass x.passes (Some source))) (not (targets.ready source)) (sym (told h stands tells) ∙ free) in
       let both = both_true there implemented so.0 in record {
         there = both.0;
         implemented = both.1;
@@ -213,15 +245,19 @@ module _ (x : CoreState) (targets : TargetMap) (source vm number identity : ℕ)
 
 -- ---- what it makes of the core
 
-pub pass_is_quiet : (h : History) (source vm number identity : ℕ) → is_moving (home h (vcpu vm number)) ≡ false → IsQuiet h (Accepted (lines.Pass source vm number identity))
+pub pass_is_quiet : (h : History) (source vm number identity : ℕ) → is_moving (home h (vcpu vm number)) ≡ false
+    → IsQuiet h (Accepted (lines.Pass source vm number identity))
 unfolding passes_of
 pass_is_quiet h source vm number identity rests = record {
-  stays = stays_line h (lines.Pass source vm number identity) refl refl (λ g. refl) (λ g. refl) (λ g moves. other_own 0 g (record { source = source; to = vcpu vm number; identity = identity }) (passes_of h)
+  stays = stays_line h (lines.Pass source vm number identity) refl refl (λ g. refl) (λ g. refl)
+      (λ g moves. other_own 0 g (record { source = source; to = vcpu vm number; identity = identity }) (passes_of h)
       (is_another (vcpu vm number) g (λ e. false≢true (sym rests ∙ ap (λ z. is_moving (home h z)) e ∙ moves))));
   plain = refl;
 }
 
-one_passed : (h : History) (source vm number identity : ℕ) → passes_of (Accepted (lines.Pass source vm number identity) ∷ h) ≡ passes_of h ++ record { source = source; to = vcpu vm number; identity = identity } ∷ []
+one_passed : (h : History) (source vm number identity : ℕ)
+    → passes_of (Accepted (lines.Pass source vm number identity) ∷ h) ≡ passes_of h ++ record
+    { source = source; to = vcpu vm number; identity = identity } ∷ []
 unfolding passes_of
 one_passed h source vm number identity = refl
 
@@ -230,14 +266,24 @@ unfolding flight
 none_flies_off h source vm number identity v = refl
 
 -- other passes are nothing to all but the passes
-with_passes : (x y : CoreState) (h : History) (event : Event) (passes : List PassedSource) → Becomes x y h event → Becomes x (record y { passes = passes }) h event
+with_passes : (x y : CoreState) (h : History) (event : Event) (passes : List PassedSource) → Becomes x y h event
+    → Becomes x (record y { passes = passes }) h event
 with_passes x y h event passes b = record {
   keeps = record { machine = b.keeps.machine; n = b.keeps.n; harts = b.keeps.harts; guests = b.keeps.guests };
   vms = b.vms;
   count = b.count;
   host = λ f inside. let d = b.host f inside in record { file = d.file; select = d.select };
   records = b.records;
-  vcpus = λ g inside. let v = b.vcpus g inside in record { same_home = v.same_home; select = v.select; majors = v.majors; two_files = v.two_files; plan = v.plan; passes = v.passes; holds = v.holds };
+  vcpus = λ g inside. let v = b.vcpus g inside in
+      record {
+        same_home = v.same_home;
+        select = v.select;
+        majors = v.majors;
+        two_files = v.two_files;
+        plan = v.plan;
+        passes = v.passes;
+        holds = v.holds;
+      };
   lease_harts = b.lease_harts;
   lease_guests = b.lease_guests;
   lease_count = b.lease_count;
@@ -277,35 +323,46 @@ module _ (x : CoreState) (h : History) (source vm number identity : ℕ) (stands
 
   pub pass_stands : CoreStands new (event ∷ h)
   pass_stands =
-      stands_after x new h event (with_passes x x h event (x.passes ++ pass ∷ []) (changed x x h event (nothing_done x h event stands hosts (λ f there. refl)) stands))
+      stands_after x new h event (with_passes x x h event (x.passes ++ pass ∷ [])
+      (changed x x h event (nothing_done x h event stands hosts (λ f there. refl)) stands))
       (record { first = tt; one = tt; flights = λ v. stands.flights v ∙ ap (map (flying_of v)) (sym (none_flies_off h source vm number identity v)) })
       (record {
         same = ap (λ (ps : List PassedSource). ps ++ pass ∷ []) stands.passes.same ∙ sym (one_passed h source vm number identity);
-        to_one = subst (AllByRecursion (IsToOne h)) (sym (one_passed h source vm number identity)) (all_append (IsToOne h) (passes_of h) pass stands.passes.to_one to_one);
+        to_one = subst (AllByRecursion (IsToOne h)) (sym (one_passed h source vm number identity))
+            (all_append (IsToOne h) (passes_of h) pass stands.passes.to_one to_one);
         rest = at_rest;
       }) stands
 
   -- and of the targets
-  pub pass_aims : {T : Type 0} (aim : T → ℕ → ℕ → T → Type 0) (before after : T) (notice count : ℕ) → notice ≡ notice_hart x.world.vms g → count ≡ length x.passes → aim before source (target_to notice count identity (resident_at (record_of x g).stay)) after → AimsBy aim (aimed_by h event) before after
+  pub pass_aims : {T : Type 0} (aim : T → ℕ → ℕ → T → Type 0) (before after : T) (notice count : ℕ) → notice ≡ notice_hart x.world.vms g
+      → count ≡ length x.passes → aim before source (target_to notice count identity (resident_at (record_of x g).stay)) after
+      → AimsBy aim (aimed_by h event) before after
   pass_aims aim before after notice count hart size aimed =
-      let reach : resident_at (record_of x g).stay ≡ pass_reaches (passes_for h g) (home h g) = rest_reaches (passes_for h g) (record_of x g).stay free.rests ∙ ap (pass_reaches (passes_for h g)) (stands.vcpus g inside).same_home in
+      let reach : resident_at (record_of x g).stay ≡ pass_reaches (passes_for h g) (home h g) =
+      rest_reaches (passes_for h g) (record_of x g).stay free.rests ∙ ap (pass_reaches (passes_for h g)) (stands.vcpus g inside).same_home in
       subst (λ target. aim before source target after)
-      ((λ k. target_to (hart k) (size k) identity (reach k)) ∙ (λ k. target_to (notice_hart (stands.vms k) g) (length (stands.passes.same k)) identity (pass_reaches (passes_for h g) (home h g)))) aimed
+      ((λ k. target_to (hart k) (size k) identity (reach k))
+      ∙ (λ k. target_to (notice_hart (stands.vms k) g) (length (stands.passes.same k)) identity (pass_reaches (passes_for h g) (home h g)))) aimed
 
 -- ---- the line
 
-pub pass_refused : (x : CoreState) (targets : TargetMap) (source vm number identity : ℕ) (word : Refusal) → RefusesPass x targets source vm number identity (Some (Refused word)) → CorePasses x x targets source (lines.Pass source vm number identity) (Refused word)
+pub pass_refused : (x : CoreState) (targets : TargetMap) (source vm number identity : ℕ) (word : Refusal)
+    → RefusesPass x targets source vm number identity (Some (Refused word))
+    → CorePasses x x targets source (lines.Pass source vm number identity) (Refused word)
 pass_refused x targets source vm number identity word is = record {
   answers = λ h stands tells. sym (answered h (lines.Pass source vm number identity) (Some (Refused word)) (is h stands tells));
-  stands = λ h stands tells. subst (λ (o : Option Answer). CoreStands x (line_served o h (lines.Pass source vm number identity))) (sym (is h stands tells)) stands;
+  stands = λ h stands tells. subst (λ (o : Option Answer). CoreStands x (line_served o h (lines.Pass source vm number identity)))
+      (sym (is h stands tells)) stands;
   unchanged = λ h other stands tells e. refl;
 }
 
 pub pass_taken : (x y : CoreState) (targets : TargetMap) (source vm number identity : ℕ) → RefusesPass x targets source vm number identity None
-    → ((h : History) → CoreStands x h → TellsOf targets h source → CoreStands y (Accepted (lines.Pass source vm number identity) ∷ h)) → CorePasses x y targets source (lines.Pass source vm number identity) Okay
+    → ((h : History) → CoreStands x h → TellsOf targets h source → CoreStands y (Accepted (lines.Pass source vm number identity) ∷ h))
+    → CorePasses x y targets source (lines.Pass source vm number identity) Okay
 pass_taken x y targets source vm number identity free stands_then = record {
   answers = λ h stands tells. sym (answered h (lines.Pass source vm number identity) None (free h stands tells));
-  stands = λ h stands tells. subst (λ (o : Option Answer). CoreStands y (line_served o h (lines.Pass source vm number identity))) (sym (free h stands tells)) (stands_then h stands tells);
+  stands = λ h stands tells. subst (λ (o : Option Answer). CoreStands y (line_served o h (lines.Pass source vm number identity)))
+      (sym (free h stands tells)) (stands_then h stands tells);
   unchanged = λ h word stands tells e. absurd (none-some word (sym (free h stands tells) ∙ e));
 }
 
@@ -315,14 +372,17 @@ unless_taken r A B is a = subst (λ (o : Option Answer). UnlessRefused o A B) (s
 -- ---- what its call needs
 
 -- the record of the virtual hart is there, at its slot
-pub record_low : (x : CoreState) (h : History) (g : Vcpu) (q : ℕ) → CoreStands x h → is_vcpu_in x.world.vms g ≡ true → q ≡ slot_of x.world.vms g → q < length x.vcpus
+pub record_low : (x : CoreState) (h : History) (g : Vcpu) (q : ℕ) → CoreStands x h → is_vcpu_in x.world.vms g ≡ true → q ≡ slot_of x.world.vms g
+    → q < length x.vcpus
 record_low x h g q stands there is =
     let below = slot_below x.world.vms g there in
     let all : length x.vcpus ≡ vcpus_in x.world.vms = stands.records ∙ ap vcpus_in (sym stands.vms) in
     omega (arith, below, all, is)
 
-pub record_read : (x : CoreState) (h : History) (g : Vcpu) (q : ℕ) (r : VcpuRecord) → CoreStands x h → is_vcpu_in x.world.vms g ≡ true → q ≡ slot_of x.world.vms g → r ≡ slice_index_or x.vcpus q r → r ≡ record_of x g
-record_read x h g q r stands there is read = read ∙ get_or_default x.vcpus q r no_record (record_low x h g q stands there is) ∙ ap (λ slot. slice_index_or x.vcpus slot no_record) is
+pub record_read : (x : CoreState) (h : History) (g : Vcpu) (q : ℕ) (r : VcpuRecord) → CoreStands x h → is_vcpu_in x.world.vms g ≡ true
+    → q ≡ slot_of x.world.vms g → r ≡ slice_index_or x.vcpus q r → r ≡ record_of x g
+record_read x h g q r stands there is read = read ∙ get_or_default x.vcpus q r no_record (record_low x h g q stands there is)
+    ∙ ap (λ slot. slice_index_or x.vcpus slot no_record) is
 
 pub few_identities : (n identity : ℕ) → is_greatest_identity n ≡ true → is_in_range 1 n identity ≡ true → identity ≤ IDENTITIES
 few_identities n identity greatest inside = grind (arith, nat_tests)
@@ -333,14 +393,17 @@ resident_holds (stays.InMemory rest kept) p e = absurd (cc)
 resident_holds (stays.Moving plan) p e = absurd (cc)
 
 -- where it is resident is a guest file that is there
-pub resident_there : (x : CoreState) (h : History) (g : Vcpu) (p : GuestPlace) → CoreStands x h → IsWhole x.world → is_vcpu_in x.world.vms g ≡ true → resident_at (record_of x g).stay ≡ Some p → (p.hart < x.world.imsic.harts) × (p.file ≤ GUEST_FILES)
+pub resident_there : (x : CoreState) (h : History) (g : Vcpu) (p : GuestPlace) → CoreStands x h → IsWhole x.world
+    → is_vcpu_in x.world.vms g ≡ true → resident_at (record_of x g).stay ≡ Some p → (p.hart < x.world.imsic.harts) × (p.file ≤ GUEST_FILES)
 resident_there x h g p stands whole there e =
     let inside : has_vcpu h g ≡ true = ap (λ vms. is_vcpu_in vms g) (sym stands.vms) ∙ there in
     let holding : holds p (home h g) ≡ true = ap (holds p) (sym (stands.vcpus g inside).same_home) ∙ resident_holds (record_of x g).stay p e in
     let file = stands.held g p inside holding in
     (file.0, omega (arith, file.2, whole.guests))
 
-pub pass_stands_for_some : (x : CoreState) (targets : TargetMap) (source vm number identity : ℕ) (m : MayPass x targets source) → RefusesPass x targets source vm number identity None → IsFree x vm number identity → StandsForSome (record x { passes = x.passes ++ record { source = source; to = vcpu vm number; identity = identity } ∷ [] })
+pub pass_stands_for_some : (x : CoreState) (targets : TargetMap) (source vm number identity : ℕ) (m : MayPass x targets source)
+    → RefusesPass x targets source vm number identity None → IsFree x vm number identity
+    → StandsForSome (record x { passes = x.passes ++ record { source = source; to = vcpu vm number; identity = identity } ∷ [] })
 pass_stands_for_some x targets source vm number identity m refuses free = record {
   past = Accepted (lines.Pass source vm number identity) ∷ m.past;
   happens = (refuses m.past m.stands m.tells, m.happens);

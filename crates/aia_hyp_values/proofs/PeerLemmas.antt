@@ -41,7 +41,8 @@ home_away x h g stands there =
 
 -- ---- where the store goes
 
-relayed : (w u : World) (g : Vcpu) (value : ℕ) (reach : Option GuestPlace) → ((p : GuestPlace) → reach ≡ Some p → IsThere w.imsic (spot_of p)) → ReachesByRecord reach w u g value → GuestStored w u g reach 0 value
+relayed : (w u : World) (g : Vcpu) (value : ℕ) (reach : Option GuestPlace) → ((p : GuestPlace) → reach ≡ Some p → IsThere w.imsic (spot_of p))
+    → ReachesByRecord reach w u g value → GuestStored w u g reach 0 value
 relayed w u g value (Some p) inside relays = subst (λ (s : Spot). StoresInGuestFile w u s 0 value) (named_guest w.imsic p (inside p refl)) relays
 relayed w u g value None inside relays = relays
 
@@ -49,33 +50,46 @@ relayed w u g value None inside relays = relays
 
 -- the words that are left where the sender is there
 sender_there : (h : History) (vm number to value : ℕ) → has_machine h ≡ true → has_vcpu h (vcpu vm number) ≡ true
-    → refusal h (Ipi vm number to value) ≡ cond (not (runs (home h (vcpu vm number)))) (Some (Refused Away)) (cond (not (has_vcpu h (vcpu vm to))) (Some (Refused GFault)) None)
+    → refusal h (Ipi vm number to value) ≡ cond (not (runs (home h (vcpu vm number)))) (Some (Refused Away))
+    (cond (not (has_vcpu h (vcpu vm to))) (Some (Refused GFault)) None)
 sender_there h vm number to value machine sends =
     ipi_refusal h vm number to value machine
-    ∙ ap (λ b. cond (not b) (Some (Refused Range)) (cond (not (runs (home h (vcpu vm number)))) (Some (Refused Away)) (cond (not (has_vcpu h (vcpu vm to))) (Some (Refused GFault)) None))) sends
+    ∙ ap (λ b. cond (not b) (Some (Refused Range))
+    (cond (not (runs (home h (vcpu vm number)))) (Some (Refused Away)) (cond (not (has_vcpu h (vcpu vm to))) (Some (Refused GFault)) None))) sends
 
 -- and by whether it is away
 by_stay : (x : CoreState) (h : History) (vm number to value : ℕ) → CoreStands x h → is_vcpu_in x.world.vms (vcpu vm number) ≡ true
-    → refusal h (Ipi vm number to value) ≡ cond (not (runs_in (record_of x (vcpu vm number)).stay)) (Some (Refused Away)) (cond (not (has_vcpu h (vcpu vm to))) (Some (Refused GFault)) None)
+    → refusal h (Ipi vm number to value) ≡ cond (not (runs_in (record_of x (vcpu vm number)).stay)) (Some (Refused Away))
+    (cond (not (has_vcpu h (vcpu vm to))) (Some (Refused GFault)) None)
 by_stay x h vm number to value stands sender =
     let sends = there_in x h (vcpu vm number) stands sender in
     sender_there h vm number to value stands.there sends
-    ∙ ap (λ b. cond (not b) (Some (Refused Away)) (cond (not (has_vcpu h (vcpu vm to))) (Some (Refused GFault)) None)) (home_away x h (vcpu vm number) stands sends)
+    ∙ ap (λ b. cond (not b) (Some (Refused Away)) (cond (not (has_vcpu h (vcpu vm to))) (Some (Refused GFault)) None))
+    (home_away x h (vcpu vm number) stands sends)
 
-pub no_sender : (x : CoreState) (vm number to value : ℕ) → is_vcpu_in x.world.vms (vcpu vm number) ≡ false → CoreTakes x x (Ipi vm number to value) (Refused Range)
+pub no_sender : (x : CoreState) (vm number to value : ℕ) → is_vcpu_in x.world.vms (vcpu vm number) ≡ false
+    → CoreTakes x x (Ipi vm number to value) (Refused Range)
 no_sender x vm number to value lacks = refused x (Ipi vm number to value) (Refused Range) (λ h stands.
     ipi_refusal h vm number to value stands.there ∙ cond-true _ _ _ (ap not (missing_in x h (vcpu vm number) stands lacks)))
 
-pub sender_away : (x : CoreState) (vm number to value : ℕ) → is_vcpu_in x.world.vms (vcpu vm number) ≡ true → runs_in (record_of x (vcpu vm number)).stay ≡ false → CoreTakes x x (Ipi vm number to value) (Refused Away)
-sender_away x vm number to value sender away = refused x (Ipi vm number to value) (Refused Away) (λ h stands. by_stay x h vm number to value stands sender ∙ cond-true _ _ _ (ap not away))
+pub sender_away : (x : CoreState) (vm number to value : ℕ) → is_vcpu_in x.world.vms (vcpu vm number) ≡ true
+    → runs_in (record_of x (vcpu vm number)).stay ≡ false → CoreTakes x x (Ipi vm number to value) (Refused Away)
+sender_away x vm number to value sender away =
+    refused x (Ipi vm number to value) (Refused Away) (λ h stands. by_stay x h vm number to value stands sender ∙ cond-true _ _ _ (ap not away))
 
-pub no_peer : (x : CoreState) (vm number to value : ℕ) → is_vcpu_in x.world.vms (vcpu vm number) ≡ true → runs_in (record_of x (vcpu vm number)).stay ≡ true → is_vcpu_in x.world.vms (vcpu vm to) ≡ false → CoreTakes x x (Ipi vm number to value) (Refused GFault)
+pub no_peer : (x : CoreState) (vm number to value : ℕ) → is_vcpu_in x.world.vms (vcpu vm number) ≡ true
+    → runs_in (record_of x (vcpu vm number)).stay ≡ true → is_vcpu_in x.world.vms (vcpu vm to) ≡ false
+    → CoreTakes x x (Ipi vm number to value) (Refused GFault)
 no_peer x vm number to value sender resident lacks = refused x (Ipi vm number to value) (Refused GFault) (λ h stands.
-    by_stay x h vm number to value stands sender ∙ cond-false _ _ _ (ap not resident) ∙ cond-true _ _ _ (ap not (missing_in x h (vcpu vm to) stands lacks)))
+    by_stay x h vm number to value stands sender ∙ cond-false _ _ _ (ap not resident)
+    ∙ cond-true _ _ _ (ap not (missing_in x h (vcpu vm to) stands lacks)))
 
-pub ipi_taken : (x y : CoreState) (vm number to value : ℕ) → IsWhole x.world → is_vcpu_in x.world.vms (vcpu vm number) ≡ true → runs_in (record_of x (vcpu vm number)).stay ≡ true → is_vcpu_in x.world.vms (vcpu vm to) ≡ true
-    → ReachesByRecord (stage_of x.world (vcpu vm to)).in_force x.world y.world (vcpu vm to) value → y.leases ≡ x.leases → y.vcpus ≡ x.vcpus → y.selects ≡ x.selects → y.passes ≡ x.passes → CoreTakes x y (Ipi vm number to value) Okay
-ipi_taken x y vm number to value whole sender resident there relays leases vcpus selects passes = accepted x y (Ipi vm number to value) Okay refl refl (λ h stands.
+pub ipi_taken : (x y : CoreState) (vm number to value : ℕ) → IsWhole x.world → is_vcpu_in x.world.vms (vcpu vm number) ≡ true
+    → runs_in (record_of x (vcpu vm number)).stay ≡ true → is_vcpu_in x.world.vms (vcpu vm to) ≡ true
+    → ReachesByRecord (stage_of x.world (vcpu vm to)).in_force x.world y.world (vcpu vm to) value → y.leases ≡ x.leases → y.vcpus ≡ x.vcpus
+    → y.selects ≡ x.selects → y.passes ≡ x.passes → CoreTakes x y (Ipi vm number to value) Okay
+ipi_taken x y vm number to value whole sender resident there relays leases vcpus selects passes =
+    accepted x y (Ipi vm number to value) Okay refl refl (λ h stands.
     let g = vcpu vm to in
     let event = Accepted (Ipi vm number to value) in
     let reach = stage_in_force_of h g in
@@ -98,7 +112,8 @@ ipi_taken x y vm number to value whole sender resident there relays leases vcpus
       };
       notices = refl;
       host = λ f. refl;
-      stores = relayed x.world y.world g value reach (λ p e. stands.held g p inside (peers_held h g p (by_home ∙ e))) (subst (λ (o : Option GuestPlace). ReachesByRecord o x.world y.world g value) in_force relays);
+      stores = relayed x.world y.world g value reach (λ p e. stands.held g p inside (peers_held h g p (by_home ∙ e)))
+          (subst (λ (o : Option GuestPlace). ReachesByRecord o x.world y.world g value) in_force relays);
     } in (
       by_stay x h vm number to value stands sender ∙ cond-false _ _ _ (ap not resident) ∙ ap (λ b. cond (not b) (Some (Refused GFault)) None) inside,
       refl,

@@ -100,8 +100,10 @@ module _ (x y : CoreState) (h : History) (vm number : ℕ) (c : IsRefetch x y vm
 
   fit : FilesFit (home h g)
   fit = record {
-    own = λ p e. let at = stands.held g p inside (own_is_held (home h g) p e) in (omega (arith, at.0, c.whole.harts), omega (arith, at.2, c.whole.guests), at.1);
-    next = λ p e. let at = stands.held g p inside (next_is_held (home h g) p e) in (omega (arith, at.0, c.whole.harts), omega (arith, at.2, c.whole.guests), at.1);
+    own = λ p e. let at = stands.held g p inside (own_is_held (home h g) p e) in
+        (omega (arith, at.0, c.whole.harts), omega (arith, at.2, c.whole.guests), at.1);
+    next = λ p e. let at = stands.held g p inside (next_is_held (home h g) p e) in
+        (omega (arith, at.0, c.whole.harts), omega (arith, at.2, c.whole.guests), at.1);
   }
 
   low_slot : slot_of (vms_of h) g < SLOTS
@@ -113,7 +115,8 @@ module _ (x y : CoreState) (h : History) (vm number : ℕ) (c : IsRefetch x y vm
       let here : notice_hart x.world.vms g ≡ notice_hart (vms_of h) g = ap (λ vms. notice_hart vms g) stands.vms in
       omega (arith, at, here, c.whole.harts)
 
-  shows : places_of y.world g (home h g) ≡ record (places_of x.world g (home h g)) { in_force = decoded (places_of x.world g (home h g)).word0 (places_of x.world g (home h g)).word1 }
+  shows : places_of y.world g (home h g) ≡ record (places_of x.world g (home h g))
+      { in_force = decoded (places_of x.world g (home h g)).word0 (places_of x.world g (home h g)).word1 }
   shows = ap (λ (w : World). places_of w g (home h g)) c.world ∙ fence-places x.world g (home h g) c.whole c.there
 
   reach_now : entry_names (home h g) ≡ in_force_of (Accepted (Refetch vm number) ∷ h) g
@@ -127,10 +130,12 @@ module _ (x y : CoreState) (h : History) (vm number : ℕ) (c : IsRefetch x y vm
       record {
         same_home = ap (λ (r : VcpuRecord). home_in r.stay) (same_record g) ∙ stood.same_home ∙ sym home_is;
         select = ap (λ (r : VcpuRecord). r.select) (same_record g) ∙ stood.select ∙ sym (select_rests h (Accepted (Refetch vm number)) g refl);
-        majors = ap (λ (r : VcpuRecord). majors_shown r.majors) (same_record g) ∙ stood.majors ∙ sym (majors_rest h (Accepted (Refetch vm number)) g (λ m. refl));
+        majors = ap (λ (r : VcpuRecord). majors_shown r.majors) (same_record g) ∙ stood.majors
+            ∙ sym (majors_rest h (Accepted (Refetch vm number)) g (λ m. refl));
         two_files = subst AreApart (sym home_is) stood.two_files;
         plan = subst (PlanStands y.world g) (sym stay) (plan_stays x.world y.world g (record_of x g).stay machine stood.plan);
-        passes = subst (HasItsPasses (passes_of (Accepted (Refetch vm number) ∷ h)) g) (sym stay) (subst (λ passes. HasItsPasses passes g (record_of x g).stay) (sym (refetch_of h vm number).passes) stood.passes);
+        passes = subst (HasItsPasses (passes_of (Accepted (Refetch vm number) ∷ h)) g) (sym stay)
+            (subst (λ passes. HasItsPasses passes g (record_of x g).stay) (sym (refetch_of h vm number).passes) stood.passes);
         holds = subst IsHeld (λ k. record {
           words = file_words h;
           slot = slot_of (vms_of h) g;
@@ -141,11 +146,14 @@ module _ (x y : CoreState) (h : History) (vm number : ℕ) (c : IsRefetch x y vm
           hand = hand_in (sym stay k);
           file = sym (file_rests h (Accepted (Refetch vm number)) g refl) k;
           saw = sym (seen_stays (Accepted (Refetch vm number)) h g refl (λ w was. refl)) k;
-        }) (refetch_kept (file_words h) (slot_of (vms_of h) g) (notice_hart (vms_of h) g) (in_force_of h g) (places_of x.world g (home h g)) (home h g) (hand_in (record_of x g).stay) (guest_file h g) (a_look_saw h g) fit low_slot low_hart stood.holds);
+        }) (refetch_kept (file_words h) (slot_of (vms_of h) g) (notice_hart (vms_of h) g) (in_force_of h g) (places_of x.world g (home h g))
+            (home h g) (hand_in (record_of x g).stay) (guest_file h g) (a_look_saw h g) fit low_slot low_hart stood.holds);
       }
 
-  other_entry : (other : Vcpu) → is_vcpu other g ≡ false → entry_in_force (table_of y.world.tables other.vm) other.number ≡ entry_in_force (table_of x.world.tables other.vm) other.number
-  other_entry other ne = ap (λ (w : World). entry_in_force (table_of w.tables other.vm) other.number) c.world ∙ fenced_elsewhere x.world.tables vm number x.world.memory other.vm other.number (is_apart other ne)
+  other_entry : (other : Vcpu) → is_vcpu other g ≡ false
+      → entry_in_force (table_of y.world.tables other.vm) other.number ≡ entry_in_force (table_of x.world.tables other.vm) other.number
+  other_entry other ne = ap (λ (w : World). entry_in_force (table_of w.tables other.vm) other.number) c.world
+      ∙ fenced_elsewhere x.world.tables vm number x.world.memory other.vm other.number (is_apart other ne)
     where
       is_apart : (other : Vcpu) → is_vcpu other g ≡ false → (other.vm ≢ vm) ⊎ (other.number ≢ number)
       is_apart other ne = elim (cases_eq other.vm vm) [
@@ -155,11 +163,13 @@ module _ (x y : CoreState) (h : History) (vm number : ℕ) (c : IsRefetch x y vm
 
   other_view : (other : Vcpu) → is_vcpu other g ≡ false → places_of y.world other (home h other) ≡ places_of x.world other (home h other)
   other_view other ne =
-      let fenced : entry_in_force (table_of (with_fence x.world vm number).tables other.vm) other.number ≡ entry_in_force (table_of x.world.tables other.vm) other.number =
+      let fenced : entry_in_force (table_of (with_fence x.world vm number).tables other.vm) other.number ≡ entry_in_force
+      (table_of x.world.tables other.vm) other.number =
       ap (λ (w : World). entry_in_force (table_of w.tables other.vm) other.number) (sym c.world) ∙ other_entry other ne in
       ap (λ (w : World). places_of w other (home h other)) c.world ∙ (λ k. record (places_of x.world other (home h other)) { in_force = fenced k })
 
-  its_alone : (other : Vcpu) (p : GuestPlace) → has_vcpu h other ≡ true → is_vcpu other g ≡ false → holds p (home h g) ≡ true → holds p (home h other) ≡ false
+  its_alone : (other : Vcpu) (p : GuestPlace) → has_vcpu h other ≡ true → is_vcpu other g ≡ false → holds p (home h g) ≡ true
+      → holds p (home h other) ≡ false
   its_alone other p there ne mine = elim (cases_Bool (holds p (home h other))) [
     | inl its ↦ absurd (false≢true (sym ne ∙ ap (λ z. is_vcpu z g) (stands.apart other g p there inside its mine) ∙ is_itself g))
     | inr none ↦ none
@@ -177,7 +187,8 @@ module _ (x y : CoreState) (h : History) (vm number : ℕ) (c : IsRefetch x y vm
     passes = c.passes;
     count = ap (λ (w : World). w.notices) c.world;
     host = λ f at. record {
-      file = subst (λ (w : World). SameFile (shown (file_at w.imsic (host_spot f))) (shown (file_at x.world.imsic (host_spot f)))) (sym c.world) (as_it_was (shown (file_at x.world.imsic (host_spot f))));
+      file = subst (λ (w : World). SameFile (shown (file_at w.imsic (host_spot f))) (shown (file_at x.world.imsic (host_spot f)))) (sym c.world)
+          (as_it_was (shown (file_at x.world.imsic (host_spot f))));
       select = ap (λ xs. get_or xs (select_place f) 0) c.selects;
     };
     records = ap (λ (rs : List VcpuRecord). length rs) c.vcpus;
@@ -203,6 +214,8 @@ refetch_taken x y vm number c = taken x y (Refetch vm number) Okay refl (λ h st
   moved_on x y h (Accepted (Refetch vm number)) (vcpu vm number) (refetched x y h vm number c stands) stands,
 ))
 
-pub no_entry_to_read : (x : CoreState) (vm number : ℕ) → is_vcpu_in x.world.vms (vcpu vm number) ≡ false → CoreTakes x x (Refetch vm number) (Refused words.Range)
+pub no_entry_to_read : (x : CoreState) (vm number : ℕ) → is_vcpu_in x.world.vms (vcpu vm number) ≡ false
+    → CoreTakes x x (Refetch vm number) (Refused words.Range)
 no_entry_to_read x vm number none = refused x (Refetch vm number) (Refused words.Range) (λ h stands.
-    refetch_refusal h vm number stands.there ∙ cond-true _ _ _ (ap not (subst (λ (vs : List Vm). is_vcpu_in vs (vcpu vm number) ≡ false) stands.vms none)))
+    refetch_refusal h vm number stands.there ∙ cond-true _ _ _
+    (ap not (subst (λ (vs : List Vm). is_vcpu_in vs (vcpu vm number) ≡ false) stands.vms none)))

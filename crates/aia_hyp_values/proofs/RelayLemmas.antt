@@ -87,7 +87,8 @@ taking_says n p i few wide =
           ap (λ w. cond (shows n 0 i) w Nothing) (cond-false _ _ _ clear) ∙ nothing_else (shows n 0 i) ∙ sym (cond-false _ _ _ (ne_eqb x i ne))
     ]
 
-taken : (p : ℕ) (file : InterruptFile) → p < PASSES → 63 ≤ file.n → SameFile (accessed (Pending 0) (taking p) file) (file_after 0 (Relays (host_identity p) None) file)
+taken : (p : ℕ) (file : InterruptFile) → p < PASSES → 63 ≤ file.n
+    → SameFile (accessed (Pending 0) (taking p) file) (file_after 0 (Relays (host_identity p) None) file)
 taken p file few wide = record {
   n = refl;
   pending = λ i. ap (λ w. settle w (file.pending i)) (taking_says file.n p i few wide);
@@ -101,7 +102,8 @@ asks_last : (b : Bool) (w : BitUpdate) (was : Bool) → settle (cond b Ask Nothi
 asks_last true w was = refl
 asks_last false w was = refl
 
-then_noticed : (p v : ℕ) (file : InterruptFile) → SameFile (landed 0 v (file_after 0 (Relays (host_identity p) None) file)) (file_after 0 (Relays (host_identity p) (Some v)) file)
+then_noticed : (p v : ℕ) (file : InterruptFile)
+    → SameFile (landed 0 v (file_after 0 (Relays (host_identity p) None) file)) (file_after 0 (Relays (host_identity p) (Some v)) file)
 then_noticed p v file = record {
   n = refl;
   pending = λ i. asks_last (names (requested file.n 0 v) i) (relay_said file.n (host_identity p) None i) (file.pending i);
@@ -130,7 +132,8 @@ pub record IsRelayed (x y : CoreState) (p : ℕ) (pass : PassedSource) (file : F
   pub selects : y.selects ≡ x.selects
   pub passes : y.passes ≡ x.passes
 
-module _ (x y : CoreState) (h : History) (p : ℕ) (file : FileState) (c : IsRelayed x y p (nth_pass h p) file) (stands : CoreStands x h) (low : p < length (passes_of h)) (reach : pass_reach h p ≡ None) where
+module _ (x y : CoreState) (h : History) (p : ℕ) (file : FileState) (c : IsRelayed x y p (nth_pass h p) file) (stands : CoreStands x h)
+    (low : p < length (passes_of h)) (reach : pass_reach h p ≡ None) where
   abbrev g : Vcpu
   g = (nth_pass h p).to
 
@@ -173,20 +176,26 @@ module _ (x y : CoreState) (h : History) (p : ℕ) (file : FileState) (c : IsRel
   -- the file at its notice hart once the identity is taken
   between_is : shown file ≡ file_after 0 (Relays (host_identity p) None) (shown (file_at x.world.imsic spot))
   between_is =
-      let wide : 63 ≤ (shown (file_at x.world.imsic spot)).n = subst (λ n. 63 ≤ n) (sym (width_at x.world spot c.whole here)) (enough_identities x.world.n c.whole.greatest) in
+      let wide : 63 ≤ (shown (file_at x.world.imsic spot)).n =
+      subst (λ n. 63 ≤ n) (sym (width_at x.world spot c.whole here)) (enough_identities x.world.n c.whole.greatest) in
       same_file _ _ c.takes ∙ same_file _ _ (taken p (shown (file_at x.world.imsic spot)) c.few wide)
 
   -- the files of the host, by the one at its notice hart
-  host_done : SameFile (shown (file_at y.world.imsic spot)) (file_after 0 (Relays (host_identity p) (option_map (notice_identity (vms_of h)) (noticed h (Relayed p)))) (shown (file_at x.world.imsic spot)))
+  host_done : SameFile (shown (file_at y.world.imsic spot))
+      (file_after 0 (Relays (host_identity p) (option_map (notice_identity (vms_of h)) (noticed h (Relayed p)))) (shown (file_at x.world.imsic spot)))
       → ((other : Spot) → IsThere x.world.imsic other → other ≢ spot → file_at y.world.imsic other ≡ file_at x.world.imsic other)
       → (f : FileName) → IsThere x.world.imsic (host_spot f) → FileDone x y f (deed_at f h (Relayed p))
   host_done done others f inside = elim (same_or_other f (SupervisorFile (notice_hart (vms_of h) g))) [
     | inl e ↦ subst (FileDone x y f) (sym (cond-true _ _ _ (is_file-itself f (SupervisorFile (notice_hart (vms_of h) g)) e))) (record {
-      file = subst (λ (s : Spot). SameFile (shown (file_at y.world.imsic s)) (file_after 0 (Relays (host_identity p) (option_map (notice_identity (vms_of h)) (noticed h (Relayed p)))) (shown (file_at x.world.imsic s)))) (ap spots.SupervisorFile hart ∙ sym (ap host_spot e)) done;
+      file = subst (λ (s : Spot). SameFile (shown (file_at y.world.imsic s))
+          (file_after 0 (Relays (host_identity p) (option_map (notice_identity (vms_of h)) (noticed h (Relayed p))))
+          (shown (file_at x.world.imsic s)))) (ap spots.SupervisorFile hart ∙ sym (ap host_spot e)) done;
       select = ap (λ xs. get_or xs (select_place f) 0) c.selects;
     })
     | inr ne ↦ subst (FileDone x y f) (sym (cond-false _ _ _ (is_file-other f (SupervisorFile (notice_hart (vms_of h) g)) ne))) (record {
-      file = subst (λ (z : FileState). SameFile (shown z) (shown (file_at x.world.imsic (host_spot f)))) (sym (others (host_spot f) inside (λ e. other_spot (SupervisorFile (notice_hart (vms_of h) g)) f ne (e ∙ ap spots.SupervisorFile hart)))) (as_it_was (shown (file_at x.world.imsic (host_spot f))));
+      file = subst (λ (z : FileState). SameFile (shown z) (shown (file_at x.world.imsic (host_spot f))))
+          (sym (others (host_spot f) inside (λ e. other_spot (SupervisorFile (notice_hart (vms_of h) g)) f ne
+          (e ∙ ap spots.SupervisorFile hart)))) (as_it_was (shown (file_at x.world.imsic (host_spot f))));
       select = ap (λ xs. get_or xs (select_place f) 0) c.selects;
     })
   ]
@@ -199,12 +208,15 @@ module _ (x y : CoreState) (h : History) (p : ℕ) (file : FileState) (c : IsRel
     slot = record {
       rest = by_parts x.world y.world (with_file x.world.imsic spot file).files (slot_words x.world g 0 value) x.world.notices world;
       memory = ap (λ (w : World). w.memory) world;
-      files = λ q inside. ap (λ (w : World). file_at w.imsic (spot_of q)) world ∙ taken_elsewhere (spot_of q) inside (no_guest spot refl q.hart q.file);
+      files = λ q inside. ap (λ (w : World). file_at w.imsic (spot_of q)) world
+          ∙ taken_elsewhere (spot_of q) inside (no_guest spot refl q.hart q.file);
     };
     count = ap (λ (w : World). w.notices) world ∙ ap (λ who. count_after who x.world.notices) (sym quiet);
     host = host_done
-        (subst (λ (o : Option Vcpu). SameFile (shown (file_at y.world.imsic spot)) (file_after 0 (Relays (host_identity p) (option_map (notice_identity (vms_of h)) o)) (shown (file_at x.world.imsic spot)))) (sym quiet)
-        (subst (SameFile (shown (file_at y.world.imsic spot))) (ap (λ (w : World). shown (file_at w.imsic spot)) world ∙ ap shown c.kept ∙ between_is) (as_it_was (shown (file_at y.world.imsic spot)))))
+        (subst (λ (o : Option Vcpu). SameFile (shown (file_at y.world.imsic spot))
+        (file_after 0 (Relays (host_identity p) (option_map (notice_identity (vms_of h)) o)) (shown (file_at x.world.imsic spot)))) (sym quiet)
+        (subst (SameFile (shown (file_at y.world.imsic spot)))
+        (ap (λ (w : World). shown (file_at w.imsic spot)) world ∙ ap shown c.kept ∙ between_is) (as_it_was (shown (file_at y.world.imsic spot)))))
         (λ other inside ne. ap (λ (w : World). file_at w.imsic other) world ∙ taken_elsewhere other inside ne);
   }
 
@@ -212,10 +224,13 @@ module _ (x y : CoreState) (h : History) (p : ℕ) (file : FileState) (c : IsRel
   loudly loud posts =
       let imsic = posts.lands.others in
       let elsewhere : (other : Spot) → IsThere x.world.imsic other → other ≢ spot → file_at y.world.imsic other ≡ file_at x.world.imsic other =
-      λ other inside ne. ap (λ (i : ImsicState). file_at i other) imsic ∙ kept_elsewhere between.imsic spot other (file_at y.world.imsic spot) here inside ne ∙ taken_elsewhere other inside ne in
+      λ other inside ne. ap (λ (i : ImsicState). file_at i other) imsic
+      ∙ kept_elsewhere between.imsic spot other (file_at y.world.imsic spot) here inside ne ∙ taken_elsewhere other inside ne in
       let identity : own_notice ≡ notice_identity (vms_of h) g = ap (λ vms. notice_identity vms g) stands.vms in
-      let done : shown (file_at y.world.imsic spot) ≡ file_after 0 (Relays (host_identity p) (Some (notice_identity (vms_of h) g))) (shown (file_at x.world.imsic spot)) =
-      same_file _ _ posts.lands.lands ∙ ap (λ (z : FileState). landed 0 own_notice (shown z)) c.kept ∙ ap (landed 0 own_notice) between_is ∙ same_file _ _ (then_noticed p own_notice (shown (file_at x.world.imsic spot)))
+      let done : shown (file_at y.world.imsic spot) ≡ file_after 0 (Relays (host_identity p) (Some (notice_identity (vms_of h) g)))
+      (shown (file_at x.world.imsic spot)) =
+      same_file _ _ posts.lands.lands ∙ ap (λ (z : FileState). landed 0 own_notice (shown z)) c.kept ∙ ap (landed 0 own_notice) between_is
+      ∙ same_file _ _ (then_noticed p own_notice (shown (file_at x.world.imsic spot)))
       ∙ ap (λ n. file_after 0 (Relays (host_identity p) (Some n)) (shown (file_at x.world.imsic spot))) identity in
       record {
         slot = record {
@@ -225,19 +240,22 @@ module _ (x y : CoreState) (h : History) (p : ℕ) (file : FileState) (c : IsRel
         };
         count = posts.count ∙ ap (λ who. count_after who x.world.notices) (sym loud);
         host = host_done
-            (subst (λ (o : Option Vcpu). SameFile (shown (file_at y.world.imsic spot)) (file_after 0 (Relays (host_identity p) (option_map (notice_identity (vms_of h)) o)) (shown (file_at x.world.imsic spot)))) (sym loud)
+            (subst (λ (o : Option Vcpu). SameFile (shown (file_at y.world.imsic spot))
+            (file_after 0 (Relays (host_identity p) (option_map (notice_identity (vms_of h)) o)) (shown (file_at x.world.imsic spot)))) (sym loud)
             (subst (SameFile (shown (file_at y.world.imsic spot))) done (as_it_was (shown (file_at y.world.imsic spot)))))
             elsewhere;
       }
 
-  by_notice : (s : Stored) → s ≡ stored (mrif_in x.world.memory slot) (requested IDENTITIES 0 value) → NoticedBy s (with_store between slot 0 value) y.world spot own_notice → HasLanded x y h (Relayed p) g 0 value
+  by_notice : (s : Stored) → s ≡ stored (mrif_in x.world.memory slot) (requested IDENTITIES 0 value)
+      → NoticedBy s (with_store between slot 0 value) y.world spot own_notice → HasLanded x y h (Relayed p) g 0 value
   by_notice Notice e by = loudly (who_by_store x y h (Relayed p) g 0 value meant refl Notice e) by
   by_notice Quiet e by = quietly (who_by_store x y h (Relayed p) g 0 value meant refl Quiet e) by
   by_notice Discarded e by = quietly (who_by_store x y h (Relayed p) g 0 value meant refl Discarded e) by
 
   pub relay_stands : CoreStands y (Relayed p ∷ h)
   relay_stands =
-      one_more x y h (Relayed p) (landed_changes x y h (Relayed p) g 0 value meant (by_notice (stored (mrif_in x.world.memory slot) (requested IDENTITIES 0 value)) refl c.stores)) (still_relay h p) stands
+      one_more x y h (Relayed p) (landed_changes x y h (Relayed p) g 0 value meant
+      (by_notice (stored (mrif_in x.world.memory slot) (requested IDENTITIES 0 value)) refl c.stores)) (still_relay h p) stands
 
 pub relay_goes : (x y : CoreState) (p : ℕ) (file : FileState) → IsRelayed x y p (slice_index_or x.passes p no_pass) file → CoreGoes x y (Relayed p)
 relay_goes x y p file c = λ h stands may.
@@ -251,15 +269,20 @@ pub record RelayCalls (x y : CoreState) (p : ℕ) (pass : PassedSource) (between
   pub hart : at ≡ notice_hart x.world.vms pass.to
   pub slot : q ≡ slot_of x.world.vms pass.to
   pub there : is_vcpu_in x.world.vms pass.to ≡ true
-  pub takes : SameFile (shown (file_at between.imsic (spots.SupervisorFile at))) (accessed (Pending 0) (taking p) (shown (file_at x.world.imsic (spots.SupervisorFile at))))
-  pub others : between ≡ record x.world { imsic = with_file x.world.imsic (spots.SupervisorFile at) (file_at between.imsic (spots.SupervisorFile at)) }
+  pub takes : SameFile (shown (file_at between.imsic (spots.SupervisorFile at)))
+      (accessed (Pending 0) (taking p) (shown (file_at x.world.imsic (spots.SupervisorFile at))))
+  pub others : between ≡ record x.world {
+    imsic =
+        with_file x.world.imsic (spots.SupervisorFile at) (file_at between.imsic (spots.SupervisorFile at));
+  }
   pub stores : (g : Vcpu) → is_vcpu_in between.vms g ≡ true → slot_of between.vms g ≡ q → stores.ReachesByRecord None between y.world g pass.identity
   pub leases : y.leases ≡ x.leases
   pub vcpus : y.vcpus ≡ x.vcpus
   pub selects : y.selects ≡ x.selects
   pub passes : y.passes ≡ x.passes
 
-relayed : (x y : CoreState) (p : ℕ) (pass : PassedSource) (between : World) (at q : ℕ) → RelayCalls x y p pass between at q → IsRelayed x y p pass (file_at between.imsic (spots.SupervisorFile at))
+relayed : (x y : CoreState) (p : ℕ) (pass : PassedSource) (between : World) (at q : ℕ) → RelayCalls x y p pass between at q
+    → IsRelayed x y p pass (file_at between.imsic (spots.SupervisorFile at))
 relayed x y p pass between at q c =
     let file = file_at between.imsic (spots.SupervisorFile at) in
     let spot : spots.SupervisorFile at ≡ spot_at_notice x pass = ap spots.SupervisorFile c.hart in
@@ -268,7 +291,8 @@ relayed x y p pass between at q c =
     record {
       whole = c.whole;
       few = c.few;
-      kept = subst (λ (s : Spot). file_at (with_file x.world.imsic s file) s ≡ file) spot (ap (λ (w : World). file_at w.imsic (spots.SupervisorFile at)) (sym c.others));
+      kept = subst (λ (s : Spot). file_at (with_file x.world.imsic s file) s ≡ file) spot
+          (ap (λ (w : World). file_at w.imsic (spots.SupervisorFile at)) (sym c.others));
       takes = subst (λ (s : Spot). SameFile (shown file) (accessed (Pending 0) (taking p) (shown (file_at x.world.imsic s)))) spot c.takes;
       stores = subst (λ (w : World). stores.ReachesByRecord None w y.world pass.to pass.identity) same
           (c.stores pass.to (ap (λ vs. is_vcpu_in vs pass.to) vms ∙ c.there) (ap (λ vs. slot_of vs pass.to) vms ∙ sym c.slot));
@@ -278,16 +302,19 @@ relayed x y p pass between at q c =
       passes = c.passes;
     }
 
-pub calls_go : (x y : CoreState) (p : ℕ) (pass : PassedSource) (between : World) (at q : ℕ) → RelayCalls x y p pass between at q → CoreGoes x y (Relayed p)
+pub calls_go : (x y : CoreState) (p : ℕ) (pass : PassedSource) (between : World) (at q : ℕ) → RelayCalls x y p pass between at q
+    → CoreGoes x y (Relayed p)
 calls_go x y p pass between at q c =
     let file = file_at between.imsic (spots.SupervisorFile at) in
     relay_goes x y p file (subst (λ (z : PassedSource). IsRelayed x y p z file) c.is (relayed x y p pass between at q c))
 
 -- what is so of the pass of a number where it may be given on
-pub may_relay : (x : CoreState) (p : ℕ) → MayGo x (Relayed p) → length x.passes ≤ PASSES → (p < PASSES) × (is_vcpu_in x.world.vms (slice_index_or x.passes p no_pass).to ≡ true)
+pub may_relay : (x : CoreState) (p : ℕ) → MayGo x (Relayed p) → length x.passes ≤ PASSES → (p < PASSES)
+    × (is_vcpu_in x.world.vms (slice_index_or x.passes p no_pass).to ≡ true)
 may_relay x p m few =
     let size = ap (λ ps. length ps) m.stands.passes.same in
     let there = (pass_to_one x m.past p m.stands m.may.0).0 in (
       omega (arith, m.may.0, size, few),
-      ap (λ ps. is_vcpu_in x.world.vms (slice_index_or ps p no_pass).to) m.stands.passes.same ∙ ap (λ vms. is_vcpu_in vms (nth_pass m.past p).to) m.stands.vms ∙ there,
+      ap (λ ps. is_vcpu_in x.world.vms (slice_index_or ps p no_pass).to) m.stands.passes.same
+          ∙ ap (λ vms. is_vcpu_in vms (nth_pass m.past p).to) m.stands.vms ∙ there,
     )

@@ -118,7 +118,8 @@ pub record OnlyNotifies (x y : CoreState) (h : History) (event : Event) : Type 0
   pub host : (f : FileName) → IsThere x.world.imsic (host_spot f) → FileDone x y f (deed_at f h event)
   pub files : (p : GuestPlace) → IsThere x.world.imsic (spot_of p) → file_at y.world.imsic (spot_of p) ≡ file_at x.world.imsic (spot_of p)
 
-same_for : (x y : CoreState) (h : History) (event : Event) (other : Vcpu) (there : Home) → OnlyNotifies x y h event → ((p : GuestPlace) → holds p there ≡ true → IsThere x.world.imsic (spot_of p)) → SameFor x.world y.world other there
+same_for : (x y : CoreState) (h : History) (event : Event) (other : Vcpu) (there : Home) → OnlyNotifies x y h event
+    → ((p : GuestPlace) → holds p there ≡ true → IsThere x.world.imsic (spot_of p)) → SameFor x.world y.world other there
 same_for x y h event other there notifies held = record {
   n = ap (λ (w : World). w.n) notifies.rest;
   files = λ p holding. notifies.files p (held p holding);
@@ -129,26 +130,31 @@ same_for x y h event other there notifies held = record {
   stage = ap (λ (w : World). stage_of w other) notifies.rest;
 }
 
-pub nothing_told : (x y : CoreState) (h : History) (event : Event) → y.world ≡ x.world → y.selects ≡ x.selects → noticed h event ≡ None → ((f : FileName) → deed_at f h event ≡ notice_deed h f (noticed h event)) → OnlyNotifies x y h event
+pub nothing_told : (x y : CoreState) (h : History) (event : Event) → y.world ≡ x.world → y.selects ≡ x.selects → noticed h event ≡ None
+    → ((f : FileName) → deed_at f h event ≡ notice_deed h f (noticed h event)) → OnlyNotifies x y h event
 nothing_told x y h event world selects quiet deeds = record {
   rest = world ∙ (λ k. record x.world { imsic = (sym world k).imsic; notices = (sym world k).notices });
   accesses = no_accesses x.world y.world world;
   count = ap (λ (w : World). w.notices) world ∙ ap (λ who. count_after who x.world.notices) (sym quiet);
   host = λ f inside. subst (FileDone x y f) (sym (deeds f ∙ ap (notice_deed h f) quiet)) (record {
-    file = subst (λ (w : World). SameFile (shown (file_at w.imsic (host_spot f))) (shown (file_at x.world.imsic (host_spot f)))) (sym world) (as_it_was (shown (file_at x.world.imsic (host_spot f))));
+    file = subst (λ (w : World). SameFile (shown (file_at w.imsic (host_spot f))) (shown (file_at x.world.imsic (host_spot f)))) (sym world)
+        (as_it_was (shown (file_at x.world.imsic (host_spot f))));
     select = ap (λ xs. get_or xs (select_place f) 0) selects;
   });
   files = λ p inside. ap (λ (w : World). file_at w.imsic (spot_of p)) world;
 }
 
 stores_alone : (w u : World) → OnlyStores w u → OnlyAccesses w u
-stores_alone w u e = e ∙ ap (λ (x : World). record w { imsic = record w.imsic { files = x.imsic.files }; memory = x.memory; tables = x.tables; stages = x.stages; notices = x.notices }) (sym e)
+stores_alone w u e = e ∙ ap (λ (x : World). record w
+    { imsic = record w.imsic { files = x.imsic.files }; memory = x.memory; tables = x.tables; stages = x.stages; notices = x.notices }) (sym e)
 
-pub one_told : (x y : CoreState) (h : History) (event : Event) (g : Vcpu) → CoreStands x h → IsWhole x.world → has_vcpu h g ≡ true → y.selects ≡ x.selects → noticed h event ≡ Some g → ((f : FileName) → deed_at f h event ≡ notice_deed h f (noticed h event))
+pub one_told : (x y : CoreState) (h : History) (event : Event) (g : Vcpu) → CoreStands x h → IsWhole x.world → has_vcpu h g ≡ true
+    → y.selects ≡ x.selects → noticed h event ≡ Some g → ((f : FileName) → deed_at f h event ≡ notice_deed h f (noticed h event))
     → Posts x.world y.world (spots.SupervisorFile (notice_hart x.world.vms g)) (notice_identity x.world.vms g) → OnlyNotifies x y h event
 one_told x y h event g stands whole there selects loud deeds posts = record {
   rest = posts.rest;
-  accesses = stores_alone x.world y.world (posts_rest x.world y.world (spots.SupervisorFile (notice_hart x.world.vms g)) (notice_identity x.world.vms g) posts);
+  accesses = stores_alone x.world y.world (posts_rest x.world y.world (spots.SupervisorFile (notice_hart x.world.vms g))
+      (notice_identity x.world.vms g) posts);
   count = posts.count ∙ ap (λ who. count_after who x.world.notices) (sym loud);
   host = host_told x y h event g stands whole there selects loud deeds posts.lands;
   files = guests_untold x y h g stands whole there posts.lands;
@@ -176,7 +182,8 @@ pub record IsRun (x y : CoreState) (h : History) (event : Event) (g : Vcpu) (fro
   pub plan : PlanStands y.world g to
   pub has_passes : HasItsPasses (passes_of (event ∷ h)) g to
   pub same_shown : places_of x.world g (home_in to) ≡ places_of x.world g (home_in from)
-  pub held : (words q hart : ℕ) (reach : Option GuestPlace) (v : Places) (file : InterruptFile) (saw : Bool) → Holds words q hart reach v (home_in from) (hand_in from) file saw → Holds words q hart reach v (home_in to) (hand_in to) file saw
+  pub held : (words q hart : ℕ) (reach : Option GuestPlace) (v : Places) (file : InterruptFile) (saw : Bool)
+      → Holds words q hart reach v (home_in from) (hand_in from) file saw → Holds words q hart reach v (home_in to) (hand_in to) file saw
 
 module _ (x y : CoreState) (h : History) (event : Event) (g : Vcpu) (from to : Stay) (c : IsRun x y h event g from to) where
   same_vms : y.world.vms ≡ x.world.vms
@@ -193,10 +200,12 @@ module _ (x y : CoreState) (h : History) (event : Event) (g : Vcpu) (from to : S
 
   other_record : (other : Vcpu) → has_vcpu h other ≡ true → is_vcpu other g ≡ false → record_of y other ≡ record_of x other
   other_record other inside ne = (λ k. get_or (c.vcpus k) (slot_of (same_vms k) other) no_record)
-      ∙ get_or-set_other x.vcpus (slot_of x.world.vms g) (slot_of x.world.vms other) _ no_record (slots_apart x h g other c.stands c.there inside (λ e. false≢true (sym ne ∙ ap (λ z. is_vcpu z g) e ∙ is_itself g)))
+      ∙ get_or-set_other x.vcpus (slot_of x.world.vms g) (slot_of x.world.vms other) _ no_record
+      (slots_apart x h g other c.stands c.there inside (λ e. false≢true (sym ne ∙ ap (λ z. is_vcpu z g) e ∙ is_itself g)))
 
   same_places : places_of y.world g (home_in to) ≡ places_of x.world g (home_in from)
-  same_places = same_view x.world y.world g (home_in to) (same_for x y h event g (home_in to) c.notifies (λ p holding. absurd (false≢true (sym (c.none_after p) ∙ holding)))) ∙ c.same_shown
+  same_places = same_view x.world y.world g (home_in to)
+      (same_for x y h event g (home_in to) c.notifies (λ p holding. absurd (false≢true (sym (c.none_after p) ∙ holding)))) ∙ c.same_shown
 
   run_stands : VcpuStands y (event ∷ h) g
   run_stands =
@@ -219,7 +228,8 @@ module _ (x y : CoreState) (h : History) (event : Event) (g : Vcpu) (from to : S
           hand = hand_in (sym stay k);
           file = sym (file_rests h event g (c.moves.rests g)) k;
           saw = sym c.seen k;
-        }) (c.held (file_words h) (slot_of (vms_of h) g) (notice_hart (vms_of h) g) (in_force_of h g) (places_of x.world g (home_in from)) (guest_file h g) (a_look_saw h g)
+        }) (c.held (file_words h) (slot_of (vms_of h) g) (notice_hart (vms_of h) g) (in_force_of h g) (places_of x.world g (home_in from))
+            (guest_file h g) (a_look_saw h g)
             (subst IsHeld (λ k. record {
               words = file_words h;
               slot = slot_of (vms_of h) g;
@@ -250,7 +260,8 @@ module _ (x y : CoreState) (h : History) (event : Event) (g : Vcpu) (from to : S
     host = c.notifies.host;
     records = ap (λ (rs : List VcpuRecord). length rs) c.vcpus ∙ length-set x.vcpus (slot_of x.world.vms g) _;
     other_records = other_record;
-    other_views = λ other inside ne. same_view x.world y.world other (home h other) (same_for x y h event other (home h other) c.notifies (λ p holding. c.stands.held other p inside holding));
+    other_views = λ other inside ne. same_view x.world y.world other (home h other)
+        (same_for x y h event other (home h other) c.notifies (λ p holding. c.stands.held other p inside holding));
     own = run_stands;
     lease_harts = ap (λ (l : Leases). l.harts) c.leases;
     lease_guests = ap (λ (l : Leases). l.guests) c.leases;
@@ -274,7 +285,8 @@ pub record IsEnter (x y : CoreState) (vm number : ℕ) : Type 0 where
   pub passes : y.passes ≡ x.passes
 
 -- the refusal of one that is there, by where it is
-enter_by : (x : CoreState) (h : History) (vm number : ℕ) (stay : Stay) → CoreStands x h → has_vcpu h (vcpu vm number) ≡ true → (record_of x (vcpu vm number)).stay ≡ stay
+enter_by : (x : CoreState) (h : History) (vm number : ℕ) (stay : Stay) → CoreStands x h → has_vcpu h (vcpu vm number) ≡ true
+    → (record_of x (vcpu vm number)).stay ≡ stay
     → refusal h (lines.Enter vm number) ≡ unless_parked (home_in stay) None
 enter_by x h vm number stay stands inside was =
     let at : home h (vcpu vm number) ≡ home_in stay = sym (stands.vcpus (vcpu vm number) inside).same_home ∙ ap home_in was in
@@ -284,13 +296,18 @@ enter_by x h vm number stay stands inside was =
 same_core : (x y : CoreState) (vm number : ℕ) → IsEnter x y vm number → y.vcpus ≡ x.vcpus → y ≡ x
 same_core x y vm number c vcpus = λ k. record { world = c.world k; leases = c.leases k; vcpus = vcpus k; selects = c.selects k; passes = c.passes k }
 
-enter_refused : (x y : CoreState) (vm number : ℕ) (stay : Stay) (given : Answer) (word : Refusal) → IsEnter x y vm number → y.vcpus ≡ x.vcpus → given ≡ Refused word → ((h : History) → CoreStands x h → refusal h (lines.Enter vm number) ≡ Some (Refused word)) → CoreTakes x y (lines.Enter vm number) given
+enter_refused : (x y : CoreState) (vm number : ℕ) (stay : Stay) (given : Answer) (word : Refusal) → IsEnter x y vm number → y.vcpus ≡ x.vcpus
+    → given ≡ Refused word → ((h : History) → CoreStands x h → refusal h (lines.Enter vm number) ≡ Some (Refused word))
+    → CoreTakes x y (lines.Enter vm number) given
 enter_refused x y vm number stay given word c vcpus is refuses =
     subst (λ (z : CoreState). CoreTakes x z (lines.Enter vm number) given) (sym (same_core x y vm number c vcpus))
     (subst (λ a. CoreTakes x x (lines.Enter vm number) a) (sym is) (refused x (lines.Enter vm number) (Refused word) refuses))
 
-parked_enters : (x y : CoreState) (vm number : ℕ) (kept : KeptNumbers) (given : Answer) → IsEnter x y vm number → (record_of x (vcpu vm number)).stay ≡ stays.InMemory Parked kept → EntersFrom (Ok kept) x.vcpus y.vcpus (slot_of x.world.vms (vcpu vm number)) given → CoreTakes x y (lines.Enter vm number) given
-parked_enters x y vm number kept given c was e = subst (λ a. CoreTakes x y (lines.Enter vm number) a) (sym e.0) (taken x y (lines.Enter vm number) Okay refl (λ h stands.
+parked_enters : (x y : CoreState) (vm number : ℕ) (kept : KeptNumbers) (given : Answer) → IsEnter x y vm number
+    → (record_of x (vcpu vm number)).stay ≡ stays.InMemory Parked kept
+    → EntersFrom (Ok kept) x.vcpus y.vcpus (slot_of x.world.vms (vcpu vm number)) given → CoreTakes x y (lines.Enter vm number) given
+parked_enters x y vm number kept given c was e =
+    subst (λ a. CoreTakes x y (lines.Enter vm number) a) (sym e.0) (taken x y (lines.Enter vm number) Okay refl (λ h stands.
     let g = vcpu vm number in
     let event = Accepted (lines.Enter vm number) in
     let inside = there_in x h g stands c.there in
@@ -321,19 +338,24 @@ parked_enters x y vm number kept given c was e = subst (λ a. CoreTakes x y (lin
       moved_on x y h event g (run_changes x y h event g (stays.InMemory Parked kept) (stays.InMemory Entered kept) run) stands,
     )))
 
-pub enters : (x y : CoreState) (vm number : ℕ) (stay : Stay) (given : Answer) → IsEnter x y vm number → (record_of x (vcpu vm number)).stay ≡ stay → EntersFrom (parked_at stay) x.vcpus y.vcpus (slot_of x.world.vms (vcpu vm number)) given → CoreTakes x y (lines.Enter vm number) given
+pub enters : (x y : CoreState) (vm number : ℕ) (stay : Stay) (given : Answer) → IsEnter x y vm number → (record_of x (vcpu vm number)).stay ≡ stay
+    → EntersFrom (parked_at stay) x.vcpus y.vcpus (slot_of x.world.vms (vcpu vm number)) given → CoreTakes x y (lines.Enter vm number) given
 enters x y vm number stay given c was e = by (parked_at stay) refl e
   where
-    by : (r : Result KeptNumbers Refusal) → parked_at stay ≡ r → EntersFrom r x.vcpus y.vcpus (slot_of x.world.vms (vcpu vm number)) given → CoreTakes x y (lines.Enter vm number) given
+    by : (r : Result KeptNumbers Refusal) → parked_at stay ≡ r → EntersFrom r x.vcpus y.vcpus (slot_of x.world.vms (vcpu vm number)) given
+        → CoreTakes x y (lines.Enter vm number) given
     by (Ok kept) is e = parked_enters x y vm number kept given c (was ∙ parked_is stay kept is) e
     by (Err word) is e = enter_refused x y vm number stay given word c e.1 e.0 (λ h stands.
         let g = vcpu vm number in
         let inside = there_in x h g stands c.there in
-        enter_by x h vm number stay stands inside was ∙ word_is x.world g stay word None (subst (PlanStands x.world g) was (stands.vcpus g inside).plan) is)
+        enter_by x h vm number stay stands inside was ∙ word_is x.world g stay word None
+        (subst (PlanStands x.world g) was (stands.vcpus g inside).plan) is)
 
-pub no_vcpu_to_enter : (x : CoreState) (vm number : ℕ) → is_vcpu_in x.world.vms (vcpu vm number) ≡ false → CoreTakes x x (lines.Enter vm number) (Refused words.Range)
+pub no_vcpu_to_enter : (x : CoreState) (vm number : ℕ) → is_vcpu_in x.world.vms (vcpu vm number) ≡ false
+    → CoreTakes x x (lines.Enter vm number) (Refused words.Range)
 no_vcpu_to_enter x vm number none = refused x (lines.Enter vm number) (Refused words.Range) (λ h stands.
-    enter_refusal h vm number stands.there ∙ cond-true _ _ _ (ap not (subst (λ (vs : List Vm). is_vcpu_in vs (vcpu vm number) ≡ false) stands.vms none)))
+    enter_refusal h vm number stands.there ∙ cond-true _ _ _
+    (ap not (subst (λ (vs : List Vm). is_vcpu_in vs (vcpu vm number) ≡ false) stands.vms none)))
 
 -- ---- it exits
 
@@ -347,10 +369,12 @@ pub record IsExit (x y : CoreState) (vm number : ℕ) (kept : KeptNumbers) : Typ
   pub passes : y.passes ≡ x.passes
   pub notifies : (h : History) → CoreStands x h → OnlyNotifies x y h (Accepted (lines.Exit vm number))
 
-exit_by : (x : CoreState) (h : History) (vm number : ℕ) → CoreStands x h → has_vcpu h (vcpu vm number) ≡ true → refusal h (lines.Exit vm number) ≡ cond (not (is_entered (home_in (record_of x (vcpu vm number)).stay))) (Some (Refused words.Idle)) None
+exit_by : (x : CoreState) (h : History) (vm number : ℕ) → CoreStands x h → has_vcpu h (vcpu vm number) ≡ true
+    → refusal h (lines.Exit vm number) ≡ cond (not (is_entered (home_in (record_of x (vcpu vm number)).stay))) (Some (Refused words.Idle)) None
 exit_by x h vm number stands inside =
     let at = sym (stands.vcpus (vcpu vm number) inside).same_home in
-    exit_refusal h vm number stands.there ∙ (λ k. cond (not (inside k)) (Some (Refused words.Range)) (cond (not (is_entered (at k))) (Some (Refused words.Idle)) None))
+    exit_refusal h vm number stands.there ∙ (λ k. cond (not (inside k)) (Some (Refused words.Range))
+    (cond (not (is_entered (at k))) (Some (Refused words.Idle)) None))
 
 pub exits : (x y : CoreState) (vm number : ℕ) (kept : KeptNumbers) → IsExit x y vm number kept → CoreTakes x y (lines.Exit vm number) Okay
 exits x y vm number kept c = taken x y (lines.Exit vm number) Okay refl (λ h stands.
@@ -384,29 +408,39 @@ exits x y vm number kept c = taken x y (lines.Exit vm number) Okay refl (λ h st
       moved_on x y h event g (run_changes x y h event g (stays.InMemory Entered kept) (stays.InMemory Parked kept) run) stands,
     ))
 
-pub not_entered : (x : CoreState) (vm number : ℕ) → is_vcpu_in x.world.vms (vcpu vm number) ≡ true → entered_at (record_of x (vcpu vm number)).stay ≡ None → CoreTakes x x (lines.Exit vm number) (Refused words.Idle)
+pub not_entered : (x : CoreState) (vm number : ℕ) → is_vcpu_in x.world.vms (vcpu vm number) ≡ true
+    → entered_at (record_of x (vcpu vm number)).stay ≡ None → CoreTakes x x (lines.Exit vm number) (Refused words.Idle)
 not_entered x vm number there none = refused x (lines.Exit vm number) (Refused words.Idle) (λ h stands.
     let g = vcpu vm number in
     let inside = there_in x h g stands there in
-    exit_by x h vm number stands inside ∙ cond-true _ _ _ (ap not (entered_as_kept x.world g (record_of x g).stay (stands.vcpus g inside).plan ∙ ap is_some none)))
+    exit_by x h vm number stands inside ∙ cond-true _ _ _
+    (ap not (entered_as_kept x.world g (record_of x g).stay (stands.vcpus g inside).plan ∙ ap is_some none)))
 
-pub no_vcpu_to_exit : (x : CoreState) (vm number : ℕ) → is_vcpu_in x.world.vms (vcpu vm number) ≡ false → CoreTakes x x (lines.Exit vm number) (Refused words.Range)
+pub no_vcpu_to_exit : (x : CoreState) (vm number : ℕ) → is_vcpu_in x.world.vms (vcpu vm number) ≡ false
+    → CoreTakes x x (lines.Exit vm number) (Refused words.Range)
 no_vcpu_to_exit x vm number none = refused x (lines.Exit vm number) (Refused words.Range) (λ h stands.
-    exit_refusal h vm number stands.there ∙ cond-true _ _ _ (ap not (subst (λ (vs : List Vm). is_vcpu_in vs (vcpu vm number) ≡ false) stands.vms none)))
+    exit_refusal h vm number stands.there ∙ cond-true _ _ _
+    (ap not (subst (λ (vs : List Vm). is_vcpu_in vs (vcpu vm number) ≡ false) stands.vms none)))
 
 -- ---- its notice
 
-pub live_top : (x : CoreState) (h : History) (g : Vcpu) (kept : KeptNumbers) (q : ℕ) → CoreStands x h → IsWhole x.world → is_vcpu_in x.world.vms g ≡ true → (record_of x g).stay ≡ stays.InMemory Entered kept → q ≡ slot_of x.world.vms g
+pub live_top : (x : CoreState) (h : History) (g : Vcpu) (kept : KeptNumbers) (q : ℕ) → CoreStands x h → IsWhole x.world
+    → is_vcpu_in x.world.vms g ≡ true → (record_of x g).stay ≡ stays.InMemory Entered kept → q ≡ slot_of x.world.vms g
     → a_word_is_live h g ≡ is_some (top_of (file_of_slot x.world q 0))
 live_top x h g kept q stands whole there was slot =
     let inside = there_in x h g stands there in
     let at : home h g ≡ InMemory Entered = sym (stands.vcpus g inside).same_home ∙ ap home_in was in
     live_is x h g kept stands whole inside (ap rests_in_memory at) (ap hand_in was) ∙ ap (λ q. is_some (top_of (file_of_slot x.world q 0))) (sym slot)
 
-pub exit_is_quiet : (x y : CoreState) (h : History) (vm number : ℕ) → y.world ≡ x.world → y.selects ≡ x.selects → a_word_is_live h (vcpu vm number) ≡ false → OnlyNotifies x y h (Accepted (lines.Exit vm number))
-exit_is_quiet x y h vm number world selects none = nothing_told x y h (Accepted (lines.Exit vm number)) world selects (cond-false _ _ _ none) (λ f. refl)
+pub exit_is_quiet : (x y : CoreState) (h : History) (vm number : ℕ) → y.world ≡ x.world → y.selects ≡ x.selects
+    → a_word_is_live h (vcpu vm number) ≡ false → OnlyNotifies x y h (Accepted (lines.Exit vm number))
+exit_is_quiet x y h vm number world selects none =
+    nothing_told x y h (Accepted (lines.Exit vm number)) world selects (cond-false _ _ _ none) (λ f. refl)
 
-pub exit_is_loud : (x y : CoreState) (h : History) (vm number : ℕ) → CoreStands x h → IsWhole x.world → is_vcpu_in x.world.vms (vcpu vm number) ≡ true → y.selects ≡ x.selects → a_word_is_live h (vcpu vm number) ≡ true
-    → Posts x.world y.world (spots.SupervisorFile (notice_hart x.world.vms (vcpu vm number))) (notice_identity x.world.vms (vcpu vm number)) → OnlyNotifies x y h (Accepted (lines.Exit vm number))
+pub exit_is_loud : (x y : CoreState) (h : History) (vm number : ℕ) → CoreStands x h → IsWhole x.world
+    → is_vcpu_in x.world.vms (vcpu vm number) ≡ true → y.selects ≡ x.selects → a_word_is_live h (vcpu vm number) ≡ true
+    → Posts x.world y.world (spots.SupervisorFile (notice_hart x.world.vms (vcpu vm number))) (notice_identity x.world.vms (vcpu vm number))
+    → OnlyNotifies x y h (Accepted (lines.Exit vm number))
 exit_is_loud x y h vm number stands whole there selects some posts =
-    one_told x y h (Accepted (lines.Exit vm number)) (vcpu vm number) stands whole (there_in x h (vcpu vm number) stands there) selects (cond-true _ _ _ some) (λ f. refl) posts
+    one_told x y h (Accepted (lines.Exit vm number)) (vcpu vm number) stands whole (there_in x h (vcpu vm number) stands there) selects
+    (cond-true _ _ _ some) (λ f. refl) posts

@@ -54,7 +54,8 @@ and_first false b e = refl
 heard_holds : (p : GuestPlace) (there : Home) → is_heard p there ≡ true → holds p there ≡ true
 heard_holds p (Resident q) e = e
 heard_holds p (OnWay (Outward from) at) e = (and_parts (is_place p from) (delivery_in_own (OnWay (Outward from) at)) e).0
-heard_holds p (OnWay (Across from to) at) e = ap (λ b. b || is_place p to) (and_parts (is_place p from) (delivery_in_own (OnWay (Across from to) at)) e).0
+heard_holds p (OnWay (Across from to) at) e = ap (λ b. b || is_place p to)
+    (and_parts (is_place p from) (delivery_in_own (OnWay (Across from to) at)) e).0
 heard_holds p there e = absurd (false≢true e)
 
 unheld_unheard : (p : GuestPlace) (there : Home) → holds p there ≡ false → is_heard p there ≡ false
@@ -74,7 +75,8 @@ own_heard p there e = refl
 next_unheard : (p : GuestPlace) (there : Home) → AreApart there → next_file there ≡ Some p → is_heard p there ≡ false
 next_unheard p (Resident q) apart e = let bad : ◌≡◌ {A = Option GuestPlace} None (Some p) = e in absurd (cc)
 next_unheard p (OnWay (Outward from) at) apart e = let bad : ◌≡◌ {A = Option GuestPlace} None (Some p) = e in absurd (cc)
-next_unheard p (OnWay (Across from to) at) apart e = and_first (is_place p from) (delivery_in_own (OnWay (Across from to) at)) (elsewhere (cases_Bool (is_place p from)))
+next_unheard p (OnWay (Across from to) at) apart e =
+    and_first (is_place p from) (delivery_in_own (OnWay (Across from to) at)) (elsewhere (cases_Bool (is_place p from)))
   where
     elsewhere : (is_place p from ≡ true) ⊎ (is_place p from ≡ false) → is_place p from ≡ false
     elsewhere (inl t) = absurd (false≢true (sym apart ∙ ap (λ (q : GuestPlace). is_place q to) (sym (same_place p from t)) ∙ some_same to p e))
@@ -83,16 +85,19 @@ next_unheard p there apart e = refl
 
 -- ---- the file of one that holds it
 
-file_signals : (x : CoreState) (h : History) (g : Vcpu) (p : GuestPlace) → CoreStands x h → IsWhole x.world → has_vcpu h g ≡ true → holds p (home h g) ≡ true → IsThere x.world.imsic (spot_of p)
+file_signals : (x : CoreState) (h : History) (g : Vcpu) (p : GuestPlace) → CoreStands x h → IsWhole x.world → has_vcpu h g ≡ true
+    → holds p (home h g) ≡ true → IsThere x.world.imsic (spot_of p)
     → signals (shown (file_at x.world.imsic (spot_of p))) ≡ (is_heard p (home h g) && signals (guest_file h g))
 file_signals x h g p stands whole there holding inside = elim (either_file p (home h g) holding) [
   | inl own ↦
       ap signals (sym (ap (file_in x.world) own))
-      ∙ own_signals (greatest_identity_of h) (file_words h) (slot_of (vms_of h) g) (notice_hart (vms_of h) g) (in_force_of h g) (places_of x.world g (home h g)) (hand_in (record_of x g).stay) (guest_file h g) (a_look_saw h g) within (size own) (home h g) stood.holds
+      ∙ own_signals (greatest_identity_of h) (file_words h) (slot_of (vms_of h) g) (notice_hart (vms_of h) g) (in_force_of h g)
+      (places_of x.world g (home h g)) (hand_in (record_of x g).stay) (guest_file h g) (a_look_saw h g) within (size own) (home h g) stood.holds
       ∙ ap (λ b. b && signals (guest_file h g)) (sym (own_heard p (home h g) own))
   | inr next ↦
       ap signals (sym (ap (file_in x.world) next))
-      ∙ next_signals (file_words h) (slot_of (vms_of h) g) (notice_hart (vms_of h) g) (in_force_of h g) (places_of x.world g (home h g)) (home h g) (hand_in (record_of x g).stay) (guest_file h g) (a_look_saw h g) stood.holds
+      ∙ next_signals (file_words h) (slot_of (vms_of h) g) (notice_hart (vms_of h) g) (in_force_of h g) (places_of x.world g (home h g))
+      (home h g) (hand_in (record_of x g).stay) (guest_file h g) (a_look_saw h g) stood.holds
       ∙ ap (λ b. b && signals (guest_file h g)) (sym (next_unheard p (home h g) stood.two_files next))
 ]
   where
@@ -115,21 +120,24 @@ abbrev speaks : History → GuestPlace → Vcpu → Bool
 speaks h p g = is_heard p (home h g) && signals (guest_file h g)
 
 -- where one holds it, no other one is heard there
-one_speaks : (x : CoreState) (h : History) (g : Vcpu) (p : GuestPlace) (b : Bool) → CoreStands x h → has_vcpu h g ≡ true → holds p (home h g) ≡ true → speaks h p g ≡ b → list_any (speaks h p) (all_vcpus (vms_of h)) ≡ b
+one_speaks : (x : CoreState) (h : History) (g : Vcpu) (p : GuestPlace) (b : Bool) → CoreStands x h → has_vcpu h g ≡ true
+    → holds p (home h g) ≡ true → speaks h p g ≡ b → list_any (speaks h p) (all_vcpus (vms_of h)) ≡ b
 one_speaks x h g p true stands there holding e = any_vcpu (vms_of h) (speaks h p) g there e
 one_speaks x h g p false stands there holding e = no_vcpu (vms_of h) (speaks h p) (λ other inside. elim (cases_Bool (holds p (home h other))) [
   | inl t ↦ ap (speaks h p) (stands.apart other g p inside there t holding) ∙ e
   | inr f ↦ and_first (is_heard p (home h other)) (signals (guest_file h other)) (unheld_unheard p (home h other) f)
 ])
 
-pub signalled : (x : CoreState) (h : History) (p : GuestPlace) → CoreStands x h → IsWhole x.world → IsThere x.world.imsic (spot_of p) → signals (shown (file_at x.world.imsic (spot_of p))) ≡ is_signalled_at h p
+pub signalled : (x : CoreState) (h : History) (p : GuestPlace) → CoreStands x h → IsWhole x.world → IsThere x.world.imsic (spot_of p)
+    → signals (shown (file_at x.world.imsic (spot_of p))) ≡ is_signalled_at h p
 signalled x h p stands whole inside = elim (cases_Bool (is_held h p)) [
   | inl held ↦
       let who = some_vcpu (vms_of h) (λ g. holds p (home h g)) held in
       file_signals x h who.0 p stands whole who.1 who.2 inside ∙ sym (one_speaks x h who.0 p (speaks h p who.0) stands who.1 who.2 refl)
   | inr none ↦
       ap signals (stands.free p inside none)
-      ∙ sym (no_vcpu (vms_of h) (speaks h p) (λ g there. and_first (is_heard p (home h g)) (signals (guest_file h g)) (unheld_unheard p (home h g) (of_none (vms_of h) (λ g. holds p (home h g)) g none there))))
+      ∙ sym (no_vcpu (vms_of h) (speaks h p) (λ g there. and_first (is_heard p (home h g)) (signals (guest_file h g))
+      (unheld_unheard p (home h g) (of_none (vms_of h) (λ g. holds p (home h g)) g none there))))
 ]
 
 -- ---- the word
@@ -144,7 +152,8 @@ unfolding word_of
 past_word members from zero i past = has_bit-zero i
 past_word members from (suc count) zero past = absurd (omega (arith, past))
 past_word members from (suc count) (suc i) past =
-    ap (λ x. nat_eq x 1) (bit_at-suc _ i ∙ ap (λ x. bit_at x i) (half (members from) (word_of members (suc from) count))) ∙ past_word members (suc from) count i (omega (arith, past))
+    ap (λ x. nat_eq x 1) (bit_at-suc _ i ∙ ap (λ x. bit_at x i) (half (members from) (word_of members (suc from) count)))
+    ∙ past_word members (suc from) count i (omega (arith, past))
 
 in_range : (guests j : ℕ) → j < guests + 1 → is_in_range 1 guests j ≡ nat_le 1 j
 in_range guests j low = grind (arith, nat_tests)
@@ -153,31 +162,39 @@ out_of_range : (guests j : ℕ) → guests + 1 ≤ j → is_in_range 1 guests j 
 out_of_range guests j past = grind (arith, nat_tests)
 
 pub hgeip_is : (x : CoreState) (h : History) (hart word : ℕ) → CoreStands x h → IsWhole x.world → hart < x.world.imsic.harts
-    → ((j : ℕ) → has_bit word j ≡ (is_in_range 1 x.world.imsic.guests j && signals (shown (file_at x.world.imsic (spot_of (guest_place hart j)))))) → word ≡ hgeip_value h hart
-hgeip_is x h hart word stands whole there bits = same_from_bits word (hgeip_value h hart) (λ i. same_bit _ _ (bit_at-lt word i) (bit_at-lt (hgeip_value h hart) i) (bits i ∙ each i))
+    → ((j : ℕ) → has_bit word j ≡ (is_in_range 1 x.world.imsic.guests j && signals
+    (shown (file_at x.world.imsic (spot_of (guest_place hart j)))))) → word ≡ hgeip_value h hart
+hgeip_is x h hart word stands whole there bits =
+    same_from_bits word (hgeip_value h hart) (λ i. same_bit _ _ (bit_at-lt word i) (bit_at-lt (hgeip_value h hart) i) (bits i ∙ each i))
   where
     members : ℕ → Bool
     members file = nat_le 1 file && is_signalled_at h (guest_place hart file)
 
-    below : (i : ℕ) → i < guests_of h + 1 → (is_in_range 1 x.world.imsic.guests i && signals (shown (file_at x.world.imsic (spot_of (guest_place hart i))))) ≡ members i
-    below i low = ap (λ b. b && signals (shown (file_at x.world.imsic (spot_of (guest_place hart i))))) (in_range x.world.imsic.guests i (omega (arith, low, stands.guests))) ∙ elim (cases_lt 0 i) [
-      | inl some ↦ ap (λ b. nat_le 1 i && b) (signalled x h (guest_place hart i) stands whole (there, omega (arith, some), omega (arith, low, stands.guests)))
-      | inr none ↦ and_first (nat_le 1 i) _ (not_first i none) ∙ sym (and_first (nat_le 1 i) _ (not_first i none))
-    ]
+    below : (i : ℕ) → i < guests_of h + 1 → (is_in_range 1 x.world.imsic.guests i && signals
+        (shown (file_at x.world.imsic (spot_of (guest_place hart i))))) ≡ members i
+    below i low = ap (λ b. b && signals (shown (file_at x.world.imsic (spot_of (guest_place hart i)))))
+        (in_range x.world.imsic.guests i (omega (arith, low, stands.guests))) ∙ elim (cases_lt 0 i) [
+          | inl some ↦ ap (λ b. nat_le 1 i && b) (signalled x h (guest_place hart i) stands whole
+              (there, omega (arith, some), omega (arith, low, stands.guests)))
+          | inr none ↦ and_first (nat_le 1 i) _ (not_first i none) ∙ sym (and_first (nat_le 1 i) _ (not_first i none))
+        ]
       where
         not_first : (i : ℕ) → i ≤ 0 → nat_le 1 i ≡ false
         not_first i none = grind (arith, nat_tests)
 
-    each : (i : ℕ) → (is_in_range 1 x.world.imsic.guests i && signals (shown (file_at x.world.imsic (spot_of (guest_place hart i))))) ≡ has_bit (word_of members 0 (guests_of h + 1)) i
+    each : (i : ℕ) → (is_in_range 1 x.world.imsic.guests i && signals (shown (file_at x.world.imsic (spot_of (guest_place hart i))))) ≡ has_bit
+        (word_of members 0 (guests_of h + 1)) i
     each i = elim (cases_lt i (guests_of h + 1)) [
       | inl low ↦ below i low ∙ sym (has_bit-word_of members 0 (guests_of h + 1) i low ∙ ap members (omega arith))
-      | inr past ↦ and_first _ (signals (shown (file_at x.world.imsic (spot_of (guest_place hart i))))) (out_of_range x.world.imsic.guests i (omega (arith, past, stands.guests))) ∙ sym (past_word members 0 (guests_of h + 1) i past)
+      | inr past ↦ and_first _ (signals (shown (file_at x.world.imsic (spot_of (guest_place hart i)))))
+          (out_of_range x.world.imsic.guests i (omega (arith, past, stands.guests))) ∙ sym (past_word members 0 (guests_of h + 1) i past)
     ]
 
 -- ---- the answer
 
 pub hgeip_taken : (x : CoreState) (hart word : ℕ) → IsWhole x.world → hart < x.world.imsic.harts
-    → ((j : ℕ) → has_bit word j ≡ (is_in_range 1 x.world.imsic.guests j && signals (shown (file_at x.world.imsic (spot_of (guest_place hart j)))))) → CoreTakes x x (Hgeip hart) (Wide word)
+    → ((j : ℕ) → has_bit word j ≡ (is_in_range 1 x.world.imsic.guests j && signals
+    (shown (file_at x.world.imsic (spot_of (guest_place hart j)))))) → CoreTakes x x (Hgeip hart) (Wide word)
 hgeip_taken x hart word whole there bits = accepted x x (Hgeip hart) (Wide word) refl refl (λ h stands. (
   hgeip_refusal h hart stands.there ∙ cond-false _ _ _ (ap not (lt-ltb hart (harts_of h) (omega (arith, there, stands.harts)))),
   ap Wide (hgeip_is x h hart word stands whole there bits),

@@ -70,7 +70,8 @@ abbrev pub count_after : Option Vcpu → ℕ → ℕ
 count_after None count = count
 count_after (Some g) count = counted count
 
-pub host_more : (x y : CoreState) (h : History) (event : Event) (f : FileName) → FileDone x y f (deed_at f h event) → HostStands x h f → HostStands y (event ∷ h) f
+pub host_more : (x y : CoreState) (h : History) (event : Event) (f : FileName) → FileDone x y f (deed_at f h event) → HostStands x h f
+    → HostStands y (event ∷ h) f
 host_more x y h event f done stands = record {
   file = same_file _ _ done.file ∙ ap (λ s. file_after s (deed_at f h event) (shown (file_at x.world.imsic (host_spot f)))) stands.select
       ∙ ap (file_after (select_of h f) (deed_at f h event)) stands.file ∙ sym (file_step event h f);
@@ -93,11 +94,39 @@ notices_step event h = refl
 -- Nothing changes of a world but what is not made with the machine: what the files hold, memory, the
 -- VMs with their tables, stores in flight and records, and the count of notices.
 abbrev pub IsBuiltAs : World → World → Type 0
-IsBuiltAs w u = u ≡ record w { imsic = record w.imsic { files = u.imsic.files }; memory = u.memory; vms = u.vms; tables = u.tables; flights = u.flights; stages = u.stages; notices = u.notices }
+IsBuiltAs w u = u ≡ record w {
+  imsic = record w.imsic { files = u.imsic.files };
+  memory = u.memory;
+  vms = u.vms;
+  tables = u.tables;
+  flights =
+      u.flights;
+  stages = u.stages;
+  notices = u.notices;
+}
 
-pub built_as : (w u : World) (files : List FileState) (memory : List ℕ) (vms : List Vm) (tables : List TableState) (flights : List (List Flying)) (stages : List Stage) (notices : ℕ)
-    → u ≡ record w { imsic = record w.imsic { files = files }; memory = memory; vms = vms; tables = tables; flights = flights; stages = stages; notices = notices } → IsBuiltAs w u
-built_as w u files memory vms tables flights stages notices e = e ∙ ap (λ (x : World). record w { imsic = record w.imsic { files = x.imsic.files }; memory = x.memory; vms = x.vms; tables = x.tables; flights = x.flights; stages = x.stages; notices = x.notices }) (sym e)
+pub built_as : (w u : World) (files : List FileState) (memory : List ℕ) (vms : List Vm) (tables : List TableState) (flights : List (List Flying))
+    (stages : List Stage) (notices : ℕ)
+    → u ≡ record w {
+      imsic = record w.imsic { files = files };
+      memory = memory;
+      vms = vms;
+      tables = tables;
+      flights = flights;
+      stages = stages;
+      notices = notices;
+    } → IsBuiltAs w u
+built_as w u files memory vms tables flights stages notices e = e
+    ∙ ap (λ (x : World). record w {
+      imsic = record w.imsic { files = x.imsic.files };
+      memory = x.memory;
+      vms = x.vms;
+      tables = x.tables;
+      flights =
+          x.flights;
+      stages = x.stages;
+      notices = x.notices;
+    }) (sym e)
 
 -- What is made with the machine stays, in the history and in the core.
 pub record Keeps (x y : CoreState) (h : History) (event : Event) : Type 0 where
@@ -130,20 +159,35 @@ pub record Becomes (x y : CoreState) (h : History) (event : Event) : Type 0 wher
   pub leases : (p : GuestPlace) → IsThere x.world.imsic (spot_of p) → is_out y.leases p ≡ is_held (event ∷ h) p
   pub held : (g : Vcpu) (p : GuestPlace) → has_vcpu (event ∷ h) g ≡ true → holds p (home (event ∷ h) g) ≡ true → IsThere x.world.imsic (spot_of p)
   pub apart : HoldApart (event ∷ h)
-  pub free : (p : GuestPlace) → IsThere x.world.imsic (spot_of p) → is_held (event ∷ h) p ≡ false → shown (file_at y.world.imsic (spot_of p)) ≡ empty_file (greatest_identity_of h)
-  pub no_vcpu : (g : Vcpu) → has_vcpu (event ∷ h) g ≡ false → (has_vcpu h g ≡ false) × (guest_deed g h event ≡ Rests) × (home (event ∷ h) g ≡ home h g) × MajorsRest g event
-  pub no_entry : (g : Vcpu) → has_vm (event ∷ h) g.vm ≡ true → has_vcpu (event ∷ h) g ≡ false → entry_in_force (table_of y.world.tables g.vm) g.number ≡ NotValid
-  pub no_slot : (q : ℕ) → vcpus_in (vms_of (event ∷ h)) ≤ q → q < VCPUS → (vcpus_in (vms_of h) ≤ q) × (mrif_in y.world.memory q ≡ mrif_in x.world.memory q) × (get_or y.world.stages q no_stage ≡ get_or x.world.stages q no_stage)
+  pub free : (p : GuestPlace) → IsThere x.world.imsic (spot_of p) → is_held (event ∷ h) p ≡ false
+      → shown (file_at y.world.imsic (spot_of p)) ≡ empty_file (greatest_identity_of h)
+  pub no_vcpu : (g : Vcpu) → has_vcpu (event ∷ h) g ≡ false → (has_vcpu h g ≡ false) × (guest_deed g h event ≡ Rests)
+      × (home (event ∷ h) g ≡ home h g) × MajorsRest g event
+  pub no_entry : (g : Vcpu) → has_vm (event ∷ h) g.vm ≡ true → has_vcpu (event ∷ h) g ≡ false
+      → entry_in_force (table_of y.world.tables g.vm) g.number ≡ NotValid
+  pub no_slot : (q : ℕ) → vcpus_in (vms_of (event ∷ h)) ≤ q → q < VCPUS → (vcpus_in (vms_of h) ≤ q)
+      × (mrif_in y.world.memory q ≡ mrif_in x.world.memory q) × (get_or y.world.stages q no_stage ≡ get_or x.world.stages q no_stage)
 
 -- Other stores in flight are nothing to all that.
-pub with_flights : (x y : CoreState) (h : History) (event : Event) (flights : List (List Flying)) → Becomes x y h event → Becomes x (record y { world = record y.world { flights = flights } }) h event
+pub with_flights : (x y : CoreState) (h : History) (event : Event) (flights : List (List Flying)) → Becomes x y h event
+    → Becomes x (record y { world = record y.world { flights = flights } }) h event
 with_flights x y h event flights b = record {
   keeps = record { machine = b.keeps.machine; n = b.keeps.n; harts = b.keeps.harts; guests = b.keeps.guests };
   vms = b.vms;
   count = b.count;
   host = λ f inside. let d = b.host f inside in record { file = d.file; select = d.select };
   records = b.records;
-  vcpus = λ g inside. let v = b.vcpus g inside in record { same_home = v.same_home; select = v.select; majors = v.majors; two_files = v.two_files; plan = plan_with y.world flights g (record_of y g).stay v.plan; passes = v.passes; holds = v.holds };
+  vcpus = λ g inside. let v = b.vcpus g inside in
+      record {
+        same_home = v.same_home;
+        select = v.select;
+        majors = v.majors;
+        two_files = v.two_files;
+        plan =
+            plan_with y.world flights g (record_of y g).stay v.plan;
+        passes = v.passes;
+        holds = v.holds;
+      };
   lease_harts = b.lease_harts;
   lease_guests = b.lease_guests;
   lease_count = b.lease_count;
@@ -156,10 +200,17 @@ with_flights x y h event flights b = record {
   no_slot = b.no_slot;
 }
   where
-    plan_with : (w : World) (flights : List (List Flying)) (g : Vcpu) (stay : Stay) → PlanStands w g stay → PlanStands (record w { flights = flights }) g stay
+    plan_with : (w : World) (flights : List (List Flying)) (g : Vcpu) (stay : Stay) → PlanStands w g stay
+        → PlanStands (record w { flights = flights }) g stay
     plan_with w flights g (stays.InMemory rest kept) p = tt
     plan_with w flights g (stays.Resident lease) p = tt
-    plan_with w flights g (stays.Moving plan) p = (fits_still w (record w { flights = flights }) (moving_of plan) (record { n = refl; vms = refl; harts = refl; guests = refl }) p.0, p.1, p.2, p.3)
+    plan_with w flights g (stays.Moving plan) p = (
+      fits_still w (record w { flights = flights }) (moving_of plan)
+          (record { n = refl; vms = refl; harts = refl; guests = refl }) p.0,
+      p.1,
+      p.2,
+      p.3,
+    )
 
 -- What it makes of the stores in flight.
 pub record FlightsBecome (y : CoreState) (h : History) (event : Event) : Type 0 where
@@ -167,7 +218,8 @@ pub record FlightsBecome (y : CoreState) (h : History) (event : Event) : Type 0 
   pub one : SendsToOne h event
   pub flights : (v : ℕ) → flight_of y.world v ≡ map (flying_of v) (flight (event ∷ h) v)
 
-pub flights_stay : (x y : CoreState) (h : History) (event : Event) → IsStill h event → y.world.flights ≡ x.world.flights → CoreStands x h → FlightsBecome y h event
+pub flights_stay : (x y : CoreState) (h : History) (event : Event) → IsStill h event → y.world.flights ≡ x.world.flights → CoreStands x h
+    → FlightsBecome y h event
 flights_stay x y h event still same stands = record {
   first = still.first;
   one = still.one;
@@ -180,32 +232,40 @@ pub record PassesBecome (y : CoreState) (h : History) (event : Event) : Type 0 w
   pub to_one : AllByRecursion (IsToOne h) (passes_of (event ∷ h))
   pub rest : PassAtRest h event
 
-pub none_passes : (x y : CoreState) (h : History) (event : Event) → passes_of (event ∷ h) ≡ passes_of h → PassAtRest h event → y.passes ≡ x.passes → CoreStands x h → PassesBecome y h event
+pub none_passes : (x y : CoreState) (h : History) (event : Event) → passes_of (event ∷ h) ≡ passes_of h → PassAtRest h event → y.passes ≡ x.passes
+    → CoreStands x h → PassesBecome y h event
 none_passes x y h event none rest same stands = record {
   same = same ∙ stands.passes.same ∙ sym none;
   to_one = subst (AllByRecursion (IsToOne h)) (sym none) stands.passes.to_one;
   rest = rest;
 }
 
-to_one_still : (h : History) (event : Event) → greatest_identity_of h ≡ greatest_identity_of (event ∷ h) → (pass : PassedSource) → IsToOne h pass → IsToOne (event ∷ h) pass
+to_one_still : (h : History) (event : Event) → greatest_identity_of h ≡ greatest_identity_of (event ∷ h) → (pass : PassedSource) → IsToOne h pass
+    → IsToOne (event ∷ h) pass
 to_one_still h event n pass one = ((stays_there event h pass.to one.0).0, subst (λ most. is_in_range 1 most pass.identity ≡ true) n one.1)
 
-pub stands_after : (x y : CoreState) (h : History) (event : Event) → Becomes x y h event → FlightsBecome y h event → PassesBecome y h event → CoreStands x h → CoreStands y (event ∷ h)
+pub stands_after : (x y : CoreState) (h : History) (event : Event) → Becomes x y h event → FlightsBecome y h event → PassesBecome y h event
+    → CoreStands x h → CoreStands y (event ∷ h)
 stands_after x y h event b flights passes stands =
     let n : greatest_identity_of h ≡ greatest_identity_of (event ∷ h) = sym (same_n _ _ b.keeps.machine) in
-    let harts : harts_of h ≡ harts_of (event ∷ h) = sym (ap (λ (o : Option MachineSize). option_map_or (λ (m : MachineSize). m.harts) o 0) b.keeps.machine) in
-    let guests : guests_of h ≡ guests_of (event ∷ h) = sym (ap (λ (o : Option MachineSize). option_map_or (λ (m : MachineSize). m.guests) o 0) b.keeps.machine) in
+    let harts : harts_of h ≡ harts_of (event ∷ h) =
+    sym (ap (λ (o : Option MachineSize). option_map_or (λ (m : MachineSize). m.harts) o 0) b.keeps.machine) in
+    let guests : guests_of h ≡ guests_of (event ∷ h) =
+    sym (ap (λ (o : Option MachineSize). option_map_or (λ (m : MachineSize). m.guests) o 0) b.keeps.machine) in
     let same_harts = b.keeps.harts in
     let same_guests = b.keeps.guests in
-    let before : (p : GuestPlace) → IsThere y.world.imsic (spot_of p) → IsThere x.world.imsic (spot_of p) = λ p inside. guest_too y.world.imsic x.world.imsic p same_harts same_guests inside in
+    let before : (p : GuestPlace) → IsThere y.world.imsic (spot_of p)
+    → IsThere x.world.imsic (spot_of p) = λ p inside. guest_too y.world.imsic x.world.imsic p same_harts same_guests inside in
     record {
       there = ap (λ (o : Option MachineSize). is_some o) b.keeps.machine ∙ stands.there;
       harts = same_harts ∙ stands.harts ∙ harts;
       guests = same_guests ∙ stands.guests ∙ guests;
       greatest = b.keeps.n ∙ stands.greatest ∙ n;
       vms = b.vms;
-      notices = b.count ∙ ap (count_after (noticed h event)) stands.notices ∙ counted_more (noticed h event) (notices_sent h) ∙ ap (λ count. min count (2 ^ 64 - 1)) (sym (notices_step event h));
-      host = λ f inside. let was = there_too y.world.imsic x.world.imsic f same_harts inside in host_more x y h event f (b.host f was) (stands.host f was);
+      notices = b.count ∙ ap (count_after (noticed h event)) stands.notices ∙ counted_more (noticed h event) (notices_sent h)
+          ∙ ap (λ count. min count (2 ^ 64 - 1)) (sym (notices_step event h));
+      host = λ f inside. let was = there_too y.world.imsic x.world.imsic f same_harts inside in
+          host_more x y h event f (b.host f was) (stands.host f was);
       flights = flights.flights;
       may_fly = flights_on h event flights.first stands.may_fly;
       for_one = sent_on h event flights.one stands.for_one;
@@ -292,9 +352,16 @@ no_majors_yet g = refl
 
 none_kept : (x : CoreState) (harts guests n sources : ℕ) → x.passes ≡ [] → PassesKept x (Accepted (Machine harts guests n sources) ∷ [])
 unfolding passes_of
-none_kept x harts guests n sources e = record { same = e; to_one = tt; aimed = aimed_on [] (Accepted (Machine harts guests n sources)) tt none_passed }
+none_kept x harts guests n sources e = record {
+  same = e;
+  to_one = tt;
+  aimed =
+      aimed_on [] (Accepted (Machine harts guests n sources)) tt none_passed;
+}
 
-pub begun : (x : CoreState) (harts guests n sources : ℕ) → IsNew x.world harts guests n → x.leases ≡ record { harts = harts; guests = guests; out = replicate (harts * guests) false } → x.vcpus ≡ [] → x.selects ≡ replicate (2 * HARTS) 0 → x.passes ≡ [] → CoreStands x (Accepted (Machine harts guests n sources) ∷ [])
+pub begun : (x : CoreState) (harts guests n sources : ℕ) → IsNew x.world harts guests n
+    → x.leases ≡ record { harts = harts; guests = guests; out = replicate (harts * guests) false } → x.vcpus ≡ []
+    → x.selects ≡ replicate (2 * HARTS) 0 → x.passes ≡ [] → CoreStands x (Accepted (Machine harts guests n sources) ∷ [])
 begun x harts guests n sources new leases vcpus selects passes =
     let event = Accepted (Machine harts guests n sources) in
     let memory : x.world.memory ≡ replicate MEMORY_WORDS 0 = ap (λ (w : World). w.memory) new.world in
@@ -305,7 +372,11 @@ begun x harts guests n sources new leases vcpus selects passes =
       greatest = ap (λ (w : World). w.n) new.world;
       vms = ap (λ (w : World). w.vms) new.world;
       notices = ap (λ (w : World). w.notices) new.world ∙ sym (ap (λ count. min count (2 ^ 64 - 1)) (notices_step event [] ∙ none_sent));
-      host = λ f inside. record { file = same_file _ _ (new.files.each (host_spot f) inside) ∙ sym (file_step event [] f); select = no_selects x f selects ∙ sym (select_step event [] f) };
+      host = λ f inside. record {
+        file = same_file _ _ (new.files.each (host_spot f) inside)
+            ∙ sym (file_step event [] f);
+        select = no_selects x f selects ∙ sym (select_step event [] f);
+      };
       flights = λ v. ap (λ (w : World). flight_of w v) new.world ∙ ap (map (flying_of v)) (sym (none_flying harts guests n sources v));
       may_fly = flights_on [] event tt none_flies;
       for_one = sent_on [] event tt none_for_one;
@@ -319,7 +390,13 @@ begun x harts guests n sources new leases vcpus selects passes =
       held = λ g p inside holding. absurd (nobody g inside);
       apart = λ a b p ia ib ha hb. absurd (nobody a ia);
       free = λ p inside none. same_file _ _ (new.files.each (spot_of p) inside);
-      no_vcpu = λ g outside. (file_by_step (guest_deed g) event [], select_is event [] g, home_step event [] g ∙ home_nowhere g, majors_is event [] g ∙ no_majors_yet g);
+      no_vcpu = λ g outside. (
+        file_by_step (guest_deed g) event [],
+        select_is event [] g,
+        home_step event [] g
+            ∙ home_nowhere g,
+        majors_is event [] g ∙ no_majors_yet g,
+      );
       no_entry = λ g inside outside. absurd (none_below_0 g.vm inside);
       no_slot = λ q past few. (
         λ i. rw (memory) (no_bit (nat_le i IDENTITIES) MEMORY_WORDS (pending_place q (i / 64)) (i % 64)),

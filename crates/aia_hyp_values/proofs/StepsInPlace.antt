@@ -53,7 +53,8 @@ module _ (x y : CoreState) (who : Found) (new : Stay) (plan : PlanState) (was : 
   by_plan : (made : Bool) → InPlaceCalls x y who new made → MoveInPlace x y (vcpu who.vm who.number) made
   by_plan true c =
       let made = made_of true c in
-      let steps : StepsTo (next_aim (moving_of plan)) x.world (moving_of plan) y.world (Again made.0) × MoveFits y.world (moving_of made.0) × IsInPhase (width y.world) made.0 = made.2 in
+      let steps : StepsTo (next_aim (moving_of plan)) x.world (moving_of plan) y.world (Again made.0) × MoveFits y.world (moving_of made.0)
+      × IsInPhase (width y.world) made.0 = made.2 in
       step_called x y who plan (Again made.0) (record {
         is_who = c.is_who;
         some = c.some;
@@ -75,26 +76,31 @@ module _ (x y : CoreState) (who : Found) (new : Stay) (plan : PlanState) (was : 
   by_plan false c =
       let made = made_of false c in
       let same : (y.world ≡ x.world) × (made.0 ≡ plan) × (is_at_last (width x.world) (moving_of plan).home ≡ true) = made.2 in (
-        same_core x y same.0 c.leases (c.back ∙ ap (λ s. set x.vcpus who.slot (at_stay (get_or x.vcpus who.slot no_record) s)) (made.1 ∙ ap (λ (p : PlanState). stays.Moving p) same.1) ∙ same_records) c.selects c.passes,
+        same_core x y same.0 c.leases (c.back ∙ ap (λ s. set x.vcpus who.slot (at_stay (get_or x.vcpus who.slot no_record) s))
+            (made.1 ∙ ap (λ (p : PlanState). stays.Moving p) same.1) ∙ same_records) c.selects c.passes,
         λ p is.
             let own : stays.Moving plan ≡ stays.Moving p = was ∙ ap (λ q. (get_or x.vcpus q no_record).stay) c.is_who.slot ∙ is in
             let one : plan ≡ p = cc in
             subst (λ (z : PlanState). is_at_last (width x.world) (moving_of z).home ≡ true) one same.2,
       )
 
-pub made_in_place : (x y : CoreState) (who : Found) (new : Stay) (made : Bool) → InPlaceCalls x y who new made → MoveInPlace x y (vcpu who.vm who.number) made
+pub made_in_place : (x y : CoreState) (who : Found) (new : Stay) (made : Bool) → InPlaceCalls x y who new made
+    → MoveInPlace x y (vcpu who.vm who.number) made
 made_in_place x y who new made c =
-    let own = plan_of (get_or x.vcpus who.slot no_record).stay (ap (λ q. is_moving (home_in (get_or x.vcpus q no_record).stay)) c.is_who.slot ∙ c.moving) in
+    let own = plan_of (get_or x.vcpus who.slot no_record).stay
+    (ap (λ q. is_moving (home_in (get_or x.vcpus q no_record).stay)) c.is_who.slot ∙ c.moving) in
     by_plan x y who new own.0 own.1 made c
 
 -- it stands for some history still
-pub in_place_stands : (x y : CoreState) (who : Found) (made : Bool) → MoveInPlace x y (vcpu who.vm who.number) made → StandsForSome x → IsFound x.world who
+pub in_place_stands : (x y : CoreState) (who : Found) (made : Bool) → MoveInPlace x y (vcpu who.vm who.number) made → StandsForSome x
+    → IsFound x.world who
     → is_moving (home_in (record_of x (vcpu who.vm who.number)).stay) ≡ true → StandsForSome y
 in_place_stands x y who true makes some is moving = goes_still x y who false makes some is moving
 in_place_stands x y who false makes some is moving = subst (λ (z : CoreState). StandsForSome z) (sym makes.0) some
 
 -- it is there still, with the same harts
-pub in_place_who : (x y : CoreState) (who : Found) (made : Bool) → MoveInPlace x y (vcpu who.vm who.number) made → StandsForSome x → IsFound x.world who → IsFound y.world who
+pub in_place_who : (x y : CoreState) (who : Found) (made : Bool) → MoveInPlace x y (vcpu who.vm who.number) made → StandsForSome x
+    → IsFound x.world who → IsFound y.world who
 in_place_who x y who true makes some is = who_still x y who false makes some is
 in_place_who x y who false makes some is = subst (λ (z : CoreState). IsFound z.world who) (sym makes.0) is
 

@@ -60,7 +60,8 @@ use Rattle.aia_hyp_values.specs.Stands.{PlanStands, VcpuStands, is_held}
 
 -- ---- what places of a home show
 
-file_same : (w u : World) (o : Option GuestPlace) → u.n ≡ w.n → ((p : GuestPlace) → o ≡ Some p → file_at u.imsic (spot_of p) ≡ file_at w.imsic (spot_of p)) → file_in u o ≡ file_in w o
+file_same : (w u : World) (o : Option GuestPlace) → u.n ≡ w.n
+    → ((p : GuestPlace) → o ≡ Some p → file_at u.imsic (spot_of p) ≡ file_at w.imsic (spot_of p)) → file_in u o ≡ file_in w o
 file_same w u None n same = ap empty_file n
 file_same w u (Some p) n same = ap shown (same p refl)
 
@@ -76,8 +77,10 @@ pub record SameFor (w u : World) (g : Vcpu) (there : Home) : Type 0 where
 
 pub same_view : (w u : World) (g : Vcpu) (there : Home) → SameFor w u g there → places_of u g there ≡ places_of w g there
 same_view w u g there same =
-    let own : file_in u (own_file there) ≡ file_in w (own_file there) = file_same w u (own_file there) same.n (λ p e. same.files p (own_is_held there p e)) in
-    let next : file_in u (next_file there) ≡ file_in w (next_file there) = file_same w u (next_file there) same.n (λ p e. same.files p (next_is_held there p e)) in
+    let own : file_in u (own_file there) ≡ file_in w (own_file there) =
+    file_same w u (own_file there) same.n (λ p e. same.files p (own_is_held there p e)) in
+    let next : file_in u (next_file there) ≡ file_in w (next_file there) =
+    file_same w u (next_file there) same.n (λ p e. same.files p (next_is_held there p e)) in
     λ k. record {
       own = own k;
       next = next k;
@@ -90,7 +93,8 @@ same_view w u g there same =
     }
 
 -- a world in which files alone changed, none of them this home's
-pub files_alone : (w u : World) (g : Vcpu) (there : Home) → u ≡ record w { imsic = u.imsic } → ((p : GuestPlace) → holds p there ≡ true → file_at u.imsic (spot_of p) ≡ file_at w.imsic (spot_of p)) → SameFor w u g there
+pub files_alone : (w u : World) (g : Vcpu) (there : Home) → u ≡ record w { imsic = u.imsic }
+    → ((p : GuestPlace) → holds p there ≡ true → file_at u.imsic (spot_of p) ≡ file_at w.imsic (spot_of p)) → SameFor w u g there
 files_alone w u g there rest files = record {
   n = ap (λ (w : World). w.n) rest;
   files = files;
@@ -169,11 +173,15 @@ pub same_words : (event : Event) (h : History) → machine_of (event ∷ h) ≡ 
 same_words event h machine = ap (λ n. (n + 1) / 64) (same_n _ _ machine)
 
 -- an event that passes nothing
-pub none_passed : (h : History) (event : Event) → passes_of (event ∷ h) ≡ passes_of h → (g : Vcpu) → is_moving (home h g) ≡ true → own_passes 0 g (passes_of (event ∷ h)) ≡ own_passes 0 g (passes_of h)
+pub none_passed : (h : History) (event : Event) → passes_of (event ∷ h) ≡ passes_of h → (g : Vcpu) → is_moving (home h g) ≡ true
+    → own_passes 0 g (passes_of (event ∷ h)) ≡ own_passes 0 g (passes_of h)
 none_passed h event same g moves = ap (own_passes 0 g) same
 
-pub stays_line : (h : History) (line : Line) → machine_of (Accepted line ∷ h) ≡ machine_of h → vms_of (Accepted line ∷ h) ≡ vms_of h → ((g : Vcpu) → moved h (home h) (Accepted line) g ≡ home h g) → ((g : Vcpu) → in_force_after h g (Accepted line) (in_force_of h g) ≡ in_force_of h g)
-    → ((g : Vcpu) → is_moving (home h g) ≡ true → own_passes 0 g (passes_of (Accepted line ∷ h)) ≡ own_passes 0 g (passes_of h)) → StaysPut h (Accepted line)
+pub stays_line : (h : History) (line : Line) → machine_of (Accepted line ∷ h) ≡ machine_of h → vms_of (Accepted line ∷ h) ≡ vms_of h
+    → ((g : Vcpu) → moved h (home h) (Accepted line) g ≡ home h g)
+    → ((g : Vcpu) → in_force_after h g (Accepted line) (in_force_of h g) ≡ in_force_of h g)
+    → ((g : Vcpu) → is_moving (home h g) ≡ true → own_passes 0 g (passes_of (Accepted line ∷ h)) ≡ own_passes 0 g (passes_of h))
+    → StaysPut h (Accepted line)
 stays_line h line machine vms homes reach passes = record {
   machine = machine;
   vms = vms;
@@ -200,11 +208,18 @@ quiet_line h (lines.Vm vcpus mask hart) e = absurd (cc)
 quiet_line h (lines.Send vm addr value) e = absurd (cc)
 quiet_line h (lines.Refetch vm number) e = absurd (cc)
 quiet_line h (lines.Pass source vm number identity) e = absurd (cc)
-quiet_line h line e = record { stays = stays_line h line refl refl (λ g. none_rests (rest_after line) g (home h g) (not-true _ e)) (λ g. refl) (λ g moves. refl); plain = refl }
+quiet_line h line e = record {
+  stays = stays_line h line refl refl (λ g. none_rests (rest_after line) g (home h g) (not-true _ e)) (λ g. refl)
+      (λ g moves. refl);
+  plain = refl;
+}
 
 pub quiet_send : (h : History) (vm addr value : ℕ) → IsQuiet h (Accepted (lines.Send vm addr value))
 unfolding passes_of
-quiet_send h vm addr value = record { stays = stays_line h (lines.Send vm addr value) refl refl (λ g. refl) (λ g. refl) (λ g moves. refl); plain = refl }
+quiet_send h vm addr value = record {
+  stays = stays_line h (lines.Send vm addr value) refl refl (λ g. refl) (λ g. refl) (λ g moves. refl);
+  plain = refl;
+}
 
 -- an event that is neither a line, nor of a move, nor a landing
 
@@ -303,17 +318,21 @@ plan_stays w u g (stays.Resident lease) same p = tt
 plan_stays w u g (stays.Moving plan) same p = (fits_still w u (moving_of plan) same p.0, phase_still w u plan same p.1, p.2, p.3)
 
 -- and has its passes still
-pub passes_stay : (w : World) (h : History) (event : Event) (g : Vcpu) (stay : Stay) → home_in stay ≡ home h g → PlanStands w g stay → (is_moving (home h g) ≡ true → own_passes 0 g (passes_of (event ∷ h)) ≡ own_passes 0 g (passes_of h))
+pub passes_stay : (w : World) (h : History) (event : Event) (g : Vcpu) (stay : Stay) → home_in stay ≡ home h g → PlanStands w g stay
+    → (is_moving (home h g) ≡ true → own_passes 0 g (passes_of (event ∷ h)) ≡ own_passes 0 g (passes_of h))
     → HasItsPasses (passes_of h) g stay → HasItsPasses (passes_of (event ∷ h)) g stay
 passes_stay w h event g (stays.InMemory rest kept) at p same has = tt
 passes_stay w h event g (stays.Resident lease) at p same has = tt
 passes_stay w h event g (stays.Moving plan) at p same has = has ∙ sym (same (ap is_moving (sym at) ∙ p.3))
 
 -- a deed was done at the file of a virtual hart, which its places hold then
-pub guest_done : (x y : CoreState) (h : History) (event : Event) (g : Vcpu) → StaysPut h event → SameMachine x.world y.world → (record_of y g).stay ≡ (record_of x g).stay → (record_of y g).select ≡ select_after (guest_deed g h event) (record_of x g).select
+pub guest_done : (x y : CoreState) (h : History) (event : Event) (g : Vcpu) → StaysPut h event → SameMachine x.world y.world
+    → (record_of y g).stay ≡ (record_of x g).stay → (record_of y g).select ≡ select_after (guest_deed g h event) (record_of x g).select
     → majors_shown (record_of y g).majors ≡ majors_after g event (majors_shown (record_of x g).majors)
-    → (Holds (file_words h) (slot_of (vms_of h) g) (notice_hart (vms_of h) g) (in_force_of h g) (places_of x.world g (home h g)) (home h g) (hand_in (record_of x g).stay) (guest_file h g) (a_look_saw h g)
-    → Holds (file_words h) (slot_of (vms_of h) g) (notice_hart (vms_of h) g) (in_force_of h g) (places_of y.world g (home h g)) (home h g) (hand_in (record_of x g).stay) (file_after (guest_select h g) (guest_deed g h event) (guest_file h g)) (a_look_saw h g))
+    → (Holds (file_words h) (slot_of (vms_of h) g) (notice_hart (vms_of h) g) (in_force_of h g) (places_of x.world g (home h g)) (home h g)
+    (hand_in (record_of x g).stay) (guest_file h g) (a_look_saw h g)
+    → Holds (file_words h) (slot_of (vms_of h) g) (notice_hart (vms_of h) g) (in_force_of h g) (places_of y.world g (home h g)) (home h g)
+    (hand_in (record_of x g).stay) (file_after (guest_select h g) (guest_deed g h event) (guest_file h g)) (a_look_saw h g))
     → VcpuStands x h g → VcpuStands y (event ∷ h) g
 guest_done x y h event g quiet same stay select majors keeps p =
     let words = same_words event h quiet.machine in
@@ -324,7 +343,8 @@ guest_done x y h event g quiet same stay select majors keeps p =
       majors = majors ∙ ap (majors_after g event) p.majors ∙ sym (majors_is event h g);
       two_files = subst AreApart (sym (quiet.homes g)) p.two_files;
       plan = subst (PlanStands y.world g) (sym stay) (plan_stays x.world y.world g (record_of x g).stay same p.plan);
-      passes = subst (HasItsPasses (passes_of (event ∷ h)) g) (sym stay) (passes_stay x.world h event g (record_of x g).stay p.same_home p.plan (quiet.passes g) p.passes);
+      passes = subst (HasItsPasses (passes_of (event ∷ h)) g) (sym stay)
+          (passes_stay x.world h event g (record_of x g).stay p.same_home p.plan (quiet.passes g) p.passes);
       holds = subst IsHeld (λ k. record {
         words = sym words k;
         slot = slot_of (sym quiet.vms k) g;
@@ -339,9 +359,12 @@ guest_done x y h event g quiet same stay select majors keeps p =
     }
 
 -- nothing was done at it, and its places show what they showed
-pub guest_rests : (x y : CoreState) (h : History) (event : Event) (g : Vcpu) → StaysPut h event → SameMachine x.world y.world → guest_deed g h event ≡ Rests → MajorsRest g event → record_of y g ≡ record_of x g → SameFor x.world y.world g (home h g) → VcpuStands x h g → VcpuStands y (event ∷ h) g
+pub guest_rests : (x y : CoreState) (h : History) (event : Event) (g : Vcpu) → StaysPut h event → SameMachine x.world y.world
+    → guest_deed g h event ≡ Rests → MajorsRest g event → record_of y g ≡ record_of x g → SameFor x.world y.world g (home h g) → VcpuStands x h g
+    → VcpuStands y (event ∷ h) g
 guest_rests x y h event g quiet machine rests nothing same shows p =
-    guest_done x y h event g quiet machine (ap (λ (r : VcpuRecord). r.stay) same) (ap (λ (r : VcpuRecord). r.select) same ∙ ap (λ deed. select_after deed (record_of x g).select) (sym rests))
+    guest_done x y h event g quiet machine (ap (λ (r : VcpuRecord). r.stay) same)
+    (ap (λ (r : VcpuRecord). r.select) same ∙ ap (λ deed. select_after deed (record_of x g).select) (sym rests))
     (ap (λ (r : VcpuRecord). majors_shown r.majors) same ∙ sym (nothing (majors_shown (record_of x g).majors)))
     (λ held. subst IsHeld (λ k. record {
       words = file_words h;

@@ -81,27 +81,37 @@ use Rattle.aia_hyp_values.proofs.EventLemmas.{as_it_was, taken, refused}
 -- ---- slots, whose words stay
 
 -- a set is what its words are
-same_words : (place : ℕ → ℕ) (old new : List ℕ) → ((k : ℕ) → k < FILE_WORDS → get_or new (place k) 0 ≡ get_or old (place k) 0) → (i : ℕ) → set_at place new i ≡ set_at place old i
+same_words : (place : ℕ → ℕ) (old new : List ℕ) → ((k : ℕ) → k < FILE_WORDS → get_or new (place k) 0 ≡ get_or old (place k) 0) → (i : ℕ)
+    → set_at place new i ≡ set_at place old i
 same_words place old new same i = elim (cases_Bool (nat_le i IDENTITIES)) [
-  | inl e ↦ let low : i ≤ IDENTITIES = grind (arith, nat_tests) in ap (λ w. nat_le i IDENTITIES && has_bit w (i % 64)) (same (i / 64) (omega (arith, low)))
-  | inr e ↦ ap (λ b. b && has_bit (get_or new (place (i / 64)) 0) (i % 64)) e ∙ sym (ap (λ b. b && has_bit (get_or old (place (i / 64)) 0) (i % 64)) e)
+  | inl e ↦ let low : i ≤ IDENTITIES = grind (arith, nat_tests) in
+      ap (λ w. nat_le i IDENTITIES && has_bit w (i % 64)) (same (i / 64) (omega (arith, low)))
+  | inr e ↦ ap (λ b. b && has_bit (get_or new (place (i / 64)) 0) (i % 64)) e
+      ∙ sym (ap (λ b. b && has_bit (get_or old (place (i / 64)) 0) (i % 64)) e)
 ]
 
 -- the making of a VM leaves all slots
 pending_stays : (w u : World) (vm : Vm) (q i : ℕ) → MakesVm w u vm → q < SLOTS → (mrif_in u.memory q).pending i ≡ (mrif_in w.memory q).pending i
-pending_stays w u vm q i made few = same_words (pending_place q) w.memory u.memory (λ k low. made.elsewhere (pending_place q k) (inl (omega (arith, few, low)))) i
+pending_stays w u vm q i made few = same_words (pending_place q) w.memory u.memory
+    (λ k low. made.elsewhere (pending_place q k) (inl (omega (arith, few, low)))) i
 
 enabled_stays : (w u : World) (vm : Vm) (q i : ℕ) → MakesVm w u vm → q < SLOTS → (mrif_in u.memory q).enabled i ≡ (mrif_in w.memory q).enabled i
-enabled_stays w u vm q i made few = same_words (enable_place q) w.memory u.memory (λ k low. made.elsewhere (enable_place q k) (inl (omega (arith, few, low)))) i
+enabled_stays w u vm q i made few = same_words (enable_place q) w.memory u.memory
+    (λ k low. made.elsewhere (enable_place q k) (inl (omega (arith, few, low)))) i
 
 -- ---- which virtual harts are there
 
 -- those that were, and the new VM's
-old_or_new : (vms : List Vm) (vm : Vm) (g : Vcpu) → is_vcpu_in (vms ++ vm ∷ []) g ≡ true → ((g.vm < length vms) × (is_vcpu_in vms g ≡ true)) ⊎ ((g.vm ≡ length vms) × (g.number < vm.vcpus))
+old_or_new : (vms : List Vm) (vm : Vm) (g : Vcpu) → is_vcpu_in (vms ++ vm ∷ []) g ≡ true → ((g.vm < length vms) × (is_vcpu_in vms g ≡ true))
+    ⊎ ((g.vm ≡ length vms) × (g.number < vm.vcpus))
 old_or_new vms vm g there = elim (cases_lt g.vm (length vms)) [
   | inl low ↦ inl (low, ap (λ (v : Vm). nat_lt g.number v.vcpus) (sym (vm_stays vms vm g.vm low)) ∙ there)
   | inr past ↦ elim (cases_eq g.vm (length vms)) [
-    | inl e ↦ inr (e, subst (λ (v : Vm). g.number < v.vcpus) (ap (vm_in (vms ++ vm ∷ [])) e ∙ vm_new vms vm) (numbered (vms ++ vm ∷ []) g.vm g.number there))
+    | inl e ↦ inr (
+      e,
+      subst (λ (v : Vm). g.number < v.vcpus) (ap (vm_in (vms ++ vm ∷ [])) e ∙ vm_new vms vm)
+          (numbered (vms ++ vm ∷ []) g.vm g.number there),
+    )
     | inr ne ↦
         let low = numbered (vms ++ vm ∷ []) g.vm g.number there in
         let none = vm_past (vms ++ vm ∷ []) g.vm (omega (arith, past, ne, length-append vms (vm ∷ []))) in absurd (omega (arith, low, none))
@@ -117,9 +127,11 @@ not_there_before vms vm g outside = elim (cases_lt g.vm (length vms)) [
 
 -- ---- the records of its virtual harts
 
-pub one_record_more : (new old : List VcpuRecord) (first : List VcpuRecord) (n : ℕ) (r : VcpuRecord) → new ≡ old ++ r ∷ [] → r ≡ no_record → old ≡ first ++ replicate n no_record → new ≡ first ++ replicate (n + 1) no_record
+pub one_record_more : (new old : List VcpuRecord) (first : List VcpuRecord) (n : ℕ) (r : VcpuRecord) → new ≡ old ++ r ∷ [] → r ≡ no_record
+    → old ≡ first ++ replicate n no_record → new ≡ first ++ replicate (n + 1) no_record
 one_record_more new old first n r pushed is was =
-    pushed ∙ ap (λ rs. rs ++ r ∷ []) was ∙ append_assoc first (replicate n no_record) (r ∷ []) ∙ ap (λ x. first ++ (replicate n no_record ++ x ∷ [])) is
+    pushed ∙ ap (λ rs. rs ++ r ∷ []) was ∙ append_assoc first (replicate n no_record) (r ∷ [])
+    ∙ ap (λ x. first ++ (replicate n no_record ++ x ∷ [])) is
     ∙ ap (λ rs. first ++ rs) (replicate-append-replicate n 1 no_record)
 
 no_record_at : (n k : ℕ) → get_or (replicate n (no_record {P = PlanState})) k no_record ≡ no_record
@@ -164,7 +176,8 @@ same_file h vm g = file_by_step (guest_deed g) (made_line vm) h
 small : (x y : CoreState) (h : History) (vm : Vm) (g : Vcpu) → HasMade x y h vm → has_vcpu h g ≡ true → g.number < ENTRIES
 small x y h vm g c there = (vcpu_entry x.world g.vm g.number c.whole (subst (λ (vs : List Vm). is_vcpu_in vs g ≡ true) (sym c.stands.vms) there)).2
 
-old_shows : (x y : CoreState) (h : History) (vm : Vm) (g : Vcpu) → HasMade x y h vm → g.vm < length (vms_of h) → has_vcpu h g ≡ true → SameFor x.world y.world g (home h g)
+old_shows : (x y : CoreState) (h : History) (vm : Vm) (g : Vcpu) → HasMade x y h vm → g.vm < length (vms_of h) → has_vcpu h g ≡ true
+    → SameFor x.world y.world g (home h g)
 old_shows x y h vm g c low there =
     let below = slot_below (vms_of h) g there in
     let few = c.few in
@@ -172,37 +185,49 @@ old_shows x y h vm g c low there =
     let table = tables_as_vms x y h vm c in
     let most = c.whole.few in
     let before : slot_of x.world.vms g ≡ slot_of (vms_of h) g = ap (λ vs. slot_of vs g) c.stands.vms in
-    let slot : slot_of y.world.vms g ≡ slot_of x.world.vms g = ap (λ vs. slot_of vs g) (new_vms x y h vm c) ∙ slot_stays (vms_of h) vm g low ∙ sym before in
+    let slot : slot_of y.world.vms g ≡ slot_of x.world.vms g = ap (λ vs. slot_of vs g) (new_vms x y h vm c) ∙ slot_stays (vms_of h) vm g low
+    ∙ sym before in
     let imsic : y.world.imsic ≡ x.world.imsic = ap (λ (w : World). w.imsic) c.makes.rest in
     let q : slot_of x.world.vms g < SLOTS = omega (arith, below, few, before) in
     record {
       n = ap (λ (w : World). w.n) c.makes.rest;
       files = λ p holding. ap (λ (i : ImsicState). file_at i (spot_of p)) imsic;
-      slot = ap (λ q. mrif_in y.world.memory q) slot ∙ (λ k. record { pending = λ i. pending_stays x.world y.world vm (slot_of x.world.vms g) i c.makes q k; enabled = λ i. enabled_stays x.world y.world vm (slot_of x.world.vms g) i c.makes q k });
+      slot = ap (λ q. mrif_in y.world.memory q) slot
+          ∙ (λ k. record {
+            pending = λ i. pending_stays x.world y.world vm (slot_of x.world.vms g) i c.makes q k;
+            enabled =
+                λ i. enabled_stays x.world y.world vm (slot_of x.world.vms g) i c.makes q k;
+          });
       word0 = c.makes.elsewhere (entry_word_place g.vm g.number) (inl (omega (arith, low, number, table)));
       word1 = c.makes.elsewhere (entry_word_place g.vm g.number + 1) (inl (omega (arith, low, number, table)));
       in_force = ap (λ (t : TableState). entry_in_force t g.number) (c.makes.others g.vm (omega (arith, low, table)));
       stage = (λ k. get_or ((c.makes.rest k).stages) (slot k) no_stage);
     }
 
-old_record : (x y : CoreState) (h : History) (vm : Vm) (g : Vcpu) → HasMade x y h vm → g.vm < length (vms_of h) → has_vcpu h g ≡ true → record_of y g ≡ record_of x g
+old_record : (x y : CoreState) (h : History) (vm : Vm) (g : Vcpu) → HasMade x y h vm → g.vm < length (vms_of h) → has_vcpu h g ≡ true
+    → record_of y g ≡ record_of x g
 old_record x y h vm g c low there =
     let below = slot_below (vms_of h) g there in
     let before : slot_of x.world.vms g ≡ slot_of (vms_of h) g = ap (λ vs. slot_of vs g) c.stands.vms in
-    let slot : slot_of y.world.vms g ≡ slot_of x.world.vms g = ap (λ vs. slot_of vs g) (new_vms x y h vm c) ∙ slot_stays (vms_of h) vm g low ∙ sym before in
-    (λ k. get_or (c.vcpus k) (slot k) no_record) ∙ get_or-append x.vcpus (replicate vm.vcpus no_record) no_record (slot_of x.world.vms g) (omega (arith, below, before, c.stands.records))
+    let slot : slot_of y.world.vms g ≡ slot_of x.world.vms g = ap (λ vs. slot_of vs g) (new_vms x y h vm c) ∙ slot_stays (vms_of h) vm g low
+    ∙ sym before in
+    (λ k. get_or (c.vcpus k) (slot k) no_record) ∙ get_or-append x.vcpus (replicate vm.vcpus no_record) no_record (slot_of x.world.vms g)
+    (omega (arith, below, before, c.stands.records))
 
 -- the plan of its move can go on
-fits_grown : (x y : CoreState) (h : History) (vm : Vm) (m : Moving) → HasMade x y h vm → (mover m).vm < length (vms_of h) → MoveFits x.world m → MoveFits y.world m
+fits_grown : (x y : CoreState) (h : History) (vm : Vm) (m : Moving) → HasMade x y h vm → (mover m).vm < length (vms_of h) → MoveFits x.world m
+    → MoveFits y.world m
 fits_grown x y h vm m c low fits =
     let g = mover m in
     let vms = new_vms x y h vm c in
     let imsic : y.world.imsic ≡ x.world.imsic = ap (λ (w : World). w.imsic) c.makes.rest in
     let stays : vm_in (vms_of h ++ vm ∷ []) g.vm ≡ vm_in (vms_of h) g.vm = vm_stays (vms_of h) vm g.vm low in
     record {
-      there = ap (λ (vs : List Vm). is_vcpu_in vs g) vms ∙ ap (λ (v : Vm). nat_lt g.number v.vcpus) stays ∙ ap (λ (vs : List Vm). is_vcpu_in vs g) (sym c.stands.vms) ∙ fits.there;
+      there = ap (λ (vs : List Vm). is_vcpu_in vs g) vms ∙ ap (λ (v : Vm). nat_lt g.number v.vcpus) stays
+          ∙ ap (λ (vs : List Vm). is_vcpu_in vs g) (sym c.stands.vms) ∙ fits.there;
       slot = fits.slot ∙ ap (λ vs. slot_of vs g) c.stands.vms ∙ sym (slot_stays (vms_of h) vm g low) ∙ ap (λ vs. slot_of vs g) (sym vms);
-      notice = fits.notice ∙ ap (λ vs. notice_hart vs g) c.stands.vms ∙ ap (λ (v : Vm). v.notice_hart) (sym stays) ∙ ap (λ vs. notice_hart vs g) (sym vms);
+      notice = fits.notice ∙ ap (λ vs. notice_hart vs g) c.stands.vms ∙ ap (λ (v : Vm). v.notice_hart) (sym stays)
+          ∙ ap (λ vs. notice_hart vs g) (sym vms);
       own = λ p e. subst (λ (i : ImsicState). IsThere i (spot_of p)) (sym imsic) (fits.own p e);
       next = λ p e. subst (λ (i : ImsicState). IsThere i (spot_of p)) (sym imsic) (fits.next p e);
       no_pending_zero = λ e. fits.no_pending_zero (sym (ap (λ (w : World). is_last_made ((w.n + 1) / 64) m.home (TakePending 0)) c.makes.rest) ∙ e);
@@ -213,13 +238,19 @@ none_by_vm : (h : History) (vm : Vm) → passes_of (made_line vm ∷ h) ≡ pass
 unfolding passes_of
 none_by_vm h vm = refl
 
-plan_grown : (x y : CoreState) (h : History) (vm : Vm) (g : Vcpu) (stay : Stay) → HasMade x y h vm → g.vm < length (vms_of h) → PlanStands x.world g stay → PlanStands y.world g stay
+plan_grown : (x y : CoreState) (h : History) (vm : Vm) (g : Vcpu) (stay : Stay) → HasMade x y h vm → g.vm < length (vms_of h)
+    → PlanStands x.world g stay → PlanStands y.world g stay
 plan_grown x y h vm g (stays.InMemory rest kept) c low p = tt
 plan_grown x y h vm g (stays.Resident lease) c low p = tt
-plan_grown x y h vm g (stays.Moving plan) c low p =
-    (fits_grown x y h vm (moving_of plan) c (subst (λ (a : Vcpu). a.vm < length (vms_of h)) (sym p.2) low) p.0, subst (λ (w : World). IsInPhase ((w.n + 1) / 64) plan) (sym c.makes.rest) p.1, p.2, p.3)
+plan_grown x y h vm g (stays.Moving plan) c low p = (
+  fits_grown x y h vm (moving_of plan) c (subst (λ (a : Vcpu). a.vm < length (vms_of h)) (sym p.2) low) p.0,
+  subst (λ (w : World). IsInPhase ((w.n + 1) / 64) plan) (sym c.makes.rest) p.1,
+  p.2,
+  p.3,
+)
 
-old_stands : (x y : CoreState) (h : History) (vm : Vm) (g : Vcpu) → HasMade x y h vm → g.vm < length (vms_of h) → has_vcpu h g ≡ true → VcpuStands y (made_line vm ∷ h) g
+old_stands : (x y : CoreState) (h : History) (vm : Vm) (g : Vcpu) → HasMade x y h vm → g.vm < length (vms_of h) → has_vcpu h g ≡ true
+    → VcpuStands y (made_line vm ∷ h) g
 old_stands x y h vm g c low there =
     let p = c.stands.vcpus g there in
     let same = old_record x y h vm g c low there in
@@ -232,7 +263,8 @@ old_stands x y h vm g c low there =
       majors = ap (λ (r : VcpuRecord). majors_shown r.majors) same ∙ p.majors ∙ sym (majors_is (made_line vm) h g);
       two_files = subst AreApart (sym (same_home h vm g)) p.two_files;
       plan = subst (λ (r : VcpuRecord). PlanStands y.world g r.stay) (sym same) (plan_grown x y h vm g (record_of x g).stay c low p.plan);
-      passes = subst (λ (r : VcpuRecord). HasItsPasses (passes_of (made_line vm ∷ h)) g r.stay) (sym same) (subst (λ passes. HasItsPasses passes g (record_of x g).stay) (sym (none_by_vm h vm)) p.passes);
+      passes = subst (λ (r : VcpuRecord). HasItsPasses (passes_of (made_line vm ∷ h)) g r.stay) (sym same)
+          (subst (λ passes. HasItsPasses passes g (record_of x g).stay) (sym (none_by_vm h vm)) p.passes);
       holds = subst IsHeld (λ k. record {
         words = file_words h;
         slot = sym slot k;
@@ -263,7 +295,8 @@ nowhere h g parked = in_memory (in_force_of h g) (subst (λ t. MayReach t (in_fo
     in_memory reach (inr m) = absurd (cc)
 
 -- a slot that is empty holds the file of a virtual hart that was asked for nothing
-empty_holds : (words q hart n : ℕ) (v : Places) (saw : Bool) → v.own ≡ empty_file n → v.next ≡ empty_file n → ((i : ℕ) → v.slot.pending i ≡ false) → ((i : ℕ) → v.slot.enabled i ≡ false)
+empty_holds : (words q hart n : ℕ) (v : Places) (saw : Bool) → v.own ≡ empty_file n → v.next ≡ empty_file n → ((i : ℕ) → v.slot.pending i ≡ false)
+    → ((i : ℕ) → v.slot.enabled i ≡ false)
     → v.word0 ≡ entry_word q None → v.word1 ≡ second_word q hart → v.in_force ≡ leads_to q hart None → v.stage ≡ None → v.stage_in_force ≡ None
     → Holds words q hart None v (InMemory Parked) (hand_in (stays.InMemory Parked no_kept)) (empty_file n) saw
 empty_holds words q hart n v saw own next pending enabled word0 word1 in_force stage stage_in_force = record {
@@ -275,7 +308,13 @@ empty_holds words q hart n v saw own next pending enabled word0 word1 in_force s
     carried_enables = λ i l. refl;
     new_enables = λ i l. refl;
     spare = λ i l. (refl, refl);
-    past = λ i past. (ap (λ (f : InterruptFile). f.pending i) own, ap (λ (f : InterruptFile). f.enabled i) own, ap (λ (f : InterruptFile). f.pending i) next, ap (λ (f : InterruptFile). f.enabled i) next, enabled i);
+    past = λ i past. (
+      ap (λ (f : InterruptFile). f.pending i) own,
+      ap (λ (f : InterruptFile). f.enabled i) own,
+      ap (λ (f : InterruptFile). f.pending i) next,
+      ap (λ (f : InterruptFile). f.enabled i) next,
+      enabled i,
+    );
   };
   numbers = record {
     own_delivery = ap (λ (f : InterruptFile). f.delivery) own;
@@ -289,21 +328,27 @@ empty_holds words q hart n v saw own next pending enabled word0 word1 in_force s
   looks = refl;
 }
 
-new_stands : (x y : CoreState) (h : History) (vm : Vm) (g : Vcpu) → HasMade x y h vm → g.vm ≡ length (vms_of h) → g.number < vm.vcpus → has_vcpu h g ≡ false → VcpuStands y (made_line vm ∷ h) g
+new_stands : (x y : CoreState) (h : History) (vm : Vm) (g : Vcpu) → HasMade x y h vm → g.vm ≡ length (vms_of h) → g.number < vm.vcpus
+    → has_vcpu h g ≡ false → VcpuStands y (made_line vm ∷ h) g
 new_stands x y h vm g c last low lacks =
     let none = c.stands.no_vcpu g lacks in
     let few : vcpus_in (vms_of h) + g.number < VCPUS = let most = c.few in omega (arith, most, low) in
-    let slot : slot_of (vms_of h ++ vm ∷ []) g ≡ vcpus_in (vms_of h) + g.number = ap (λ v. slot_of (vms_of h ++ vm ∷ []) (vcpu v g.number)) last ∙ slot_new (vms_of h) vm g.number in
-    let hart : notice_hart (vms_of h ++ vm ∷ []) g ≡ vm.notice_hart = ap (λ (v : Vm). v.notice_hart) (ap (vm_in (vms_of h ++ vm ∷ [])) last ∙ vm_new (vms_of h) vm) in
+    let slot : slot_of (vms_of h ++ vm ∷ []) g ≡ vcpus_in (vms_of h) + g.number = ap (λ v. slot_of (vms_of h ++ vm ∷ []) (vcpu v g.number)) last
+    ∙ slot_new (vms_of h) vm g.number in
+    let hart : notice_hart (vms_of h ++ vm ∷ []) g ≡ vm.notice_hart =
+    ap (λ (v : Vm). v.notice_hart) (ap (vm_in (vms_of h ++ vm ∷ [])) last ∙ vm_new (vms_of h) vm) in
     let at : slot_of y.world.vms g ≡ vcpus_in (vms_of h) + g.number = ap (λ vs. slot_of vs g) (new_vms x y h vm c) ∙ slot in
     let empty = c.stands.no_slot (vcpus_in (vms_of h) + g.number) (omega arith) few in
     let table = tables_as_vms x y h vm c in
-    let place : entry_word_place g.vm g.number ≡ entry_word_place (length x.world.tables) g.number = ap (λ v. entry_word_place v g.number) (last ∙ sym table) in
+    let place : entry_word_place g.vm g.number ≡ entry_word_place (length x.world.tables) g.number =
+    ap (λ v. entry_word_place v g.number) (last ∙ sym table) in
     let before : vcpus_in x.world.vms ≡ vcpus_in (vms_of h) = ap vcpus_in c.stands.vms in
     let parked : home (made_line vm ∷ h) g ≡ InMemory Parked = same_home h vm g ∙ none.2 in
-    let kept : record_of y g ≡ no_record = (λ k. get_or (c.vcpus k) (at k) no_record) ∙ past_all x.vcpus vm.vcpus (vcpus_in (vms_of h) + g.number) (omega (arith, c.stands.records)) in
+    let kept : record_of y g ≡ no_record = (λ k. get_or (c.vcpus k) (at k) no_record)
+    ∙ past_all x.vcpus vm.vcpus (vcpus_in (vms_of h) + g.number) (omega (arith, c.stands.records)) in
     let stage : stage_of y.world g ≡ no_stage = (λ k. get_or ((c.makes.rest k).stages) (at k) no_stage) ∙ empty.2 in
-    let file : guest_file (made_line vm ∷ h) g ≡ empty_file y.world.n = same_file h vm g ∙ none.0 ∙ ap empty_file (sym (ap (λ (w : World). w.n) c.makes.rest ∙ c.stands.greatest)) in
+    let file : guest_file (made_line vm ∷ h) g ≡ empty_file y.world.n = same_file h vm g ∙ none.0
+    ∙ ap empty_file (sym (ap (λ (w : World). w.n) c.makes.rest ∙ c.stands.greatest)) in
     record {
       same_home = ap (λ (r : VcpuRecord). home_in r.stay) kept ∙ sym parked;
       select = ap (λ (r : VcpuRecord). r.select) kept ∙ sym (select_is (made_line vm) h g ∙ none.1);
@@ -321,12 +366,18 @@ new_stands x y h vm g c last low lacks =
         hand = hand_in (sym kept k).stay;
         file = sym file k;
         saw = a_look_saw (made_line vm ∷ h) g;
-      }) (empty_holds (file_words h) (vcpus_in (vms_of h) + g.number) vm.notice_hart y.world.n (places_of y.world g (InMemory Parked)) (a_look_saw (made_line vm ∷ h) g) refl refl
-          (λ i. ap (λ q. (mrif_in y.world.memory q).pending i) at ∙ pending_stays x.world y.world vm (vcpus_in (vms_of h) + g.number) i c.makes few ∙ empty.0 i)
-          (λ i. ap (λ q. (mrif_in y.world.memory q).enabled i) at ∙ enabled_stays x.world y.world vm (vcpus_in (vms_of h) + g.number) i c.makes few ∙ empty.1 i)
+      }) (empty_holds (file_words h) (vcpus_in (vms_of h) + g.number) vm.notice_hart y.world.n (places_of y.world g (InMemory Parked))
+          (a_look_saw (made_line vm ∷ h) g) refl refl
+          (λ i. ap (λ q. (mrif_in y.world.memory q).pending i) at
+          ∙ pending_stays x.world y.world vm (vcpus_in (vms_of h) + g.number) i c.makes few ∙ empty.0 i)
+          (λ i. ap (λ q. (mrif_in y.world.memory q).enabled i) at
+          ∙ enabled_stays x.world y.world vm (vcpus_in (vms_of h) + g.number) i c.makes few ∙ empty.1 i)
           (ap (λ p. get_or y.world.memory p 0) place ∙ c.makes.word0 g.number low ∙ ap (λ q. mrif_word (slot_address (q + g.number))) before)
-          (ap (λ p. get_or y.world.memory (p + 1) 0) place ∙ c.makes.word1 g.number low ∙ ap (λ q. notice_word (notice_page vm) (q + g.number + 1)) before)
-          (ap (λ v. entry_in_force (table_of y.world.tables v) g.number) (last ∙ sym table) ∙ c.makes.in_force g.number ∙ cond-true _ _ _ (lt-ltb g.number vm.vcpus low) ∙ ap (λ q. entries.Mrif (slot_address (q + g.number)) (notice_page vm) (q + g.number + 1)) before)
+          (ap (λ p. get_or y.world.memory (p + 1) 0) place ∙ c.makes.word1 g.number low
+          ∙ ap (λ q. notice_word (notice_page vm) (q + g.number + 1)) before)
+          (ap (λ v. entry_in_force (table_of y.world.tables v) g.number) (last ∙ sym table) ∙ c.makes.in_force g.number
+          ∙ cond-true _ _ _ (lt-ltb g.number vm.vcpus low)
+          ∙ ap (λ q. entries.Mrif (slot_address (q + g.number)) (notice_page vm) (q + g.number + 1)) before)
           (ap (λ (s : Stage). s.written) stage) (ap (λ (s : Stage). s.in_force) stage));
     }
   where
@@ -342,8 +393,10 @@ held_grown : (x y : CoreState) (h : History) (vm : Vm) (p : GuestPlace) → HasM
 held_grown x y h vm p c = elim (cases_Bool (is_held h p)) [
   | inl t ↦
       let who = some_vcpu (vms_of h) (λ g. holds p (home h g)) t in
-      any_vcpu (vms_of h ++ vm ∷ []) (λ g. holds p (home (made_line vm ∷ h) g)) who.0 (there_still who.0 who.1) (ap (holds p) (same_home h vm who.0) ∙ who.2) ∙ sym t
-  | inr f ↦ no_vcpu (vms_of h ++ vm ∷ []) (λ g. holds p (home (made_line vm ∷ h) g)) (λ g inside. ap (holds p) (same_home h vm g) ∙ by_age g (cases_Bool (has_vcpu h g)) f) ∙ sym f
+      any_vcpu (vms_of h ++ vm ∷ []) (λ g. holds p (home (made_line vm ∷ h) g)) who.0 (there_still who.0 who.1)
+      (ap (holds p) (same_home h vm who.0) ∙ who.2) ∙ sym t
+  | inr f ↦ no_vcpu (vms_of h ++ vm ∷ []) (λ g. holds p (home (made_line vm ∷ h) g))
+      (λ g inside. ap (holds p) (same_home h vm g) ∙ by_age g (cases_Bool (has_vcpu h g)) f) ∙ sym f
 ]
   where
     there_still : (g : Vcpu) → has_vcpu h g ≡ true → is_vcpu_in (vms_of h ++ vm ∷ []) g ≡ true
@@ -358,45 +411,63 @@ made_becomes x y h vm c =
     let imsic : y.world.imsic ≡ x.world.imsic = ap (λ (w : World). w.imsic) c.makes.rest in
     let table = tables_as_vms x y h vm c in
     record {
-      keeps = keeps_by x y h (made_line vm) refl (built_as x.world y.world x.world.imsic.files y.world.memory y.world.vms y.world.tables y.world.flights x.world.stages x.world.notices c.makes.rest);
+      keeps = keeps_by x y h (made_line vm) refl (built_as x.world y.world x.world.imsic.files y.world.memory y.world.vms y.world.tables
+          y.world.flights x.world.stages x.world.notices c.makes.rest);
       vms = new_vms x y h vm c;
       count = ap (λ (w : World). w.notices) c.makes.rest;
       host = λ f inside. record {
         file = rw (imsic) (as_it_was (shown (file_at x.world.imsic (host_spot f))));
         select = ap (λ xs. get_or xs (select_place f) 0) c.selects;
       };
-      records = ap (λ (rs : List VcpuRecord). length rs) c.vcpus ∙ length-append x.vcpus (replicate vm.vcpus no_record) ∙ (λ k. c.stands.records k + length-replicate vm.vcpus (no_record {P = PlanState}) k) ∙ sym (vcpus_more (vms_of h) vm);
+      records = ap (λ (rs : List VcpuRecord). length rs) c.vcpus ∙ length-append x.vcpus (replicate vm.vcpus no_record)
+          ∙ (λ k. c.stands.records k + length-replicate vm.vcpus (no_record {P = PlanState}) k) ∙ sym (vcpus_more (vms_of h) vm);
       vcpus = λ g inside. by_age g (old_or_new (vms_of h) vm g inside);
       lease_harts = ap (λ (l : Leases). l.harts) c.leases;
       lease_guests = ap (λ (l : Leases). l.guests) c.leases;
       lease_count = ap (λ (l : Leases). length l.out) c.leases;
       leases = λ p inside. ap (λ l. is_out l p) c.leases ∙ c.stands.leases p inside ∙ sym (held_grown x y h vm p c);
       held = λ g p inside holding. c.stands.held g p (was_there g p (still_held g p holding)) (still_held g p holding);
-      apart = λ a b p ia ib ha hb. c.stands.apart a b p (was_there a p (still_held a p ha)) (was_there b p (still_held b p hb)) (still_held a p ha) (still_held b p hb);
-      free = λ p inside none. ap (λ (i : ImsicState). shown (file_at i (spot_of p))) imsic ∙ c.stands.free p inside (sym (held_grown x y h vm p c) ∙ none);
+      apart = λ a b p ia ib ha hb. c.stands.apart a b p (was_there a p (still_held a p ha)) (was_there b p (still_held b p hb))
+          (still_held a p ha) (still_held b p hb);
+      free = λ p inside none. ap (λ (i : ImsicState). shown (file_at i (spot_of p))) imsic
+          ∙ c.stands.free p inside (sym (held_grown x y h vm p c) ∙ none);
       no_vcpu = λ g outside. (not_there_before (vms_of h) vm g outside, refl, same_home h vm g, λ m. refl);
       no_entry = λ g inside outside. no_entry_past g (ltb-true g.vm _ inside) outside table;
       no_slot = λ q past few.
-          let before : vcpus_in (vms_of h) ≤ q = let more = vcpus_more (vms_of h) vm in omega (arith, past, more) in
-          (before, λ k. record { pending = λ i. pending_stays x.world y.world vm q i c.makes few k; enabled = λ i. enabled_stays x.world y.world vm q i c.makes few k }, ap (λ (w : World). get_or w.stages q no_stage) c.makes.rest);
+          let before : vcpus_in (vms_of h) ≤ q = let more = vcpus_more (vms_of h) vm in omega (arith, past, more) in (
+            before,
+            λ k. record {
+              pending = λ i. pending_stays x.world y.world vm q i c.makes few k;
+              enabled =
+                  λ i. enabled_stays x.world y.world vm q i c.makes few k;
+            },
+            ap (λ (w : World). get_or w.stages q no_stage) c.makes.rest,
+          );
     }
   where
-    by_age : (g : Vcpu) → ((g.vm < length (vms_of h)) × (has_vcpu h g ≡ true)) ⊎ ((g.vm ≡ length (vms_of h)) × (g.number < vm.vcpus)) → VcpuStands y (made_line vm ∷ h) g
+    by_age : (g : Vcpu) → ((g.vm < length (vms_of h)) × (has_vcpu h g ≡ true)) ⊎ ((g.vm ≡ length (vms_of h)) × (g.number < vm.vcpus))
+        → VcpuStands y (made_line vm ∷ h) g
     by_age g (inl (low, there)) = old_stands x y h vm g c low there
-    by_age g (inr (last, low)) = new_stands x y h vm g c last low (le-ltb g.number (vm_in (vms_of h) g.vm).vcpus (let none = vm_past (vms_of h) g.vm (omega (arith, last)) in omega (arith, none)))
+    by_age g (inr (last, low)) = new_stands x y h vm g c last low
+        (le-ltb g.number (vm_in (vms_of h) g.vm).vcpus (let none = vm_past (vms_of h) g.vm (omega (arith, last)) in omega (arith, none)))
 
     still_held : (g : Vcpu) (p : GuestPlace) → holds p (home (made_line vm ∷ h) g) ≡ true → holds p (home h g) ≡ true
     still_held g p holding = ap (holds p) (sym (same_home h vm g)) ∙ holding
 
     was_there : (g : Vcpu) (p : GuestPlace) → holds p (home h g) ≡ true → has_vcpu h g ≡ true
-    was_there g p holding = elim (cases_Bool (has_vcpu h g)) [ inl t ↦ t | inr lacks ↦ absurd (false≢true (sym (ap (holds p) (c.stands.no_vcpu g lacks).2) ∙ holding)) ]
+    was_there g p holding = elim (cases_Bool (has_vcpu h g))
+        [ inl t ↦ t | inr lacks ↦ absurd (false≢true (sym (ap (holds p) (c.stands.no_vcpu g lacks).2) ∙ holding)) ]
 
-    no_entry_past : (g : Vcpu) → g.vm < length (vms_of h ++ vm ∷ []) → is_vcpu_in (vms_of h ++ vm ∷ []) g ≡ false → length x.world.tables ≡ length (vms_of h) → entry_in_force (table_of y.world.tables g.vm) g.number ≡ entries.NotValid
+    no_entry_past : (g : Vcpu) → g.vm < length (vms_of h ++ vm ∷ []) → is_vcpu_in (vms_of h ++ vm ∷ []) g ≡ false
+        → length x.world.tables ≡ length (vms_of h) → entry_in_force (table_of y.world.tables g.vm) g.number ≡ entries.NotValid
     no_entry_past g low outside table = elim (cases_lt g.vm (length (vms_of h))) [
-      | inl old ↦ ap (λ (t : TableState). entry_in_force t g.number) (c.makes.others g.vm (omega (arith, old, table))) ∙ c.stands.no_entry g (lt-ltb g.vm (length (vms_of h)) old) (not_there_before (vms_of h) vm g outside)
+      | inl old ↦ ap (λ (t : TableState). entry_in_force t g.number) (c.makes.others g.vm (omega (arith, old, table)))
+          ∙ c.stands.no_entry g (lt-ltb g.vm (length (vms_of h)) old) (not_there_before (vms_of h) vm g outside)
       | inr past ↦
           let last : g.vm ≡ length (vms_of h) = omega (arith, past, low, length-append (vms_of h) (vm ∷ [])) in
-          ap (λ v. entry_in_force (table_of y.world.tables v) g.number) (last ∙ sym table) ∙ c.makes.in_force g.number ∙ cond-false _ _ _ (ap (λ (v : Vm). nat_lt g.number v.vcpus) (sym (ap (vm_in (vms_of h ++ vm ∷ [])) last ∙ vm_new (vms_of h) vm)) ∙ outside)
+          ap (λ v. entry_in_force (table_of y.world.tables v) g.number) (last ∙ sym table) ∙ c.makes.in_force g.number
+          ∙ cond-false _ _ _ (ap (λ (v : Vm). nat_lt g.number v.vcpus)
+          (sym (ap (vm_in (vms_of h ++ vm ∷ [])) last ∙ vm_new (vms_of h) vm)) ∙ outside)
     ]
 
 -- no store of the new VM is in flight
@@ -414,43 +485,65 @@ pub made_stands : (x y : CoreState) (h : History) (vm : Vm) → HasMade x y h vm
 made_stands x y h vm c = stands_after x y h (made_line vm) (made_becomes x y h vm c) (record {
   first = tt;
   one = tt;
-  flights = λ v. ap (λ flights. get_or flights v []) c.makes.flights ∙ none_more x.world.flights v ∙ c.stands.flights v ∙ ap (map (flying_of v)) (sym (none_sent h vm v));
+  flights = λ v. ap (λ flights. get_or flights v []) c.makes.flights ∙ none_more x.world.flights v ∙ c.stands.flights v
+      ∙ ap (map (flying_of v)) (sym (none_sent h vm v));
 }) (none_passes x y h (made_line vm) (none_by_vm h vm) tt c.passes c.stands) c.stands
 
 -- ---- what it is answered
 
 -- whether its numbers are a VM's, by the count of the mask's ones
-pub size_by_ones : (vcpus mask : ℕ) → mask < 2 ^ 64 → is_mask mask ≡ true → is_in_range 1 (1 * 2 ^ count_ones mask % 2 ^ 64) vcpus ≡ is_vm_size vcpus mask
+pub size_by_ones : (vcpus mask : ℕ) → mask < 2 ^ 64 → is_mask mask ≡ true
+    → is_in_range 1 (1 * 2 ^ count_ones mask % 2 ^ 64) vcpus ≡ is_vm_size vcpus mask
 size_by_ones vcpus mask low is =
     let few : ones 64 mask ≤ MASK_ONES = (mask_parts mask is).1 in
     let count = ones_counted mask low in
-    let whole : 1 * 2 ^ count_ones mask % 2 ^ 64 ≡ 2 ^ ones 64 mask = ap (λ n. 1 * 2 ^ n % 2 ^ 64) count ∙ one_bit (ones 64 mask) (omega (arith, few)) in
+    let whole : 1 * 2 ^ count_ones mask % 2 ^ 64 ≡ 2 ^ ones 64 mask = ap (λ n. 1 * 2 ^ n % 2 ^ 64) count
+    ∙ one_bit (ones 64 mask) (omega (arith, few)) in
     ap (λ n. is_in_range 1 n vcpus) whole ∙ ap (λ b. b && is_in_range 1 (2 ^ ones 64 mask) vcpus) (sym is)
 
-pub vm_made : (x y : CoreState) (vcpus mask hart : ℕ) → IsWhole x.world → is_vm_size vcpus mask ≡ true → hart < x.world.imsic.harts → lacks_room x.world.vms vcpus ≡ false → MakesVm x.world y.world (record { vcpus = vcpus; mask = mask; notice_hart = hart }) → y.leases ≡ x.leases → y.vcpus ≡ x.vcpus ++ replicate vcpus no_record → y.selects ≡ x.selects → y.passes ≡ x.passes
+pub vm_made : (x y : CoreState) (vcpus mask hart : ℕ) → IsWhole x.world → is_vm_size vcpus mask ≡ true → hart < x.world.imsic.harts
+    → lacks_room x.world.vms vcpus ≡ false → MakesVm x.world y.world (record { vcpus = vcpus; mask = mask; notice_hart = hart })
+    → y.leases ≡ x.leases → y.vcpus ≡ x.vcpus ++ replicate vcpus no_record → y.selects ≡ x.selects → y.passes ≡ x.passes
     → CoreTakes x y (lines.Vm vcpus mask hart) Okay
-vm_made x y vcpus mask hart whole size there room makes leases vcpu_records selects passes = taken x y (lines.Vm vcpus mask hart) Okay refl (λ h stands.
+vm_made x y vcpus mask hart whole size there room makes leases vcpu_records selects passes =
+    taken x y (lines.Vm vcpus mask hart) Okay refl (λ h stands.
     let free : lacks_room (vms_of h) vcpus ≡ false = subst (λ (vs : List Vm). lacks_room vs vcpus ≡ false) stands.vms room in (
-      vm_refusal h vcpus mask hart stands.there ∙ cond-false _ _ _ (ap not (ap (λ b. b && has_hart h hart) size ∙ lt-ltb hart (harts_of h) (omega (arith, there, stands.harts)))) ∙ cond-false _ _ _ free,
+      vm_refusal h vcpus mask hart stands.there ∙ cond-false _ _ _
+          (ap not (ap (λ b. b && has_hart h hart) size ∙ lt-ltb hart (harts_of h) (omega (arith, there, stands.harts)))) ∙ cond-false _ _ _ free,
       refl,
-      made_stands x y h (record { vcpus = vcpus; mask = mask; notice_hart = hart }) (record { stands = stands; whole = whole; makes = makes; leases = leases; vcpus = vcpu_records; selects = selects; passes = passes; few = few_left h vcpus free }),
+      made_stands x y h (record { vcpus = vcpus; mask = mask; notice_hart = hart })
+          (record {
+            stands = stands;
+            whole = whole;
+            makes = makes;
+            leases = leases;
+            vcpus = vcpu_records;
+            selects = selects;
+            passes = passes;
+            few = few_left h vcpus free;
+          }),
     ))
   where
     few_left : (h : History) (vcpus : ℕ) → lacks_room (vms_of h) vcpus ≡ false → vcpus_in (vms_of h) + vcpus ≤ VCPUS
     few_left h vcpus free = grind (arith, nat_tests)
 
 -- there is room for their records, where the core stands for some history
-pub room_left : (x : CoreState) (vcpus room : ℕ) → StandsForSome x → VCPUS ≤ room → lacks_room x.world.vms vcpus ≡ false → length x.vcpus + vcpus ≤ room
+pub room_left : (x : CoreState) (vcpus room : ℕ) → StandsForSome x → VCPUS ≤ room → lacks_room x.world.vms vcpus ≡ false
+    → length x.vcpus + vcpus ≤ room
 room_left x vcpus room some low free =
     let sum : vcpus_in x.world.vms + vcpus ≤ VCPUS = grind (arith, nat_tests) in
     let records = some.stands.records in
     omega (arith, sum, low, records, ap vcpus_in some.stands.vms)
 
-pub vm_refused : (x : CoreState) (vcpus mask hart : ℕ) → (is_vm_size vcpus mask && nat_lt hart x.world.imsic.harts) ≡ false → CoreTakes x x (lines.Vm vcpus mask hart) (Refused words.Range)
+pub vm_refused : (x : CoreState) (vcpus mask hart : ℕ) → (is_vm_size vcpus mask && nat_lt hart x.world.imsic.harts) ≡ false
+    → CoreTakes x x (lines.Vm vcpus mask hart) (Refused words.Range)
 vm_refused x vcpus mask hart outside = refused x (lines.Vm vcpus mask hart) (Refused words.Range) (λ h stands.
-    vm_refusal h vcpus mask hart stands.there ∙ cond-true _ _ _ (ap not (ap (λ k. is_vm_size vcpus mask && nat_lt hart k) (sym stands.harts) ∙ outside)))
+    vm_refusal h vcpus mask hart stands.there ∙ cond-true _ _ _
+    (ap not (ap (λ k. is_vm_size vcpus mask && nat_lt hart k) (sym stands.harts) ∙ outside)))
 
-pub vm_has_no_room : (x : CoreState) (vcpus mask hart : ℕ) → is_vm_size vcpus mask ≡ true → hart < x.world.imsic.harts → lacks_room x.world.vms vcpus ≡ true → CoreTakes x x (lines.Vm vcpus mask hart) (Refused words.Full)
+pub vm_has_no_room : (x : CoreState) (vcpus mask hart : ℕ) → is_vm_size vcpus mask ≡ true → hart < x.world.imsic.harts
+    → lacks_room x.world.vms vcpus ≡ true → CoreTakes x x (lines.Vm vcpus mask hart) (Refused words.Full)
 vm_has_no_room x vcpus mask hart size there lacks = refused x (lines.Vm vcpus mask hart) (Refused words.Full) (λ h stands.
-    vm_refusal h vcpus mask hart stands.there ∙ cond-false _ _ _ (ap not (ap (λ b. b && has_hart h hart) size ∙ lt-ltb hart (harts_of h) (omega (arith, there, stands.harts))))
+    vm_refusal h vcpus mask hart stands.there ∙ cond-false _ _ _
+    (ap not (ap (λ b. b && has_hart h hart) size ∙ lt-ltb hart (harts_of h) (omega (arith, there, stands.harts))))
     ∙ cond-true _ _ _ (subst (λ (vs : List Vm). lacks_room vs vcpus ≡ true) stands.vms lacks))

@@ -1,3 +1,4 @@
 pub mod SupplyLemmas
 pub mod CutLemmas
 pub mod PieceLemmas
+pub mod CommandLemmas

@@ -1,5 +1,5 @@
 -- What several reads give together.
-use Rattle.std.proofs.Common.{ℕ, List, [], ◌++◌, length, ◌∙◌, arith}
+use Rattle.std.proofs.Common.{ℕ, List, [], ◌++◌, ◌∙◌, arith}
 use Rattle.std.proofs.lemmas.List.{length-append}
 use Rattle.std.proofs.KnownBytes.{Consumes-nil, Consumes-trans, Consumes-kept}
 use Rattle.aia_io.specs.Ends.{Supply, Gives, GivesNone}

@@ -8,4 +8,6 @@ pub mod StdSource
 pub mod Tape
 pub mod Lines
 pub mod Taken
+pub mod Written
 pub mod Words
+pub mod Commands

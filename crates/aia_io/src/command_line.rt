@@ -1,9 +1,14 @@
 //! The words of the command line.
 
-ghost use Rattle.std.specs.Prelude.{◌≡◌, ◌≢◌, map, IfOk};
+ghost use Rattle.std.specs.Prelude.{◌≡◌, ◌≢◌, true, false, map, IfOk};
 ghost use Rattle.std.specs.IoError.{error_kind};
+ghost use Rattle.clap.specs.Words.{app_of, is_simple_and_free};
+ghost use Rattle.clap.specs.declared.builder.command.Command.TheViews.{out-Command};
+ghost use Rattle.aia_io.specs.Commands.{Finds, bare_command};
 ghost use Rattle.aia_io.specs.Words.{words_of};
 
+use clap::error::ErrorKind as CommandError;
+use clap::{ArgMatches, Command};
 use std::alloc::{AllocError, Global};
 use std::io::ErrorKind;
 use std::{env, io};
@@ -37,5 +42,36 @@ pub fn refusal<T: Copy>(error: &io::Error, usage: T, memory: T) -> T
         memory
     } else {
         usage
+    }
+}
+
+/// Makes a command of this name with no subcommand yet: one is required, and it shows no help.
+pub fn bare_command<'a>(alloc: Global, name: &'a str) -> Command<'a>
+    ensures shape { app_of result ≡ bare_command name.entry.now }
+    ensures local { (out-Command result).has_globals ≡ false }
+{
+    Command::new(alloc, name)
+        .no_binary_name(true)
+        .subcommand_required(true)
+        .disable_help_flag(true)
+        .disable_help_subcommand(true)
+}
+
+/// Gives what a command finds in the words of the command line, the program's name not among them:
+/// the subcommand that they name, and its arguments. `Ok(None)`: they are refused. `Err`: there is
+/// no memory to read them.
+pub fn match_words<'a>(
+    command: Command<'a>,
+    words: &'a [&'a str],
+) -> Result<Option<ArgMatches<'a>>, AllocError>
+    requires { is_simple_and_free (app_of command) ≡ true }
+    ensures { IfOk result (Finds (app_of command.entry) (map (λ word. word.now) words.now)) }
+{
+    match command.try_get_matches_from(words) {
+        Ok(found) => Ok(Some(found)),
+        Err(error) => match error.kind() {
+            CommandError::OutOfMemory => Err(AllocError),
+            _ => Ok(None),
+        },
     }
 }

@@ -5,8 +5,9 @@
 //! [`MemSource`] and [`MemSink`] are fakes that fail at chosen calls, [`QuietSource`] and
 //! [`QuietSink`] never fail, and [`StdSource`] and [`StdSink`] are the outside world.
 //!
-//! What the two programs share stands here too: the words of the command line; pieces of a source,
-//! read up to a limit; and bytes, written to a sink till all are taken.
+//! What the two programs share stands here too: the words of the command line, and what a command
+//! finds in them; pieces of a source, read up to a limit; and bytes, written to a sink till all are
+//! taken.
 #![tactic(auto)]
 
 mod command_line;
@@ -23,7 +24,7 @@ mod std_source;
 mod tape;
 mod writing;
 
-pub use command_line::{arguments, refusal, words};
+pub use command_line::{arguments, bare_command, match_words, refusal, words};
 pub use mem_sink::MemSink;
 pub use mem_source::MemSource;
 pub use quiet_sink::QuietSink;

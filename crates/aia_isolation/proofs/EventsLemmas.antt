@@ -36,19 +36,24 @@ events_step v event past = refl
 -- ---- an event that concerns the VM, as another one does or itself
 
 -- what an event says is what another says
-own_event : (v : ℕ) (g : Vcpu) (event its : Event) (past : History) → g.vm ≡ v → event_for v past event ≡ Some its → SameFor v (its ∷ past) (event ∷ past) → said_by g past its ≡ said_by g past event → IsByEvents v g past → IsByEvents v g (event ∷ past)
+own_event : (v : ℕ) (g : Vcpu) (event its : Event) (past : History) → g.vm ≡ v → event_for v past event ≡ Some its
+    → SameFor v (its ∷ past) (event ∷ past) → said_by g past its ≡ said_by g past event → IsByEvents v g past → IsByEvents v g (event ∷ past)
 own_event v g event its past own is same says by =
-    subst (λ x. SameFor v x (event ∷ past) × (said x g ≡ said (event ∷ past) g)) (sym (events_step v event past ∙ ap (λ o. with_any o (events_for v past)) is)) (
+    subst (λ x. SameFor v x (event ∷ past) × (said x g ≡ said (event ∷ past) g))
+    (sym (events_step v event past ∙ ap (λ o. with_any o (events_for v past)) is)) (
       for_then v (its ∷ events_for v past) (its ∷ past) (event ∷ past) (both_for v its (events_for v past) past by.0) same,
-      said_step its (events_for v past) g ∙ ap (λ o. with_any o (said (events_for v past) g)) (same_said its (events_for v past) past g (subst (λ w. SameFor w (events_for v past) past) (sym own) by.0))
+      said_step its (events_for v past) g ∙ ap (λ o. with_any o (said (events_for v past) g))
+          (same_said its (events_for v past) past g (subst (λ w. SameFor w (events_for v past) past) (sym own) by.0))
           ∙ ap (with_any (said_by g past its)) by.1 ∙ ap (λ o. with_any o (said past g)) says ∙ sym (said_step event past g),
     )
 
 -- ---- one that does not
 
-other_event : (v : ℕ) (g : Vcpu) (event : Event) (past : History) → event_for v past event ≡ None → sets_up event ≡ false → is_of_flight v event ≡ false → said_by g past event ≡ None → IsByEvents v g past → IsByEvents v g (event ∷ past)
+other_event : (v : ℕ) (g : Vcpu) (event : Event) (past : History) → event_for v past event ≡ None → sets_up event ≡ false
+    → is_of_flight v event ≡ false → said_by g past event ≡ None → IsByEvents v g past → IsByEvents v g (event ∷ past)
 other_event v g event past none quiet still silent by =
-    subst (λ x. SameFor v x (event ∷ past) × (said x g ≡ said (event ∷ past) g)) (sym (events_step v event past ∙ ap (λ o. with_any o (events_for v past)) none)) (
+    subst (λ x. SameFor v x (event ∷ past) × (said x g ≡ said (event ∷ past) g))
+    (sym (events_step v event past ∙ ap (λ o. with_any o (events_for v past)) none)) (
       for_then v (events_for v past) past (event ∷ past) by.0 (left_for v event past quiet still),
       by.1 ∙ sym (said_step event past g ∙ ap (λ o. with_any o (said past g)) silent),
     )
@@ -66,7 +71,8 @@ other_flight (lines.Pass source vm number identity) v e = refl
 other_flight (Send vm addr value) v e = e
 other_flight line v e = refl
 
-other_said : (line : Line) (v : ℕ) (past : History) (g : Vcpu) → is_event_for v (Accepted line) ≡ false → g.vm ≡ v → ◌≡◌ {A = Option Said} (said_by g past (Accepted line)) None
+other_said : (line : Line) (v : ℕ) (past : History) (g : Vcpu) → is_event_for v (Accepted line) ≡ false → g.vm ≡ v
+    → ◌≡◌ {A = Option Said} (said_by g past (Accepted line)) None
 other_said (lines.Pass source vm number identity) v past g e its = refl
 other_said (Machine harts guests n sources) v past g e its = absurd (cc)
 other_said (lines.Msi vm addr value) v past g e its = unsaid (lines.Msi vm addr value) v past g e its
@@ -83,7 +89,8 @@ line_event v g line past its by = by_test (is_event_for v (Accepted line)) refl
   where
     by_test : (b : Bool) → is_event_for v (Accepted line) ≡ b → IsByEvents v g (Accepted line ∷ past)
     by_test true own = own_event v g (Accepted line) (Accepted line) past its (cond-true _ _ _ own) (itself_for v (Accepted line ∷ past)) refl by
-    by_test false other = other_event v g (Accepted line) past (cond-false _ _ _ other) (other_setup line v other) (other_flight line v other) (other_said line v past g other its) by
+    by_test false other = other_event v g (Accepted line) past (cond-false _ _ _ other) (other_setup line v other) (other_flight line v other)
+        (other_said line v past g other its) by
 
 landing_event : (v : ℕ) (g : Vcpu) (vm n : ℕ) (past : History) → g.vm ≡ v → IsByEvents v g past → IsByEvents v g (Landed vm n ∷ past)
 landing_event v g vm n past its by = elim (cases_Bool (nat_eq vm v)) [
@@ -97,18 +104,22 @@ not_its : (v : ℕ) (g x : Vcpu) → nat_eq x.vm v ≡ false → g.vm ≡ v → 
 not_its v g x other its = other_vm v x.vm x.number g other its
 
 -- the MSI of a pass, that is given to the VM as its interrupt, whether it was delivered or given on
-forward_event : (v : ℕ) (g : Vcpu) (event : Event) (past : History) (o : Option ℕ) → g.vm ≡ v → event_for v past event ≡ forward_for v past o → said_by g past event ≡ passed_said g past o
-    → ((p : ℕ) → SameFor v (Relayed p ∷ past) (event ∷ past)) → sets_up event ≡ false → is_of_flight v event ≡ false → IsByEvents v g past → IsByEvents v g (event ∷ past)
+forward_event : (v : ℕ) (g : Vcpu) (event : Event) (past : History) (o : Option ℕ) → g.vm ≡ v → event_for v past event ≡ forward_for v past o
+    → said_by g past event ≡ passed_said g past o
+    → ((p : ℕ) → SameFor v (Relayed p ∷ past) (event ∷ past)) → sets_up event ≡ false → is_of_flight v event ≡ false → IsByEvents v g past
+    → IsByEvents v g (event ∷ past)
 forward_event v g event past None its is says same quiet still by = other_event v g event past is quiet still says by
 forward_event v g event past (Some p) its is says same quiet still by = elim (cases_Bool (nat_eq (nth_pass past p).to.vm v)) [
   | inl own ↦ own_event v g event (Relayed p) past its (is ∙ cond-true _ _ _ own) (same p) (sym says) by
-  | inr other ↦ other_event v g event past (is ∙ cond-false _ _ _ other) quiet still (says ∙ cond-false _ _ _ (not_its v g (nth_pass past p).to other its)) by
+  | inr other ↦ other_event v g event past (is ∙ cond-false _ _ _ other) quiet still
+      (says ∙ cond-false _ _ _ (not_its v g (nth_pass past p).to other its)) by
 ]
 
 delivered_event : (v : ℕ) (g : Vcpu) (msi : Msi) (past : History) → g.vm ≡ v → IsByEvents v g past → IsByEvents v g (Delivered msi ∷ past)
 unfolding passes_of flight
 delivered_event v g msi past its by = elim (cases_Bool (goes_to_guest past msi)) [
-  | inl there ↦ forward_event v g (Delivered msi) past (passed_by past msi.source) its (cond-true _ _ _ there) (cond-true _ _ _ there) (λ p. ((refl, refl, refl), refl)) refl refl by
+  | inl there ↦ forward_event v g (Delivered msi) past (passed_by past msi.source) its (cond-true _ _ _ there) (cond-true _ _ _ there)
+      (λ p. ((refl, refl, refl), refl)) refl refl by
   | inr away ↦ other_event v g (Delivered msi) past (cond-false _ _ _ away) refl refl (cond-false _ _ _ away) by
 ]
 
@@ -124,7 +135,8 @@ is_by_events v g [] its = (itself_for v [], refl)
 is_by_events v g (Accepted line ∷ past) its = line_event v g line past its (is_by_events v g past its)
 is_by_events v g (Landed vm n ∷ past) its = landing_event v g vm n past its (is_by_events v g past its)
 is_by_events v g (Delivered msi ∷ past) its = delivered_event v g msi past its (is_by_events v g past its)
-is_by_events v g (Relayed p ∷ past) its = forward_event v g (Relayed p) past (Some p) its refl refl (λ q. relayed_same v p q past) refl refl (is_by_events v g past its)
+is_by_events v g (Relayed p ∷ past) its = forward_event v g (Relayed p) past (Some p) its refl refl (λ q. relayed_same v p q past) refl refl
+    (is_by_events v g past its)
 is_by_events v g (Began move ∷ past) its = other_event v g (Began move) past refl refl refl refl (is_by_events v g past its)
 is_by_events v g (Stepped x ∷ past) its = other_event v g (Stepped x) past refl refl refl refl (is_by_events v g past its)
 
@@ -137,5 +149,6 @@ events_guest h k g e = is_by_said h g ∙ ap guest_by (events_said h k g e) ∙ 
 pub events_replies : (h k : History) (g : Vcpu) → events_for g.vm h ≡ events_for g.vm k → replies h g ≡ replies k g
 events_replies h k g e = same_replies h k g g (events_said h k g e)
 
-pub events_scripts : (script other : List ℕ) (g : Vcpu) → events_for g.vm (history_of script) ≡ events_for g.vm (history_of other) → script_replies script g ≡ script_replies other g
+pub events_scripts : (script other : List ℕ) (g : Vcpu) → events_for g.vm (history_of script) ≡ events_for g.vm (history_of other)
+    → script_replies script g ≡ script_replies other g
 events_scripts script other g e = same_scripts script other g g (events_said (history_of script) (history_of other) g e)

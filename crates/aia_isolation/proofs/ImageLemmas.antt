@@ -96,7 +96,8 @@ unfolding replies_by
 no_replies image n [] = refl
 no_replies image n (k ∷ earlier) = no_replies image n earlier
 
-replies_later : (later words others : List Said) → guest_by words ≡ guest_by others → replies_by words ≡ [] → replies_by (later ++ words) ++ replies_by others ≡ replies_by (later ++ others)
+replies_later : (later words others : List Said) → guest_by words ≡ guest_by others → replies_by words ≡ []
+    → replies_by (later ++ words) ++ replies_by others ≡ replies_by (later ++ others)
 unfolding replies_by
 replies_later [] words others e none = ap (λ xs. xs ++ replies_by others) none
 replies_later (word ∷ earlier) words others e none =
@@ -105,22 +106,26 @@ replies_later (word ∷ earlier) words others e none =
     ∙ ap (with_any (reply (guest_by (earlier ++ others)) word)) (replies_later earlier words others e none)
 
 -- the saved one's words, and those by which its image was loaded
-same_by : (first : History) (g : Vcpu) (loaded : List Said) → IsHistory first → has_machine first ≡ true → IsWholeImage (state_of first g) loaded → guest_by loaded ≡ guest_by (said first g)
+same_by : (first : History) (g : Vcpu) (loaded : List Said) → IsHistory first → has_machine first ≡ true → IsWholeImage (state_of first g) loaded
+    → guest_by loaded ≡ guest_by (said first g)
 same_by first g loaded good stands whole = whole_gives (state_of first g) loaded (is_state first g good stands) whole ∙ is_by_said first g
 
-pub goes_on : (first second : History) (g x : Vcpu) (loaded later : List Said) → IsHistory first → has_machine first ≡ true → IsWholeImage (state_of first g) loaded → said second x ≡ later ++ loaded
+pub goes_on : (first second : History) (g x : Vcpu) (loaded later : List Said) → IsHistory first → has_machine first ≡ true
+    → IsWholeImage (state_of first g) loaded → said second x ≡ later ++ loaded
     → state_of second x ≡ guest_by (later ++ said first g)
 goes_on first second g x loaded later good stands whole e =
     is_by_said second x ∙ ap guest_by e ∙ by_later later loaded (said first g) (same_by first g loaded good stands whole)
 
-pub answers_on : (first second : History) (g x : Vcpu) (loaded later : List Said) → IsHistory first → has_machine first ≡ true → IsWholeImage (state_of first g) loaded → said second x ≡ later ++ loaded
+pub answers_on : (first second : History) (g x : Vcpu) (loaded later : List Said) → IsHistory first → has_machine first ≡ true
+    → IsWholeImage (state_of first g) loaded → said second x ≡ later ++ loaded
     → replies second x ++ replies first g ≡ replies_by (later ++ said first g)
 answers_on first second g x loaded later good stands whole e =
     ap (λ xs. xs ++ replies first g) (are_by_said second x ∙ ap replies_by e) ∙ ap (λ xs. replies_by (later ++ loaded) ++ xs) (are_by_said first g)
     ∙ replies_later later loaded (said first g) (same_by first g loaded good stands whole)
     (ap replies_by whole.are ∙ no_replies (state_of first g) (state_of first g).file.n whole.order)
 
-pub stays_on : (first second third : History) (g x y : Vcpu) (loaded later : List Said) → IsHistory first → has_machine first ≡ true → IsWholeImage (state_of first g) loaded → said second x ≡ later ++ loaded
+pub stays_on : (first second third : History) (g x y : Vcpu) (loaded later : List Said) → IsHistory first → has_machine first ≡ true
+    → IsWholeImage (state_of first g) loaded → said second x ≡ later ++ loaded
     → said third y ≡ later ++ said first g → (csr : Csr) (op : Op) → HasCsr second x csr → HasCsr third y csr
     → answer second (GuestCsr x.vm x.number csr op) ≡ answer third (GuestCsr y.vm y.number csr op)
 stays_on first second third g x y loaded later good stands whole e stayed csr op runs too =
@@ -128,20 +133,26 @@ stays_on first second third g x y loaded later good stands whole e stayed csr op
     ∙ ap (λ s. answers_next s csr op) (goes_on first second g x loaded later good stands whole e ∙ sym (is_by_said third y ∙ ap guest_by stayed))
     ∙ sym (next_by third y csr op too)
 
-pub scripts_go_on : (script other : List ℕ) (g x : Vcpu) (loaded later : List Said) → has_machine (history_of script) ≡ true → IsWholeImage (state_of (history_of script) g) loaded
-    → said (history_of other) x ≡ later ++ loaded → script_replies script g ++ script_replies other x ≡ reverse (replies_by (later ++ said (history_of script) g))
+pub scripts_go_on : (script other : List ℕ) (g x : Vcpu) (loaded later : List Said) → has_machine (history_of script) ≡ true
+    → IsWholeImage (state_of (history_of script) g) loaded
+    → said (history_of other) x ≡ later ++ loaded → script_replies script g ++ script_replies other x ≡ reverse
+    (replies_by (later ++ said (history_of script) g))
 scripts_go_on script other g x loaded later stands whole e =
-    ap (λ xs. xs ++ script_replies other x) (script_answered script g) ∙ ap (λ xs. reverse (replies (history_of script) g) ++ xs) (script_answered other x)
+    ap (λ xs. xs ++ script_replies other x) (script_answered script g)
+    ∙ ap (λ xs. reverse (replies (history_of script) g) ++ xs) (script_answered other x)
     ∙ sym (reverse-append (replies (history_of other) x) (replies (history_of script) g))
     ∙ ap reverse (answers_on (history_of script) (history_of other) g x loaded later (script_happens script) stands whole e)
 
 -- ---- the parts of one save
 
-pub one_save : (h : History) (later : List Event) (vm number k : ℕ) → said_after h later (vcpu vm number) ≡ [] → refusal (later ++ h) (Save vm number k) ≡ None
+pub one_save : (h : History) (later : List Event) (vm number k : ℕ) → said_after h later (vcpu vm number) ≡ []
+    → refusal (later ++ h) (Save vm number k) ≡ None
     → answer (later ++ h) (Save vm number k) ≡ answers.Part (part_of (state_of h (vcpu vm number)) k)
 one_save h later vm number k silent e =
     saved_answer (later ++ h) vm number k e
-    ∙ ap (λ s. answers.Part (part_of s k)) (is_by_said (later ++ h) (vcpu vm number) ∙ ap guest_by (said_later h later (vcpu vm number) ∙ ap (λ words. words ++ said h (vcpu vm number)) silent) ∙ sym (is_by_said h (vcpu vm number)))
+    ∙ ap (λ s. answers.Part (part_of s k)) (is_by_said (later ++ h) (vcpu vm number)
+    ∙ ap guest_by (said_later h later (vcpu vm number) ∙ ap (λ words. words ++ said h (vcpu vm number)) silent)
+    ∙ sym (is_by_said h (vcpu vm number)))
 
 -- ---- a worked one
 

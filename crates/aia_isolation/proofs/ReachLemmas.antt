@@ -31,39 +31,48 @@ abbrev RestsOrNotices : History → ℕ → FileName → FileDeed → Type 0
 RestsOrNotices past v f deed = ◌⊎◌ (deed ≡ Rests) (IsNoticeOf past v f deed)
 
 -- the deed of a notice for a virtual hart
-notice_is : (past : History) (v : ℕ) (f : FileName) (g : Vcpu) → g.vm ≡ v → has_vcpu past g ≡ true → RestsOrNotices past v f (notice_deed past f (Some g))
+notice_is : (past : History) (v : ℕ) (f : FileName) (g : Vcpu) → g.vm ≡ v → has_vcpu past g ≡ true
+    → RestsOrNotices past v f (notice_deed past f (Some g))
 notice_is past v f g its there = elim (cases_Bool (is_file f (notice_file past g))) [
   | inl at ↦ inr (record { g = g; its = its; there = there; at = is_file-same f (notice_file past g) at; asks = cond-true _ _ _ at })
   | inr other ↦ inl (cond-false _ _ _ other)
 ]
 
 -- whether or not one is sent
-either_notice : (b : Bool) (past : History) (v : ℕ) (f : FileName) (g : Vcpu) → g.vm ≡ v → has_vcpu past g ≡ true → RestsOrNotices past v f (notice_deed past f (if b then Some g else None))
+either_notice : (b : Bool) (past : History) (v : ℕ) (f : FileName) (g : Vcpu) → g.vm ≡ v → has_vcpu past g ≡ true
+    → RestsOrNotices past v f (notice_deed past f (if b then Some g else None))
 either_notice true past v f g its there = notice_is past v f g its there
 either_notice false past v f g its there = inl refl
 
 pub by_notices : (past : History) (line : Line) (v : ℕ) (f : FileName) → refusal past line ≡ None → is_doing_of v line ≡ true
     → (deed_at f past (Accepted line) ≡ Rests) ⊎ IsNoticeOf past v f (deed_at f past (Accepted line))
-by_notices past (lines.Msi vm addr value) v f e its = either_notice _ past v f (named_by past vm addr) (eqb-true vm v its) (device_allowed past vm addr value e)
-by_notices past (Ipi vm number to value) v f e its = either_notice _ past v f (vcpu vm to) (eqb-true vm v its) (peer_allowed past vm number to value e)
+by_notices past (lines.Msi vm addr value) v f e its =
+    either_notice _ past v f (named_by past vm addr) (eqb-true vm v its) (device_allowed past vm addr value e)
+by_notices past (Ipi vm number to value) v f e its =
+    either_notice _ past v f (vcpu vm to) (eqb-true vm v its) (peer_allowed past vm number to value e)
 by_notices past (Send vm addr value) v f e its = inl refl
 by_notices past (Land vm k) v f e its = inl refl
 by_notices past (GuestCsr vm number csr op) v f e its = inl refl
 by_notices past line v f e its = absurd (false≢true its)
 
-pub steps_by_notices : (past : History) (g : Vcpu) (f : FileName) → has_vcpu past g ≡ true → (deed_at f past (Stepped g) ≡ Rests) ⊎ IsNoticeOf past g.vm f (deed_at f past (Stepped g))
+pub steps_by_notices : (past : History) (g : Vcpu) (f : FileName) → has_vcpu past g ≡ true → (deed_at f past (Stepped g) ≡ Rests)
+    ⊎ IsNoticeOf past g.vm f (deed_at f past (Stepped g))
 steps_by_notices past g f there = either_notice _ past g.vm f g refl there
 
-pub exits_by_notices : (past : History) (g : Vcpu) (f : FileName) → has_vcpu past g ≡ true → (deed_at f past (Accepted (lines.Exit g.vm g.number)) ≡ Rests) ⊎ IsNoticeOf past g.vm f (deed_at f past (Accepted (lines.Exit g.vm g.number)))
+pub exits_by_notices : (past : History) (g : Vcpu) (f : FileName) → has_vcpu past g ≡ true
+    → (deed_at f past (Accepted (lines.Exit g.vm g.number)) ≡ Rests) ⊎ IsNoticeOf past g.vm f (deed_at f past (Accepted (lines.Exit g.vm g.number)))
 exits_by_notices past g f there = either_notice _ past g.vm f g refl there
 
-pub loads_by_notices : (past : History) (g : Vcpu) (part : Part) (f : FileName) → has_vcpu past g ≡ true → (deed_at f past (Accepted (lines.LoadPart g.vm g.number part)) ≡ Rests) ⊎ IsNoticeOf past g.vm f (deed_at f past (Accepted (lines.LoadPart g.vm g.number part)))
+pub loads_by_notices : (past : History) (g : Vcpu) (part : Part) (f : FileName) → has_vcpu past g ≡ true
+    → (deed_at f past (Accepted (lines.LoadPart g.vm g.number part)) ≡ Rests)
+    ⊎ IsNoticeOf past g.vm f (deed_at f past (Accepted (lines.LoadPart g.vm g.number part)))
 loads_by_notices past g (parts.Word w pending enable) f there = either_notice _ past g.vm f g refl there
 loads_by_notices past g (parts.Image version n delivery threshold select) f there = inl refl
 loads_by_notices past g (parts.Majors injected enabled) f there = inl refl
 loads_by_notices past g (parts.Prio hviprio hvictl) f there = inl refl
 
-pub landings_by_notices : (past : History) (v k : ℕ) (f : FileName) → IsHistory past → (deed_at f past (Landed v k) ≡ Rests) ⊎ IsNoticeOf past v f (deed_at f past (Landed v k))
+pub landings_by_notices : (past : History) (v k : ℕ) (f : FileName) → IsHistory past → (deed_at f past (Landed v k) ≡ Rests)
+    ⊎ IsNoticeOf past v f (deed_at f past (Landed v k))
 landings_by_notices past v k f good = by_store (flying past v k) refl
   where
     by_store : (o : Option Sending) → flying past v k ≡ o → RestsOrNotices past v f (notice_deed past f (noticed_by_landing past v (flying past v k)))

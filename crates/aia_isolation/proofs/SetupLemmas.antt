@@ -34,8 +34,10 @@ SameSetup h k = (machine_of h ≡ machine_of k) × (vms_of h ≡ vms_of k) × (p
 both_setup : (event : Event) (h k : History) → SameSetup h k → SameSetup (event ∷ h) (event ∷ k)
 unfolding passes_of
 both_setup (Accepted (Machine harts guests n sources)) h k same = (refl, same.1, same.2)
-both_setup (Accepted (lines.Vm vcpus mask hart)) h k same = (same.0, ap (λ vms. vms ++ record { vcpus = vcpus; mask = mask; notice_hart = hart } ∷ []) same.1, same.2)
-both_setup (Accepted (lines.Pass source vm number identity)) h k same = (same.0, same.1, ap (λ xs. xs ++ record { source = source; to = vcpu vm number; identity = identity } ∷ []) same.2)
+both_setup (Accepted (lines.Vm vcpus mask hart)) h k same =
+    (same.0, ap (λ vms. vms ++ record { vcpus = vcpus; mask = mask; notice_hart = hart } ∷ []) same.1, same.2)
+both_setup (Accepted (lines.Pass source vm number identity)) h k same =
+    (same.0, same.1, ap (λ xs. xs ++ record { source = source; to = vcpu vm number; identity = identity } ∷ []) same.2)
 both_setup (Accepted line) h k same = same
 both_setup (Began move) h k same = same
 both_setup (Stepped g) h k same = same
@@ -81,11 +83,13 @@ map_remove f (x ∷ xs) (suc n) = ap (λ ys. f x ∷ ys) (map_remove f xs n)
 
 -- one more that is sent after both
 sent_both : (v addr value : ℕ) (h k : History) → SameSetup h k → SameFlight v h k
-    → map (seen_of v) (flight h v ++ record { before = h; addr = addr; value = value } ∷ []) ≡ map (seen_of v) (flight k v ++ record { before = k; addr = addr; value = value } ∷ [])
+    → map (seen_of v) (flight h v ++ record { before = h; addr = addr; value = value } ∷ []) ≡ map (seen_of v)
+    (flight k v ++ record { before = k; addr = addr; value = value } ∷ [])
 sent_both v addr value h k setup same =
     map-append (seen_of v) (flight h v) (record { before = h; addr = addr; value = value } ∷ [])
     ∙ ap (λ xs. xs ++ seen_of v (record { before = h; addr = addr; value = value }) ∷ []) same
-    ∙ ap (λ vms. map (seen_of v) (flight k v) ++ record { to = vcpu v (file_number (vm_in vms v).mask addr); addr = addr; value = value } ∷ []) setup.1
+    ∙ ap (λ vms. map (seen_of v) (flight k v) ++ record
+    { to = vcpu v (file_number (vm_in vms v).mask addr); addr = addr; value = value } ∷ []) setup.1
     ∙ sym (map-append (seen_of v) (flight k v) (record { before = k; addr = addr; value = value } ∷ []))
 
 both_flight : (v : ℕ) (event : Event) (h k : History) → SameSetup h k → SameFlight v h k → SameFlight v (event ∷ h) (event ∷ k)
@@ -138,7 +142,8 @@ left_for v event h quiet still = (left_setup event h quiet, left_flight v event 
 
 abbrev said_of_msi : Vcpu → ℕ → ℕ → ℕ → Option MachineSize → List Vm → Option Said
 said_of_msi g vm addr value machine vms =
-    if is_vcpu g (vcpu vm (file_number (vm_in vms vm).mask addr)) then option_map Asked (requested (option_map_or (λ (m : MachineSize). m.n) machine 0) (addr % PAGE) value) else None
+    if is_vcpu g (vcpu vm (file_number (vm_in vms vm).mask addr)) then option_map Asked
+    (requested (option_map_or (λ (m : MachineSize). m.n) machine 0) (addr % PAGE) value) else None
 
 abbrev said_of_peer : Vcpu → ℕ → ℕ → ℕ → Option MachineSize → Option Said
 said_of_peer g vm to value machine =
@@ -152,7 +157,8 @@ said_of_landing g machine (Some s) =
 abbrev said_of_pass : Vcpu → Option MachineSize → List PassedSource → Option ℕ → Option Said
 said_of_pass g machine xs None = None
 said_of_pass g machine xs (Some p) =
-    if is_vcpu g (slice_index_or xs p no_pass).to then option_map Asked (requested (option_map_or (λ (m : MachineSize). m.n) machine 0) 0 (slice_index_or xs p no_pass).identity) else None
+    if is_vcpu g (slice_index_or xs p no_pass).to then option_map Asked
+    (requested (option_map_or (λ (m : MachineSize). m.n) machine 0) 0 (slice_index_or xs p no_pass).identity) else None
 
 abbrev number_in : List PassedSource → Option ℕ → Option ℕ
 number_in xs None = None
@@ -160,10 +166,12 @@ number_in xs (Some s) = least_of (λ p. nat_eq (slice_index_or xs p no_pass).sou
 
 abbrev said_of_forward : Vcpu → Msi → Option MachineSize → List PassedSource → Option Said
 said_of_forward g msi machine xs =
-    if is_guest_page (spot_at (option_map_or (λ (m : MachineSize). m.harts) machine 0) (option_map_or (λ (m : MachineSize). m.guests) machine 0) msi.address) then said_of_pass g machine xs (number_in xs msi.source) else None
+    if is_guest_page (spot_at (option_map_or (λ (m : MachineSize). m.harts) machine 0) (option_map_or (λ (m : MachineSize). m.guests) machine 0)
+    msi.address) then said_of_pass g machine xs (number_in xs msi.source) else None
 
 forward_by : (h : History) (g : Vcpu) (msi : Msi) → said_by g h (Delivered msi) ≡ said_of_forward g msi (machine_of h) (passes_of h)
-forward_by h g msi = ap (λ o. if goes_to_guest h msi then o else None) (by_number (passed_by h msi.source) (number_in (passes_of h) msi.source) (by_source msi.source))
+forward_by h g msi = ap (λ o. if goes_to_guest h msi then o else None)
+    (by_number (passed_by h msi.source) (number_in (passes_of h) msi.source) (by_source msi.source))
   where
     by_source : (o : Option ℕ) → passed_by h o ≡ number_in (passes_of h) o
     by_source None = refl
@@ -176,14 +184,16 @@ forward_by h g msi = ap (λ o. if goes_to_guest h msi then o else None) (by_numb
     by_number : (o p : Option ℕ) → o ≡ p → passed_said g h o ≡ said_of_pass g (machine_of h) (passes_of h) p
     by_number o p e = by_pass o ∙ ap (said_of_pass g (machine_of h) (passes_of h)) e
 
-landing_by : (h : History) (g : Vcpu) (vm : ℕ) (o : Option Sending) → landing_said g h vm o ≡ said_of_landing g (machine_of h) (option_map (seen_of vm) o)
+landing_by : (h : History) (g : Vcpu) (vm : ℕ) (o : Option Sending)
+    → landing_said g h vm o ≡ said_of_landing g (machine_of h) (option_map (seen_of vm) o)
 landing_by h g vm None = refl
 landing_by h g vm (Some s) = refl
 
 seen_at : (v n : ℕ) (h k : History) → SameFlight v h k → option_map (seen_of v) (flying h v n) ≡ option_map (seen_of v) (flying k v n)
 seen_at v n h k same = sym (slice_get-map (seen_of v) (flight h v) n) ∙ ap (λ xs. slice_get xs n) same ∙ slice_get-map (seen_of v) (flight k v) n
 
-own_landing : (n : ℕ) (h k : History) (g : Vcpu) → SameFor g.vm h k → landing_said g h g.vm (flying h g.vm n) ≡ landing_said g k g.vm (flying k g.vm n)
+own_landing : (n : ℕ) (h k : History) (g : Vcpu) → SameFor g.vm h k
+    → landing_said g h g.vm (flying h g.vm n) ≡ landing_said g k g.vm (flying k g.vm n)
 own_landing n h k g same =
     landing_by h g g.vm (flying h g.vm n) ∙ ap (λ machine. said_of_landing g machine (option_map (seen_of g.vm) (flying h g.vm n))) same.0.0
     ∙ ap (said_of_landing g (machine_of k)) (seen_at g.vm n h k same.1) ∙ sym (landing_by k g g.vm (flying k g.vm n))
@@ -192,7 +202,8 @@ pub other_vm : (v vm number : ℕ) (x : Vcpu) → nat_eq vm v ≡ false → x.vm
 other_vm v vm number x other its = and_left (nat_eq x.vm vm) (nat_eq x.number number) (ne_eqb x.vm vm (λ same. eqb-false vm v other (sym same ∙ its)))
 
 -- a store of another VM says nothing
-pub other_landing : (v vm : ℕ) (h : History) (x : Vcpu) (o : Option Sending) → nat_eq vm v ≡ false → x.vm ≡ v → ◌≡◌ {A = Option Said} (landing_said x h vm o) None
+pub other_landing : (v vm : ℕ) (h : History) (x : Vcpu) (o : Option Sending) → nat_eq vm v ≡ false → x.vm ≡ v
+    → ◌≡◌ {A = Option Said} (landing_said x h vm o) None
 other_landing v vm h x None other its = refl
 other_landing v vm h x (Some s) other its = cond-false _ _ _ (other_vm v vm (sent_to vm s).number x other its)
 
@@ -204,9 +215,12 @@ same_said (Accepted line) h k g same = refl
 same_said (Began move) h k g same = refl
 same_said (Stepped x) h k g same = refl
 same_said (Delivered msi) h k g same =
-    forward_by h g msi ∙ ap (λ machine. said_of_forward g msi machine (passes_of h)) same.0.0 ∙ ap (said_of_forward g msi (machine_of k)) same.0.2 ∙ sym (forward_by k g msi)
-same_said (Relayed p) h k g same = ap (λ machine. said_of_pass g machine (passes_of h) (Some p)) same.0.0 ∙ ap (λ xs. said_of_pass g (machine_of k) xs (Some p)) same.0.2
+    forward_by h g msi ∙ ap (λ machine. said_of_forward g msi machine (passes_of h)) same.0.0 ∙ ap (said_of_forward g msi (machine_of k)) same.0.2
+    ∙ sym (forward_by k g msi)
+same_said (Relayed p) h k g same = ap (λ machine. said_of_pass g machine (passes_of h) (Some p)) same.0.0
+    ∙ ap (λ xs. said_of_pass g (machine_of k) xs (Some p)) same.0.2
 same_said (Landed vm n) h k g same = elim (cases_Bool (nat_eq vm g.vm)) [
-  | inl own ↦ subst (λ v. landing_said g h v (flying h v n) ≡ landing_said g k v (flying k v n)) (sym (eqb-true vm g.vm own)) (own_landing n h k g same)
+  | inl own ↦ subst (λ v. landing_said g h v (flying h v n) ≡ landing_said g k v (flying k v n)) (sym (eqb-true vm g.vm own))
+      (own_landing n h k g same)
   | inr other ↦ other_landing g.vm vm h g (flying h vm n) other refl ∙ sym (other_landing g.vm vm k g (flying k vm n) other refl)
 ]

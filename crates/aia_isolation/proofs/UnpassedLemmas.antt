@@ -72,11 +72,13 @@ unpassed_given (Some p) h e = by_reach (is_none (pass_reach h p)) e
 
 pub unpassed_sent : (sent : List Msi) (h : History) → IsUnpassed (delivered sent h) → IsUnpassed h
 unpassed_sent [] h e = e
-unpassed_sent (msi ∷ later) h e = unpassed_event (Delivered msi) h (unpassed_given (passed_by h msi.source) (Delivered msi ∷ h) (unpassed_sent later (msi_taken msi h) e))
+unpassed_sent (msi ∷ later) h e = unpassed_event (Delivered msi) h
+    (unpassed_given (passed_by h msi.source) (Delivered msi ∷ h) (unpassed_sent later (msi_taken msi h) e))
 
 pub unpassed_deed : (h : History) (line : Line) (deed : LineDeed) → IsUnpassed (deed_taken h line deed) → IsUnpassed h
 unpassed_deed h line NoMove e = unpassed_event (Accepted line) h e
-unpassed_deed h line (Whole move) e = unpassed_event (Began move) h (unpassed_steps (steps_of (file_words h) move + passes_for h (mover move)) (mover move) (Began move ∷ h) e)
+unpassed_deed h line (Whole move) e = unpassed_event (Began move) h
+    (unpassed_steps (steps_of (file_words h) move + passes_for h (mover move)) (mover move) (Began move ∷ h) e)
 unpassed_deed h line (Begins move) e = unpassed_event (Began move) h e
 unpassed_deed h line (Steps x) e = unpassed_first x h (unpassed_event (Stepped x) (landed_first x h) e)
 unpassed_deed h line (Lands vm k) e = unpassed_event (Landed vm k) h e
@@ -135,7 +137,8 @@ passing_passes h (lines.Pass source vm number identity) e = absurd (one_appended
 passing_passes h line e = refl
 
 pub accepted_passes_none : (h : History) (line : Line) → IsUnpassed (after_accepted h line) → passes_source line ≡ false
-accepted_passes_none h (lines.Pass source vm number identity) e = passing_passes h (lines.Pass source vm number identity) (unpassed_accepted h (lines.Pass source vm number identity) e)
+accepted_passes_none h (lines.Pass source vm number identity) e =
+    passing_passes h (lines.Pass source vm number identity) (unpassed_accepted h (lines.Pass source vm number identity) e)
 accepted_passes_none h line e = refl
 
 -- ---- no MSI is given on, no step aims
@@ -146,7 +149,8 @@ none_in P = refl
 
 pub none_passed_by : (h : History) (o : Option ℕ) → IsUnpassed h → passed_by h o ≡ None
 none_passed_by h None e = refl
-none_passed_by h (Some s) e = ap (λ (xs : List PassedSource). least_of (λ p. nat_eq (slice_index_or xs p no_pass).source s) 0 (length xs)) e ∙ none_in _
+none_passed_by h (Some s) e = ap (λ (xs : List PassedSource). least_of (λ p. nat_eq (slice_index_or xs p no_pass).source s) 0 (length xs))
+    e ∙ none_in _
 
 pub taken_alone : (msi : Msi) (h : History) → IsUnpassed h → msi_taken msi h ≡ Delivered msi ∷ h
 taken_alone msi h e = ap (λ o. given_on o (Delivered msi ∷ h)) (none_passed_by h msi.source e)
@@ -155,7 +159,8 @@ pub no_passes_for : (h : History) (g : Vcpu) → IsUnpassed h → passes_for h g
 no_passes_for h g e = ap (passes_to g) e
 
 pub none_aims : (h : History) (g : Vcpu) → IsUnpassed h → is_aiming (passes_for h g) (home h g) ≡ false
-none_aims h g e = ap (λ n. is_aiming n (home h g)) (no_passes_for h g e) ∙ and_right _ (nat_lt (aims_done (home h g)) 0) (none_below (aims_done (home h g)))
+none_aims h g e = ap (λ n. is_aiming n (home h g)) (no_passes_for h g e)
+    ∙ and_right _ (nat_lt (aims_done (home h g)) 0) (none_below (aims_done (home h g)))
   where
     none_below : (a : ℕ) → nat_lt a 0 ≡ false
     none_below a = grind (arith, nat_tests)

@@ -63,7 +63,8 @@ msi_same : (msi : Msi) (h : History) (g : Vcpu) → is_passed_to h g msi.source 
 unfolding select_by file_by majors_of
 msi_same msi h g other = by_page (goes_to_guest h msi) refl
   where
-    by_pass : (o : Option ℕ) → passed_by h msi.source ≡ o → option_map_or (λ p. is_vcpu g (nth_pass h p).to) o false ≡ false → goes_to_guest h msi ≡ true → IsSameGuest (Delivered msi ∷ h) h g
+    by_pass : (o : Option ℕ) → passed_by h msi.source ≡ o → option_map_or (λ p. is_vcpu g (nth_pass h p).to) o false ≡ false
+        → goes_to_guest h msi ≡ true → IsSameGuest (Delivered msi ∷ h) h g
     by_pass None e none there = rw (there, e) (refl, refl, refl)
     by_pass (Some p) e none there = rw (there, e, none) (refl, refl, refl)
 
@@ -84,7 +85,8 @@ still h vm g e = none_of (flight h vm) e
   where
     none_of : (xs : List Sending) → list_any (λ s. is_vcpu g (sent_to vm s)) xs ≡ false → AllByRecursion (λ s. is_vcpu g (sent_to vm s) ≡ false) xs
     none_of [] e = tt
-    none_of (x ∷ xs) e = let parts = or_parts (is_vcpu g (sent_to vm x)) (list_any (λ s. is_vcpu g (sent_to vm s)) xs) e in (parts.0, none_of xs parts.1)
+    none_of (x ∷ xs) e = let parts = or_parts (is_vcpu g (sent_to vm x)) (list_any (λ s. is_vcpu g (sent_to vm s)) xs) e in
+        (parts.0, none_of xs parts.1)
 
 landing_same : (vm k : ℕ) (h : History) (g : Vcpu) → Still h vm g → IsSameGuest (Landed vm k ∷ h) h g
 unfolding select_by file_by majors_of
@@ -106,7 +108,8 @@ still_begun : (vm : ℕ) (move : WantedMove) (h : History) (g : Vcpu) → Still 
 unfolding flight
 still_begun vm move h g all = all
 
-landed_same : (count vm : ℕ) (h : History) (g : Vcpu) → Still h vm g → IsSameGuest (oldest_landed count vm h) h g × Still (oldest_landed count vm h) vm g
+landed_same : (count vm : ℕ) (h : History) (g : Vcpu) → Still h vm g → IsSameGuest (oldest_landed count vm h) h g
+    × Still (oldest_landed count vm h) vm g
 landed_same zero vm h g all = ((refl, refl, refl), all)
 landed_same (suc count) vm h g all =
     let rest = landed_same count vm (Landed vm 0 ∷ h) g (still_landed vm 0 h g all) in
@@ -126,19 +129,23 @@ step_same x h g all =
 
 steps_same : (count : ℕ) (x : Vcpu) (h : History) (g : Vcpu) → Still h x.vm g → IsSameGuest (steps_taken count x h) h g
 steps_same zero x h g all = (refl, refl, refl)
-steps_same (suc count) x h g all = let one = step_same x h g all in and_same _ (step_taken x h) h g (steps_same count x (step_taken x h) g one.1) one.0
+steps_same (suc count) x h g all = let one = step_same x h g all in
+    and_same _ (step_taken x h) h g (steps_same count x (step_taken x h) g one.1) one.0
 
 abbrev NonePassed : History → Vcpu → List Msi → Type 0
 NonePassed h g sent = AllByRecursion (λ (msi : Msi). is_passed_to h g msi.source ≡ false) sent
 
-passed_given : (msi : Msi) (h : History) (g : Vcpu) (o : Option ℕ) → (is_passed_to (Delivered msi ∷ h) g o ≡ is_passed_to h g o) × ((p : ℕ) → is_passed_to (Relayed p ∷ Delivered msi ∷ h) g o ≡ is_passed_to h g o)
+passed_given : (msi : Msi) (h : History) (g : Vcpu) (o : Option ℕ) → (is_passed_to (Delivered msi ∷ h) g o ≡ is_passed_to h g o)
+    × ((p : ℕ) → is_passed_to (Relayed p ∷ Delivered msi ∷ h) g o ≡ is_passed_to h g o)
 unfolding passes_of
 passed_given msi h g None = (refl, λ p. refl)
 passed_given msi h g (Some s) = (refl, λ p. refl)
 
-none_delivered : (msi : Msi) (h : History) (g : Vcpu) (sent : List Msi) → NonePassed h g sent → NonePassed (Delivered msi ∷ h) g sent × ((p : ℕ) → NonePassed (Relayed p ∷ Delivered msi ∷ h) g sent)
+none_delivered : (msi : Msi) (h : History) (g : Vcpu) (sent : List Msi) → NonePassed h g sent → NonePassed (Delivered msi ∷ h) g sent
+    × ((p : ℕ) → NonePassed (Relayed p ∷ Delivered msi ∷ h) g sent)
 none_delivered msi h g [] all = (tt, λ p. tt)
-none_delivered msi h g (x ∷ xs) all = let rest = none_delivered msi h g xs all.1 in let one = passed_given msi h g x.source in ((one.0 ∙ all.0, rest.0), λ p. (one.1 p ∙ all.0, rest.1 p))
+none_delivered msi h g (x ∷ xs) all = let rest = none_delivered msi h g xs all.1 in let one = passed_given msi h g x.source in
+    ((one.0 ∙ all.0, rest.0), λ p. (one.1 p ∙ all.0, rest.1 p))
 
 same_to : (msi : Msi) (h : History) (g : Vcpu) (p : ℕ) → is_vcpu g (nth_pass h p).to ≡ false → is_vcpu g (nth_pass (Delivered msi ∷ h) p).to ≡ false
 unfolding passes_of
@@ -151,15 +158,20 @@ msis_same (msi ∷ later) h g all =
     let rest = none_delivered msi h g later all.1 in
     by_pass (passed_by h msi.source) refl all.0
     (and_same _ (Delivered msi ∷ h) h g (msis_same later (Delivered msi ∷ h) g rest.0) first)
-    (λ p to. and_same _ (Relayed p ∷ Delivered msi ∷ h) h g (msis_same later (Relayed p ∷ Delivered msi ∷ h) g (rest.1 p)) (and_same _ (Delivered msi ∷ h) h g (relay_same p (Delivered msi ∷ h) g (same_to msi h g p to)) first))
+    (λ p to. and_same _ (Relayed p ∷ Delivered msi ∷ h) h g (msis_same later (Relayed p ∷ Delivered msi ∷ h) g (rest.1 p))
+    (and_same _ (Delivered msi ∷ h) h g (relay_same p (Delivered msi ∷ h) g (same_to msi h g p to)) first))
   where
     either : (b : Bool) (P : History → Type 0) (x y : History) → P x → P y → P (cond b x y)
     either true P x y px py = px
     either false P x y px py = py
 
-    by_pass : (o : Option ℕ) → passed_by h msi.source ≡ o → option_map_or (λ p. is_vcpu g (nth_pass h p).to) o false ≡ false → IsSameGuest (delivered later (Delivered msi ∷ h)) h g → ((p : ℕ) → is_vcpu g (nth_pass h p).to ≡ false → IsSameGuest (delivered later (Relayed p ∷ Delivered msi ∷ h)) h g) → IsSameGuest (delivered later (given_on o (Delivered msi ∷ h))) h g
+    by_pass : (o : Option ℕ) → passed_by h msi.source ≡ o → option_map_or (λ p. is_vcpu g (nth_pass h p).to) o false ≡ false
+        → IsSameGuest (delivered later (Delivered msi ∷ h)) h g
+        → ((p : ℕ) → is_vcpu g (nth_pass h p).to ≡ false → IsSameGuest (delivered later (Relayed p ∷ Delivered msi ∷ h)) h g)
+        → IsSameGuest (delivered later (given_on o (Delivered msi ∷ h))) h g
     by_pass None e none file memory = file
-    by_pass (Some p) e none file memory = either (is_none (pass_reach (Delivered msi ∷ h) p)) (λ x. IsSameGuest (delivered later x) h g) (Relayed p ∷ Delivered msi ∷ h) (Delivered msi ∷ h) (memory p none) file
+    by_pass (Some p) e none file memory = either (is_none (pass_reach (Delivered msi ∷ h) p)) (λ x. IsSameGuest (delivered later x) h g)
+        (Relayed p ∷ Delivered msi ∷ h) (Delivered msi ∷ h) (memory p none) file
 
 none_of_any : (f : Msi → Bool) (xs : List Msi) → list_any f xs ≡ false → AllByRecursion (λ x. f x ≡ false) xs
 none_of_any f [] e = tt
@@ -196,16 +208,21 @@ given_keeps : (o : Option ℕ) (h : History) (g : Vcpu) (i : ℕ) → (guest_fil
 given_keeps None h g i was = was
 given_keeps (Some p) h g i was = either (is_none (pass_reach h p)) (relay_keeps p h g i was) was
   where
-    either : (b : Bool) → (guest_file (Relayed p ∷ h) g).pending i ≡ true → (guest_file h g).pending i ≡ true → (guest_file (cond b (Relayed p ∷ h) h) g).pending i ≡ true
+    either : (b : Bool) → (guest_file (Relayed p ∷ h) g).pending i ≡ true → (guest_file h g).pending i ≡ true
+        → (guest_file (cond b (Relayed p ∷ h) h) g).pending i ≡ true
     either true x y = x
     either false x y = y
 
-pub msis_keep : (sent : List Msi) (h : History) (g : Vcpu) (i : ℕ) → (guest_file h g).pending i ≡ true → (guest_file (delivered sent h) g).pending i ≡ true
+pub msis_keep : (sent : List Msi) (h : History) (g : Vcpu) (i : ℕ) → (guest_file h g).pending i ≡ true
+    → (guest_file (delivered sent h) g).pending i ≡ true
 msis_keep [] h g i was = was
-msis_keep (msi ∷ later) h g i was = msis_keep later (msi_taken msi h) g i (given_keeps (passed_by h msi.source) (Delivered msi ∷ h) g i (msi_keeps msi h g i was))
+msis_keep (msi ∷ later) h g i was = msis_keep later (msi_taken msi h) g i
+    (given_keeps (passed_by h msi.source) (Delivered msi ∷ h) g i (msi_keeps msi h g i was))
 
-pub taken_keeps : (h : History) (line : Line) (g : Vcpu) (i : ℕ) → refusal h line ≡ None → (guest_file (line_taken h line) g).pending i ≡ true → (guest_file (after h line) g).pending i ≡ true
-taken_keeps h line g i e was = subst (λ x. (guest_file x g).pending i ≡ true) (sym (after_by h line None e)) (msis_keep (msis_sent_by h line) (line_taken h line) g i was)
+pub taken_keeps : (h : History) (line : Line) (g : Vcpu) (i : ℕ) → refusal h line ≡ None → (guest_file (line_taken h line) g).pending i ≡ true
+    → (guest_file (after h line) g).pending i ≡ true
+taken_keeps h line g i e was = subst (λ x. (guest_file x g).pending i ≡ true) (sym (after_by h line None e))
+    (msis_keep (msis_sent_by h line) (line_taken h line) g i was)
 
 -- the VM of a move of which a line does steps, or of the store that lands
 abbrev still_deed : History → LineDeed → Vcpu → Type 0
@@ -214,11 +231,13 @@ still_deed h (Steps x) g = is_at_fence (home h x) ≡ true → Still h x.vm g
 still_deed h (Lands vm k) g = option_map_or (λ s. is_vcpu g (sent_to vm s)) (flying h vm k) false ≡ false
 still_deed h deed g = Unit {0}
 
-one_same : (vm k : ℕ) (h : History) (g : Vcpu) → option_map_or (λ s. is_vcpu g (sent_to vm s)) (flying h vm k) false ≡ false → IsSameGuest (Landed vm k ∷ h) h g
+one_same : (vm k : ℕ) (h : History) (g : Vcpu) → option_map_or (λ s. is_vcpu g (sent_to vm s)) (flying h vm k) false ≡ false
+    → IsSameGuest (Landed vm k ∷ h) h g
 unfolding select_by file_by majors_of
 one_same vm k h g quiet = by_store (flying h vm k) refl quiet
   where
-    by_store : (o : Option Sending) → flying h vm k ≡ o → option_map_or (λ s. is_vcpu g (sent_to vm s)) o false ≡ false → IsSameGuest (Landed vm k ∷ h) h g
+    by_store : (o : Option Sending) → flying h vm k ≡ o → option_map_or (λ s. is_vcpu g (sent_to vm s)) o false ≡ false
+        → IsSameGuest (Landed vm k ∷ h) h g
     by_store None e none = rw e (refl, refl, refl)
     by_store (Some s) e none = rw (e, none) (refl, refl, refl)
 
@@ -230,9 +249,12 @@ one_step_same x h g quiet = and_same _ (landed_first x h) h g (stepped_same x (l
     by_fence true e = (first_same x h g (quiet e)).0
     by_fence false e = rw e (refl, refl, refl)
 
-pub move_same : (h : History) (line : Line) (deed : LineDeed) (g : Vcpu) → deed ≢ NoMove → still_deed h deed g → IsSameGuest (deed_taken h line deed) h g
+pub move_same : (h : History) (line : Line) (deed : LineDeed) (g : Vcpu) → deed ≢ NoMove → still_deed h deed g
+    → IsSameGuest (deed_taken h line deed) h g
 move_same h line NoMove g moves all = absurd (moves refl)
-move_same h line (Whole move) g moves all = and_same _ (Began move ∷ h) h g (steps_same (steps_of (file_words h) move + passes_for h (mover move)) (mover move) (Began move ∷ h) g (still_begun (mover move).vm move h g all)) (begun_same move h g)
+move_same h line (Whole move) g moves all = and_same _ (Began move ∷ h) h g
+    (steps_same (steps_of (file_words h) move + passes_for h (mover move)) (mover move) (Began move ∷ h) g
+    (still_begun (mover move).vm move h g all)) (begun_same move h g)
 move_same h line (Begins move) g moves all = begun_same move h g
 move_same h line (Steps x) g moves all = one_step_same x h g all
 move_same h line (Lands vm k) g moves all = one_same vm k h g all
@@ -249,8 +271,11 @@ refused_after : (h : History) (line : Line) (word : Answer) → refusal h line �
 refused_after h line word e = after_by h line (Some word) e
 
 -- an accepted line's MSIs change nothing there
-pub taken_same : (h : History) (line : Line) (g : Vcpu) → forwards_to h line g ≡ false → refusal h line ≡ None → IsSameGuest (after h line) (line_taken h line) g
-taken_same h line g still e = subst (λ x. IsSameGuest x (line_taken h line) g) (sym (after_by h line None e)) (msis_same (msis_sent_by h line) (line_taken h line) g (none_of_any (λ (msi : Msi). is_passed_to (line_taken h line) g msi.source) (msis_sent_by h line) still))
+pub taken_same : (h : History) (line : Line) (g : Vcpu) → forwards_to h line g ≡ false → refusal h line ≡ None
+    → IsSameGuest (after h line) (line_taken h line) g
+taken_same h line g still e = subst (λ x. IsSameGuest x (line_taken h line) g) (sym (after_by h line None e))
+    (msis_same (msis_sent_by h line) (line_taken h line) g
+    (none_of_any (λ (msi : Msi). is_passed_to (line_taken h line) g msi.source) (msis_sent_by h line) still))
 
 -- a refused line changes nothing, so that it is enough to look at an accepted one
 pub by_refusal : (P : History → Type 0) (h : History) (line : Line) → P h → (refusal h line ≡ None → P (after h line)) → P (after h line)
@@ -286,12 +311,16 @@ others_send_none (Store addr value) g other = absurd (false≢true other)
 others_send_none line g other = refl
 
 pub moved_same : (h : History) (line : Line) (g : Vcpu) → line_deed line ≢ NoMove → speaks_to h line g ≡ false → IsSameGuest (after h line) h g
-moved_same h line g moves quiet = let still = none_forwarded h line g (moves_send_none line moves) in by_refusal (λ x. IsSameGuest x h g) h line (refl, refl, refl) (λ e. and_same (after h line) (line_taken h line) h g (taken_same h line g still e) (move_same h line (line_deed line) g moves (silent_deed h line g quiet)))
+moved_same h line g moves quiet = let still = none_forwarded h line g (moves_send_none line moves) in
+    by_refusal (λ x. IsSameGuest x h g) h line (refl, refl, refl)
+    (λ e. and_same (after h line) (line_taken h line) h g (taken_same h line g still e)
+    (move_same h line (line_deed line) g moves (silent_deed h line g quiet)))
 
 -- ---- its file, by what the line is to it
 
 -- an accepted line that does no steps of a move is one event
-one_event : (h : History) (line : Line) → does_steps (line_deed line) ≡ false → (line_taken h line ≡ event_of line ∷ h) ⊎ ((move : WantedMove) × (line_taken h line ≡ Began move ∷ h) × ((g : Vcpu) → guest_deed g h (event_of line) ≡ Rests))
+one_event : (h : History) (line : Line) → does_steps (line_deed line) ≡ false → (line_taken h line ≡ event_of line ∷ h)
+    ⊎ ((move : WantedMove) × (line_taken h line ≡ Began move ∷ h) × ((g : Vcpu) → guest_deed g h (event_of line) ≡ Rests))
 one_event h (lines.Move vm number want) e = absurd (cc)
 one_event h (Step vm number) e = absurd (cc)
 one_event h (lines.Begin vm number want) e = inr (wanted_move (vcpu vm number) want, refl, λ g. refl)
@@ -302,23 +331,30 @@ unfolding select_by
 select_by_step g event h = refl
 
 -- such a line is one deed to it, before its MSIs are delivered
-pub file_taken : (h : History) (line : Line) (g : Vcpu) → does_steps (line_deed line) ≡ false → guest_file (line_taken h line) g ≡ file_after (guest_select h g) (guest_deed g h (event_of line)) (guest_file h g)
+pub file_taken : (h : History) (line : Line) (g : Vcpu) → does_steps (line_deed line) ≡ false
+    → guest_file (line_taken h line) g ≡ file_after (guest_select h g) (guest_deed g h (event_of line)) (guest_file h g)
 file_taken h line g one = elim (one_event h line one) [
   | inl is ↦ ap (λ x. guest_file x g) is ∙ file_by_step (guest_deed g) (event_of line) h
-  | inr begins ↦ ap (λ x. guest_file x g) begins.1 ∙ (begun_same begins.0 h g).0 ∙ sym (ap (λ deed. file_after (guest_select h g) deed (guest_file h g)) (begins.2 g))
+  | inr begins ↦ ap (λ x. guest_file x g) begins.1 ∙ (begun_same begins.0 h g).0
+      ∙ sym (ap (λ deed. file_after (guest_select h g) deed (guest_file h g)) (begins.2 g))
 ]
 
-pub file_after_line : (h : History) (line : Line) (g : Vcpu) → forwards_to h line g ≡ false → does_steps (line_deed line) ≡ false → refusal h line ≡ None → guest_file (after h line) g ≡ file_after (guest_select h g) (guest_deed g h (event_of line)) (guest_file h g)
+pub file_after_line : (h : History) (line : Line) (g : Vcpu) → forwards_to h line g ≡ false → does_steps (line_deed line) ≡ false
+    → refusal h line ≡ None → guest_file (after h line) g ≡ file_after (guest_select h g) (guest_deed g h (event_of line)) (guest_file h g)
 file_after_line h line g still one e = (taken_same h line g still e).0 ∙ file_taken h line g one
 
-pub select_after_line : (h : History) (line : Line) (g : Vcpu) → forwards_to h line g ≡ false → line_deed line ≡ NoMove → refusal h line ≡ None → guest_select (after h line) g ≡ select_after (guest_deed g h (Accepted line)) (guest_select h g)
-select_after_line h line g still none e = (taken_same h line g still e).1 ∙ ap (λ deed. guest_select (deed_taken h line deed) g) none ∙ select_by_step g (Accepted line) h
+pub select_after_line : (h : History) (line : Line) (g : Vcpu) → forwards_to h line g ≡ false → line_deed line ≡ NoMove → refusal h line ≡ None
+    → guest_select (after h line) g ≡ select_after (guest_deed g h (Accepted line)) (guest_select h g)
+select_after_line h line g still none e = (taken_same h line g still e).1 ∙ ap (λ deed. guest_select (deed_taken h line deed) g) none
+    ∙ select_by_step g (Accepted line) h
 
 -- ---- lines that do not speak to it
 
 -- a line that is one event and does not speak to it
-quiet_rests : (line : Line) (h : History) (g : Vcpu) → has_machine h ≡ true → refusal h line ≡ None → line_deed line ≡ NoMove → speaks_to h line g ≡ false → guest_deed g h (Accepted line) ≡ Rests
-quiet_rests (Machine harts guests n sources) h g stands e none quiet = absurd (false≢true (sym (machine_allowed h harts guests n sources e).0 ∙ stands))
+quiet_rests : (line : Line) (h : History) (g : Vcpu) → has_machine h ≡ true → refusal h line ≡ None → line_deed line ≡ NoMove
+    → speaks_to h line g ≡ false → guest_deed g h (Accepted line) ≡ Rests
+quiet_rests (Machine harts guests n sources) h g stands e none quiet =
+    absurd (false≢true (sym (machine_allowed h harts guests n sources e).0 ∙ stands))
 quiet_rests (lines.Msi vm addr value) h g stands e none quiet = cond-false _ _ _ quiet
 quiet_rests (Ipi vm number to value) h g stands e none quiet = cond-false _ _ _ quiet
 quiet_rests (GuestCsr vm number csr op) h g stands e none quiet = cond-false _ _ _ quiet
@@ -332,13 +368,16 @@ moved_or_not (Begins move) = inr (λ e. absurd (cc))
 moved_or_not (Steps x) = inr (λ e. absurd (cc))
 moved_or_not (Lands vm k) = inr (λ e. absurd (cc))
 
-pub quiet_same : (h : History) (line : Line) (g : Vcpu) → forwards_to h line g ≡ false → has_machine h ≡ true → speaks_to h line g ≡ false → (guest_file (after h line) g ≡ guest_file h g) × (guest_select (after h line) g ≡ guest_select h g)
+pub quiet_same : (h : History) (line : Line) (g : Vcpu) → forwards_to h line g ≡ false → has_machine h ≡ true → speaks_to h line g ≡ false
+    → (guest_file (after h line) g ≡ guest_file h g) × (guest_select (after h line) g ≡ guest_select h g)
 quiet_same h line g still stands quiet = elim (moved_or_not (line_deed line)) [
   | inl none ↦ by_refusal (λ x. (guest_file x g ≡ guest_file h g) × (guest_select x g ≡ guest_select h g)) h line (refl, refl) (λ e.
       let rests = quiet_rests line h g stands e none quiet in
       let same = taken_same h line g still e in (
-        same.0 ∙ ap (λ deed. guest_file (deed_taken h line deed) g) none ∙ file_by_step (guest_deed g) (Accepted line) h ∙ ap (λ deed. file_after (guest_select h g) deed (guest_file h g)) rests,
-        same.1 ∙ ap (λ deed. guest_select (deed_taken h line deed) g) none ∙ select_by_step g (Accepted line) h ∙ ap (λ deed. select_after deed (guest_select h g)) rests,
+        same.0 ∙ ap (λ deed. guest_file (deed_taken h line deed) g) none ∙ file_by_step (guest_deed g) (Accepted line) h
+            ∙ ap (λ deed. file_after (guest_select h g) deed (guest_file h g)) rests,
+        same.1 ∙ ap (λ deed. guest_select (deed_taken h line deed) g) none ∙ select_by_step g (Accepted line) h
+            ∙ ap (λ deed. select_after deed (guest_select h g)) rests,
       ))
   | inr moves ↦ let same = moved_same h line g moves quiet in (same.0, same.1)
 ]
@@ -375,12 +414,16 @@ none_made : (h : History) (line : Line) → has_machine h ≡ true → refusal h
 none_made h (Machine harts guests n sources) stands e = absurd (false≢true (sym (machine_allowed h harts guests n sources e).0 ∙ stands))
 none_made h line stands e = refl
 
-pub pending_taken : (h : History) (line : Line) (g : Vcpu) (i : ℕ) → has_machine h ≡ true → does_steps (line_deed line) ≡ false → refusal h line ≡ None
+pub pending_taken : (h : History) (line : Line) (g : Vcpu) (i : ℕ) → has_machine h ≡ true → does_steps (line_deed line) ≡ false
+    → refusal h line ≡ None
     → (guest_file (line_taken h line) g).pending i ≡ settle (guest_pending_said h (event_of line) g i) ((guest_file h g).pending i)
 pending_taken h line g i stands one e =
     ap (λ (file : InterruptFile). file.pending i) (file_taken h line g one)
-    ∙ (newest_word (guest_select h g) (guest_deed g h (event_of line)) (guest_file h g) i (not_making (guest_deed g h (event_of line)) (guest_made g h (event_of line) ∙ none_made h line stands e))).0
+    ∙ (newest_word (guest_select h g) (guest_deed g h (event_of line)) (guest_file h g) i
+    (not_making (guest_deed g h (event_of line)) (guest_made g h (event_of line) ∙ none_made h line stands e))).0
 
-pub pending_after_line : (h : History) (line : Line) (g : Vcpu) (i : ℕ) → forwards_to h line g ≡ false → has_machine h ≡ true → does_steps (line_deed line) ≡ false → refusal h line ≡ None
+pub pending_after_line : (h : History) (line : Line) (g : Vcpu) (i : ℕ) → forwards_to h line g ≡ false → has_machine h ≡ true
+    → does_steps (line_deed line) ≡ false → refusal h line ≡ None
     → (guest_file (after h line) g).pending i ≡ settle (guest_pending_said h (event_of line) g i) ((guest_file h g).pending i)
-pending_after_line h line g i still stands one e = ap (λ (file : InterruptFile). file.pending i) (taken_same h line g still e).0 ∙ pending_taken h line g i stands one e
+pending_after_line h line g i still stands one e = ap (λ (file : InterruptFile). file.pending i) (taken_same h line g still e).0
+    ∙ pending_taken h line g i stands one e

@@ -23,9 +23,12 @@ fence_later count there e = absurd e
 
 -- no step before it aims a passed source
 aims_later : (passes count : ℕ) (there : Home) → FenceIn (suc count) there → is_aiming passes there ≡ false
-aims_later passes count (OnWay way at) e = and_left _ (nat_lt at.aims passes) (ne_eqb at.steps (aims_step (OnWay way at)) (λ same. absurd (omega (arith, e, same))))
+aims_later passes count (OnWay way at) e = and_left _ (nat_lt at.aims passes)
+    (ne_eqb at.steps (aims_step (OnWay way at)) (λ same. absurd (omega (arith, e, same))))
 aims_later passes count there e = absurd e
 
 pub fence_nearer : (passes words count : ℕ) (there : Home) → FenceIn (suc count) there → FenceIn count (further passes words there)
-fence_nearer passes words count (OnWay way at) e = rw (aims_later passes count (OnWay way at) e) (rw (ne_eqb (at.steps + 1) (plan_steps (old_end way) (new_end way) words) (λ last. absurd (omega (arith, e, last)))) (omega (arith, e)))
+fence_nearer passes words count (OnWay way at) e =
+    rw (aims_later passes count (OnWay way at) e) (rw
+    (ne_eqb (at.steps + 1) (plan_steps (old_end way) (new_end way) words) (λ last. absurd (omega (arith, e, last)))) (omega (arith, e)))
 fence_nearer passes words count there e = absurd e

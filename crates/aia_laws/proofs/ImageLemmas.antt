@@ -96,13 +96,15 @@ same_member p q i e = sym (member p i) ∙ ap (λ w. has_bit w (i % 64)) e ∙ m
 in_words : (n i : ℕ) → is_greatest_identity n ≡ true → is_in_range 1 n i ≡ true → i / 64 < (n + 1) / 64
 in_words n i e here = grind (arith, nat_tests)
 
-same_set : (p q : ℕ → Bool) (n : ℕ) → is_greatest_identity n ≡ true → ((i : ℕ) → p i ≡ true → is_in_range 1 n i ≡ true) → ((i : ℕ) → q i ≡ true → is_in_range 1 n i ≡ true)
+same_set : (p q : ℕ → Bool) (n : ℕ) → is_greatest_identity n ≡ true → ((i : ℕ) → p i ≡ true → is_in_range 1 n i ≡ true)
+    → ((i : ℕ) → q i ≡ true → is_in_range 1 n i ≡ true)
     → ((w : ℕ) → w < (n + 1) / 64 → word_of p (64 * w) 64 ≡ word_of q (64 * w) 64) → (i : ℕ) → p i ≡ q i
 same_set p q n greatest in_p in_q words i = both_ways (p i) (q i)
     (λ e. sym (same_member p q i (words (i / 64) (in_words n i greatest (in_p i e)))) ∙ e)
     (λ e. same_member p q i (words (i / 64) (in_words n i greatest (in_q i e))) ∙ e)
 
-same_majors : (p q : ℕ → Bool) → ((j : ℕ) → p j ≡ true → is_major j ≡ true) → ((j : ℕ) → q j ≡ true → is_major j ≡ true) → majors_word p ≡ majors_word q → (j : ℕ) → p j ≡ q j
+same_majors : (p q : ℕ → Bool) → ((j : ℕ) → p j ≡ true → is_major j ≡ true) → ((j : ℕ) → q j ≡ true → is_major j ≡ true)
+    → majors_word p ≡ majors_word q → (j : ℕ) → p j ≡ q j
 same_majors p q of_p of_q e j = both_ways (p j) (q j) (λ t. one_way p q of_p e j t) (λ t. one_way q p of_q (sym e) j t)
   where
     both : (a b : Bool) → (a && b) ≡ true → b ≡ true
@@ -124,8 +126,10 @@ images_same x y is_x is_y same =
       select = ap select_in first;
       file = record {
         n = n;
-        pending = same_set x.file.pending y.file.pending x.file.n is_x.greatest is_x.pending (λ i e. ap (λ m. is_in_range 1 m i) n ∙ is_y.pending i e) (λ w few. ap pending_in (same (suc (suc (suc w))) (omega (arith, few))));
-        enabled = same_set x.file.enabled y.file.enabled x.file.n is_x.greatest is_x.enabled (λ i e. ap (λ m. is_in_range 1 m i) n ∙ is_y.enabled i e) (λ w few. ap enable_in (same (suc (suc (suc w))) (omega (arith, few))));
+        pending = same_set x.file.pending y.file.pending x.file.n is_x.greatest is_x.pending
+            (λ i e. ap (λ m. is_in_range 1 m i) n ∙ is_y.pending i e) (λ w few. ap pending_in (same (suc (suc (suc w))) (omega (arith, few))));
+        enabled = same_set x.file.enabled y.file.enabled x.file.n is_x.greatest is_x.enabled
+            (λ i e. ap (λ m. is_in_range 1 m i) n ∙ is_y.enabled i e) (λ w few. ap enable_in (same (suc (suc (suc w))) (omega (arith, few))));
         threshold = ap threshold_in first;
         delivery = same_bit x.file.delivery y.file.delivery is_x.delivery is_y.delivery (ap delivery_in first);
       };
@@ -245,7 +249,8 @@ bit_of_member set n w i here =
 
 -- what a word that is loaded makes of one member
 pending_word : (set : ℕ → Bool) (n w i : ℕ) (d : Bool) → (set i ≡ true → is_in_range 1 n i ≡ true)
-    → settle (if shows n (2 * w) i then (if has_bit (word_of set (64 * w) 64) (i - 32 * (2 * w)) then Ask else Nothing) else Nothing) (d && set i) ≡ ((nat_eq w (i / 64) || d) && set i)
+    → settle (if shows n (2 * w) i then (if has_bit (word_of set (64 * w) 64) (i - 32 * (2 * w)) then Ask else Nothing) else Nothing)
+    (d && set i) ≡ ((nat_eq w (i / 64) || d) && set i)
 pending_word set n w i d inside = elim (cases_Bool (shows n (2 * w) i)) [
   | inl here ↦ rw (here, bit_of_member set n w i here, eq-eqb w (i / 64) (sym (its_word n w i here))) (ask_again (set i) d)
   | inr past ↦ elim (cases_Bool (nat_eq w (i / 64))) [
@@ -255,7 +260,8 @@ pending_word set n w i d inside = elim (cases_Bool (shows n (2 * w) i)) [
 ]
 
 enabled_word : (set : ℕ → Bool) (n w i : ℕ) (d : Bool) → (set i ≡ true → is_in_range 1 n i ≡ true)
-    → settle (if shows n (2 * w) i then (if has_bit (word_of set (64 * w) 64) (i - 32 * (2 * w)) then Ask else Clear) else Nothing) (d && set i) ≡ ((nat_eq w (i / 64) || d) && set i)
+    → settle (if shows n (2 * w) i then (if has_bit (word_of set (64 * w) 64) (i - 32 * (2 * w)) then Ask else Clear) else Nothing)
+    (d && set i) ≡ ((nat_eq w (i / 64) || d) && set i)
 enabled_word set n w i d inside = elim (cases_Bool (shows n (2 * w) i)) [
   | inl here ↦ rw (here, bit_of_member set n w i here, eq-eqb w (i / 64) (sym (its_word n w i here))) (write_anew (set i) (d && set i))
   | inr past ↦ elim (cases_Bool (nat_eq w (i / 64))) [
@@ -265,7 +271,8 @@ enabled_word set n w i d inside = elim (cases_Bool (shows n (2 * w) i)) [
 ]
 
 -- and the words of the majors
-hvip_word : (set : ℕ → Bool) (j : ℕ) (d : Bool) → (set j ≡ true → is_major j ≡ true) → cond (is_major j) (has_bit (majors_word set) j) (d && set j) ≡ set j
+hvip_word : (set : ℕ → Bool) (j : ℕ) (d : Bool) → (set j ≡ true → is_major j ≡ true)
+    → cond (is_major j) (has_bit (majors_word set) j) (d && set j) ≡ set j
 hvip_word set j d its = elim (cases_Bool (is_major j)) [
   | inl here ↦ rw here (majors_word-bit set j ∙ ap (λ b. b && set j) here)
   | inr past ↦ let none : set j ≡ false = not_there (set j) (is_major j) its past in rw (past, none) (and_no d)
@@ -274,7 +281,8 @@ hvip_word set j d its = elim (cases_Bool (is_major j)) [
 major_word : (set : ℕ → Bool) (j : ℕ) (d : Bool) → (set j ≡ true → is_major j ≡ true)
     → settle (if is_major j then (if has_bit (majors_word set) j then Ask else Clear) else Nothing) (d && set j) ≡ set j
 major_word set j d its = elim (cases_Bool (is_major j)) [
-  | inl here ↦ let bit : has_bit (majors_word set) j ≡ set j = majors_word-bit set j ∙ ap (λ b. b && set j) here in rw (here, bit) (write_anew (set j) (d && set j))
+  | inl here ↦ let bit : has_bit (majors_word set) j ≡ set j = majors_word-bit set j
+      ∙ ap (λ b. b && set j) here in rw (here, bit) (write_anew (set j) (d && set j))
   | inr past ↦ let none : set j ≡ false = not_there (set j) (is_major j) its past in rw (past, none) (and_no d)
 ]
 
@@ -334,12 +342,24 @@ one_loaded x z d (suc (suc (suc w))) is p = record {
   hvictl = p.hvictl;
 }
 
-all_loaded : (x : GuestState) (order : List ℕ) (z : GuestState) (d : Done) → IsState x → Partly x d z → Partly x (marks order d) (loaded_all x order z)
+all_loaded : (x : GuestState) (order : List ℕ) (z : GuestState) (d : Done) → IsState x → Partly x d z
+    → Partly x (marks order d) (loaded_all x order z)
 all_loaded x [] z d is p = p
 all_loaded x (k ∷ earlier) z d is p = one_loaded x (loaded_all x earlier z) (marks earlier d) k is (all_loaded x earlier z d is p)
 
 at_first : (x : GuestState) → Partly x none_done (fresh_state x.file.n)
-at_first x = record { n = refl; select = refl; threshold = refl; delivery = refl; pending = λ i. refl; enabled = λ i. refl; injected = λ j. refl; majors = λ j. refl; hviprio1 = refl; hvictl = refl }
+at_first x = record {
+  n = refl;
+  select = refl;
+  threshold = refl;
+  delivery = refl;
+  pending = λ i. refl;
+  enabled = λ i. refl;
+  injected = λ j. refl;
+  majors = λ j. refl;
+  hviprio1 = refl;
+  hvictl = refl;
+}
 
 -- in the end all were
 pub parts_give : (x : GuestState) (order : List ℕ) → IsState x → HasAllParts x order → loaded_all x order (fresh_state x.file.n) ≡ x
@@ -347,8 +367,10 @@ parts_give x order is all = same_state (loaded_all x order (fresh_state x.file.n
   select = p.select ∙ ap (λ b. cond b x.select 0) numbers;
   file = record {
     n = p.n;
-    pending = λ i. p.pending i ∙ member_of (d.word (i / 64)) (x.file.pending i) (λ e. words (i / 64) (in_words x.file.n i is.greatest (is.pending i e)));
-    enabled = λ i. p.enabled i ∙ member_of (d.word (i / 64)) (x.file.enabled i) (λ e. words (i / 64) (in_words x.file.n i is.greatest (is.enabled i e)));
+    pending = λ i. p.pending i ∙ member_of (d.word (i / 64)) (x.file.pending i)
+        (λ e. words (i / 64) (in_words x.file.n i is.greatest (is.pending i e)));
+    enabled = λ i. p.enabled i ∙ member_of (d.word (i / 64)) (x.file.enabled i)
+        (λ e. words (i / 64) (in_words x.file.n i is.greatest (is.enabled i e)));
     threshold = p.threshold ∙ ap (λ b. cond b x.file.threshold 0) numbers;
     delivery = p.delivery ∙ ap (λ b. cond b x.file.delivery 0) numbers;
   };

@@ -37,7 +37,8 @@ greatest_of_size harts guests n sources e = (and_parts _ _ (and_parts _ _ e).0).
 
 pub greatest_of_machine : (h : History) → IsHistory h → has_machine h ≡ true → is_greatest_identity (greatest_identity_of h) ≡ true
 greatest_of_machine [] good stands = absurd (cc)
-greatest_of_machine (Accepted (Machine harts guests n sources) ∷ h) good stands = greatest_of_size harts guests n sources (machine_allowed h harts guests n sources good.0).1
+greatest_of_machine (Accepted (Machine harts guests n sources) ∷ h) good stands =
+    greatest_of_size harts guests n sources (machine_allowed h harts guests n sources good.0).1
 greatest_of_machine (Accepted line ∷ h) good stands = greatest_of_machine h good.1 stands
 greatest_of_machine (Began move ∷ h) good stands = greatest_of_machine h good.1 stands
 greatest_of_machine (Stepped g ∷ h) good stands = greatest_of_machine h good.1 stands
@@ -47,7 +48,8 @@ greatest_of_machine (Relayed p ∷ h) good stands = greatest_of_machine h good.1
 
 few_vcpus : (h : History) → IsHistory h → vcpus_in (vms_of h) ≤ VCPUS
 few_vcpus [] good = omega arith
-few_vcpus (Accepted (lines.Vm vcpus mask hart) ∷ h) good = rw (vcpus_more (vms_of h) (record { vcpus = vcpus; mask = mask; notice_hart = hart })) (vm_allowed h vcpus mask hart good.0)
+few_vcpus (Accepted (lines.Vm vcpus mask hart) ∷ h) good =
+    rw (vcpus_more (vms_of h) (record { vcpus = vcpus; mask = mask; notice_hart = hart })) (vm_allowed h vcpus mask hart good.0)
 few_vcpus (Accepted line ∷ h) good = few_vcpus h good.1
 few_vcpus (Began move ∷ h) good = few_vcpus h good.1
 few_vcpus (Stepped g ∷ h) good = few_vcpus h good.1

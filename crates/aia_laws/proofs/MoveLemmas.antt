@@ -57,7 +57,8 @@ rest_kept old vm g = record {
 }
 
 -- a beginning, or a landing by a line of its own
-one_rest : (h : History) (line : Line) (deed : LineDeed) (g : Vcpu) → deed ≢ NoMove → does_steps deed ≡ false → IsSameButPending (deed_taken h line deed) h g
+one_rest : (h : History) (line : Line) (deed : LineDeed) (g : Vcpu) → deed ≢ NoMove → does_steps deed ≡ false
+    → IsSameButPending (deed_taken h line deed) h g
 one_rest h line NoMove g moves one = absurd (moves refl)
 one_rest h line (Whole move) g moves one = absurd (cc)
 one_rest h line (Begins move) g moves one = rest_of (Began move ∷ h) h g (begun_same move h g)
@@ -72,4 +73,6 @@ line_rest h line g moves = elim (cases_Bool (does_steps (line_deed line))) [
 
 pub moved_rest : (h : History) (line : Line) (g : Vcpu) → line_deed line ≢ NoMove → IsSameButPending (after h line) h g
 moved_rest h line g moves = by_refusal (λ x. IsSameButPending x h g) h line (refl, refl, refl, refl, refl, refl) (λ e.
-    and_rest (after h line) (line_taken h line) h g (rest_of (after h line) (line_taken h line) g (taken_same h line g (none_forwarded h line g (moves_send_none line moves)) e)) (line_rest h line g moves))
+    and_rest (after h line) (line_taken h line) h g
+    (rest_of (after h line) (line_taken h line) g (taken_same h line g (none_forwarded h line g (moves_send_none line moves)) e))
+    (line_rest h line g moves))

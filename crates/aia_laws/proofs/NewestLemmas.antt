@@ -36,7 +36,8 @@ settled Ask before was e = refl
 settled Clear before was e = refl
 settled Nothing before was e = e
 
-newest_step : (says : History → Event → BitUpdate) (event : Event) (past : History) → newest says (event ∷ past) ≡ or_before (says past event) (newest says past)
+newest_step : (says : History → Event → BitUpdate) (event : Event) (past : History)
+    → newest says (event ∷ past) ≡ or_before (says past event) (newest says past)
 unfolding newest
 newest_step says event past = refl
 
@@ -44,25 +45,32 @@ newest_none : (says : History → Event → BitUpdate) → newest says [] ≡ No
 unfolding newest
 newest_none says = refl
 
-by_word : (deed : History → Event → FileDeed) (event : Event) (past : History) (i : ℕ) → made_with (deed past event) ≡ None → IsByNewest deed past i → IsByNewest deed (event ∷ past) i
+by_word : (deed : History → Event → FileDeed) (event : Event) (past : History) (i : ℕ) → made_with (deed past event) ≡ None
+    → IsByNewest deed past i → IsByNewest deed (event ∷ past) i
 by_word deed event past i none before =
     let words = newest_word (select_by deed past) (deed past event) (file_by deed past) i (not_making (deed past event) none) in (
       ap (λ (file : InterruptFile). file.pending i) (file_by_step deed event past) ∙ words.0
-          ∙ settled (pending_by deed i past event) (newest (pending_by deed i) past) ((file_by deed past).pending i) before.0 ∙ sym (ap is_ask (newest_step (pending_by deed i) event past)),
+          ∙ settled (pending_by deed i past event) (newest (pending_by deed i) past) ((file_by deed past).pending i) before.0
+          ∙ sym (ap is_ask (newest_step (pending_by deed i) event past)),
       ap (λ (file : InterruptFile). file.enabled i) (file_by_step deed event past) ∙ words.1
-          ∙ settled (enabled_by deed i past event) (newest (enabled_by deed i) past) ((file_by deed past).enabled i) before.1 ∙ sym (ap is_ask (newest_step (enabled_by deed i) event past)),
+          ∙ settled (enabled_by deed i past event) (newest (enabled_by deed i) past) ((file_by deed past).enabled i) before.1
+          ∙ sym (ap is_ask (newest_step (enabled_by deed i) event past)),
     )
 
 -- the machine is made first: nothing was said before
-nothing_first : (says : History → Event → BitUpdate) (event : Event) (past : History) → past ≡ [] → says past event ≡ Nothing → is_ask (newest says (event ∷ past)) ≡ false
+nothing_first : (says : History → Event → BitUpdate) (event : Event) (past : History) → past ≡ [] → says past event ≡ Nothing
+    → is_ask (newest says (event ∷ past)) ≡ false
 nothing_first says event past first none =
     ap is_ask (newest_step says event past ∙ ap (λ word. or_before word (newest says past)) none ∙ ap (newest says) first ∙ newest_none says)
 
-by_making : (deed : History → Event → FileDeed) (event : Event) (past : History) (n i : ℕ) → deed past event ≡ Makes n → past ≡ [] → IsByNewest deed (event ∷ past) i
+by_making : (deed : History → Event → FileDeed) (event : Event) (past : History) (n i : ℕ) → deed past event ≡ Makes n → past ≡ []
+    → IsByNewest deed (event ∷ past) i
 by_making deed event past n i makes first =
     let file = file_by_step deed event past ∙ ap (λ d. file_after (select_by deed past) d (file_by deed past)) makes in (
-      ap (λ (file : InterruptFile). file.pending i) file ∙ sym (nothing_first (pending_by deed i) event past first (ap (λ d. pending_said (select_by deed past) (file_by deed past) d i) makes)),
-      ap (λ (file : InterruptFile). file.enabled i) file ∙ sym (nothing_first (enabled_by deed i) event past first (ap (λ d. enabled_said (select_by deed past) (file_by deed past) d i) makes)),
+      ap (λ (file : InterruptFile). file.pending i) file
+          ∙ sym (nothing_first (pending_by deed i) event past first (ap (λ d. pending_said (select_by deed past) (file_by deed past) d i) makes)),
+      ap (λ (file : InterruptFile). file.enabled i) file
+          ∙ sym (nothing_first (enabled_by deed i) event past first (ap (λ d. enabled_said (select_by deed past) (file_by deed past) d i) makes)),
     )
 
 -- of a file whose deeds make it with the machine alone
@@ -73,18 +81,27 @@ is_by_newest : (deed : History → Event → FileDeed)
 unfolding file_by newest
 is_by_newest deed made makes [] i good = (refl, refl)
 is_by_newest deed made makes (Accepted (Machine harts guests n sources) ∷ past) i good =
-    by_making deed (Accepted (Machine harts guests n sources)) past n i (makes past harts guests n sources) (machine_first past good.1 (machine_allowed past harts guests n sources good.0).0)
-is_by_newest deed made makes (Accepted line ∷ past) i good = by_word deed (Accepted line) past i (made past (Accepted line)) (is_by_newest deed made makes past i good.1)
-is_by_newest deed made makes (Began move ∷ past) i good = by_word deed (Began move) past i (made past (Began move)) (is_by_newest deed made makes past i good.1)
-is_by_newest deed made makes (Stepped x ∷ past) i good = by_word deed (Stepped x) past i (made past (Stepped x)) (is_by_newest deed made makes past i good.1)
-is_by_newest deed made makes (Relayed p ∷ past) i good = by_word deed (Relayed p) past i (made past (Relayed p)) (is_by_newest deed made makes past i good.1)
-is_by_newest deed made makes (Landed vm k ∷ past) i good = by_word deed (Landed vm k) past i (made past (Landed vm k)) (is_by_newest deed made makes past i good.1)
-is_by_newest deed made makes (Delivered msi ∷ past) i good = by_word deed (Delivered msi) past i (made past (Delivered msi)) (is_by_newest deed made makes past i good.1)
+    by_making deed (Accepted (Machine harts guests n sources)) past n i (makes past harts guests n sources)
+    (machine_first past good.1 (machine_allowed past harts guests n sources good.0).0)
+is_by_newest deed made makes (Accepted line ∷ past) i good =
+    by_word deed (Accepted line) past i (made past (Accepted line)) (is_by_newest deed made makes past i good.1)
+is_by_newest deed made makes (Began move ∷ past) i good =
+    by_word deed (Began move) past i (made past (Began move)) (is_by_newest deed made makes past i good.1)
+is_by_newest deed made makes (Stepped x ∷ past) i good =
+    by_word deed (Stepped x) past i (made past (Stepped x)) (is_by_newest deed made makes past i good.1)
+is_by_newest deed made makes (Relayed p ∷ past) i good =
+    by_word deed (Relayed p) past i (made past (Relayed p)) (is_by_newest deed made makes past i good.1)
+is_by_newest deed made makes (Landed vm k ∷ past) i good =
+    by_word deed (Landed vm k) past i (made past (Landed vm k)) (is_by_newest deed made makes past i good.1)
+is_by_newest deed made makes (Delivered msi ∷ past) i good =
+    by_word deed (Delivered msi) past i (made past (Delivered msi)) (is_by_newest deed made makes past i good.1)
 
 pub guest_newest : (h : History) (g : Vcpu) (i : ℕ) → IsHistory h
-    → ((guest_file h g).pending i ≡ is_ask (newest (λ past event. guest_pending_said past event g i) h)) × ((guest_file h g).enabled i ≡ is_ask (newest (λ past event. guest_enable_said past event g i) h))
+    → ((guest_file h g).pending i ≡ is_ask (newest (λ past event. guest_pending_said past event g i) h))
+    × ((guest_file h g).enabled i ≡ is_ask (newest (λ past event. guest_enable_said past event g i) h))
 guest_newest h g i good = is_by_newest (guest_deed g) (guest_made g) (λ past harts guests n sources. refl) h i good
 
 pub host_newest : (h : History) (f : FileName) (i : ℕ) → IsHistory h
-    → ((file_of h f).pending i ≡ is_ask (newest (λ past event. host_pending_said past event f i) h)) × ((file_of h f).enabled i ≡ is_ask (newest (λ past event. host_enable_said past event f i) h))
+    → ((file_of h f).pending i ≡ is_ask (newest (λ past event. host_pending_said past event f i) h))
+    × ((file_of h f).enabled i ≡ is_ask (newest (λ past event. host_enable_said past event f i) h))
 host_newest h f i good = is_by_newest (deed_at f) (host_made f) (λ past harts guests n sources. refl) h i good

@@ -58,7 +58,8 @@ first_bit members n fits = ap not (has_bit-word_of members 0 64 0 (omega arith) 
 no_identity_zero : (x : GuestState) (w : ℕ) → IsState x
     → (nat_lt 0 w || (not (has_bit (word_of x.file.pending (64 * w) 64) 0) && not (has_bit (word_of x.file.enabled (64 * w) 64) 0))) ≡ true
 no_identity_zero x zero is = and_from _ _ (first_bit x.file.pending x.file.n is.pending) (first_bit x.file.enabled x.file.n is.enabled)
-no_identity_zero x (suc w) is = ap (λ b. b || (not (has_bit (word_of x.file.pending (64 * suc w) 64) 0) && not (has_bit (word_of x.file.enabled (64 * suc w) 64) 0))) (lt-ltb 0 (suc w) (omega arith))
+no_identity_zero x (suc w) is = ap (λ b. b || (not (has_bit (word_of x.file.pending (64 * suc w) 64) 0) && not
+    (has_bit (word_of x.file.enabled (64 * suc w) 64) 0))) (lt-ltb 0 (suc w) (omega arith))
 
 pub part_loadable : (x : GuestState) (k : ℕ) → IsState x → k < part_count x → is_loadable x.file.n (part_of x k) ≡ true
 part_loadable x zero is low =
@@ -109,36 +110,46 @@ load_printed x (parts.Majors injected enabled) = refl
 load_printed x (parts.Prio hviprio hvictl) = refl
 load_printed x (parts.Word w pending enable) = refl
 
-pub load_read : (x : Vcpu) (part : Part) → x.vm < 2 ^ 64 → x.number < 2 ^ 64 → AllByRecursion FitsField (part_fields part) → reading (load_text x (part_text part)) ≡ parsed.Line (LoadPart x.vm x.number part)
-load_read x part vm number fits = ap reading (load_printed x part) ∙ printed_read (LoadPart x.vm x.number part) (load_listed x.vm x.number part) (tt, (vm, (number, fits)))
+pub load_read : (x : Vcpu) (part : Part) → x.vm < 2 ^ 64 → x.number < 2 ^ 64 → AllByRecursion FitsField (part_fields part)
+    → reading (load_text x (part_text part)) ≡ parsed.Line (LoadPart x.vm x.number part)
+load_read x part vm number fits = ap reading (load_printed x part)
+    ∙ printed_read (LoadPart x.vm x.number part) (load_listed x.vm x.number part) (tt, (vm, (number, fits)))
 
 -- ---- of one that is saved
 
 -- a part that may be loaded is loaded where a virtual hart is parked
-load_accepted : (h : History) (vm number : ℕ) (part : Part) → has_machine h ≡ true → has_vcpu h (vcpu vm number) ≡ true → home h (vcpu vm number) ≡ InMemory Parked → is_loadable (greatest_identity_of h) part ≡ true → refusal h (LoadPart vm number part) ≡ None
+load_accepted : (h : History) (vm number : ℕ) (part : Part) → has_machine h ≡ true → has_vcpu h (vcpu vm number) ≡ true
+    → home h (vcpu vm number) ≡ InMemory Parked → is_loadable (greatest_identity_of h) part ≡ true → refusal h (LoadPart vm number part) ≡ None
 load_accepted h vm number part stands there parked may = rw (stands, there, may, parked) refl
 
 saved_low : (h : History) (vm number k : ℕ) → refusal h (Save vm number k) ≡ None → k < part_count (state_of h (vcpu vm number))
 saved_low h vm number k e =
-    subst (λ n. k < parts_in ((n + 1) / 64)) (sym (guest_greatest h (vcpu vm number))) (ltb-true k (parts_in (file_words h)) (save_allowed h vm number k e).fits)
+    subst (λ n. k < parts_in ((n + 1) / 64)) (sym (guest_greatest h (vcpu vm number)))
+    (ltb-true k (parts_in (file_words h)) (save_allowed h vm number k e).fits)
 
 saved_state : (h : History) (vm number k : ℕ) → IsHistory h → refusal h (Save vm number k) ≡ None → IsState (state_of h (vcpu vm number))
 saved_state h vm number k good e = is_state h (vcpu vm number) good (machine_of_vcpu h (vcpu vm number) good (save_allowed h vm number k e).there)
 
-pub saved_answer : (h : History) (vm number k : ℕ) → refusal h (Save vm number k) ≡ None → answer h (Save vm number k) ≡ answers.Part (part_of (state_of h (vcpu vm number)) k)
+pub saved_answer : (h : History) (vm number k : ℕ) → refusal h (Save vm number k) ≡ None
+    → answer h (Save vm number k) ≡ answers.Part (part_of (state_of h (vcpu vm number)) k)
 saved_answer h vm number k e = answered h (Save vm number k) None e
 
-pub saved_loadable : (h : History) (vm number k : ℕ) → IsHistory h → refusal h (Save vm number k) ≡ None → is_loadable (greatest_identity_of h) (part_of (state_of h (vcpu vm number)) k) ≡ true
+pub saved_loadable : (h : History) (vm number k : ℕ) → IsHistory h → refusal h (Save vm number k) ≡ None
+    → is_loadable (greatest_identity_of h) (part_of (state_of h (vcpu vm number)) k) ≡ true
 saved_loadable h vm number k good e =
     subst (λ n. is_loadable n (part_of (state_of h (vcpu vm number)) k) ≡ true) (guest_greatest h (vcpu vm number))
     (part_loadable (state_of h (vcpu vm number)) k (saved_state h vm number k good e) (saved_low h vm number k e))
 
-pub saved_accepted : (h other : History) (vm number k : ℕ) (x : Vcpu) → IsHistory h → refusal h (Save vm number k) ≡ None → has_machine other ≡ true → has_vcpu other x ≡ true → home other x ≡ InMemory Parked
+pub saved_accepted : (h other : History) (vm number k : ℕ) (x : Vcpu) → IsHistory h → refusal h (Save vm number k) ≡ None
+    → has_machine other ≡ true → has_vcpu other x ≡ true → home other x ≡ InMemory Parked
     → greatest_identity_of other ≡ greatest_identity_of h → refusal other (LoadPart x.vm x.number (part_of (state_of h (vcpu vm number)) k)) ≡ None
 saved_accepted h other vm number k x good e stands there parked same =
-    load_accepted other x.vm x.number (part_of (state_of h (vcpu vm number)) k) stands there parked (ap (λ n. is_loadable n (part_of (state_of h (vcpu vm number)) k)) same ∙ saved_loadable h vm number k good e)
+    load_accepted other x.vm x.number (part_of (state_of h (vcpu vm number)) k) stands there parked
+    (ap (λ n. is_loadable n (part_of (state_of h (vcpu vm number)) k)) same ∙ saved_loadable h vm number k good e)
 
 pub saved_read : (h : History) (vm number k : ℕ) (x : Vcpu) → IsHistory h → refusal h (Save vm number k) ≡ None → x.vm < 2 ^ 64 → x.number < 2 ^ 64
-    → reading (load_text x (part_text (part_of (state_of h (vcpu vm number)) k))) ≡ parsed.Line (LoadPart x.vm x.number (part_of (state_of h (vcpu vm number)) k))
+    → reading (load_text x (part_text (part_of (state_of h (vcpu vm number)) k))) ≡ parsed.Line
+    (LoadPart x.vm x.number (part_of (state_of h (vcpu vm number)) k))
 saved_read h vm number k x good e low_vm low_number =
-    load_read x (part_of (state_of h (vcpu vm number)) k) low_vm low_number (part_fits (state_of h (vcpu vm number)) k (saved_state h vm number k good e) (saved_low h vm number k e))
+    load_read x (part_of (state_of h (vcpu vm number)) k) low_vm low_number
+    (part_fits (state_of h (vcpu vm number)) k (saved_state h vm number k good e) (saved_low h vm number k e))

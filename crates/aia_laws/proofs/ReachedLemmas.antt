@@ -26,12 +26,21 @@ one_of_two false x y p q = q
 majors_fit : (h : History) (g : Vcpu) → IsHistory h → AreFit (majors_of h g)
 unfolding majors_of
 majors_fit [] g good = new_fit
-majors_fit (Accepted (Inject vm number bit level) ∷ h) g good = one_of_two (is_vcpu g (vcpu vm number)) _ _ (injection_fit bit level (majors_of h g) (inject_allowed h vm number bit level good.0) (majors_fit h g good.1)) (majors_fit h g good.1)
-majors_fit (Accepted (Hviprio vm number value) ∷ h) g good = one_of_two (is_vcpu g (vcpu vm number)) _ _ (hviprio1_fit value (majors_of h g) (majors_fit h g good.1)) (majors_fit h g good.1)
-majors_fit (Accepted (Hvictl vm number value) ∷ h) g good = one_of_two (is_vcpu g (vcpu vm number)) _ _ (hvictl_fit value (majors_of h g) (hvictl_allowed h vm number value good.0) (majors_fit h g good.1)) (majors_fit h g good.1)
-majors_fit (Accepted (GuestCsr vm number Sip op) ∷ h) g good = one_of_two (is_vcpu g (vcpu vm number)) _ _ (sip_fit op (majors_of h g) (majors_fit h g good.1)) (majors_fit h g good.1)
-majors_fit (Accepted (GuestCsr vm number Sie op) ∷ h) g good = one_of_two (is_vcpu g (vcpu vm number)) _ _ (sie_fit op (majors_of h g) (majors_fit h g good.1)) (majors_fit h g good.1)
-majors_fit (Accepted (LoadPart vm number part) ∷ h) g good = one_of_two (is_vcpu g (vcpu vm number)) _ _ (part_fit (greatest_identity_of h) part (majors_of h g) (load_allowed h vm number part good.0).fits (majors_fit h g good.1)) (majors_fit h g good.1)
+majors_fit (Accepted (Inject vm number bit level) ∷ h) g good =
+    one_of_two (is_vcpu g (vcpu vm number)) _ _ (injection_fit bit level (majors_of h g) (inject_allowed h vm number bit level good.0)
+    (majors_fit h g good.1)) (majors_fit h g good.1)
+majors_fit (Accepted (Hviprio vm number value) ∷ h) g good =
+    one_of_two (is_vcpu g (vcpu vm number)) _ _ (hviprio1_fit value (majors_of h g) (majors_fit h g good.1)) (majors_fit h g good.1)
+majors_fit (Accepted (Hvictl vm number value) ∷ h) g good =
+    one_of_two (is_vcpu g (vcpu vm number)) _ _ (hvictl_fit value (majors_of h g) (hvictl_allowed h vm number value good.0)
+    (majors_fit h g good.1)) (majors_fit h g good.1)
+majors_fit (Accepted (GuestCsr vm number Sip op) ∷ h) g good =
+    one_of_two (is_vcpu g (vcpu vm number)) _ _ (sip_fit op (majors_of h g) (majors_fit h g good.1)) (majors_fit h g good.1)
+majors_fit (Accepted (GuestCsr vm number Sie op) ∷ h) g good =
+    one_of_two (is_vcpu g (vcpu vm number)) _ _ (sie_fit op (majors_of h g) (majors_fit h g good.1)) (majors_fit h g good.1)
+majors_fit (Accepted (LoadPart vm number part) ∷ h) g good =
+    one_of_two (is_vcpu g (vcpu vm number)) _ _ (part_fit (greatest_identity_of h) part (majors_of h g)
+    (load_allowed h vm number part good.0).fits (majors_fit h g good.1)) (majors_fit h g good.1)
 majors_fit (Accepted line ∷ h) g good = majors_fit h g good.1
 majors_fit (Began move ∷ h) g good = majors_fit h g good.1
 majors_fit (Stepped x ∷ h) g good = majors_fit h g good.1

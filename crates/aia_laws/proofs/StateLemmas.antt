@@ -34,7 +34,8 @@ pub record IsFit (file : InterruptFile) : Type 0 where
   pub threshold : file.threshold ≤ file.n
   pub delivery : file.delivery < 2
 
-eip_fits : (n : ℕ) (reg : FileReg) (op : Op) (i : ℕ) (was : Bool) → (was ≡ true → is_in_range 1 n i ≡ true) → settle (eip_said n reg op i) was ≡ true → is_in_range 1 n i ≡ true
+eip_fits : (n : ℕ) (reg : FileReg) (op : Op) (i : ℕ) (was : Bool) → (was ≡ true → is_in_range 1 n i ≡ true)
+    → settle (eip_said n reg op i) was ≡ true → is_in_range 1 n i ≡ true
 eip_fits n (Pending k) op i was fits e = elim (cases_Bool (is_in_range 1 n i)) [
   | inl here ↦ here
   | inr past ↦ fits (rw past at e)
@@ -58,7 +59,8 @@ delivery_fits reg op was low = low
 access_fit : (reg : FileReg) (op : Op) (file : InterruptFile) → IsFit file → IsFit (accessed reg op file)
 access_fit reg op file p = record {
   pending = λ i e. eip_fits file.n reg op i (file.pending i) (p.pending i) e;
-  threshold = let low : threshold_after file.n reg op file.threshold < file.n + 1 = threshold_fits file.n reg op file.threshold (omega (arith, p.threshold)) in omega (arith, low);
+  threshold = let low : threshold_after file.n reg op file.threshold < file.n + 1 =
+      threshold_fits file.n reg op file.threshold (omega (arith, p.threshold)) in omega (arith, low);
   delivery = delivery_fits reg op file.delivery p.delivery;
 }
 
@@ -67,7 +69,11 @@ was_there true was e = absurd (cc)
 was_there false was e = e
 
 claim_fit : (file : InterruptFile) → IsFit file → IsFit (claimed file)
-claim_fit file p = record { pending = λ i e. p.pending i (was_there (names (top_of file) i) (file.pending i) e); threshold = p.threshold; delivery = p.delivery }
+claim_fit file p = record {
+  pending = λ i e. p.pending i (was_there (names (top_of file) i) (file.pending i) e);
+  threshold = p.threshold;
+  delivery = p.delivery;
+}
 
 named_fits : (n : ℕ) (o : Option ℕ) (i : ℕ) → names (implemented n o) i ≡ true → is_in_range 1 n i ≡ true
 named_fits n None i e = absurd (cc)
@@ -83,12 +89,14 @@ asked_or_was false was e = inr e
 
 store_fit : (offset value : ℕ) (file : InterruptFile) → IsFit file → IsFit (landed offset value file)
 store_fit offset value file p = record {
-  pending = λ i e. elim (asked_or_was (names (requested file.n offset value) i) (file.pending i) e) [ inl asked ↦ named_fits file.n (number_written offset value) i asked | inr was ↦ p.pending i was ];
+  pending = λ i e. elim (asked_or_was (names (requested file.n offset value) i) (file.pending i) e)
+      [ inl asked ↦ named_fits file.n (number_written offset value) i asked | inr was ↦ p.pending i was ];
   threshold = p.threshold;
   delivery = p.delivery;
 }
 
-relay_fits : (n x : ℕ) (notice : Option ℕ) (i : ℕ) (was : Bool) → (was ≡ true → is_in_range 1 n i ≡ true) → settle (relay_said n x notice i) was ≡ true → is_in_range 1 n i ≡ true
+relay_fits : (n x : ℕ) (notice : Option ℕ) (i : ℕ) (was : Bool) → (was ≡ true → is_in_range 1 n i ≡ true)
+    → settle (relay_said n x notice i) was ≡ true → is_in_range 1 n i ≡ true
 relay_fits n x None i was fits e = fits (was_there (nat_eq x i) was e)
 relay_fits n x (Some v) i was fits e = elim (cases_Bool (names (requested n 0 v) i)) [
   | inl asked ↦ named_fits n (number_written 0 v) i asked
@@ -96,7 +104,12 @@ relay_fits n x (Some v) i was fits e = elim (cases_Bool (names (requested n 0 v)
 ]
 
 relay_fit : (x : ℕ) (notice : Option ℕ) (file : InterruptFile) (select : ℕ) → IsFit file → IsFit (file_after select (Relays x notice) file)
-relay_fit x notice file select p = record { pending = λ i e. relay_fits file.n x notice i (file.pending i) (p.pending i) e; threshold = p.threshold; delivery = p.delivery }
+relay_fit x notice file select p = record {
+  pending = λ i e. relay_fits file.n x notice i (file.pending i) (p.pending i) e;
+  threshold =
+      p.threshold;
+  delivery = p.delivery;
+}
 
 deed_fit : (select : ℕ) (deed : FileDeed) (file : InterruptFile) → IsFit file → IsFit (file_after select deed file)
 deed_fit select (Makes n) file p = record { pending = λ i e. absurd (false≢true e); threshold = omega arith; delivery = lit< tt }
@@ -108,10 +121,14 @@ deed_fit select (Accesses Topei (ops.Clear v)) file p = claim_fit file p
 deed_fit select (Accesses csr op) file p = p
 deed_fit select (Stores offset value) file p = store_fit offset value file p
 deed_fit select (Relays x notice) file p = relay_fit x notice file select p
-deed_fit select (Loads (parts.Image version n delivery threshold number)) file p = access_fit Threshold (ops.Write threshold) (accessed Delivery (ops.Write (bit_number delivery)) file) (access_fit Delivery (ops.Write (bit_number delivery)) file p)
+deed_fit select (Loads (parts.Image version n delivery threshold number)) file p =
+    access_fit Threshold (ops.Write threshold) (accessed Delivery (ops.Write (bit_number delivery)) file)
+    (access_fit Delivery (ops.Write (bit_number delivery)) file p)
 deed_fit select (Loads (parts.Majors injected enabled)) file p = p
 deed_fit select (Loads (parts.Prio hviprio hvictl)) file p = p
-deed_fit select (Loads (parts.Word w pending enable)) file p = access_fit (Enable (2 * w)) (ops.Write enable) (accessed (Pending (2 * w)) (ops.Set pending) file) (access_fit (Pending (2 * w)) (ops.Set pending) file p)
+deed_fit select (Loads (parts.Word w pending enable)) file p =
+    access_fit (Enable (2 * w)) (ops.Write enable) (accessed (Pending (2 * w)) (ops.Set pending) file)
+    (access_fit (Pending (2 * w)) (ops.Set pending) file p)
 deed_fit select Rests file p = p
 
 pub always_fit : (deed : History → Event → FileDeed) (h : History) → IsFit (file_by deed h)
@@ -167,23 +184,46 @@ own_is_major j e = grind (arith, nat_tests)
 sip_fits : (op : Op) (j : ℕ) (was : Bool) → (was ≡ true → is_major j ≡ true) → settle (sip_said op j) was ≡ true → is_major j ≡ true
 sip_fits op j was fits e = elim (cases_Bool (is_guests_own j)) [ inl here ↦ own_is_major j here | inr past ↦ fits (rw past at e) ]
 
-injection_fits : (major : ℕ) (level : Bool) (j : ℕ) (was : Bool) → is_major major ≡ true → (was ≡ true → is_major j ≡ true) → settle (injection_said major level j) was ≡ true → is_major j ≡ true
-injection_fits major level j was is fits e = elim (cases_Bool (nat_eq major j)) [ inl here ↦ ap is_major (sym (eqb-true major j here)) ∙ is | inr past ↦ fits (rw past at e) ]
+injection_fits : (major : ℕ) (level : Bool) (j : ℕ) (was : Bool) → is_major major ≡ true → (was ≡ true → is_major j ≡ true)
+    → settle (injection_said major level j) was ≡ true → is_major j ≡ true
+injection_fits major level j was is fits e = elim (cases_Bool (nat_eq major j))
+    [ inl here ↦ ap is_major (sym (eqb-true major j here)) ∙ is | inr past ↦ fits (rw past at e) ]
 
 pub injection_fit : (major : ℕ) (level : Bool) (m : VsMajorState) → is_major major ≡ true → AreFit m → AreFit (with_injection major level m)
-injection_fit major level m is p = record { injected = λ j e. injection_fits major level j (m.injected j) is (p.injected j) e; enabled = p.enabled; hviprio1 = p.hviprio1; hvictl = p.hvictl }
+injection_fit major level m is p = record {
+  injected = λ j e. injection_fits major level j (m.injected j) is (p.injected j) e;
+  enabled =
+      p.enabled;
+  hviprio1 = p.hviprio1;
+  hvictl = p.hvictl;
+}
 
 pub sip_fit : (op : Op) (m : VsMajorState) → AreFit m → AreFit (with_sip op m)
-sip_fit op m p = record { injected = λ j e. sip_fits op j (m.injected j) (p.injected j) e; enabled = p.enabled; hviprio1 = p.hviprio1; hvictl = p.hvictl }
+sip_fit op m p = record {
+  injected = λ j e. sip_fits op j (m.injected j) (p.injected j) e;
+  enabled = p.enabled;
+  hviprio1 = p.hviprio1;
+  hvictl = p.hvictl;
+}
 
 pub sie_fit : (op : Op) (m : VsMajorState) → AreFit m → AreFit (with_sie op m)
-sie_fit op m p = record { injected = p.injected; enabled = λ j e. sie_fits op j (m.enabled j) (p.enabled j) e; hviprio1 = p.hviprio1; hvictl = p.hvictl }
+sie_fit op m p = record {
+  injected = p.injected;
+  enabled = λ j e. sie_fits op j (m.enabled j) (p.enabled j) e;
+  hviprio1 = p.hviprio1;
+  hvictl = p.hvictl;
+}
 
 hvip_fits : (v j : ℕ) (was : Bool) → (was ≡ true → is_major j ≡ true) → cond (is_major j) (has_bit v j) was ≡ true → is_major j ≡ true
 hvip_fits v j was fits e = elim (cases_Bool (is_major j)) [ inl here ↦ here | inr past ↦ fits (rw past at e) ]
 
 hvip_fit : (v : ℕ) (m : VsMajorState) → AreFit m → AreFit (with_hvip v m)
-hvip_fit v m p = record { injected = λ j e. hvip_fits v j (m.injected j) (p.injected j) e; enabled = p.enabled; hviprio1 = p.hviprio1; hvictl = p.hvictl }
+hvip_fit v m p = record {
+  injected = λ j e. hvip_fits v j (m.injected j) (p.injected j) e;
+  enabled = p.enabled;
+  hviprio1 = p.hviprio1;
+  hvictl = p.hvictl;
+}
 
 pub hviprio1_fit : (v : ℕ) (m : VsMajorState) → AreFit m → AreFit (with_hviprio1 v m)
 hviprio1_fit v m p = record { injected = p.injected; enabled = p.enabled; hviprio1 = held_hviprio1 v; hvictl = p.hvictl }
@@ -195,5 +235,7 @@ hvictl_fit v m is p = record { injected = p.injected; enabled = p.enabled; hvipr
 pub part_fit : (n : ℕ) (part : Part) (m : VsMajorState) → is_loadable n part ≡ true → AreFit m → AreFit (majors_loaded part m)
 part_fit n (parts.Image version greatest delivery threshold select) m may p = p
 part_fit n (parts.Majors injected enabled) m may p = sie_fit (ops.Write enabled) (with_hvip injected m) (hvip_fit injected m p)
-part_fit n (parts.Prio hviprio hvictl) m may p = hvictl_fit hvictl (with_hviprio1 hviprio m) (and_parts _ _ (and_parts (fits_hviprio1 hviprio) (fits_hvictl hvictl) may).1).1 (hviprio1_fit hviprio m p)
+part_fit n (parts.Prio hviprio hvictl) m may p =
+    hvictl_fit hvictl (with_hviprio1 hviprio m) (and_parts _ _ (and_parts (fits_hviprio1 hviprio) (fits_hvictl hvictl) may).1).1
+    (hviprio1_fit hviprio m p)
 part_fit n (parts.Word w pending enable) m may p = p

@@ -45,13 +45,14 @@ member {A} m stopei signal c is e s t o h =
       | inl four ↦ elim (Contains-append_cases (external m stopei signal ++ by_hviprio1 m signal 1 8 2 ++ by_hviprio1 m signal 5 24 3)
           (by_hviprio1 m signal 13 40 4) c four) [
             | inr in_o ↦ other 13 40 4 in_o o
-            | inl three ↦ elim (Contains-append_cases (external m stopei signal ++ by_hviprio1 m signal 1 8 2) (by_hviprio1 m signal 5 24 3) c three) [
-              | inr in_t ↦ other 5 24 3 in_t t
-              | inl two ↦ elim (Contains-append_cases (external m stopei signal) (by_hviprio1 m signal 1 8 2) c two) [
-                | inr in_s ↦ other 1 8 2 in_s s
-                | inl in_e ↦ let x = alone (is_live m signal 9) (external_one stopei) c in_e in e x.0 x.1
-              ]
-            ]
+            | inl three ↦ elim (Contains-append_cases (external m stopei signal ++ by_hviprio1 m signal 1 8 2)
+                (by_hviprio1 m signal 5 24 3) c three) [
+                  | inr in_t ↦ other 5 24 3 in_t t
+                  | inl two ↦ elim (Contains-append_cases (external m stopei signal) (by_hviprio1 m signal 1 8 2) c two) [
+                    | inr in_s ↦ other 1 8 2 in_s s
+                    | inl in_e ↦ let x = alone (is_live m signal 9) (external_one stopei) c in_e in e x.0 x.1
+                  ]
+                ]
           ]
     ]
   where

@@ -22,7 +22,8 @@ use Rattle.aia_model.specs.Histories.{MayHappen}
 use Rattle.aia_model.proofs.MoveLemmas.{is_itself, home_step}
 use Rattle.aia_model.proofs.RefusalLemmas.{arrive_allowed, leave_allowed, shift_allowed}
 
-pub may_begin : (h : History) (vm number : ℕ) (want : Want) → refusal h (lines.Move vm number want) ≡ None → MayHappen h (Began (wanted_move (vcpu vm number) want))
+pub may_begin : (h : History) (vm number : ℕ) (want : Want) → refusal h (lines.Move vm number want) ≡ None
+    → MayHappen h (Began (wanted_move (vcpu vm number) want))
 may_begin h vm number wants.Leave e = let may = leave_allowed h vm number e in (may.0, may.1, refl)
 may_begin h vm number (wants.Arrive hart) e = let may = arrive_allowed h vm number hart e in (may.0, may.1, may.4)
 may_begin h vm number (wants.Shift hart) e = let may = shift_allowed h vm number hart e in (may.0, may.1, may.4)
@@ -37,16 +38,19 @@ leave_begun : (g : Vcpu) (there : Home) → is_moving there ≡ false → rests_
 leave_begun g (Resident p) idle kept = record { way = Outward p; at_home = refl; steps = λ words. refl }
 leave_begun g there idle kept = absurd (cc)
 
-arrive_begun : (g : Vcpu) (hart : ℕ) (file : Option ℕ) (there : Home) → there ≡ InMemory Parked → is_none file ≡ false → IsBegun (Arrives g hart) (option_map_or (λ f. arriving (guest_place hart f) there) file there)
+arrive_begun : (g : Vcpu) (hart : ℕ) (file : Option ℕ) (there : Home) → there ≡ InMemory Parked → is_none file ≡ false
+    → IsBegun (Arrives g hart) (option_map_or (λ f. arriving (guest_place hart f) there) file there)
 arrive_begun g hart None there parked free = absurd (cc)
 arrive_begun g hart (Some f) there parked free = record { way = Inward (guest_place hart f); at_home = rw parked refl; steps = λ words. refl }
 
-shift_begun : (g : Vcpu) (hart : ℕ) (file : Option ℕ) (there : Home) → is_moving there ≡ false → rests_in_memory there ≡ false → is_none file ≡ false → IsBegun (Shifts g hart) (option_map_or (λ f. shifting (guest_place hart f) there) file there)
+shift_begun : (g : Vcpu) (hart : ℕ) (file : Option ℕ) (there : Home) → is_moving there ≡ false → rests_in_memory there ≡ false
+    → is_none file ≡ false → IsBegun (Shifts g hart) (option_map_or (λ f. shifting (guest_place hart f) there) file there)
 shift_begun g hart None there idle kept free = absurd (cc)
 shift_begun g hart (Some f) (Resident p) idle kept free = record { way = Across p (guest_place hart f); at_home = refl; steps = λ words. refl }
 shift_begun g hart (Some f) there idle kept free = absurd (cc)
 
-pub begun : (h : History) (vm number : ℕ) (want : Want) → refusal h (lines.Move vm number want) ≡ None → IsBegun (wanted_move (vcpu vm number) want) (home (Began (wanted_move (vcpu vm number) want) ∷ h) (vcpu vm number))
+pub begun : (h : History) (vm number : ℕ) (want : Want) → refusal h (lines.Move vm number want) ≡ None
+    → IsBegun (wanted_move (vcpu vm number) want) (home (Began (wanted_move (vcpu vm number) want) ∷ h) (vcpu vm number))
 begun h vm number wants.Leave e =
     let g = vcpu vm number in
     let may = leave_allowed h vm number e in
@@ -54,11 +58,13 @@ begun h vm number wants.Leave e =
 begun h vm number (wants.Arrive hart) e =
     let g = vcpu vm number in
     let may = arrive_allowed h vm number hart e in
-    subst (IsBegun (Arrives g hart)) (sym (home_step (Began (Arrives g hart)) h g ∙ cond-true _ _ _ (is_itself g))) (arrive_begun g hart (free_file h (home h) hart) (home h g) may.2 may.3)
+    subst (IsBegun (Arrives g hart)) (sym (home_step (Began (Arrives g hart)) h g ∙ cond-true _ _ _ (is_itself g)))
+    (arrive_begun g hart (free_file h (home h) hart) (home h g) may.2 may.3)
 begun h vm number (wants.Shift hart) e =
     let g = vcpu vm number in
     let may = shift_allowed h vm number hart e in
-    subst (IsBegun (Shifts g hart)) (sym (home_step (Began (Shifts g hart)) h g ∙ cond-true _ _ _ (is_itself g))) (shift_begun g hart (free_file h (home h) hart) (home h g) may.1 may.2 may.3)
+    subst (IsBegun (Shifts g hart)) (sym (home_step (Began (Shifts g hart)) h g ∙ cond-true _ _ _ (is_itself g)))
+    (shift_begun g hart (free_file h (home h) hart) (home h g) may.1 may.2 may.3)
 
 pub moves_its_own : (g : Vcpu) (want : Want) → mover (wanted_move g want) ≡ g
 moves_its_own g wants.Leave = refl

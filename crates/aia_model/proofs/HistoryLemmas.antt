@@ -56,7 +56,8 @@ none_left passes words None = refl
 none_left passes words (Some p) = refl
 
 -- over plain numbers: t steps come before the first that aims, of `all`, k are done, a aims
-aim_less : (t all passes k a count : ℕ) → t < all → (nat_eq k t && nat_lt a passes) ≡ true → (all - k) + (passes - a) ≡ suc count → (all - k) + (passes - (a + 1)) ≡ count
+aim_less : (t all passes k a count : ℕ) → t < all → (nat_eq k t && nat_lt a passes) ≡ true → (all - k) + (passes - a) ≡ suc count
+    → (all - k) + (passes - (a + 1)) ≡ count
 aim_less t all passes k a count low aiming e =
     let parts = and_parts (nat_eq k t) (nat_lt a passes) aiming in
     let here = eqb-true k t parts.0 in
@@ -72,28 +73,46 @@ all_aimed t passes k a past aimed on = elim (cases_eq k t) [
     by_here here false is = ltb-false a passes is
     by_here here true is = absurd (false≢true (sym on ∙ and_from _ _ (eq-eqb k t here) is))
 
-last_less : (t all passes k a count : ℕ) → t < all → k + 1 ≡ all → (nat_lt t k ≡ true → nat_lt a passes ≡ false) → (nat_eq k t && nat_lt a passes) ≡ false → (all - k) + (passes - a) ≡ suc count → 0 ≡ count
-last_less t all passes k a count low last aimed on e = let none = all_aimed t passes k a (omega (arith, low, last)) aimed on in omega (arith, last, none, e)
+last_less : (t all passes k a count : ℕ) → t < all → k + 1 ≡ all → (nat_lt t k ≡ true → nat_lt a passes ≡ false)
+    → (nat_eq k t && nat_lt a passes) ≡ false → (all - k) + (passes - a) ≡ suc count → 0 ≡ count
+last_less t all passes k a count low last aimed on e = let none = all_aimed t passes k a (omega (arith, low, last)) aimed on in
+    omega (arith, last, none, e)
 
-step_less : (t all passes k a count : ℕ) → t < all → (nat_lt t k ≡ true → nat_lt a passes ≡ false) → (nat_eq k t && nat_lt a passes) ≡ false → (all - k) + (passes - a) ≡ suc count → (all - (k + 1)) + (passes - a) ≡ count
+step_less : (t all passes k a count : ℕ) → t < all → (nat_lt t k ≡ true → nat_lt a passes ≡ false) → (nat_eq k t && nat_lt a passes) ≡ false
+    → (all - k) + (passes - a) ≡ suc count → (all - (k + 1)) + (passes - a) ≡ count
 step_less t all passes k a count low aimed on e = elim (cases_lt k all) [
   | inl within ↦ omega (arith, within, e)
   | inr past ↦ let none = all_aimed t passes k a (omega (arith, low, past)) aimed on in absurd (omega (arith, past, none, e))
 ]
 
-one_less : (passes words count : ℕ) (there : Home) → AreAimed passes there → steps_left passes words there ≡ suc count → (is_moving there ≡ true) × (steps_left passes words (further passes words there) ≡ count)
+one_less : (passes words count : ℕ) (there : Home) → AreAimed passes there → steps_left passes words there ≡ suc count → (is_moving there ≡ true)
+    × (steps_left passes words (further passes words there) ≡ count)
 one_less passes words count (OnWay way at) aimed e = elim (cases_Bool (nat_eq at.steps (aims_step (OnWay way at)) && nat_lt at.aims passes)) [
-  | inl aims ↦ (refl, rw aims (aim_less (aims_step (OnWay way at)) (plan_steps (old_end way) (new_end way) words) passes at.steps at.aims count (omega (arith, not_the_last way words)) aims e))
+  | inl aims ↦ (
+    refl,
+    rw aims (aim_less (aims_step (OnWay way at)) (plan_steps (old_end way) (new_end way) words) passes at.steps at.aims count
+        (omega (arith, not_the_last way words)) aims e),
+  )
   | inr on ↦ elim (cases_Bool (nat_eq (at.steps + 1) (plan_steps (old_end way) (new_end way) words))) [
-    | inl last ↦ (refl, rw (on, last) (none_left passes words (led_to way) ∙ last_less (aims_step (OnWay way at)) (plan_steps (old_end way) (new_end way) words) passes at.steps at.aims count (omega (arith, not_the_last way words)) (eqb-true _ _ last) aimed.all on e))
-    | inr more ↦ (refl, rw (on, more) (step_less (aims_step (OnWay way at)) (plan_steps (old_end way) (new_end way) words) passes at.steps at.aims count (omega (arith, not_the_last way words)) aimed.all on e))
+    | inl last ↦ (
+      refl,
+      rw (on, last) (none_left passes words (led_to way)
+          ∙ last_less (aims_step (OnWay way at)) (plan_steps (old_end way) (new_end way) words) passes at.steps at.aims count
+          (omega (arith, not_the_last way words)) (eqb-true _ _ last) aimed.all on e),
+    )
+    | inr more ↦ (
+      refl,
+      rw (on, more) (step_less (aims_step (OnWay way at)) (plan_steps (old_end way) (new_end way) words) passes at.steps at.aims
+          count (omega (arith, not_the_last way words)) aimed.all on e),
+    )
   ]
 ]
 one_less passes words count (InMemory rest) aimed e = absurd (omega (arith, e))
 one_less passes words count (Resident p) aimed e = absurd (omega (arith, e))
 
 -- landings may happen, as many as there are stores in flight
-landings_happen : (count vm : ℕ) (h : History) (xs : List Sending) → flight h vm ≡ xs → length xs ≡ count → IsHistory h → IsHistory (oldest_landed count vm h)
+landings_happen : (count vm : ℕ) (h : History) (xs : List Sending) → flight h vm ≡ xs → length xs ≡ count → IsHistory h
+    → IsHistory (oldest_landed count vm h)
 landings_happen zero vm h xs is e good = good
 landings_happen (suc count) vm h [] is e good = absurd (cc)
 landings_happen (suc count) vm h (x ∷ xs) is e good =
@@ -113,24 +132,33 @@ there_still : (g x : Vcpu) (h : History) → has_vcpu h x ≡ true → has_vcpu 
 there_still g x h there = ap (λ vms. is_vcpu_in vms x) (same_first g h).0 ∙ there
 
 pub step_happens : (g : Vcpu) (h : History) → has_vcpu h g ≡ true → is_moving (home h g) ≡ true → IsHistory h → IsHistory (step_taken g h)
-step_happens g h there moves good = ((there_still g g h there, ap is_moving (home_landed_first g g h) ∙ moves, lands_first g h), first_happens g h good)
+step_happens g h there moves good = (
+  (there_still g g h there, ap is_moving (home_landed_first g g h) ∙ moves, lands_first g h),
+  first_happens g h good,
+)
 
-steps_happen : (count : ℕ) (g : Vcpu) (h : History) → has_vcpu h g ≡ true → steps_left (passes_for h g) (file_words h) (home h g) ≡ count → IsHistory h → IsHistory (steps_taken count g h)
+steps_happen : (count : ℕ) (g : Vcpu) (h : History) → has_vcpu h g ≡ true → steps_left (passes_for h g) (file_words h) (home h g) ≡ count
+    → IsHistory h → IsHistory (steps_taken count g h)
 steps_happen zero g h there left good = good
 steps_happen (suc count) g h there left good =
     let one = one_less (passes_for h g) (file_words h) count (home h g) (all_aimed_in h good g) left in
-    steps_happen count g (step_taken g h) (there_still g g h there) (ap (λ n. steps_left n (file_words (landed_first g h)) (home (step_taken g h) g)) (passes_stepped g g h) ∙ ap (λ w. steps_left (passes_for h g) w (home (step_taken g h) g)) (words_first g h) ∙ ap (steps_left (passes_for h g) (file_words h)) (home_stepped g h) ∙ one.1) (step_happens g h there one.0 good)
+    steps_happen count g (step_taken g h) (there_still g g h there)
+    (ap (λ n. steps_left n (file_words (landed_first g h)) (home (step_taken g h) g)) (passes_stepped g g h)
+    ∙ ap (λ w. steps_left (passes_for h g) w (home (step_taken g h) g)) (words_first g h)
+    ∙ ap (steps_left (passes_for h g) (file_words h)) (home_stepped g h) ∙ one.1) (step_happens g h there one.0 good)
 
 move_left : (passes words : ℕ) (move : WantedMove) (there : Home) → IsBegun move there → steps_left passes words there ≡ steps_of words move + passes
 move_left passes words move there its = ap (steps_left passes words) its.at_home ∙ omega (arith, its.steps words)
 
-move_happens : (h : History) (vm number : ℕ) (want : Want) → refusal h (lines.Move vm number want) ≡ None → IsHistory h → IsHistory (whole_move h (wanted_move (vcpu vm number) want))
+move_happens : (h : History) (vm number : ℕ) (want : Want) → refusal h (lines.Move vm number want) ≡ None → IsHistory h
+    → IsHistory (whole_move h (wanted_move (vcpu vm number) want))
 unfolding passes_of
 move_happens h vm number want e good =
     let move = wanted_move (vcpu vm number) want in
     let may = may_begin h vm number want e in
     steps_happen (steps_of (file_words h) move + passes_for h (mover move)) (mover move) (Began move ∷ h) may.0
-    (ap (λ g. steps_left (passes_for h (mover move)) (file_words h) (home (Began move ∷ h) g)) (moves_its_own (vcpu vm number) want) ∙ move_left (passes_for h (mover move)) (file_words h) move (home (Began move ∷ h) (vcpu vm number)) (begun h vm number want e))
+    (ap (λ g. steps_left (passes_for h (mover move)) (file_words h) (home (Began move ∷ h) g)) (moves_its_own (vcpu vm number) want)
+    ∙ move_left (passes_for h (mover move)) (file_words h) move (home (Began move ∷ h) (vcpu vm number)) (begun h vm number want e))
     (may, good)
 
 -- ---- what a script does is such a history
@@ -154,7 +182,8 @@ pub stands_then : (h : History) (line : Line) → refusal h line ≡ None → ha
 stands_then h (Machine harts guests n sources) e = refl
 stands_then h (lines.Move vm number want) e =
     let move = wanted_move (vcpu vm number) want in
-    stands_stepped (steps_of (file_words h) move + passes_for h (mover move)) (mover move) _ (not-false _ (machine_stands h (lines.Move vm number want) e))
+    stands_stepped (steps_of (file_words h) move + passes_for h (mover move)) (mover move) _
+    (not-false _ (machine_stands h (lines.Move vm number want) e))
 stands_then h (Step vm number) e = stands_first (vcpu vm number) h (not-false _ (machine_stands h (Step vm number) e))
 stands_then h line e = not-false _ (machine_stands h line e)
 
@@ -167,7 +196,8 @@ pub msi_by_pass : (P : History → Type 0) (msi : Msi) (h : History) → P (Deli
     → ((p : ℕ) → passed_by h msi.source ≡ Some p → pass_reach (Delivered msi ∷ h) p ≡ None → P (Relayed p ∷ Delivered msi ∷ h)) → P (msi_taken msi h)
 msi_by_pass P msi h file memory = by_pass (passed_by h msi.source) refl
   where
-    by_reach : (p : ℕ) (o : Option GuestPlace) → passed_by h msi.source ≡ Some p → pass_reach (Delivered msi ∷ h) p ≡ o → P (if is_none o then Relayed p ∷ Delivered msi ∷ h else Delivered msi ∷ h)
+    by_reach : (p : ℕ) (o : Option GuestPlace) → passed_by h msi.source ≡ Some p → pass_reach (Delivered msi ∷ h) p ≡ o
+        → P (if is_none o then Relayed p ∷ Delivered msi ∷ h else Delivered msi ∷ h)
     by_reach p None e r = memory p e r
     by_reach p (Some q) e r = file
 
@@ -175,7 +205,8 @@ msi_by_pass P msi h file memory = by_pass (passed_by h msi.source) refl
     by_pass None e = file
     by_pass (Some p) e = by_reach p (pass_reach (Delivered msi ∷ h) p) e refl
 
-pub given_happens : (p : ℕ) (msi : Msi) (h : History) → passed_by h msi.source ≡ Some p → pass_reach (Delivered msi ∷ h) p ≡ None → IsHistory (Delivered msi ∷ h) → IsHistory (Relayed p ∷ Delivered msi ∷ h)
+pub given_happens : (p : ℕ) (msi : Msi) (h : History) → passed_by h msi.source ≡ Some p → pass_reach (Delivered msi ∷ h) p ≡ None
+    → IsHistory (Delivered msi ∷ h) → IsHistory (Relayed p ∷ Delivered msi ∷ h)
 given_happens p msi h e r good = ((subst (λ xs. p < length xs) (sym (same_reach msi h p).1) (number_found h msi.source p e), r), good)
 
 pub msi_happens : (h : History) (msi : Msi) → MayHappen h (Delivered msi) → IsHistory h → IsHistory (msi_taken msi h)
@@ -185,13 +216,15 @@ msis_happen : (sent : List Msi) (h : History) → has_machine h ≡ true → Are
 msis_happen [] h stands all good = good
 msis_happen (msi ∷ later) h stands all good = msi_by_pass (λ k. IsHistory (delivered later k)) msi h
     (msis_happen later (Delivered msi ∷ h) stands (forwards_then msi h later all.1) ((stands, all.0), good))
-    (λ p e r. msis_happen later (Relayed p ∷ Delivered msi ∷ h) stands (forwards_given p (Delivered msi ∷ h) later (forwards_then msi h later all.1)) (given_happens p msi h e r ((stands, all.0), good)))
+    (λ p e r. msis_happen later (Relayed p ∷ Delivered msi ∷ h) stands
+    (forwards_given p (Delivered msi ∷ h) later (forwards_then msi h later all.1)) (given_happens p msi h e r ((stands, all.0), good)))
 
 pub after_happens : (h : History) (line : Line) → IsHistory h → IsHistory (after h line)
 after_happens h line good = subst IsHistory (sym (after_by h line (refusal h line) refl)) (by_refusal (refusal h line) refl)
   where
     by_refusal : (word : Option Answer) → refusal h line ≡ word → IsHistory (history_after word h line)
-    by_refusal None e = msis_happen (msis_sent_by h line) (line_taken h line) (stands_then h line e) (line_forwards h line e good) (line_happens h line e good)
+    by_refusal None e = msis_happen (msis_sent_by h line) (line_taken h line) (stands_then h line e) (line_forwards h line e good)
+        (line_happens h line e good)
     by_refusal (Some word) e = good
 
 text_happens : (h : History) (text : Parsed) → IsHistory h → IsHistory (after_text h text)
@@ -219,7 +252,8 @@ flights_may (Landed vm k ∷ h) good = flights_on h (Landed vm k) tt (flights_ma
 
 pub flights_for_one : (h : History) → IsHistory h → AllAreForOne h
 flights_for_one [] good = none_for_one
-flights_for_one (Accepted (Send vm addr value) ∷ h) good = sent_on h (Accepted (Send vm addr value)) (send_allowed h vm addr value good.0) (flights_for_one h good.1)
+flights_for_one (Accepted (Send vm addr value) ∷ h) good =
+    sent_on h (Accepted (Send vm addr value)) (send_allowed h vm addr value good.0) (flights_for_one h good.1)
 flights_for_one (Accepted line ∷ h) good = sent_on h (Accepted line) tt (flights_for_one h good.1)
 flights_for_one (Began move ∷ h) good = sent_on h (Began move) tt (flights_for_one h good.1)
 flights_for_one (Stepped x ∷ h) good = sent_on h (Stepped x) tt (flights_for_one h good.1)
@@ -231,7 +265,8 @@ pub flying_there : (h : History) (vm k : ℕ) (s : Sending) → IsHistory h → 
 flying_there h vm k s good e = (all_at (IsForOne h vm) k (flight h vm) s e (flights_for_one h good vm)).there
 
 -- once the entry is fenced, the old place is reached by none
-pub flying_closed : (h : History) (vm k : ℕ) (s : Sending) → IsHistory h → flying h vm k ≡ Some s → is_closed (home h (sent_to vm s)) ≡ true → sent_into vm s ≡ new_file (home h (sent_to vm s))
+pub flying_closed : (h : History) (vm k : ℕ) (s : Sending) → IsHistory h → flying h vm k ≡ Some s → is_closed (home h (sent_to vm s)) ≡ true
+    → sent_into vm s ≡ new_file (home h (sent_to vm s))
 flying_closed h vm k s good e closed = elim (all_at (MayFly h vm) k (flight h vm) s e (flights_may h good vm)) [
   | inl old ↦ absurd (false≢true (sym old.1 ∙ closed))
   | inr new ↦ new.0
@@ -244,5 +279,7 @@ rest_reach (InMemory rest) into rests (inr new) = absurd (cc)
 rest_reach (Resident p) into rests (inr new) = absurd (cc)
 rest_reach (OnWay way at) into rests (inr new) = absurd (cc)
 
-pub flying_rests : (h : History) (vm k : ℕ) (s : Sending) → IsHistory h → flying h vm k ≡ Some s → is_moving (home h (sent_to vm s)) ≡ false → sent_into vm s ≡ origin (home h (sent_to vm s))
-flying_rests h vm k s good e rests = rest_reach (home h (sent_to vm s)) (sent_into vm s) rests (all_at (MayFly h vm) k (flight h vm) s e (flights_may h good vm))
+pub flying_rests : (h : History) (vm k : ℕ) (s : Sending) → IsHistory h → flying h vm k ≡ Some s → is_moving (home h (sent_to vm s)) ≡ false
+    → sent_into vm s ≡ origin (home h (sent_to vm s))
+flying_rests h vm k s good e rests = rest_reach (home h (sent_to vm s)) (sent_into vm s) rests
+    (all_at (MayFly h vm) k (flight h vm) s e (flights_may h good vm))

@@ -31,11 +31,13 @@ pub shifting_passes : (r : ℕ) (q : GuestPlace) (there : Home) → pass_reaches
 shifting_passes r q (Resident p) = rw (none_below r) refl
 shifting_passes r q there = refl
 
-pub arrives_passes : (r hart : ℕ) (file : Option ℕ) (there : Home) → pass_reaches r (option_map_or (λ f. arriving (guest_place hart f) there) file there) ≡ pass_reaches r there
+pub arrives_passes : (r hart : ℕ) (file : Option ℕ) (there : Home)
+    → pass_reaches r (option_map_or (λ f. arriving (guest_place hart f) there) file there) ≡ pass_reaches r there
 arrives_passes r hart None there = refl
 arrives_passes r hart (Some f) there = arriving_passes r (guest_place hart f) there
 
-pub shifts_passes : (r hart : ℕ) (file : Option ℕ) (there : Home) → pass_reaches r (option_map_or (λ f. shifting (guest_place hart f) there) file there) ≡ pass_reaches r there
+pub shifts_passes : (r hart : ℕ) (file : Option ℕ) (there : Home)
+    → pass_reaches r (option_map_or (λ f. shifting (guest_place hart f) there) file there) ≡ pass_reaches r there
 shifts_passes r hart None there = refl
 shifts_passes r hart (Some f) there = shifting_passes r (guest_place hart f) there
 
@@ -50,7 +52,8 @@ rests_reached : (r : ℕ) (to : Option GuestPlace) → pass_reaches r (at_rest t
 rests_reached r None = cond-false _ _ _ (none_below r)
 rests_reached r (Some p) = cond-false _ _ _ (none_below r)
 
-ended_passes : (passes words r : ℕ) (there : Home) → nat_lt r passes ≡ true → AreAimed passes there → is_at_last words there ≡ true → pass_reaches r (ended there) ≡ pass_reaches r there
+ended_passes : (passes words r : ℕ) (there : Home) → nat_lt r passes ≡ true → AreAimed passes there → is_at_last words there ≡ true
+    → pass_reaches r (ended there) ≡ pass_reaches r there
 ended_passes passes words r (OnWay way at) below a last =
     let far = not_the_last way words in
     let all = a.all (grind (arith, nat_tests)) in
@@ -58,14 +61,16 @@ ended_passes passes words r (OnWay way at) below a last =
     rests_reached r (led_to way) ∙ sym (cond-true _ _ _ e)
 ended_passes passes words r there below a last = absurd (cc)
 
-pub stepped_passes : (passes words r : ℕ) (there : Home) → nat_lt r passes ≡ true → AreAimed passes there → pass_reaches r (stepped words there) ≡ pass_reaches r there
+pub stepped_passes : (passes words r : ℕ) (there : Home) → nat_lt r passes ≡ true → AreAimed passes there
+    → pass_reaches r (stepped words there) ≡ pass_reaches r there
 stepped_passes passes words r there below a = by_last (is_at_last words there) refl
   where
     by_last : (b : Bool) → is_at_last words there ≡ b → pass_reaches r (stepped words there) ≡ pass_reaches r there
     by_last true e = rw e (ended_passes passes words r there below a e)
     by_last false e = rw e (one_more_passes r there)
 
-pub further_passes : (passes words r : ℕ) (there : Home) → nat_lt r passes ≡ true → AreAimed passes there → is_aiming passes there ≡ false → pass_reaches r (further passes words there) ≡ pass_reaches r there
+pub further_passes : (passes words r : ℕ) (there : Home) → nat_lt r passes ≡ true → AreAimed passes there → is_aiming passes there ≡ false
+    → pass_reaches r (further passes words there) ≡ pass_reaches r there
 further_passes passes words r there below a other = ap (pass_reaches r) (cond-false _ _ _ other) ∙ stepped_passes passes words r there below a
 
 -- ---- a step that aims one

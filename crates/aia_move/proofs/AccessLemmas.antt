@@ -20,7 +20,8 @@ use Rattle.aia_move_values.specs.Accesses.{HasFile, WordFits}
 pub word_fits : (w : World) (s : Moving) (access : Access) → MoveFits w s → IsNext (width w) s.home access → WordFits access (width w) s.hand.word
 word_fits w s access fits next = by_home s.home fits.no_pending_zero fits.no_enabled_zero access next
   where
-    by_home : (there : Home) → (is_last_made (width w) there (TakePending 0) ≡ true → has_bit s.hand.word 0 ≡ false) → (is_last_made (width w) there (TakeEnables 0) ≡ true → has_bit s.hand.word 0 ≡ false)
+    by_home : (there : Home) → (is_last_made (width w) there (TakePending 0) ≡ true → has_bit s.hand.word 0 ≡ false)
+        → (is_last_made (width w) there (TakeEnables 0) ≡ true → has_bit s.hand.word 0 ≡ false)
         → (access : Access) → IsNext (width w) there access → WordFits access (width w) s.hand.word
     by_home (OnWay way at) pending enabled (TakePending k) next = ltb-true _ _ next.has
     by_home (OnWay way at) pending enabled (PutPending k) next = (ltb-true _ _ next.has, λ z. pending (eq-eqb _ _ (omega (arith, z, next.step))))
@@ -47,7 +48,8 @@ has_file words (OnWay way at) access next = at_ends (left way) (led_to way) acce
 has_file words there access next = absurd (false≢true next.has)
 
 -- of the leases that have them
-pub leases_have : {A : Type 0} (place : A → GuestPlace) (words : ℕ) (there : Home) (access : Access) (old new : Option A) → IsNext words there access → option_map place old ≡ old_file there → option_map place new ≡ new_file there → HasFile access old new
+pub leases_have : {A : Type 0} (place : A → GuestPlace) (words : ℕ) (there : Home) (access : Access) (old new : Option A)
+    → IsNext words there access → option_map place old ≡ old_file there → option_map place new ≡ new_file there → HasFile access old new
 leases_have place words there access old new next is_old is_new = by_access access (has_file words there access next)
   where
     some : {B : Type 0} (x : Option B) (z : Option GuestPlace) (f : B → GuestPlace) → option_map f x ≡ z → IsSome z → IsSome x
@@ -62,7 +64,8 @@ leases_have place words there access old new next is_old is_new = by_access acce
     by_access access is = tt
 
 -- the access that the walk gives is the next one; a phase begins where it counts to
-module _ (way : Way) (at : Progress) (there : Home) (from to : End) (words wide : ℕ) (here : OnWay way at ≡ there) (leaves : from ≡ old_end way) (leads : to ≡ new_end way) (value : words ≡ wide) where
+module _ (way : Way) (at : Progress) (there : Home) (from to : End) (words wide : ℕ) (here : OnWay way at ≡ there) (leaves : from ≡ old_end way)
+    (leads : to ≡ new_end way) (value : words ≡ wide) where
   pub at_is_next : (access : Access) → IsAt from to words at.steps access → IsNext wide there access
   at_is_next access is = subst (λ h. IsNext wide h access) here (record {
     has = same ∙ is.has;

@@ -24,8 +24,10 @@ machine_touched sent w u m touches = only_accesses w u touches.rest
 
 -- a world with other tables
 pub only_tables : (w u : World) (tables : List TableState) → u ≡ record w { tables = tables } → OnlyAccesses w u
-only_tables w u tables e = e ∙ ap (λ (x : World). record w { imsic = record w.imsic { files = x.imsic.files }; memory = x.memory; tables = x.tables; stages = x.stages; notices = x.notices }) (sym e)
+only_tables w u tables e = e ∙ ap (λ (x : World). record w
+    { imsic = record w.imsic { files = x.imsic.files }; memory = x.memory; tables = x.tables; stages = x.stages; notices = x.notices }) (sym e)
 
 -- and a world that is as it was
 pub no_accesses : (w u : World) → u ≡ w → OnlyAccesses w u
-no_accesses w u e = e ∙ ap (λ (x : World). record w { imsic = record w.imsic { files = x.imsic.files }; memory = x.memory; tables = x.tables; stages = x.stages; notices = x.notices }) (sym e)
+no_accesses w u e = e ∙ ap (λ (x : World). record w
+    { imsic = record w.imsic { files = x.imsic.files }; memory = x.memory; tables = x.tables; stages = x.stages; notices = x.notices }) (sym e)

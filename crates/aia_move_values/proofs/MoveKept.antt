@@ -35,7 +35,8 @@ use Rattle.aia_regs.specs.declared.limits.TheConstants.{HARTS, SLOTS}
 
 -- ---- what is known of the world
 
-pub file_in-size : (w : World) (o : Option GuestPlace) → IsWhole w → ((p : GuestPlace) → o ≡ Some p → IsThere w.imsic (spot_of p)) → (file_in w o).n ≡ w.n
+pub file_in-size : (w : World) (o : Option GuestPlace) → IsWhole w → ((p : GuestPlace) → o ≡ Some p → IsThere w.imsic (spot_of p))
+    → (file_in w o).n ≡ w.n
 file_in-size w None whole there = refl
 file_in-size w (Some p) whole there = width_at w (spot_of p) whole (there p refl)
 
@@ -63,38 +64,55 @@ aimed_view w g there = refl
 
 at_end : (n : ℕ) (w : World) (g : Vcpu) (there : Home) → w.n ≡ n → places_of w g (ended there) ≡ places_ended n there (places_of w g there)
 at_end n w g (OnWay (Outward from) at) e = ap (λ x. record (places_of w g (OnWay (Outward from) at)) { own = empty_file x }) e
-at_end n w g (OnWay (Across from to) at) e = ap (λ x. record (places_of w g (OnWay (Across from to) at)) { own = (places_of w g (OnWay (Across from to) at)).next; next = empty_file x }) e
+at_end n w g (OnWay (Across from to) at) e = ap
+    (λ x. record (places_of w g (OnWay (Across from to) at)) { own = (places_of w g (OnWay (Across from to) at)).next; next = empty_file x }) e
 at_end n w g there e = refl
 
-module _ (w u : World) (m : Moving) (whole : IsWhole w) (fits : MoveFits w m) (apart : AreApart m.home) (reach : Option GuestPlace) (file : InterruptFile) (saw : Bool) where
+module _ (w u : World) (m : Moving) (whole : IsWhole w) (fits : MoveFits w m) (apart : AreApart m.home) (reach : Option GuestPlace)
+    (file : InterruptFile) (saw : Bool) where
   -- a step is done, and it is not the last one
-  pub goes_kept : (t : Moving) → Goes w m u t → IsWithin w.n (width w) file → Holds (width w) m.who.found.slot m.who.found.notice reach (places_of w (mover m) m.home) m.home m.hand file saw
-      → Holds (width w) t.who.found.slot t.who.found.notice (reach_stepped m.home reach) (places_of u (mover t) t.home) t.home t.hand file (saw || sees (width w) m.home file)
+  pub goes_kept : (t : Moving) → Goes w m u t → IsWithin w.n (width w) file
+      → Holds (width w) m.who.found.slot m.who.found.notice reach (places_of w (mover m) m.home) m.home m.hand file saw
+      → Holds (width w) t.who.found.slot t.who.found.notice (reach_stepped m.home reach) (places_of u (mover t) t.home) t.home t.hand file
+      (saw || sees (width w) m.home file)
   goes_kept t goes within h =
-      let kept : Holds (width w) m.who.found.slot m.who.found.notice (reach_stepped m.home reach) (places_of u (mover m) m.home) (one_more m.home) t.hand file (saw || sees (width w) m.home file) =
-      access_kept w.n (width w) m.who.found.slot m.who.found.notice reach goes.step.access m.home (places_of w (mover m) m.home) m.hand (places_of u (mover m) m.home) t.hand file saw within
-      (file_in-size w (own_file m.home) whole fits.own) (file_in-size w (next_file m.home) whole fits.next) (files_fit w m whole fits) (slot_few w m whole fits) (notice_low w m whole fits)
+      let kept : Holds (width w) m.who.found.slot m.who.found.notice (reach_stepped m.home reach) (places_of u (mover m) m.home) (one_more m.home)
+      t.hand file (saw || sees (width w) m.home file) =
+      access_kept w.n (width w) m.who.found.slot m.who.found.notice reach goes.step.access m.home (places_of w (mover m) m.home) m.hand
+      (places_of u (mover m) m.home) t.hand file saw within
+      (file_in-size w (own_file m.home) whole fits.own) (file_in-size w (next_file m.home) whole fits.next) (files_fit w m whole fits)
+      (slot_few w m whole fits) (notice_low w m whole fits)
       goes.step.is_next goes.more (made_view w u m t.hand whole fits apart goes.step) h in
-      let same : Holds (width w) m.who.found.slot m.who.found.notice (reach_stepped m.home reach) (places_of u (mover m) (one_more m.home)) (one_more m.home) t.hand file (saw || sees (width w) m.home file) =
-      subst (λ (v : Places). Holds (width w) m.who.found.slot m.who.found.notice (reach_stepped m.home reach) v (one_more m.home) t.hand file (saw || sees (width w) m.home file)) (sym (further u (mover m) m.home)) kept in
-      subst (λ (who : Who). Holds (width w) who.found.slot who.found.notice (reach_stepped m.home reach) (places_of u (vcpu who.found.vm who.found.number) t.home) t.home t.hand file (saw || sees (width w) m.home file)) (sym goes.same_who)
-      (subst (λ (there : Home). Holds (width w) m.who.found.slot m.who.found.notice (reach_stepped m.home reach) (places_of u (mover m) there) there t.hand file (saw || sees (width w) m.home file)) (sym goes.home) same)
+      let same : Holds (width w) m.who.found.slot m.who.found.notice (reach_stepped m.home reach) (places_of u (mover m) (one_more m.home))
+      (one_more m.home) t.hand file (saw || sees (width w) m.home file) =
+      subst (λ (v : Places). Holds (width w) m.who.found.slot m.who.found.notice (reach_stepped m.home reach) v (one_more m.home) t.hand file
+      (saw || sees (width w) m.home file)) (sym (further u (mover m) m.home)) kept in
+      subst (λ (who : Who). Holds (width w) who.found.slot who.found.notice (reach_stepped m.home reach)
+      (places_of u (vcpu who.found.vm who.found.number) t.home) t.home t.hand file (saw || sees (width w) m.home file)) (sym goes.same_who)
+      (subst (λ (there : Home). Holds (width w) m.who.found.slot m.who.found.notice (reach_stepped m.home reach) (places_of u (mover m) there)
+      there t.hand file (saw || sees (width w) m.home file)) (sym goes.home) same)
 
   -- the last one is done, and the move ends
-  pub ends_kept : (hand : Hand) → Ends w m u hand → IsWithin w.n (width w) file → Holds (width w) m.who.found.slot m.who.found.notice reach (places_of w (mover m) m.home) m.home m.hand file saw
-      → Holds (width w) m.who.found.slot m.who.found.notice (reach_stepped m.home reach) (places_of u (mover m) (ended m.home)) (ended m.home) hand file false
+  pub ends_kept : (hand : Hand) → Ends w m u hand → IsWithin w.n (width w) file
+      → Holds (width w) m.who.found.slot m.who.found.notice reach (places_of w (mover m) m.home) m.home m.hand file saw
+      → Holds (width w) m.who.found.slot m.who.found.notice (reach_stepped m.home reach) (places_of u (mover m) (ended m.home)) (ended m.home)
+      hand file false
   ends_kept hand ends within h =
       let touches = step_touches w u m hand whole fits ends.step in
-      subst (λ (v : Places). Holds (width w) m.who.found.slot m.who.found.notice (reach_stepped m.home reach) v (ended m.home) hand file false) (sym (at_end w.n u (mover m) m.home (ap (λ (x : World). x.n) touches.rest)))
-      (move_ended w.n (width w) m.who.found.slot m.who.found.notice reach ends.step.access m.home (places_of w (mover m) m.home) m.hand (places_of u (mover m) m.home) hand file saw within
+      subst (λ (v : Places). Holds (width w) m.who.found.slot m.who.found.notice (reach_stepped m.home reach) v (ended m.home) hand file false)
+      (sym (at_end w.n u (mover m) m.home (ap (λ (x : World). x.n) touches.rest)))
+      (move_ended w.n (width w) m.who.found.slot m.who.found.notice reach ends.step.access m.home (places_of w (mover m) m.home) m.hand
+      (places_of u (mover m) m.home) hand file saw within
       ends.step.is_next ends.last (made_view w u m hand whole fits apart ends.step) h)
 
   -- the file that it leaves is empty
-  pub ends_empty : (hand : Hand) (p : GuestPlace) → Ends w m u hand → old_file m.home ≡ Some p → Holds (width w) m.who.found.slot m.who.found.notice reach (places_of w (mover m) m.home) m.home m.hand file saw
+  pub ends_empty : (hand : Hand) (p : GuestPlace) → Ends w m u hand → old_file m.home ≡ Some p
+      → Holds (width w) m.who.found.slot m.who.found.notice reach (places_of w (mover m) m.home) m.home m.hand file saw
       → IsEmpty (shown (file_at u.imsic (spot_of p)))
   ends_empty hand p ends leaves h =
       subst (λ (f : InterruptFile). IsEmpty f) (ap (λ o. file_in u o) (old_is_own m.home p leaves))
-      (left_empty (width w) m.who.found.slot m.who.found.notice reach ends.step.access m.home (places_of w (mover m) m.home) m.hand (places_of u (mover m) m.home) hand file saw p leaves
+      (left_empty (width w) m.who.found.slot m.who.found.notice reach ends.step.access m.home (places_of w (mover m) m.home) m.hand
+      (places_of u (mover m) m.home) hand file saw p leaves
       ends.step.is_next ends.last (made_view w u m hand whole fits apart ends.step) h)
     where
       old_is_own : (there : Home) (p : GuestPlace) → old_file there ≡ Some p → own_file there ≡ Some p
@@ -103,15 +121,20 @@ module _ (w u : World) (m : Moving) (whole : IsWhole w) (fits : MoveFits w m) (a
       old_is_own there p e = absurd (cc)
 
 -- a passed source is aimed
-pub aims_kept : (w u : World) (m t : Moving) (reach : Option GuestPlace) (file : InterruptFile) (saw : Bool) → GoesAiming w m u t → Holds (width w) m.who.found.slot m.who.found.notice reach (places_of w (mover m) m.home) m.home m.hand file saw
+pub aims_kept : (w u : World) (m t : Moving) (reach : Option GuestPlace) (file : InterruptFile) (saw : Bool) → GoesAiming w m u t
+    → Holds (width w) m.who.found.slot m.who.found.notice reach (places_of w (mover m) m.home) m.home m.hand file saw
     → Holds (width u) t.who.found.slot t.who.found.notice reach (places_of u (mover t) t.home) t.home t.hand file saw
 aims_kept w u m t reach file saw goes h =
     let kept = aimed_kept (width w) m.who.found.slot m.who.found.notice reach (places_of w (mover m) m.home) m.home m.hand file saw h in
     let same : Holds (width w) m.who.found.slot m.who.found.notice reach (places_of w (mover m) (aimed m.home)) (aimed m.home) m.hand file saw =
-    subst (λ (v : Places). Holds (width w) m.who.found.slot m.who.found.notice reach v (aimed m.home) m.hand file saw) (sym (aimed_view w (mover m) m.home)) kept in
-    subst (λ (x : Moving). Holds (width u) x.who.found.slot x.who.found.notice reach (places_of u (mover x) x.home) x.home x.hand file saw) (sym goes.moved)
-    (subst (λ (y : World). Holds (width y) m.who.found.slot m.who.found.notice reach (places_of y (mover m) (aimed m.home)) (aimed m.home) m.hand file saw) (sym goes.world) same)
+    subst (λ (v : Places). Holds (width w) m.who.found.slot m.who.found.notice reach v (aimed m.home) m.hand file saw)
+    (sym (aimed_view w (mover m) m.home)) kept in
+    subst (λ (x : Moving). Holds (width u) x.who.found.slot x.who.found.notice reach (places_of u (mover x) x.home) x.home x.hand file saw)
+    (sym goes.moved)
+    (subst (λ (y : World). Holds (width y) m.who.found.slot m.who.found.notice reach (places_of y (mover m) (aimed m.home)) (aimed m.home) m.hand
+    file saw) (sym goes.world) same)
 
 -- so it is after the last step of a plan
 pub ended_empty : (w u : World) (m : Moving) (o : Outcome) → IsWhole w → MoveFits w m → AreApart m.home → EndsAs w m u o → LeavesEmpty w m u
-ended_empty w u m o whole fits apart ended = λ reach file saw p leaves h. ends_empty w u m whole fits apart reach file saw m.hand p ended.ends leaves h
+ended_empty w u m o whole fits apart ended = λ reach file saw p leaves h. ends_empty w u m whole fits apart reach file saw m.hand p
+    ended.ends leaves h

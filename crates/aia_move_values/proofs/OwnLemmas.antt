@@ -51,14 +51,19 @@ touches_none w u g reach e = record {
   host_files = λ hart there other. ap (λ (x : World). file_at x.imsic (SupervisorFile hart)) e;
   notice = inl (ap (λ (x : World). file_at x.imsic (SupervisorFile (notice_hart w.vms g))) e);
   slots = λ q other. ap (λ (x : World). mrif_in x.memory q) e;
-  entry_words = λ x. (ap (λ (u : World). get_or u.memory (entry_word_place x.vm x.number) 0) e, ap (λ (u : World). get_or u.memory (entry_word_place x.vm x.number + 1) 0) e);
+  entry_words = λ x. (
+    ap (λ (u : World). get_or u.memory (entry_word_place x.vm x.number) 0) e,
+    ap (λ (u : World). get_or u.memory (entry_word_place x.vm x.number + 1) 0) e,
+  );
 }
 
 -- ---- a guest file
 
-module _ (w u : World) (g : Vcpu) (p : GuestPlace) (offset value : ℕ) (whole : IsWhole w) (there : is_vcpu_in w.vms g ≡ true) (here : IsThere w.imsic (spot_of p)) (s : StoresIn w u (spot_of p) offset value) where
+module _ (w u : World) (g : Vcpu) (p : GuestPlace) (offset value : ℕ) (whole : IsWhole w) (there : is_vcpu_in w.vms g ≡ true)
+    (here : IsThere w.imsic (spot_of p)) (s : StoresIn w u (spot_of p) offset value) where
   file_kept : (spot : Spot) → IsThere w.imsic spot → spot ≢ spot_of p → file_at u.imsic spot ≡ file_at w.imsic spot
-  file_kept spot inside other = ap (λ (i : ImsicState). file_at i spot) s.lands.others ∙ kept_elsewhere w.imsic (spot_of p) spot (file_at u.imsic (spot_of p)) here inside other
+  file_kept spot inside other = ap (λ (i : ImsicState). file_at i spot) s.lands.others
+      ∙ kept_elsewhere w.imsic (spot_of p) spot (file_at u.imsic (spot_of p)) here inside other
 
   memory_kept : u.memory ≡ w.memory
   memory_kept = ap (λ (x : World). x.memory) s.rest
@@ -71,7 +76,10 @@ module _ (w u : World) (g : Vcpu) (p : GuestPlace) (offset value : ℕ) (whole :
     host_files = λ hart inside other. file_kept (SupervisorFile hart) inside (λ e. absurd (cc));
     notice = inl (file_kept (SupervisorFile (notice_hart w.vms g)) (notice_hart_there w g whole there) (λ e. absurd (cc)));
     slots = λ q other. ap (λ words. mrif_in words q) memory_kept;
-    entry_words = λ x. (ap (λ words. get_or words (entry_word_place x.vm x.number) 0) memory_kept, ap (λ words. get_or words (entry_word_place x.vm x.number + 1) 0) memory_kept);
+    entry_words = λ x. (
+      ap (λ words. get_or words (entry_word_place x.vm x.number) 0) memory_kept,
+      ap (λ words. get_or words (entry_word_place x.vm x.number + 1) 0) memory_kept,
+    );
   }
 
 -- ---- a slot
@@ -86,10 +94,15 @@ module _ (w u : World) (g : Vcpu) (offset value : ℕ) (whole : IsWhole w) (ther
   slot_kept : (words : List ℕ) → words ≡ between.memory → (q : ℕ) → q ≢ slot_of w.vms g → mrif_in words q ≡ mrif_in w.memory q
   slot_kept words is q other = ap (λ (m : List ℕ). mrif_in m q) is ∙ other_slot_stays w.memory (slot_of w.vms g) q offset value (λ e. other (sym e))
 
-  entries_kept : (words : List ℕ) → words ≡ between.memory → (x : Vcpu) → (get_or words (entry_word_place x.vm x.number) 0 ≡ get_or w.memory (entry_word_place x.vm x.number) 0) × (get_or words (entry_word_place x.vm x.number + 1) 0 ≡ get_or w.memory (entry_word_place x.vm x.number + 1) 0)
+  entries_kept : (words : List ℕ) → words ≡ between.memory → (x : Vcpu)
+      → (get_or words (entry_word_place x.vm x.number) 0 ≡ get_or w.memory (entry_word_place x.vm x.number) 0)
+      × (get_or words (entry_word_place x.vm x.number + 1) 0 ≡ get_or w.memory (entry_word_place x.vm x.number + 1) 0)
   entries_kept words is x =
-      let kept = entry_words_kept w x (slot_of w.vms g) offset value whole low in
-      (ap (λ (m : List ℕ). get_or m (entry_word_place x.vm x.number) 0) is ∙ kept.0, ap (λ (m : List ℕ). get_or m (entry_word_place x.vm x.number + 1) 0) is ∙ kept.1)
+      let kept = entry_words_kept w x (slot_of w.vms g) offset value whole low in (
+        ap (λ (m : List ℕ). get_or m (entry_word_place x.vm x.number) 0) is
+            ∙ kept.0,
+        ap (λ (m : List ℕ). get_or m (entry_word_place x.vm x.number + 1) 0) is ∙ kept.1,
+      )
 
   -- with no notice
   quiet : u ≡ between → TouchesOwn w u g None
@@ -119,59 +132,74 @@ module _ (w u : World) (g : Vcpu) (offset value : ℕ) (whole : IsWhole w) (ther
       memory = ap (λ (x : World). x.memory) posts.rest
 
       file_kept : (spot : Spot) → IsThere w.imsic spot → spot ≢ SupervisorFile (notice_hart w.vms g) → file_at u.imsic spot ≡ file_at w.imsic spot
-      file_kept spot inside other = ap (λ (i : ImsicState). file_at i spot) posts.lands.others ∙ kept_elsewhere w.imsic (SupervisorFile (notice_hart w.vms g)) spot (file_at u.imsic (SupervisorFile (notice_hart w.vms g))) (notice_hart_there w g whole there) inside other
+      file_kept spot inside other = ap (λ (i : ImsicState). file_at i spot) posts.lands.others
+          ∙ kept_elsewhere w.imsic (SupervisorFile (notice_hart w.vms g)) spot (file_at u.imsic (SupervisorFile (notice_hart w.vms g)))
+          (notice_hart_there w g whole there) inside other
 
   by_outcome : (became : Stored) → NoticedBy became between u (SupervisorFile (notice_hart w.vms g)) (notice_identity w.vms g) → TouchesOwn w u g None
   by_outcome Notice s = told s
   by_outcome Quiet s = quiet s
   by_outcome Discarded s = quiet s
 
-  pub touches_slot : StoresInSlot w u (Some (slot_of w.vms g)) (SupervisorFile (notice_hart w.vms g)) (notice_identity w.vms g) offset value → TouchesOwn w u g None
+  pub touches_slot : StoresInSlot w u (Some (slot_of w.vms g)) (SupervisorFile (notice_hart w.vms g)) (notice_identity w.vms g) offset value
+      → TouchesOwn w u g None
   touches_slot s = by_outcome (stored (mrif_in w.memory (slot_of w.vms g)) (requested IDENTITIES offset value)) s
 
 -- ---- a device's store
 
-pub guest_spot : (i : ImsicState) (p : GuestPlace) → i.harts ≤ HARTS → i.guests ≤ GUEST_FILES → IsThere i (spot_of p) → page_spot i (guest_page p.hart p.file / PAGE) ≡ spot_of p
+pub guest_spot : (i : ImsicState) (p : GuestPlace) → i.harts ≤ HARTS → i.guests ≤ GUEST_FILES → IsThere i (spot_of p)
+    → page_spot i (guest_page p.hart p.file / PAGE) ≡ spot_of p
 guest_spot i p few eight there =
     let page : guest_page p.hart p.file / PAGE * PAGE ≡ guest_page p.hart p.file = omega arith in
     spot_of_guest i.harts i.guests (guest_page p.hart p.file / PAGE * PAGE) p.hart p.file few eight there.0 there.1 there.2
     (in_page (guest_page p.hart p.file) (guest_page p.hart p.file / PAGE * PAGE) (omega arith) (omega arith))
 
 -- an entry leads a store, and is the route of one
-pub by_entry : (place : Option GuestPlace) (q hart : ℕ) (w u : World) (offset value : ℕ) → ReachesBy (leads_to q hart place) w u offset value → Reaches (leads_by (leads_to q hart place)) w u offset value
+pub by_entry : (place : Option GuestPlace) (q hart : ℕ) (w u : World) (offset value : ℕ) → ReachesBy (leads_to q hart place) w u offset value
+    → Reaches (leads_by (leads_to q hart place)) w u offset value
 by_entry None q hart w u offset value reaches = reaches
 by_entry (Some p) q hart w u offset value reaches = reaches
 
 -- an entry that leads a virtual hart's stores to its own
-pub own_entry : (w u : World) (g : Vcpu) (reach : Option GuestPlace) (offset value : ℕ) → IsWhole w → is_vcpu_in w.vms g ≡ true → ((p : GuestPlace) → reach ≡ Some p → IsThere w.imsic (spot_of p))
+pub own_entry : (w u : World) (g : Vcpu) (reach : Option GuestPlace) (offset value : ℕ) → IsWhole w → is_vcpu_in w.vms g ≡ true
+    → ((p : GuestPlace) → reach ≡ Some p → IsThere w.imsic (spot_of p))
     → Reaches (leads_by (leads_to (slot_of w.vms g) (notice_hart w.vms g) reach)) w u offset value → TouchesOwn w u g reach
 own_entry w u g (Some p) offset value whole there inside reaches =
-    touches_file w u g p offset value whole there (inside p refl) (subst (λ (s : Spot). StoresInGuestFile w u s offset value) (guest_spot w.imsic p whole.harts whole.guests (inside p refl)) reaches)
+    touches_file w u g p offset value whole there (inside p refl)
+    (subst (λ (s : Spot). StoresInGuestFile w u s offset value) (guest_spot w.imsic p whole.harts whole.guests (inside p refl)) reaches)
 own_entry w u g None offset value whole there inside reaches =
     let hart = notice_hart_there w g whole there in
-    touches_slot w u g offset value whole there (subst (λ (s : Spot). StoresInSlot w u (Some (slot_of w.vms g)) s (slot_of w.vms g + 1) offset value) (host_page w.imsic (notice_hart w.vms g) hart whole.harts)
-    (subst (λ (o : Option ℕ). StoresInSlot w u o (page_spot w.imsic (supervisor_page (notice_hart w.vms g) / PAGE)) (slot_of w.vms g + 1) offset value) (slot_found (slot_of w.vms g) (slot_low w g whole there)) reaches))
+    touches_slot w u g offset value whole there (subst
+    (λ (s : Spot). StoresInSlot w u (Some (slot_of w.vms g)) s (slot_of w.vms g + 1) offset value)
+    (host_page w.imsic (notice_hart w.vms g) hart whole.harts)
+    (subst (λ (o : Option ℕ). StoresInSlot w u o (page_spot w.imsic (supervisor_page (notice_hart w.vms g) / PAGE)) (slot_of w.vms g + 1) offset
+    value) (slot_found (slot_of w.vms g) (slot_low w g whole there)) reaches))
 
-one_of : (w u : World) (g : Vcpu) (offset value : ℕ) (reach : Vcpu → Option GuestPlace) → IsWhole w → LeadsToOwn w g.vm reach → Reaches (leads_by (entry_in_force (table_of w.tables g.vm) g.number)) w u offset value → (u ≡ w) ⊎ TouchesOneOf w u g.vm reach
+one_of : (w u : World) (g : Vcpu) (offset value : ℕ) (reach : Vcpu → Option GuestPlace) → IsWhole w → LeadsToOwn w g.vm reach
+    → Reaches (leads_by (entry_in_force (table_of w.tables g.vm) g.number)) w u offset value → (u ≡ w) ⊎ TouchesOneOf w u g.vm reach
 one_of w u g offset value reach whole leads at = elim (cases_Bool (is_vcpu_in w.vms g)) [
   | inl there ↦ inr (record {
     g = g;
     its = refl;
     there = there;
-    touches = own_entry w u g (reach g) offset value whole there (λ p e. leads.there g p refl there e) (subst (λ (entry : Entry). Reaches (leads_by entry) w u offset value) (leads.own g refl there) at);
+    touches = own_entry w u g (reach g) offset value whole there (λ p e. leads.there g p refl there e)
+        (subst (λ (entry : Entry). Reaches (leads_by entry) w u offset value) (leads.own g refl there) at);
   })
   | inr none ↦ inl (subst (λ (entry : Entry). Reaches (leads_by entry) w u offset value) (leads.no_other g refl none) at)
 ]
 
-pub device_touches : (w u : World) (v addr value : ℕ) (reach : Vcpu → Option GuestPlace) → IsWhole w → LeadsToOwn w v reach → Reaches (route_of (table_of w.tables v) addr) w u (addr % PAGE) value → (u ≡ w) ⊎ TouchesOneOf w u v reach
+pub device_touches : (w u : World) (v addr value : ℕ) (reach : Vcpu → Option GuestPlace) → IsWhole w → LeadsToOwn w v reach
+    → Reaches (route_of (table_of w.tables v) addr) w u (addr % PAGE) value → (u ≡ w) ⊎ TouchesOneOf w u v reach
 device_touches w u v addr value reach whole leads reaches = elim (cases_Bool (is_msi_address (table_of w.tables v).mask addr)) [
-  | inl is ↦ one_of w u (vcpu v (file_number (table_of w.tables v).mask addr)) (addr % PAGE) value reach whole leads (subst (λ (r : Route). Reaches r w u (addr % PAGE) value) (cond-true _ _ _ is) reaches)
+  | inl is ↦ one_of w u (vcpu v (file_number (table_of w.tables v).mask addr)) (addr % PAGE) value reach whole leads
+      (subst (λ (r : Route). Reaches r w u (addr % PAGE) value) (cond-true _ _ _ is) reaches)
   | inr none ↦ inl (subst (λ (r : Route). Reaches r w u (addr % PAGE) value) (cond-false _ _ _ none) reaches)
 ]
 
 -- ---- a virtual hart's store
 
-pub peer_touches : (w u : World) (g : Vcpu) (named : Option GuestPlace) (value : ℕ) → IsWhole w → is_vcpu_in w.vms g ≡ true → ReachesByRecord named w u g value → TouchesOwn w u g named
+pub peer_touches : (w u : World) (g : Vcpu) (named : Option GuestPlace) (value : ℕ) → IsWhole w → is_vcpu_in w.vms g ≡ true
+    → ReachesByRecord named w u g value → TouchesOwn w u g named
 peer_touches w u g None value whole there relays = touches_slot w u g 0 value whole there relays
 peer_touches w u g (Some p) value whole there relays = elim (cases_Bool (nat_lt p.hart w.imsic.harts && is_in_range 1 w.imsic.guests p.file)) [
   | inl named ↦
@@ -182,11 +210,13 @@ peer_touches w u g (Some p) value whole there relays = elim (cases_Bool (nat_lt 
 
 -- ---- the places of another virtual hart
 
-file_stays : (w u : World) (g : Vcpu) (reach o : Option GuestPlace) → TouchesOwn w u g reach → ((p : GuestPlace) → o ≡ Some p → IsThere w.imsic (spot_of p) × (reach ≢ Some p)) → file_in u o ≡ file_in w o
+file_stays : (w u : World) (g : Vcpu) (reach o : Option GuestPlace) → TouchesOwn w u g reach
+    → ((p : GuestPlace) → o ≡ Some p → IsThere w.imsic (spot_of p) × (reach ≢ Some p)) → file_in u o ≡ file_in w o
 file_stays w u g reach None t kept = ap (λ (x : World). empty_file x.n) t.rest
 file_stays w u g reach (Some p) t kept = let inside = kept p refl in ap shown (t.guest_files p inside.0 inside.1)
 
-pub others_stay : (w u : World) (g x : Vcpu) (reach : Option GuestPlace) (there : Home) → is_vcpu_in w.vms g ≡ true → is_vcpu_in w.vms x ≡ true → x ≢ g → TouchesOwn w u g reach
+pub others_stay : (w u : World) (g x : Vcpu) (reach : Option GuestPlace) (there : Home) → is_vcpu_in w.vms g ≡ true → is_vcpu_in w.vms x ≡ true
+    → x ≢ g → TouchesOwn w u g reach
     → ((p : GuestPlace) → holds p there ≡ true → IsThere w.imsic (spot_of p) × (reach ≢ Some p)) → places_of u x there ≡ places_of w x there
 others_stay w u g x reach there standing inside other t held =
     let own = file_stays w u g reach (own_file there) t (λ p e. held p (own_is_held there p e)) in

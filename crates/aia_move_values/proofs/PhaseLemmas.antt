@@ -35,13 +35,16 @@ use Rattle.aia_move_values.specs.Plan.{is_in_aim, IsInDrain, NextStepIsOf, IsInP
 -- ---- when a step aims
 
 -- just before the first word is taken it aims while a source is left
-aims_at : (words passes : ℕ) (there : Home) → is_moving there ≡ true → steps_done there ≡ begins words there DrainPhase → is_aiming passes there ≡ nat_lt (aims_done there) passes
+aims_at : (words passes : ℕ) (there : Home) → is_moving there ≡ true → steps_done there ≡ begins words there DrainPhase
+    → is_aiming passes there ≡ nat_lt (aims_done there) passes
 aims_at words passes (OnWay way at) moves e = ap (λ b. b && nat_lt at.aims passes) (eq-eqb at.steps (aims_step (OnWay way at)) (omega (arith, e)))
 aims_at words passes there moves e = absurd (cc)
 
 -- elsewhere none does
-none_aims : (words passes : ℕ) (there : Home) → (is_moving there ≡ true → steps_done there ≢ begins words there DrainPhase) → is_aiming passes there ≡ false
-none_aims words passes (OnWay way at) other = ap (λ b. b && nat_lt at.aims passes) (ne_eqb at.steps (aims_step (OnWay way at)) (λ same. other refl (omega (arith, same))))
+none_aims : (words passes : ℕ) (there : Home) → (is_moving there ≡ true → steps_done there ≢ begins words there DrainPhase)
+    → is_aiming passes there ≡ false
+none_aims words passes (OnWay way at) other = ap (λ b. b && nat_lt at.aims passes)
+    (ne_eqb at.steps (aims_step (OnWay way at)) (λ same. other refl (omega (arith, same))))
 none_aims words passes there other = refl
 
 -- ---- a step aims in its phase alone
@@ -60,11 +63,13 @@ no_aim_in_look words m some is = none_aims words _ m.home (λ moves e. let mid =
 
 -- what is last comes after the looks, which a leave alone has
 looks_before_last : (words : ℕ) (there : Home) → begins words there LookPhase ≤ begins words there LastPhase
-looks_before_last words (OnWay way at) = let looks = looks_begin (old_end way) (new_end way) words in let enough = sets_first (new_end way) words in omega (arith, looks, enough)
+looks_before_last words (OnWay way at) = let looks = looks_begin (old_end way) (new_end way) words in let enough =
+    sets_first (new_end way) words in omega (arith, looks, enough)
 looks_before_last words there = omega arith
 
 no_aim_in_last : (words : ℕ) (m : Moving) → 1 ≤ words → IsIn LastPhase words m → aims m ≡ false
-no_aim_in_last words m some is = none_aims words _ m.home (λ moves e. let mid = middle words m.home moves in omega (arith, looks_before_last words m.home))
+no_aim_in_last words m some is = none_aims words _ m.home
+    (λ moves e. let mid = middle words m.home moves in omega (arith, looks_before_last words m.home))
 
 -- so a step aims where it is a step of no phase (of AllDone none is)
 step_aims : (phase : Option Phase) (words : ℕ) (m : Moving) → 1 ≤ words → NextStepIsOf phase words m → aims m ≡ is_none phase
@@ -115,14 +120,16 @@ move_aims w s t fits moved = record { moved = moved; fits = subst (λ x. MoveFit
 -- ---- from the fence of the G-stage record on
 
 -- in each phase the home moves
-moves_in : (phase : Phase) (words : ℕ) (there : Home) → (begins words there phase ≤ steps_done there) × (steps_done there < begins words there (following phase)) → is_moving there ≡ true
+moves_in : (phase : Phase) (words : ℕ) (there : Home) → (begins words there phase ≤ steps_done there)
+    × (steps_done there < begins words there (following phase)) → is_moving there ≡ true
 moves_in phase words (OnWay way at) is = refl
 moves_in phase words there is = absurd (omega (arith, is.1))
 
 at_aims : (words : ℕ) (x : Moving) → is_moving x.home ≡ true → steps_done x.home ≡ begins words x.home DrainPhase → has_unaimed x ≡ true → IsAtAims x
 at_aims words x moves at left = aims_at words _ x.home moves at ∙ left
 
-drain_begins : (words : ℕ) (x : Moving) → is_moving x.home ≡ true → 1 ≤ words → steps_done x.home ≡ begins words x.home DrainPhase → has_unaimed x ≡ false → IsInDrain words x
+drain_begins : (words : ℕ) (x : Moving) → is_moving x.home ≡ true → 1 ≤ words → steps_done x.home ≡ begins words x.home DrainPhase
+    → has_unaimed x ≡ false → IsInDrain words x
 drain_begins words x moves some at none =
     let mid = middle words x.home moves in
     record { phase = (omega (arith, at), omega (arith, at, some, mid.drains)); aimed = aims_at words _ x.home moves at ∙ none }
@@ -132,14 +139,20 @@ still_moves (OnWay way at) moves = refl
 still_moves there moves = moves
 
 begins_still : (w u : World) (m t : Moving) (phase : Phase) → GoesOn w m u t → begins (width u) t.home phase ≡ begins (width w) m.home phase
-begins_still w u m t phase goes = ap (λ n. begins n t.home phase) goes.width ∙ ap (λ h. begins (width w) h phase) goes.goes.home ∙ begins_on (width w) m.home phase
+begins_still w u m t phase goes = ap (λ n. begins n t.home phase) goes.width ∙ ap (λ h. begins (width w) h phase) goes.goes.home
+    ∙ begins_on (width w) m.home phase
 
 -- a step that is not the last one of its phase
-still_in : (phase : Phase) (w u : World) (m t : Moving) → IsIn phase (width w) m → GoesOn w m u t → steps_done m.home + 1 < begins (width w) m.home (following phase) → IsIn phase (width u) t
-still_in phase w u m t is goes more = (omega (arith, begins_still w u m t phase goes, goes.steps, is), omega (arith, begins_still w u m t (following phase) goes, goes.steps, more))
+still_in : (phase : Phase) (w u : World) (m t : Moving) → IsIn phase (width w) m → GoesOn w m u t
+    → steps_done m.home + 1 < begins (width w) m.home (following phase) → IsIn phase (width u) t
+still_in phase w u m t is goes more = (
+  omega (arith, begins_still w u m t phase goes, goes.steps, is),
+  omega (arith, begins_still w u m t (following phase) goes, goes.steps, more),
+)
 
 -- the phase after the last step of the G-stage record's
-pub closed_phase : (w u : World) (m t : Moving) (next : Closed Moving Moving) → 1 ≤ width w → IsIn ClosingPhase (width w) m → GoesOn w m u t → IsLastOf ClosingPhase (width w) m
+pub closed_phase : (w u : World) (m t : Moving) (next : Closed Moving Moving) → 1 ≤ width w → IsIn ClosingPhase (width w) m → GoesOn w m u t
+    → IsLastOf ClosingPhase (width w) m
     → MatchClosed next (λ x. (x ≡ t) × (has_unaimed x ≡ true)) (λ x. (x ≡ t) × (has_unaimed x ≡ false))
     → MatchClosed next IsAtAims (IsInDrain (width u))
 closed_phase w u m t next some is goes last r = by_next next r
@@ -150,12 +163,15 @@ closed_phase w u m t next some is goes last r = by_next next r
     here : is_moving t.home ≡ true
     here = ap is_moving goes.goes.home ∙ still_moves m.home (moves_in ClosingPhase (width w) m.home is)
 
-    by_next : (next : Closed Moving Moving) → MatchClosed next (λ x. (x ≡ t) × (has_unaimed x ≡ true)) (λ x. (x ≡ t) × (has_unaimed x ≡ false)) → MatchClosed next IsAtAims (IsInDrain (width u))
+    by_next : (next : Closed Moving Moving) → MatchClosed next (λ x. (x ≡ t) × (has_unaimed x ≡ true)) (λ x. (x ≡ t) × (has_unaimed x ≡ false))
+        → MatchClosed next IsAtAims (IsInDrain (width u))
     by_next (closed.Aim x) r = subst IsAtAims (sym r.0) (at_aims (width u) t here at (subst (λ y. has_unaimed y ≡ true) r.0 r.1))
-    by_next (closed.Aimed x) r = subst (λ y. IsInDrain (width u) y) (sym r.0) (drain_begins (width u) t here (omega (arith, goes.width, some)) at (subst (λ y. has_unaimed y ≡ false) r.0 r.1))
+    by_next (closed.Aimed x) r = subst (λ y. IsInDrain (width u) y) (sym r.0)
+        (drain_begins (width u) t here (omega (arith, goes.width, some)) at (subst (λ y. has_unaimed y ≡ false) r.0 r.1))
 
 -- once a word is taken, none is aimed
-pub still_drains : (w u : World) (m t : Moving) → IsIn DrainPhase (width w) m → GoesOn w m u t → steps_done m.home + 1 < begins (width w) m.home (following DrainPhase) → IsInDrain (width u) t
+pub still_drains : (w u : World) (m t : Moving) → IsIn DrainPhase (width w) m → GoesOn w m u t
+    → steps_done m.home + 1 < begins (width w) m.home (following DrainPhase) → IsInDrain (width u) t
 still_drains w u m t is goes more = record {
   phase = still_in DrainPhase w u m t is goes more;
   aimed = none_aims (width u) _ t.home (λ moves e. omega (arith, e, begins_still w u m t DrainPhase goes, goes.steps, is));
@@ -166,16 +182,19 @@ still_drains w u m t is goes more = record {
 -- the phase that follows in a plan begins where this one ends: a phase between, which the plan does
 -- not have, has no steps
 after_begins : (words : ℕ) (there : Home) → is_moving there ≡ true → 1 ≤ words
-    → (begins words there (after_shared there) ≡ begins words there (following EnablePhase)) × (begins words there (following EnablePhase) < begins words there (following (after_shared there)))
+    → (begins words there (after_shared there) ≡ begins words there (following EnablePhase))
+    × (begins words there (following EnablePhase) < begins words there (following (after_shared there)))
 after_begins words (OnWay way at) moves some = by_end (old_end way) (new_end way)
   where
     by_end : (from to : End)
-        → (phase_begins from to words (if is_file to then LastPhase else LookPhase) ≡ phase_begins from to words LookPhase) × (phase_begins from to words LookPhase < phase_begins from to words (following (if is_file to then LastPhase else LookPhase)))
+        → (phase_begins from to words (if is_file to then LastPhase else LookPhase) ≡ phase_begins from to words LookPhase)
+        × (phase_begins from to words LookPhase < phase_begins from to words (following (if is_file to then LastPhase else LookPhase)))
     by_end from File = (refl, omega arith)
     by_end from Memory = (refl, omega (arith, some))
 after_begins words there moves some = absurd (cc)
 
-pub is_after : (phase : Phase) (words : ℕ) (m : Moving) → is_moving m.home ≡ true → phase ≡ after_shared m.home → 1 ≤ words → steps_done m.home ≡ begins words m.home (following EnablePhase) → IsIn phase words m
+pub is_after : (phase : Phase) (words : ℕ) (m : Moving) → is_moving m.home ≡ true → phase ≡ after_shared m.home → 1 ≤ words
+    → steps_done m.home ≡ begins words m.home (following EnablePhase) → IsIn phase words m
 is_after phase words m moves follows some at =
     let begun = after_begins words m.home moves some in
     subst (λ p. IsIn p words m) (sym follows) (omega (arith, at, begun.0), omega (arith, at, begun.1))
@@ -186,29 +205,35 @@ is_after phase words m moves follows some at =
 no_fence : (phase : Phase) (words : ℕ) (m : Moving) → phase ≢ FirstPhase → NextStepIsOf (Some phase) words m → is_at_fence m.home ≡ false
 no_fence FirstPhase words m other is = absurd (other refl)
 no_fence ClosingPhase words m other is = past_fence words m.home is.0
-no_fence DrainPhase words m other is = let mid = middle words m.home (moves_in DrainPhase words m.home is.phase) in past_fence words m.home (omega arith)
+no_fence DrainPhase words m other is = let mid = middle words m.home (moves_in DrainPhase words m.home is.phase) in
+    past_fence words m.home (omega arith)
 no_fence EnablePhase words m other is = let mid = middle words m.home (moves_in EnablePhase words m.home is) in past_fence words m.home (omega arith)
 no_fence LookPhase words m other is = let mid = middle words m.home (moves_in LookPhase words m.home is) in past_fence words m.home (omega arith)
-no_fence LastPhase words m other is = let mid = middle words m.home (moves_in LastPhase words m.home is) in past_fence words m.home (omega (arith, looks_before_last words m.home))
+no_fence LastPhase words m other is = let mid = middle words m.home (moves_in LastPhase words m.home is) in
+    past_fence words m.home (omega (arith, looks_before_last words m.home))
 no_fence phase words m other is = absurd (omega (arith, is.0, is.1))
 
 -- ---- what a step makes
 
 -- of a step that goes on, by its phase
 module _ (w u : World) where
-  pub goes_on_in : (phase : Phase) (m t : Moving) → NextStepIsOf (Some phase) (width w) m → OnceLanded w m (λ landed. GoesOn landed m u t) → GoesOnIn phase w m u t
+  pub goes_on_in : (phase : Phase) (m t : Moving) → NextStepIsOf (Some phase) (width w) m → OnceLanded w m (λ landed. GoesOn landed m u t)
+      → GoesOnIn phase w m u t
   goes_on_in FirstPhase m t is once = once
   goes_on_in phase m t is once = subst (λ landed. GoesOn landed m u t) (once.first.other (no_fence phase (width w) m (λ e. cc) is)) once.then
 
   -- it stays in the phase but after the last of its steps
-  pub stays_in : (phase : Phase) (m t : Moving) → NextStepIsOf (Some phase) (width w) m → GoesOnIn phase w m u t → steps_done m.home + 1 < begins (width w) m.home (following phase) → NextStepIsOf (Some phase) (width u) t
+  pub stays_in : (phase : Phase) (m t : Moving) → NextStepIsOf (Some phase) (width w) m → GoesOnIn phase w m u t
+      → steps_done m.home + 1 < begins (width w) m.home (following phase) → NextStepIsOf (Some phase) (width u) t
   stays_in FirstPhase m t is once more =
       let wide : width once.landed ≡ width w = ap (λ n. (n + 1) / 64) once.first.same.n in
-      still_in FirstPhase once.landed u m t (subst (λ n. IsIn FirstPhase n m) (sym wide) is) once.then (subst (λ n. steps_done m.home + 1 < begins n m.home ClosingPhase) (sym wide) more)
+      still_in FirstPhase once.landed u m t (subst (λ n. IsIn FirstPhase n m) (sym wide) is) once.then
+      (subst (λ n. steps_done m.home + 1 < begins n m.home ClosingPhase) (sym wide) more)
   stays_in DrainPhase m t is goes more = still_drains w u m t is.phase goes more
   stays_in phase m t is goes more = still_in phase w u m t is goes more
 
-pub last_of : (phase : Phase) (words : ℕ) (m : Moving) → NextStepIsOf (Some phase) words m → begins words m.home (following phase) ≤ steps_done m.home + 1 → IsLastOf phase words m
+pub last_of : (phase : Phase) (words : ℕ) (m : Moving) → NextStepIsOf (Some phase) words m
+    → begins words m.home (following phase) ≤ steps_done m.home + 1 → IsLastOf phase words m
 last_of DrainPhase words m is low = omega (arith, is.phase.1, low)
 last_of phase words m is low = omega (arith, is.1, low)
 
@@ -226,13 +251,15 @@ within_plan phase words (OnWay way at) = by_end phase (old_end way) (new_end way
 within_plan phase words there = omega arith
 
 -- a plan has a step more, in each phase
-pub in_plan : (phase : Option Phase) (words : ℕ) (m : Moving) → is_none phase ≡ false → NextStepIsOf phase words m → steps_done m.home < begins words m.home AllDone
+pub in_plan : (phase : Option Phase) (words : ℕ) (m : Moving) → is_none phase ≡ false → NextStepIsOf phase words m
+    → steps_done m.home < begins words m.home AllDone
 in_plan None words m some is = absurd (cc)
 in_plan (Some DrainPhase) words m some is = omega (arith, is.phase.1, within_plan DrainPhase words m.home)
 in_plan (Some phase) words m some is = omega (arith, is.1, within_plan phase words m.home)
 
 -- a step of a phase, by whether the one after it is of the phase too
-pub in_phase : (w u : World) (phase : Option Phase) (m t : Moving) (stays : Bool) → is_none phase ≡ false → NextStepIsOf phase (width w) m → OnceLanded w m (λ landed. GoesOn landed m u t)
+pub in_phase : (w u : World) (phase : Option Phase) (m t : Moving) (stays : Bool) → is_none phase ≡ false → NextStepIsOf phase (width w) m
+    → OnceLanded w m (λ landed. GoesOn landed m u t)
     → stays ≡ nat_lt (steps_done m.home + 1) (begins (width w) m.home (past_phase phase)) → GoesInPhase phase stays w m u t
 in_phase w u None m t stays some is once e = absurd (cc)
 in_phase w u (Some phase) m t true some is once e =
@@ -253,7 +280,8 @@ module _ (w u : World) (m t : Moving) (some : 1 ≤ width w) (once : OnceLanded 
   still moves = ap is_moving once.then.goes.home ∙ still_moves m.home moves
 
   -- with the last step of its phase, which is not that of the plan
-  pub comes_to : (phase : Phase) → NextStepIsOf (Some phase) (width w) m → IsLastOf phase (width w) m → steps_done m.home + 1 < begins (width w) m.home AllDone → NextStepIsOf (next_phase t (Some phase)) (width u) t
+  pub comes_to : (phase : Phase) → NextStepIsOf (Some phase) (width w) m → IsLastOf phase (width w) m
+      → steps_done m.home + 1 < begins (width w) m.home AllDone → NextStepIsOf (next_phase t (Some phase)) (width u) t
   comes_to FirstPhase is last more =
       let moves = moves_in FirstPhase (width w) m.home is in
       let mid = middle (width u) t.home (still moves) in
@@ -265,7 +293,8 @@ module _ (w u : World) (m t : Moving) (some : 1 ≤ width w) (once : OnceLanded 
       let at : steps_done t.home ≡ begins (width u) t.home DrainPhase = omega (arith, begun DrainPhase, once.then.steps, last) in
       past (has_unaimed t) refl here at
     where
-      past : (b : Bool) → has_unaimed t ≡ b → is_moving t.home ≡ true → steps_done t.home ≡ begins (width u) t.home DrainPhase → NextStepIsOf (if b then None else Some DrainPhase) (width u) t
+      past : (b : Bool) → has_unaimed t ≡ b → is_moving t.home ≡ true → steps_done t.home ≡ begins (width u) t.home DrainPhase
+          → NextStepIsOf (if b then None else Some DrainPhase) (width u) t
       past true left here at = at_aims (width u) t here at left
       past false left here at = drain_begins (width u) t here (omega (arith, wide, some)) at left
   comes_to DrainPhase is last more =
@@ -292,12 +321,16 @@ module _ (w u : World) (m t : Moving) (some : 1 ≤ width w) (once : OnceLanded 
 
   -- after any step of a phase, by whether one more of it is left
   pub then_in : (phase : Option Phase) (stays : Bool) → is_none phase ≡ false → NextStepIsOf phase (width w) m
-      → (stays ≡ true → steps_done m.home + 1 < begins (width w) m.home (past_phase phase)) → (stays ≡ false → begins (width w) m.home (past_phase phase) ≤ steps_done m.home + 1)
-      → steps_done m.home + 1 < begins (width w) m.home AllDone → (after : Option Phase) → after ≡ (if stays then phase else next_phase t phase) → NextStepIsOf after (width u) t
-  then_in phase stays some_phase is low high more after e = subst (λ p. NextStepIsOf p (width u) t) (sym e) (by_phase phase stays some_phase is low high more)
+      → (stays ≡ true → steps_done m.home + 1 < begins (width w) m.home (past_phase phase))
+      → (stays ≡ false → begins (width w) m.home (past_phase phase) ≤ steps_done m.home + 1)
+      → steps_done m.home + 1 < begins (width w) m.home AllDone → (after : Option Phase) → after ≡ (if stays then phase else next_phase t phase)
+      → NextStepIsOf after (width u) t
+  then_in phase stays some_phase is low high more after e =
+      subst (λ p. NextStepIsOf p (width u) t) (sym e) (by_phase phase stays some_phase is low high more)
     where
       by_phase : (phase : Option Phase) (stays : Bool) → is_none phase ≡ false → NextStepIsOf phase (width w) m
-          → (stays ≡ true → steps_done m.home + 1 < begins (width w) m.home (past_phase phase)) → (stays ≡ false → begins (width w) m.home (past_phase phase) ≤ steps_done m.home + 1)
+          → (stays ≡ true → steps_done m.home + 1 < begins (width w) m.home (past_phase phase))
+          → (stays ≡ false → begins (width w) m.home (past_phase phase) ≤ steps_done m.home + 1)
           → steps_done m.home + 1 < begins (width w) m.home AllDone → NextStepIsOf (if stays then phase else next_phase t phase) (width u) t
       by_phase None stays some_phase is low high more = absurd (cc)
       by_phase (Some phase) true some_phase is low high more = stays_in w u phase m t is (goes_on_in w u phase m t is once) (low refl)
@@ -314,7 +347,8 @@ aims_to w m t some aiming on = by_home m.home refl aiming
     moved : t.home ≡ aimed m.home
     moved = ap (λ (x : Moving). x.home) on.moved
 
-    past : (b : Bool) → has_unaimed t ≡ b → is_moving t.home ≡ true → steps_done t.home ≡ begins (width w) t.home DrainPhase → NextStepIsOf (if b then None else Some DrainPhase) (width w) t
+    past : (b : Bool) → has_unaimed t ≡ b → is_moving t.home ≡ true → steps_done t.home ≡ begins (width w) t.home DrainPhase
+        → NextStepIsOf (if b then None else Some DrainPhase) (width w) t
     past true left here at = at_aims (width w) t here at left
     past false left here at = drain_begins (width w) t here some at left
 
@@ -322,16 +356,19 @@ aims_to w m t some aiming on = by_home m.home refl aiming
     by_home (OnWay way at) e is =
         let here : t.home ≡ OnWay way (aimed_further at) = moved ∙ ap aimed e in
         let steps : at.steps ≡ aims_step (OnWay way at) = eqb-true _ _ (and_parts _ _ is).0 in
-        past (has_unaimed t) refl (ap is_moving here) (subst (λ there. steps_done there ≡ begins (width w) there DrainPhase) (sym here) (omega (arith, steps)))
+        past (has_unaimed t) refl (ap is_moving here) (subst (λ there. steps_done there ≡ begins (width w) there DrainPhase) (sym here)
+        (omega (arith, steps)))
     by_home there e is = absurd (cc)
 
 -- ---- the last step
 
 -- a phase but the last one ends before the plan does
-ends_before : (phase : Phase) (words : ℕ) (there : Home) → is_moving there ≡ true → (phase ≡ LastPhase → ⊥) → (phase ≡ AllDone → ⊥) → begins words there (following phase) < begins words there AllDone
+ends_before : (phase : Phase) (words : ℕ) (there : Home) → is_moving there ≡ true → (phase ≡ LastPhase → ⊥) → (phase ≡ AllDone → ⊥)
+    → begins words there (following phase) < begins words there AllDone
 ends_before phase words (OnWay way at) moves other done = by_end phase (old_end way) (new_end way) other done
   where
-    by_end : (phase : Phase) (from to : End) → (phase ≡ LastPhase → ⊥) → (phase ≡ AllDone → ⊥) → phase_begins from to words (following phase) < phase_begins from to words AllDone
+    by_end : (phase : Phase) (from to : End) → (phase ≡ LastPhase → ⊥) → (phase ≡ AllDone → ⊥)
+        → phase_begins from to words (following phase) < phase_begins from to words AllDone
     by_end FirstPhase from File other done = omega arith
     by_end FirstPhase from Memory other done = omega arith
     by_end ClosingPhase from File other done = omega arith
@@ -348,14 +385,20 @@ ends_before phase words there moves other done = absurd (cc)
 
 -- a step of a phase that is not the last one of the plan
 pub not_last : (phase : Option Phase) (stays : Bool) (words : ℕ) (m : Moving) → is_none phase ≡ false → NextStepIsOf phase words m
-    → (stays ≡ true → steps_done m.home + 1 < begins words m.home (past_phase phase)) → (not stays && is_last phase) ≡ false → steps_done m.home + 1 < begins words m.home AllDone
+    → (stays ≡ true → steps_done m.home + 1 < begins words m.home (past_phase phase)) → (not stays && is_last phase) ≡ false
+    → steps_done m.home + 1 < begins words m.home AllDone
 not_last None stays words m some is low other = absurd (cc)
 not_last (Some phase) true words m some is low other = omega (arith, low refl, within_plan phase words m.home)
-not_last (Some FirstPhase) false words m some is low other = omega (arith, is.1, ends_before FirstPhase words m.home (moves_in FirstPhase words m.home is) (λ e. cc) (λ e. cc))
-not_last (Some ClosingPhase) false words m some is low other = omega (arith, is.1, ends_before ClosingPhase words m.home (moves_in ClosingPhase words m.home is) (λ e. cc) (λ e. cc))
-not_last (Some DrainPhase) false words m some is low other = omega (arith, is.phase.1, ends_before DrainPhase words m.home (moves_in DrainPhase words m.home is.phase) (λ e. cc) (λ e. cc))
-not_last (Some EnablePhase) false words m some is low other = omega (arith, is.1, ends_before EnablePhase words m.home (moves_in EnablePhase words m.home is) (λ e. cc) (λ e. cc))
-not_last (Some LookPhase) false words m some is low other = omega (arith, is.1, ends_before LookPhase words m.home (moves_in LookPhase words m.home is) (λ e. cc) (λ e. cc))
+not_last (Some FirstPhase) false words m some is low other =
+    omega (arith, is.1, ends_before FirstPhase words m.home (moves_in FirstPhase words m.home is) (λ e. cc) (λ e. cc))
+not_last (Some ClosingPhase) false words m some is low other =
+    omega (arith, is.1, ends_before ClosingPhase words m.home (moves_in ClosingPhase words m.home is) (λ e. cc) (λ e. cc))
+not_last (Some DrainPhase) false words m some is low other =
+    omega (arith, is.phase.1, ends_before DrainPhase words m.home (moves_in DrainPhase words m.home is.phase) (λ e. cc) (λ e. cc))
+not_last (Some EnablePhase) false words m some is low other =
+    omega (arith, is.1, ends_before EnablePhase words m.home (moves_in EnablePhase words m.home is) (λ e. cc) (λ e. cc))
+not_last (Some LookPhase) false words m some is low other =
+    omega (arith, is.1, ends_before LookPhase words m.home (moves_in LookPhase words m.home is) (λ e. cc) (λ e. cc))
 not_last (Some LastPhase) false words m some is low other = absurd (cc)
 not_last (Some AllDone) false words m some is low other = absurd (omega (arith, is.0, is.1))
 
@@ -368,7 +411,8 @@ last_step words (OnWay way at) e = eqb-true _ _ e
 last_step words there e = absurd (cc)
 
 -- the step of the last phase after which none is left
-pub is_last_step : (phase : Option Phase) (stays : Bool) (words : ℕ) (m : Moving) → NextStepIsOf phase words m → (stays ≡ false → begins words m.home (past_phase phase) ≤ steps_done m.home + 1)
+pub is_last_step : (phase : Option Phase) (stays : Bool) (words : ℕ) (m : Moving) → NextStepIsOf phase words m
+    → (stays ≡ false → begins words m.home (past_phase phase) ≤ steps_done m.home + 1)
     → (not stays && is_last phase) ≡ true → is_at_last words m.home ≡ true
 is_last_step (Some LastPhase) false words m is high ends = at_last words m.home (omega (arith, is.1, high refl))
 is_last_step (Some LastPhase) true words m is high ends = absurd (cc)
@@ -378,7 +422,8 @@ is_last_step phase stays words m is high ends = absurd (false≢true (and_parts 
 pub last_aims_none : (words : ℕ) (m : Moving) → is_at_last words m.home ≡ true → aims m ≡ false
 last_aims_none words m last = none_aims words _ m.home (λ moves e. far m.home moves (last_step words m.home last) e)
   where
-    far : (there : Home) → is_moving there ≡ true → steps_done there + 1 ≡ begins words there AllDone → steps_done there ≡ begins words there DrainPhase → ⊥
+    far : (there : Home) → is_moving there ≡ true → steps_done there + 1 ≡ begins words there AllDone
+        → steps_done there ≡ begins words there DrainPhase → ⊥
     far (OnWay (Outward from) at) moves ends here = omega (arith, ends, here)
     far (OnWay (Inward to) at) moves ends here = omega (arith, ends, here)
     far (OnWay (Across from to) at) moves ends here = omega (arith, ends, here)
@@ -391,15 +436,19 @@ no_fence_last words there last = by_fence (is_at_fence there) refl
     by_fence true at = absurd (false≢true (sym (unlast words there at) ∙ last))
     by_fence false other = other
 
-pub finishes : (w u : World) (m : Moving) (o : Outcome) → is_at_last (width w) m.home ≡ true → EndsAs w m u o → StepsTo (next_aim m) w m u (Finished o)
-finishes w u m o last ends = subst (λ b. StepsTo (aim_if b m) w m u (Finished o)) (sym (last_aims_none (width w) m last)) (none_lands w m (λ landed. EndsAs landed m u o) (no_fence_last (width w) m.home last) ends)
+pub finishes : (w u : World) (m : Moving) (o : Outcome) → is_at_last (width w) m.home ≡ true → EndsAs w m u o
+    → StepsTo (next_aim m) w m u (Finished o)
+finishes w u m o last ends = subst (λ b. StepsTo (aim_if b m) w m u (Finished o)) (sym (last_aims_none (width w) m last))
+    (none_lands w m (λ landed. EndsAs landed m u o) (no_fence_last (width w) m.home last) ends)
 
 -- ---- a step in place
 
 -- an access
-pub goes_access : (w u : World) (m t : Moving) (phase : Option Phase) → 1 ≤ width w → NextStepIsOf phase (width w) m → is_none phase ≡ false → OnceLanded w m (λ landed. GoesOn landed m u t) → GoesInPlace true w m u t
+pub goes_access : (w u : World) (m t : Moving) (phase : Option Phase) → 1 ≤ width w → NextStepIsOf phase (width w) m → is_none phase ≡ false
+    → OnceLanded w m (λ landed. GoesOn landed m u t) → GoesInPlace true w m u t
 goes_access w u m t phase some is accesses once = (
-  subst (λ b. GoesTo (aim_if b m) w m u t) (sym (step_aims phase (width w) m some is ∙ accesses)) (record { landed = once.landed; first = once.first; then = once.then.goes }),
+  subst (λ b. GoesTo (aim_if b m) w m u t) (sym (step_aims phase (width w) m some is ∙ accesses))
+      (record { landed = once.landed; first = once.first; then = once.then.goes }),
   once.then.fits,
 )
 

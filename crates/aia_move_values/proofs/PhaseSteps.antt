@@ -26,7 +26,15 @@ pub record Middle (words : ℕ) (there : Home) : Type 0 where
 pub middle : (words : ℕ) (there : Home) → is_moving there ≡ true → Middle words there
 middle words (OnWay way at) moves =
     let looks = looks_begin (old_end way) (new_end way) words in
-    record { closes = omega arith; drain = omega arith; drains = omega arith; enable = omega arith; ends = omega (arith, looks); take = refl; take_enables = refl }
+    record {
+      closes = omega arith;
+      drain = omega arith;
+      drains = omega arith;
+      enable = omega arith;
+      ends = omega (arith, looks);
+      take = refl;
+      take_enables = refl;
+    }
 middle words there moves = absurd (cc)
 
 -- a step changes no beginning

@@ -20,23 +20,30 @@ module _ (w u : World) (q threshold : ℕ) (deed : InterruptFile → InterruptFi
   other_slot_kept r other = own_words w.memory u.memory r (λ place from to. changed.elsewhere place (slots_apart q r place other from to))
 
   -- and so are the words of the entries of all tables
-  pub done_entry_words : (vm file : ℕ) → (get_or u.memory (entry_word_place vm file) 0 ≡ get_or w.memory (entry_word_place vm file) 0) × (get_or u.memory (entry_word_place vm file + 1) 0 ≡ get_or w.memory (entry_word_place vm file + 1) 0)
-  done_entry_words vm file = (changed.elsewhere (entry_word_place vm file) (inr (omega arith)), changed.elsewhere (entry_word_place vm file + 1) (inr (omega arith)))
+  pub done_entry_words : (vm file : ℕ) → (get_or u.memory (entry_word_place vm file) 0 ≡ get_or w.memory (entry_word_place vm file) 0)
+      × (get_or u.memory (entry_word_place vm file + 1) 0 ≡ get_or w.memory (entry_word_place vm file + 1) 0)
+  done_entry_words vm file = (
+    changed.elsewhere (entry_word_place vm file) (inr (omega arith)),
+    changed.elsewhere (entry_word_place vm file + 1) (inr (omega arith)),
+  )
 
   -- of any virtual hart nothing but its slot
   pub slot_done-places : (g : Vcpu) (there : Home) → places_of u g there ≡ record (places_of w g there) { slot = mrif_in u.memory (slot_of w.vms g) }
   slot_done-places g there =
       let words = done_entry_words g.vm g.number in
-      let all : places_of (record w { memory = u.memory }) g there ≡ record (places_of w g there) { slot = mrif_in u.memory (slot_of w.vms g) } = λ k. record (places_of w g there) { slot = mrif_in u.memory (slot_of w.vms g); word0 = words.0 k; word1 = words.1 k } in
+      let all : places_of (record w { memory = u.memory }) g there ≡ record (places_of w g there) { slot = mrif_in u.memory (slot_of w.vms g) } =
+      λ k. record (places_of w g there) { slot = mrif_in u.memory (slot_of w.vms g); word0 = words.0 k; word1 = words.1 k } in
       ap (λ (x : World). places_of x g there) changed.rest ∙ all
 
   -- and that stays where it is another slot
   pub slot_done-others : (g : Vcpu) (there : Home) → q ≢ slot_of w.vms g → places_of u g there ≡ places_of w g there
   slot_done-others g there other =
       let slot = other_slot_kept (slot_of w.vms g) (λ e. other (sym e)) in
-      let all : record (places_of w g there) { slot = mrif_in u.memory (slot_of w.vms g) } ≡ places_of w g there = λ k. record (places_of w g there) { slot = slot k } in
+      let all : record (places_of w g there) { slot = mrif_in u.memory (slot_of w.vms g) } ≡ places_of w g there =
+      λ k. record (places_of w g there) { slot = slot k } in
       slot_done-places g there ∙ all
 
   -- as is that of every other virtual hart that is there
-  pub slot_done-peers : (g x : Vcpu) (there : Home) → is_vcpu_in w.vms g ≡ true → is_vcpu_in w.vms x ≡ true → slot_of w.vms g ≡ q → x ≢ g → places_of u x there ≡ places_of w x there
+  pub slot_done-peers : (g x : Vcpu) (there : Home) → is_vcpu_in w.vms g ≡ true → is_vcpu_in w.vms x ≡ true → slot_of w.vms g ≡ q → x ≢ g
+      → places_of u x there ≡ places_of w x there
   slot_done-peers g x there standing inside is other = slot_done-others x there (λ e. other (same_slot w.vms x g inside standing (sym (is ∙ e))))

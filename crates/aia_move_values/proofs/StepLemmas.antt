@@ -97,7 +97,14 @@ one_step : (w u : World) (m t : Moving) (access : Access) → MoveFits w m → I
     → t ≡ record m { home = one_more m.home; hand = hand_after access m w } → is_at_last (width w) m.home ≡ false → HaveNoZero w m t → GoesOn w m u t
 one_step w u m t access fits next made is more zero = record {
   goes = record {
-    step = record { access = access; is_next = next; in_table = next_in_plan (width w) m.home access next; makes = made; carries = ap (λ (x : Moving). x.hand) is };
+    step = record {
+      access = access;
+      is_next = next;
+      in_table = next_in_plan (width w) m.home access next;
+      makes = made;
+      carries =
+          ap (λ (x : Moving). x.hand) is;
+    };
     more = more;
     home = home;
     same_who = who;
@@ -155,15 +162,19 @@ fits_still w u m same fits = record {
 -- ---- the next access is made
 
 -- a word 0 that it takes has no identity 0
-takes_pending : (words : ℕ) (there : Home) (access : Access) (word : ℕ) → 1 ≤ words → IsNext words there access → TakesNoZero access word → steps_done there ≡ pending_step there 0 → has_bit word 0 ≡ false
+takes_pending : (words : ℕ) (there : Home) (access : Access) (word : ℕ) → 1 ≤ words → IsNext words there access → TakesNoZero access word
+    → steps_done there ≡ pending_step there 0 → has_bit word 0 ≡ false
 takes_pending words (OnWay way at) access word some next none e =
-    let is : access ≡ TakePending 0 = one_a_step words (OnWay way at) access (TakePending 0) next.has (lt-ltb 0 words some) (sym next.step ∙ e ∙ omega arith) in
+    let is : access ≡ TakePending 0 = one_a_step words (OnWay way at) access (TakePending 0) next.has (lt-ltb 0 words some)
+    (sym next.step ∙ e ∙ omega arith) in
     subst (λ a. TakesNoZero a word) is none refl
 takes_pending words there access word some next none e = let no : false ≡ true = next.has in absurd (cc)
 
-takes_enables : (words : ℕ) (there : Home) (access : Access) (word : ℕ) → 1 ≤ words → IsNext words there access → TakesNoZero access word → steps_done there ≡ enables_step words there 0 → has_bit word 0 ≡ false
+takes_enables : (words : ℕ) (there : Home) (access : Access) (word : ℕ) → 1 ≤ words → IsNext words there access → TakesNoZero access word
+    → steps_done there ≡ enables_step words there 0 → has_bit word 0 ≡ false
 takes_enables words (OnWay way at) access word some next none e =
-    let is : access ≡ TakeEnables 0 = one_a_step words (OnWay way at) access (TakeEnables 0) next.has (lt-ltb 0 words some) (sym next.step ∙ e ∙ omega arith) in
+    let is : access ≡ TakeEnables 0 = one_a_step words (OnWay way at) access (TakeEnables 0) next.has (lt-ltb 0 words some)
+    (sym next.step ∙ e ∙ omega arith) in
     subst (λ a. TakesNoZero a word) is none refl
 takes_enables words there access word some next none e = let no : false ≡ true = next.has in absurd (cc)
 
@@ -171,17 +182,20 @@ unfinished : (words : ℕ) (there : Home) → steps_done there + 1 < begins word
 unfinished words (OnWay way at) more = ne_eqb _ _ (λ e. omega (arith, e, more))
 unfinished words there more = refl
 
-module _ (w u : World) (m x t : Moving) (fits : MoveFits w m) (some : 1 ≤ width w) (next : ExecutesNext w m u x) (more : steps_done m.home + 1 < begins (width w) m.home AllDone) (one : t ≡ record x { home = one_more x.home }) where
+module _ (w u : World) (m x t : Moving) (fits : MoveFits w m) (some : 1 ≤ width w) (next : ExecutesNext w m u x)
+    (more : steps_done m.home + 1 < begins (width w) m.home AllDone) (one : t ≡ record x { home = one_more x.home }) where
   carries_on : (hand : Hand) → x.hand ≡ hand → t ≡ record m { home = one_more m.home; hand = hand }
   carries_on hand e = one ∙ (λ k. record { who = next.same_who k; home = one_more (next.same_home k); hand = e k })
 
   hand_is : t.hand ≡ x.hand
   hand_is = ap (λ (y : Moving). y.hand) one
 
-  none_zero : (landed : World) → width landed ≡ width w → (access : Access) → IsNext (width w) m.home access → TakesNoZero access x.hand.word → HaveNoZero landed m t
+  none_zero : (landed : World) → width landed ≡ width w → (access : Access) → IsNext (width w) m.home access → TakesNoZero access x.hand.word
+      → HaveNoZero landed m t
   none_zero landed wide access is none = record {
     pending = λ e. subst (λ (h : Hand). has_bit h.word 0 ≡ false) (sym hand_is) (takes_pending (width w) m.home access x.hand.word some is none e);
-    enabled = λ e. subst (λ (h : Hand). has_bit h.word 0 ≡ false) (sym hand_is) (takes_enables (width w) m.home access x.hand.word some is none (e ∙ ap (λ n. enables_step n m.home 0) wide));
+    enabled = λ e. subst (λ (h : Hand). has_bit h.word 0 ≡ false) (sym hand_is)
+        (takes_enables (width w) m.home access x.hand.word some is none (e ∙ ap (λ n. enables_step n m.home 0) wide));
   }
 
   at_the_fence : IsNext (width w) m.home Fence → Executes Fence m w u x.hand → OnceLanded w m (λ landed. GoesOn landed m u t)
@@ -192,14 +206,18 @@ module _ (w u : World) (m x t : Moving) (fits : MoveFits w m) (some : 1 ≤ widt
       record {
         landed = fences.landed;
         first = first;
-        then = one_step fences.landed u m t Fence (fits_still w fences.landed m first.same fits) (subst (λ n. IsNext n m.home Fence) (sym wide) is) fences.fenced (carries_on m.hand made.carries)
-            (subst (λ n. is_at_last n m.home ≡ false) (sym wide) (unfinished (width w) m.home more)) (none_zero fences.landed wide Fence is made.no_zero);
+        then = one_step fences.landed u m t Fence (fits_still w fences.landed m first.same fits)
+            (subst (λ n. IsNext n m.home Fence) (sym wide) is) fences.fenced (carries_on m.hand made.carries)
+            (subst (λ n. is_at_last n m.home ≡ false) (sym wide) (unfinished (width w) m.home more))
+            (none_zero fences.landed wide Fence is made.no_zero);
       }
 
-  elsewhere : (access : Access) → IsNext (width w) m.home access → is_fence access ≡ false → Makes access m w u → x.hand ≡ hand_after access m w → TakesNoZero access x.hand.word → OnceLanded w m (λ landed. GoesOn landed m u t)
+  elsewhere : (access : Access) → IsNext (width w) m.home access → is_fence access ≡ false → Makes access m w u → x.hand ≡ hand_after access m w
+      → TakesNoZero access x.hand.word → OnceLanded w m (λ landed. GoesOn landed m u t)
   elsewhere access is other makes carries none =
       none_lands w m (λ landed. GoesOn landed m u t) (sym (fence_is_next (width w) m.home access is) ∙ other)
-      (one_step w u m t access fits is makes (carries_on (hand_after access m w) carries) (unfinished (width w) m.home more) (none_zero w refl access is none))
+      (one_step w u m t access fits is makes (carries_on (hand_after access m w) carries) (unfinished (width w) m.home more)
+      (none_zero w refl access is none))
 
   by_access : (access : Access) → IsNext (width w) m.home access → Executes access m w u x.hand → OnceLanded w m (λ landed. GoesOn landed m u t)
   by_access Fence is made = at_the_fence is made
@@ -211,17 +229,33 @@ module _ (w u : World) (m x t : Moving) (fits : MoveFits w m) (some : 1 ≤ widt
 
 -- it is the last one, with which nothing more is taken
 module _ (w u : World) (m x : Moving) (next : ExecutesNext w m u x) (last : is_at_last (width w) m.home ≡ true) where
-  ends_by : (to : End) (access : Access) → IsNext (width w) m.home access → Executes access m w u x.hand → access ≡ last_access to → Ends w m u m.hand × (x.hand ≡ m.hand)
+  ends_by : (to : End) (access : Access) → IsNext (width w) m.home access → Executes access m w u x.hand → access ≡ last_access to
+      → Ends w m u m.hand × (x.hand ≡ m.hand)
   ends_by to access is made e = by_end to (subst (λ a. IsNext (width w) m.home a) e is) (subst (λ a. Executes a m w u x.hand) e made)
     where
       by_end : (to : End) → IsNext (width w) m.home (last_access to) → Executes (last_access to) m w u x.hand → Ends w m u m.hand × (x.hand ≡ m.hand)
-      by_end ends.File is made = (record { step = record { access = PutDelivery; is_next = is; in_table = next_in_plan (width w) m.home PutDelivery is; makes = made.makes; carries = refl }; last = last }, made.carries)
-      by_end ends.Memory is made = (record { step = record { access = Post; is_next = is; in_table = next_in_plan (width w) m.home Post is; makes = made.makes; carries = refl }; last = last }, made.carries)
+      by_end ends.File is made = (
+        record {
+          step = record
+              { access = PutDelivery; is_next = is; in_table = next_in_plan (width w) m.home PutDelivery is; makes = made.makes; carries = refl };
+          last = last;
+        },
+        made.carries,
+      )
+      by_end ends.Memory is made = (
+        record {
+          step = record
+              { access = Post; is_next = is; in_table = next_in_plan (width w) m.home Post is; makes = made.makes; carries = refl };
+          last = last;
+        },
+        made.carries,
+      )
 
   by_home : (there : Home) → m.home ≡ there → Ends w m u m.hand × (x.hand ≡ m.hand)
   by_home (OnWay way at) e =
       ends_by (new_end way) next.access next.is_next next.executes
-      (last_is (width w) way at next.access (subst (λ h. IsNext (width w) h next.access) e next.is_next) (subst (λ h. is_at_last (width w) h ≡ true) e last))
+      (last_is (width w) way at next.access (subst (λ h. IsNext (width w) h next.access) e next.is_next)
+      (subst (λ h. is_at_last (width w) h ≡ true) e last))
   by_home there e = let no : is_at_last (width w) there ≡ true = subst (λ h. is_at_last (width w) h ≡ true) e last in absurd (cc)
 
   pub executed_last : Ends w m u m.hand × (x.hand ≡ m.hand)

@@ -42,7 +42,8 @@ use Rattle.aia_move_values.proofs.MadeView.{few_words}
 use Rattle.aia_regs.specs.declared.limits.TheConstants.{SLOTS, ENTRIES, FILE_WORDS}
 
 -- a word of the entries is of one entry
-pub one_entry : (a b c d x y : ℕ) → b < ENTRIES → d < ENTRIES → x ≤ 1 → y ≤ 1 → entry_word_place a b + x ≡ entry_word_place c d + y → (a ≡ c) × (b ≡ d)
+pub one_entry : (a b c d x y : ℕ) → b < ENTRIES → d < ENTRIES → x ≤ 1 → y ≤ 1 → entry_word_place a b + x ≡ entry_word_place c d + y
+    → (a ≡ c) × (b ≡ d)
 one_entry a b c d x y low small one two e = (omega arith, omega arith)
 
 -- ---- what the changes leave
@@ -69,9 +70,11 @@ module _ (w u : World) (m : Moving) where
   })
 
   held_apart : (there : Home) (r p : GuestPlace) → holds r there ≡ false → holds p there ≡ true → spot_of r ≢ spot_of p
-  held_apart there r p none some e = let no : false ≡ true = sym none ∙ ap (λ (x : GuestPlace). holds x there) (same_place r p e) ∙ some in absurd (cc)
+  held_apart there r p none some e = let no : false ≡ true = sym none ∙ ap (λ (x : GuestPlace). holds x there) (same_place r p e)
+      ∙ some in absurd (cc)
 
-  pub touches_file : (p : GuestPlace) (f : FileState) → IsThere w.imsic (spot_of p) → holds p m.home ≡ true → u ≡ with_state w (spot_of p) f → Touches false w u m
+  pub touches_file : (p : GuestPlace) (f : FileState) → IsThere w.imsic (spot_of p) → holds p m.home ≡ true → u ≡ with_state w (spot_of p) f
+      → Touches false w u m
   touches_file p f stands held e = subst TouchesOwn (sym e) (record {
     rest = refl;
     tables = refl;
@@ -90,7 +93,8 @@ module _ (w u : World) (m : Moving) where
 
   -- a word of memory: one of the slot, or one of the entry
   touches_word : (place v : ℕ) → ((r : ℕ) → r < SLOTS → r ≢ m.who.found.slot → (place < 64 * r) ⊎ (64 * (r + 1) ≤ place))
-      → ((g : Vcpu) → is_vcpu_in w.vms g ≡ true → g ≢ mover m → (entry_word_place g.vm g.number ≢ place) × (entry_word_place g.vm g.number + 1 ≢ place))
+      → ((g : Vcpu) → is_vcpu_in w.vms g ≡ true → g ≢ mover m → (entry_word_place g.vm g.number ≢ place)
+      × (entry_word_place g.vm g.number + 1 ≢ place))
       → u ≡ with_word w place v → Touches false w u m
   touches_word place v apart past e = subst TouchesOwn (sym e) (record {
     rest = refl;
@@ -103,13 +107,17 @@ module _ (w u : World) (m : Moving) where
     noticed = λ no. absurd (cc);
     count = λ no. refl;
     slots = λ r low other. other_words w.memory r place v (apart r low other);
-    entry_words = λ g there other. (get_or-set_other w.memory place (entry_word_place g.vm g.number) v 0 (past g there other).0, get_or-set_other w.memory place (entry_word_place g.vm g.number + 1) v 0 (past g there other).1);
+    entry_words = λ g there other. (
+      get_or-set_other w.memory place (entry_word_place g.vm g.number) v 0 (past g there other).0,
+      get_or-set_other w.memory place (entry_word_place g.vm g.number + 1) v 0 (past g there other).1,
+    );
     in_force = λ g other. refl;
     stages = λ q other. refl;
   })
 
   module _ (whole : IsWhole w) (stands : is_vcpu_in w.vms (mover m) ≡ true) where
-    pub touches_slot : (place j v : ℕ) → place ≡ 64 * m.who.found.slot + j → m.who.found.slot < SLOTS → j < 64 → u ≡ with_word w place v → Touches false w u m
+    pub touches_slot : (place j v : ℕ) → place ≡ 64 * m.who.found.slot + j → m.who.found.slot < SLOTS → j < 64 → u ≡ with_word w place v
+        → Touches false w u m
     touches_slot place j v at low few e = touches_word place v
         (λ r small other. elim (cases_lt r m.who.found.slot) [
           | inl less ↦ inr (omega arith)
@@ -118,15 +126,21 @@ module _ (w u : World) (m : Moving) where
         (λ g there other. (λ same. omega arith, λ same. omega arith)) e
 
     pub touches_entry : (which v : ℕ) → which ≤ 1 → u ≡ with_entry_word w m.who.found.vm m.who.found.number which v → Touches false w u m
-    touches_entry which v one e = touches_word (entry_word_place m.who.found.vm m.who.found.number + which) v (λ r small other. inr (omega arith)) apart e
+    touches_entry which v one e = touches_word (entry_word_place m.who.found.vm m.who.found.number + which) v
+        (λ r small other. inr (omega arith)) apart e
       where
-        apart : (g : Vcpu) → is_vcpu_in w.vms g ≡ true → g ≢ mover m → (entry_word_place g.vm g.number ≢ entry_word_place m.who.found.vm m.who.found.number + which) × (entry_word_place g.vm g.number + 1 ≢ entry_word_place m.who.found.vm m.who.found.number + which)
+        apart : (g : Vcpu) → is_vcpu_in w.vms g ≡ true → g ≢ mover m
+            → (entry_word_place g.vm g.number ≢ entry_word_place m.who.found.vm m.who.found.number + which)
+            × (entry_word_place g.vm g.number + 1 ≢ entry_word_place m.who.found.vm m.who.found.number + which)
         apart g there other =
             let mine = vcpu_entry w m.who.found.vm m.who.found.number whole stands in
             let its = vcpu_entry w g.vm g.number whole there in (
-              λ same. let zero : entry_word_place g.vm g.number + 0 ≡ entry_word_place m.who.found.vm m.who.found.number + which = omega (arith, same) in
-                  let both = one_entry g.vm g.number m.who.found.vm m.who.found.number 0 which its.2 mine.2 (omega arith) one zero in other (λ k. vcpu (both.0 k) (both.1 k)),
-              λ same. let both = one_entry g.vm g.number m.who.found.vm m.who.found.number 1 which its.2 mine.2 (omega arith) one same in other (λ k. vcpu (both.0 k) (both.1 k)),
+              λ same. let zero : entry_word_place g.vm g.number + 0 ≡ entry_word_place m.who.found.vm m.who.found.number + which =
+                  omega (arith, same) in
+                  let both = one_entry g.vm g.number m.who.found.vm m.who.found.number 0 which its.2 mine.2 (omega arith) one zero in
+                  other (λ k. vcpu (both.0 k) (both.1 k)),
+              λ same. let both = one_entry g.vm g.number m.who.found.vm m.who.found.number 1 which its.2 mine.2 (omega arith) one same in
+                  other (λ k. vcpu (both.0 k) (both.1 k)),
             )
 
     pub touches_fence : u ≡ with_fence w m.who.found.vm m.who.found.number → Touches false w u m
@@ -171,25 +185,43 @@ module _ (w u : World) (m : Moving) where
 
   pub touches_notice : m.who.found.notice < w.imsic.harts → Posts w u (SupervisorFile m.who.found.notice) (m.who.found.slot + 1) → Touches true w u m
   touches_notice low p = record {
-    rest = (posts_rest w u (SupervisorFile m.who.found.notice) (m.who.found.slot + 1) p) ∙ (λ k. record w { imsic = record w.imsic { files = u.imsic.files }; memory = u.memory; tables = sym (ap (λ (x : World). x.tables) p.rest) k; stages = sym (ap (λ (x : World). x.stages) p.rest) k; notices = u.notices });
+    rest = (posts_rest w u (SupervisorFile m.who.found.notice) (m.who.found.slot + 1) p)
+        ∙ (λ k. record w {
+          imsic = record w.imsic { files = u.imsic.files };
+          memory = u.memory;
+          tables =
+              sym (ap (λ (x : World). x.tables) p.rest) k;
+          stages = sym (ap (λ (x : World). x.stages) p.rest) k;
+          notices = u.notices;
+        });
     tables = ap (λ (x : World). length x.tables) p.rest;
     masks = λ v. ap (λ (x : World). (table_of x.tables v).mask) p.rest;
     starts = λ v. ap (λ (x : World). (table_of x.tables v).start) p.rest;
-    guest_files = λ r there none. ap (λ (j : ImsicState). file_at j (spot_of r)) p.lands.others ∙ kept_elsewhere w.imsic (SupervisorFile m.who.found.notice) (spot_of r) (file_at u.imsic (SupervisorFile m.who.found.notice)) low there (λ e. absurd (cc));
-    machine_files = λ hart small. ap (λ (j : ImsicState). file_at j (MachineFile hart)) p.lands.others ∙ kept_elsewhere w.imsic (SupervisorFile m.who.found.notice) (MachineFile hart) (file_at u.imsic (SupervisorFile m.who.found.notice)) low small (λ e. absurd (cc));
+    guest_files = λ r there none. ap (λ (j : ImsicState). file_at j (spot_of r)) p.lands.others
+        ∙ kept_elsewhere w.imsic (SupervisorFile m.who.found.notice) (spot_of r) (file_at u.imsic (SupervisorFile m.who.found.notice)) low there
+        (λ e. absurd (cc));
+    machine_files = λ hart small. ap (λ (j : ImsicState). file_at j (MachineFile hart)) p.lands.others
+        ∙ kept_elsewhere w.imsic (SupervisorFile m.who.found.notice) (MachineFile hart) (file_at u.imsic (SupervisorFile m.who.found.notice)) low
+        small (λ e. absurd (cc));
     host_files = λ hart small which. elim which [
       | inl never ↦ absurd (cc)
-      | inr other ↦ ap (λ (j : ImsicState). file_at j (SupervisorFile hart)) p.lands.others ∙ kept_elsewhere w.imsic (SupervisorFile m.who.found.notice) (SupervisorFile hart) (file_at u.imsic (SupervisorFile m.who.found.notice)) low small (λ e. let same : hart ≡ m.who.found.notice = cc in other same)
+      | inr other ↦ ap (λ (j : ImsicState). file_at j (SupervisorFile hart)) p.lands.others
+          ∙ kept_elsewhere w.imsic (SupervisorFile m.who.found.notice) (SupervisorFile hart)
+          (file_at u.imsic (SupervisorFile m.who.found.notice)) low small (λ e. let same : hart ≡ m.who.found.notice = cc in other same)
     ];
     noticed = λ yes. p;
     count = λ no. absurd (cc);
     slots = λ r small other. ap (λ (x : World). mrif_in x.memory r) p.rest;
-    entry_words = λ g there other. (ap (λ (x : World). get_or x.memory (entry_word_place g.vm g.number) 0) p.rest, ap (λ (x : World). get_or x.memory (entry_word_place g.vm g.number + 1) 0) p.rest);
+    entry_words = λ g there other. (
+      ap (λ (x : World). get_or x.memory (entry_word_place g.vm g.number) 0) p.rest,
+      ap (λ (x : World). get_or x.memory (entry_word_place g.vm g.number + 1) 0) p.rest,
+    );
     in_force = λ g other. ap (λ (x : World). entry_in_force (table_of x.tables g.vm) g.number) p.rest;
     stages = λ q other. ap (λ (x : World). get_or x.stages q no_stage) p.rest;
   }
 
-  pub touches_notice_if : (seen : Bool) → m.who.found.notice < w.imsic.harts → PostsIf seen w u m.who.found.notice (m.who.found.slot + 1) → Touches seen w u m
+  pub touches_notice_if : (seen : Bool) → m.who.found.notice < w.imsic.harts → PostsIf seen w u m.who.found.notice (m.who.found.slot + 1)
+      → Touches seen w u m
   touches_notice_if true low p = touches_notice low p
   touches_notice_if false low e = touches_nothing e
 
@@ -198,7 +230,8 @@ module _ (w u : World) (m : Moving) where
 of_width : (w : World) (k : ℕ) → IsWhole w → nat_lt k (width w) ≡ true → k < FILE_WORDS
 of_width w k whole e = let low : k < width w = ltb-true _ _ e in let few = few_words w.n whole.greatest in omega (arith, low, few)
 
-module _ (w u : World) (who : Who) (way : Way) (at : Progress) (hand : Hand) (whole : IsWhole w) (fits : MoveFits w (record { who = who; home = OnWay way at; hand = hand })) where
+module _ (w u : World) (who : Who) (way : Way) (at : Progress) (hand : Hand) (whole : IsWhole w)
+    (fits : MoveFits w (record { who = who; home = OnWay way at; hand = hand })) where
   abbrev it : Moving
   it = record { who = who; home = OnWay way at; hand = hand }
 
@@ -216,17 +249,24 @@ module _ (w u : World) (who : Who) (way : Way) (at : Progress) (hand : Hand) (wh
   new_is p e = (elim (led_to_is_held way p e) [ inl own ↦ fits.own p own | inr next ↦ fits.next p next ], new_is_held (OnWay way at) p e)
 
   -- a register of an end, a word of its pending set, of its enabled set
-  touches_register : (end : Option GuestPlace) → IsEnd end → is_file (end_at end) ≡ true → u ≡ with_state w (spot_in end) (file_at u.imsic (spot_in end)) → Touches false w u it
+  touches_register : (end : Option GuestPlace) → IsEnd end → is_file (end_at end) ≡ true
+      → u ≡ with_state w (spot_in end) (file_at u.imsic (spot_in end)) → Touches false w u it
   touches_register None is has e = absurd (cc)
   touches_register (Some p) is has e = let there = is p refl in touches_file w u it p (file_at u.imsic (spot_of p)) there.0 there.1 e
 
-  touches_pending : (end : Option GuestPlace) (k v : ℕ) → IsEnd end → nat_lt k (width w) ≡ true → u ≡ with_pending w (place_at end who.found.slot) k v → Touches false w u it
-  touches_pending None k v is has e = let few = of_width w k whole has in touches_slot w u it whole fits.there (pending_place who.found.slot k) (2 * k) v (omega arith) slot_few (omega arith) e
-  touches_pending (Some p) k v is has e = let there = is p refl in touches_file w u it p (record (file_at w.imsic (spot_of p)) { pending = set (file_at w.imsic (spot_of p)).pending k v }) there.0 there.1 e
+  touches_pending : (end : Option GuestPlace) (k v : ℕ) → IsEnd end → nat_lt k (width w) ≡ true
+      → u ≡ with_pending w (place_at end who.found.slot) k v → Touches false w u it
+  touches_pending None k v is has e = let few = of_width w k whole has in
+      touches_slot w u it whole fits.there (pending_place who.found.slot k) (2 * k) v (omega arith) slot_few (omega arith) e
+  touches_pending (Some p) k v is has e = let there = is p refl in
+      touches_file w u it p (record (file_at w.imsic (spot_of p)) { pending = set (file_at w.imsic (spot_of p)).pending k v }) there.0 there.1 e
 
-  touches_enables : (end : Option GuestPlace) (k v : ℕ) → IsEnd end → nat_lt k (width w) ≡ true → u ≡ with_enable w (place_at end who.found.slot) k v → Touches false w u it
-  touches_enables None k v is has e = let few = of_width w k whole has in touches_slot w u it whole fits.there (enable_place who.found.slot k) (2 * k + 1) v (omega arith) slot_few (omega arith) e
-  touches_enables (Some p) k v is has e = let there = is p refl in touches_file w u it p (record (file_at w.imsic (spot_of p)) { enabled = set (file_at w.imsic (spot_of p)).enabled k v }) there.0 there.1 e
+  touches_enables : (end : Option GuestPlace) (k v : ℕ) → IsEnd end → nat_lt k (width w) ≡ true
+      → u ≡ with_enable w (place_at end who.found.slot) k v → Touches false w u it
+  touches_enables None k v is has e = let few = of_width w k whole has in
+      touches_slot w u it whole fits.there (enable_place who.found.slot k) (2 * k + 1) v (omega arith) slot_few (omega arith) e
+  touches_enables (Some p) k v is has e = let there = is p refl in
+      touches_file w u it p (record (file_at w.imsic (spot_of p)) { enabled = set (file_at w.imsic (spot_of p)).enabled k v }) there.0 there.1 e
 
   touches_by : (access : Access) → IsNext (width w) (OnWay way at) access → Makes access it w u → Touches (sends access hand) w u it
   touches_by WriteNotice next makes = touches_entry w u it whole fits.there 1 (second_word who.found.slot who.found.notice) (omega arith) makes
@@ -237,31 +277,38 @@ module _ (w u : World) (who : Who) (way : Way) (at : Progress) (hand : Hand) (wh
   touches_by PutDelivery next makes = touches_register (led_to way) new_is next.has makes.others
   touches_by PutThreshold next makes = touches_register (led_to way) new_is next.has makes.others
   touches_by (TakePending k) next makes = touches_pending (left way) k 0 old_is next.has makes
-  touches_by (PutPending k) next makes = touches_pending (led_to way) k (bit_or (pending_at w (place_at (led_to way) who.found.slot) k) hand.word) new_is next.has makes.1
+  touches_by (PutPending k) next makes = touches_pending (led_to way) k (bit_or (pending_at w (place_at (led_to way) who.found.slot) k) hand.word)
+      new_is next.has makes.1
   touches_by (TakeEnables k) next makes = touches_enables (left way) k 0 old_is next.has makes
   touches_by (PutEnables k) next makes = touches_enables (led_to way) k hand.word new_is next.has makes.1
   touches_by (Look k) next makes = touches_nothing w u it makes
   touches_by Post next makes =
-      let low : who.found.notice < w.imsic.harts = let small = notice_hart_there w (vcpu who.found.vm who.found.number) whole fits.there in omega (arith, small, fits.notice) in
+      let low : who.found.notice < w.imsic.harts = let small = notice_hart_there w (vcpu who.found.vm who.found.number) whole fits.there in
+      omega (arith, small, fits.notice) in
       touches_notice_if w u it hand.seen low makes
   touches_by access next makes = touches_stage w u it whole fits.there _ makes
 
-touches_at : (access : Access) (w u : World) (who : Who) (there : Home) (hand : Hand) → IsWhole w → MoveFits w (record { who = who; home = there; hand = hand }) → IsNext (width w) there access
-    → Makes access (record { who = who; home = there; hand = hand }) w u → Touches (sends access hand) w u (record { who = who; home = there; hand = hand })
+touches_at : (access : Access) (w u : World) (who : Who) (there : Home) (hand : Hand) → IsWhole w
+    → MoveFits w (record { who = who; home = there; hand = hand }) → IsNext (width w) there access
+    → Makes access (record { who = who; home = there; hand = hand }) w u
+    → Touches (sends access hand) w u (record { who = who; home = there; hand = hand })
 touches_at access w u who (OnWay way at) hand whole fits next makes = touches_by w u who way at hand whole fits access next makes
 touches_at access w u who there hand whole fits next makes = let no : false ≡ true = next.has in absurd (cc)
 
 -- a step touches only its own
-pub step_touches : (w u : World) (m : Moving) (hand : Hand) → IsWhole w → MoveFits w m → (step : MakesNext w m u hand) → Touches (sends step.access m.hand) w u m
+pub step_touches : (w u : World) (m : Moving) (hand : Hand) → IsWhole w → MoveFits w m → (step : MakesNext w m u hand)
+    → Touches (sends step.access m.hand) w u m
 step_touches w u m hand whole fits step = touches_at step.access w u m.who m.home m.hand whole fits step.is_next step.makes
 
 -- ---- so the places of others stay
 
-file_stays : (sent : Bool) (w u : World) (m : Moving) (o : Option GuestPlace) → Touches sent w u m → ((p : GuestPlace) → o ≡ Some p → IsThere w.imsic (spot_of p) × (holds p m.home ≡ false)) → file_in u o ≡ file_in w o
+file_stays : (sent : Bool) (w u : World) (m : Moving) (o : Option GuestPlace) → Touches sent w u m
+    → ((p : GuestPlace) → o ≡ Some p → IsThere w.imsic (spot_of p) × (holds p m.home ≡ false)) → file_in u o ≡ file_in w o
 file_stays sent w u m None t others = ap (λ n. empty_file n) (ap (λ (x : World). x.n) t.rest)
 file_stays sent w u m (Some p) t others = let other = others p refl in ap shown (t.guest_files p other.0 other.1)
 
-pub view_stays : (sent : Bool) (w u : World) (m : Moving) (g : Vcpu) (there : Home) → IsWhole w → MoveFits w m → Touches sent w u m → is_vcpu_in w.vms g ≡ true → g ≢ mover m
+pub view_stays : (sent : Bool) (w u : World) (m : Moving) (g : Vcpu) (there : Home) → IsWhole w → MoveFits w m → Touches sent w u m
+    → is_vcpu_in w.vms g ≡ true → g ≢ mover m
     → ((p : GuestPlace) → holds p there ≡ true → IsThere w.imsic (spot_of p) × (holds p m.home ≡ false)) → places_of u g there ≡ places_of w g there
 view_stays sent w u m g there whole fits t stands other theirs =
     let own = file_stays sent w u m (own_file there) t (λ p e. theirs p (own_is_held there p e)) in
@@ -271,9 +318,24 @@ view_stays sent w u m g there whole fits t stands other theirs =
     ∙ t.slots (slot_of w.vms g) (slot_low w g whole stands) (λ e. apart (e ∙ fits.slot)) in
     let words = t.entry_words g stands other in
     let entry = t.in_force g other in
-    let stage : stage_of u g ≡ stage_of w g = ap (λ (x : World). get_or u.stages (slot_of x.vms g) no_stage) t.rest ∙ t.stages (slot_of w.vms g) apart in
-    λ k. record { own = own k; next = next k; slot = slot k; word0 = words.0 k; word1 = words.1 k; in_force = entry k; stage = (stage k).written; stage_in_force = (stage k).in_force }
+    let stage : stage_of u g ≡ stage_of w g = ap (λ (x : World). get_or u.stages (slot_of x.vms g) no_stage) t.rest
+    ∙ t.stages (slot_of w.vms g) apart in
+    λ k. record {
+      own = own k;
+      next = next k;
+      slot = slot k;
+      word0 = words.0 k;
+      word1 = words.1 k;
+      in_force = entry k;
+      stage = (stage k).written;
+      stage_in_force = (stage k).in_force;
+    }
 
 -- the virtual hart that is moved has its slot and notice hart still, and its files are there
-pub there_still : (sent : Bool) (w u : World) (m : Moving) (p : GuestPlace) → Touches sent w u m → IsThere w.imsic (spot_of p) → IsThere u.imsic (spot_of p)
-there_still sent w u m p t stands = (omega (arith, stands.0, ap (λ (x : World). x.imsic.harts) t.rest), stands.1, omega (arith, stands.2, ap (λ (x : World). x.imsic.guests) t.rest))
+pub there_still : (sent : Bool) (w u : World) (m : Moving) (p : GuestPlace) → Touches sent w u m → IsThere w.imsic (spot_of p)
+    → IsThere u.imsic (spot_of p)
+there_still sent w u m p t stands = (
+  omega (arith, stands.0, ap (λ (x : World). x.imsic.harts) t.rest),
+  stands.1,
+  omega (arith, stands.2, ap (λ (x : World). x.imsic.guests) t.rest),
+)

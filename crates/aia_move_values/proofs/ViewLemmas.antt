@@ -48,7 +48,8 @@ pub same_place : (a b : GuestPlace) → spot_of a ≡ spot_of b → a ≡ b
 same_place a b e = let hart : a.hart ≡ b.hart = cc in let file : a.file ≡ b.file = cc in λ k. record { hart = hart k; file = file k }
 
 pub spots_apart : (a b : GuestPlace) → is_place a b ≡ false → spot_of a ≢ spot_of b
-spots_apart a b apart e = let no : true ≡ false = sym (is_itself_place a) ∙ ap (λ (p : GuestPlace). is_place a p) (same_place a b e) ∙ apart in absurd (cc)
+spots_apart a b apart e = let no : true ≡ false = sym (is_itself_place a) ∙ ap (λ (p : GuestPlace). is_place a p) (same_place a b e)
+    ∙ apart in absurd (cc)
 
 pub within_files : (w : World) (spot : Spot) → IsWhole w → IsThere w.imsic spot → place_of w.imsic spot < length w.imsic.files
 within_files w spot whole there = let low = place_within w.imsic spot there in omega (arith, low, whole.files)
@@ -60,38 +61,48 @@ here w spot f whole there = replaced_here w.imsic spot f (within_files w spot wh
 abbrev pub IsNoFile : World → GuestPlace → Option GuestPlace → Type 0
 IsNoFile w p o = (r : GuestPlace) → o ≡ Some r → IsThere w.imsic (spot_of r) × (is_place r p ≡ false)
 
-pub file_in-other : (w : World) (p : GuestPlace) (f : FileState) (o : Option GuestPlace) → IsThere w.imsic (spot_of p) → IsNoFile w p o → file_in (with_state w (spot_of p) f) o ≡ file_in w o
+pub file_in-other : (w : World) (p : GuestPlace) (f : FileState) (o : Option GuestPlace) → IsThere w.imsic (spot_of p) → IsNoFile w p o
+    → file_in (with_state w (spot_of p) f) o ≡ file_in w o
 file_in-other w p f None there none = refl
-file_in-other w p f (Some r) there none = let other = none r refl in ap shown (kept_elsewhere w.imsic (spot_of p) (spot_of r) f there other.0 (spots_apart r p other.1))
+file_in-other w p f (Some r) there none = let other = none r refl in
+    ap shown (kept_elsewhere w.imsic (spot_of p) (spot_of r) f there other.0 (spots_apart r p other.1))
 
-file_in-here : (w : World) (p : GuestPlace) (f : FileState) (o : Option GuestPlace) → IsWhole w → IsThere w.imsic (spot_of p) → o ≡ Some p → file_in (with_state w (spot_of p) f) o ≡ shown f
+file_in-here : (w : World) (p : GuestPlace) (f : FileState) (o : Option GuestPlace) → IsWhole w → IsThere w.imsic (spot_of p) → o ≡ Some p
+    → file_in (with_state w (spot_of p) f) o ≡ shown f
 file_in-here w p f o whole there e = ap (λ x. file_in (with_state w (spot_of p) f) x) e ∙ ap shown (here w (spot_of p) f whole there)
 
 module _ (w : World) (g : Vcpu) (there : Home) (p : GuestPlace) (f : FileState) (whole : IsWhole w) (stands : IsThere w.imsic (spot_of p)) where
-  pub own-replaced : own_file there ≡ Some p → IsNoFile w p (next_file there) → places_of (with_state w (spot_of p) f) g there ≡ record (places_of w g there) { own = shown f }
+  pub own-replaced : own_file there ≡ Some p → IsNoFile w p (next_file there)
+      → places_of (with_state w (spot_of p) f) g there ≡ record (places_of w g there) { own = shown f }
   own-replaced own next =
       let e = file_in-here w p f (own_file there) whole stands own in
       let o = file_in-other w p f (next_file there) stands next in
       λ k. record (places_of w g there) { own = e k; next = o k }
 
-  pub next-replaced : next_file there ≡ Some p → IsNoFile w p (own_file there) → places_of (with_state w (spot_of p) f) g there ≡ record (places_of w g there) { next = shown f }
+  pub next-replaced : next_file there ≡ Some p → IsNoFile w p (own_file there)
+      → places_of (with_state w (spot_of p) f) g there ≡ record (places_of w g there) { next = shown f }
   next-replaced next own =
       let e = file_in-here w p f (next_file there) whole stands next in
       let o = file_in-other w p f (own_file there) stands own in
       λ k. record (places_of w g there) { own = o k; next = e k }
 
 -- a register of it is written
-module _ (w u : World) (g : Vcpu) (there : Home) (p : GuestPlace) (reg : FileReg) (v : ℕ) (whole : IsWhole w) (stands : IsThere w.imsic (spot_of p)) (puts : PutsRegister w u (spot_of p) reg v) where
-  pub own-put : own_file there ≡ Some p → IsNoFile w p (next_file there) → places_of u g there ≡ record (places_of w g there) { own = accessed reg (ops.Write v) (places_of w g there).own }
+module _ (w u : World) (g : Vcpu) (there : Home) (p : GuestPlace) (reg : FileReg) (v : ℕ) (whole : IsWhole w)
+    (stands : IsThere w.imsic (spot_of p)) (puts : PutsRegister w u (spot_of p) reg v) where
+  pub own-put : own_file there ≡ Some p → IsNoFile w p (next_file there)
+      → places_of u g there ≡ record (places_of w g there) { own = accessed reg (ops.Write v) (places_of w g there).own }
   own-put own next =
       ap (λ (x : World). places_of x g there) puts.others ∙ own-replaced w g there p (file_at u.imsic (spot_of p)) whole stands own next
-      ∙ ap (λ (file : InterruptFile). record (places_of w g there) { own = file }) (same_file (shown (file_at u.imsic (spot_of p))) (accessed reg (ops.Write v) (shown (file_at w.imsic (spot_of p)))) puts.lands
+      ∙ ap (λ (file : InterruptFile). record (places_of w g there) { own = file })
+      (same_file (shown (file_at u.imsic (spot_of p))) (accessed reg (ops.Write v) (shown (file_at w.imsic (spot_of p)))) puts.lands
       ∙ ap (λ o. accessed reg (ops.Write v) (file_in w o)) (sym own))
 
-  pub next-put : next_file there ≡ Some p → IsNoFile w p (own_file there) → places_of u g there ≡ record (places_of w g there) { next = accessed reg (ops.Write v) (places_of w g there).next }
+  pub next-put : next_file there ≡ Some p → IsNoFile w p (own_file there)
+      → places_of u g there ≡ record (places_of w g there) { next = accessed reg (ops.Write v) (places_of w g there).next }
   next-put next own =
       ap (λ (x : World). places_of x g there) puts.others ∙ next-replaced w g there p (file_at u.imsic (spot_of p)) whole stands next own
-      ∙ ap (λ (file : InterruptFile). record (places_of w g there) { next = file }) (same_file (shown (file_at u.imsic (spot_of p))) (accessed reg (ops.Write v) (shown (file_at w.imsic (spot_of p)))) puts.lands
+      ∙ ap (λ (file : InterruptFile). record (places_of w g there) { next = file })
+      (same_file (shown (file_at u.imsic (spot_of p))) (accessed reg (ops.Write v) (shown (file_at w.imsic (spot_of p)))) puts.lands
       ∙ ap (λ o. accessed reg (ops.Write v) (file_in w o)) (sym next))
 
 -- ---- a word of a set that is a row of words
@@ -102,9 +113,11 @@ neither false x = refl
 
 pub word_taken : (words : List ℕ) (k : ℕ) → is_in (set words k 0) ≡ without_word k (is_in words)
 word_taken words k = same_sets _ _ (λ i. elim (cases_lt k (length words)) [
-  | inl low ↦ is_in-set words k 0 i low ∙ ap (λ b. cond (nat_eq (i / 64) k) b (is_in words i)) (has_bit-zero (i % 64)) ∙ neither (nat_eq (i / 64) k) (is_in words i)
+  | inl low ↦ is_in-set words k 0 i low ∙ ap (λ b. cond (nat_eq (i / 64) k) b (is_in words i)) (has_bit-zero (i % 64))
+      ∙ neither (nat_eq (i / 64) k) (is_in words i)
   | inr past ↦ ap (λ ws. is_in ws i) (set_past words k 0 past) ∙ elim (cases_Bool (nat_eq (i / 64) k)) [
-    | inl e ↦ let out : length words ≤ i / 64 = omega (arith, eqb-true (i / 64) k e) in is_in-past words i out ∙ ap (λ b. not b && is_in words i) (sym e)
+    | inl e ↦ let out : length words ≤ i / 64 = omega (arith, eqb-true (i / 64) k e) in is_in-past words i out
+        ∙ ap (λ b. not b && is_in words i) (sym e)
     | inr e ↦ ap (λ b. not b && is_in words i) (sym e)
   ]
 ])
@@ -130,20 +143,26 @@ module _ (words : List ℕ) (q k v : ℕ) (whole : HasSlot words q) (low : k < F
   pending_kept : set_at (pending_place q) (set words (enable_place q k) v) ≡ set_at (pending_place q) words
   pending_kept = same_sets _ _ (λ i. kept (pending_place q) words (enable_place q k) v i (λ j l e. omega (arith, e)))
 
-  pub slot_pending-written : mrif_in (set words (pending_place q k) v) q ≡ record (mrif_in words q) { pending = replaced_by k v (set_at (pending_place q) words) }
+  pub slot_pending-written : mrif_in (set words (pending_place q k) v) q ≡ record (mrif_in words q)
+      { pending = replaced_by k v (set_at (pending_place q) words) }
   slot_pending-written = λ t. record { pending = pending_written t; enabled = enabled_kept t }
 
-  pub slot_enabled-written : mrif_in (set words (enable_place q k) v) q ≡ record (mrif_in words q) { enabled = replaced_by k v (set_at (enable_place q) words) }
+  pub slot_enabled-written : mrif_in (set words (enable_place q k) v) q ≡ record (mrif_in words q)
+      { enabled = replaced_by k v (set_at (enable_place q) words) }
   slot_enabled-written = λ t. record { pending = pending_kept t; enabled = enabled_written t }
 
-  pub slot_pending-joined : mrif_in (set words (pending_place q k) (bit_or (get_or words (pending_place q k) 0) v)) q ≡ record (mrif_in words q) { pending = joined_by k v (set_at (pending_place q) words) }
+  pub slot_pending-joined : mrif_in (set words (pending_place q k) (bit_or (get_or words (pending_place q k) 0) v)) q ≡ record (mrif_in words q)
+      { pending = joined_by k v (set_at (pending_place q) words) }
   slot_pending-joined =
-      let joined : set_at (pending_place q) (set words (pending_place q k) (bit_or (get_or words (pending_place q k) 0) v)) ≡ joined_by k v (set_at (pending_place q) words) = same_sets _ _ (λ i. slot_joined words _ q k v whole low refl i) in
-      let same : set_at (enable_place q) (set words (pending_place q k) (bit_or (get_or words (pending_place q k) 0) v)) ≡ set_at (enable_place q) words = same_sets _ _ (λ i. kept (enable_place q) words (pending_place q k) _ i (λ j l e. omega (arith, e))) in
+      let joined : set_at (pending_place q) (set words (pending_place q k) (bit_or (get_or words (pending_place q k) 0) v)) ≡ joined_by k v
+      (set_at (pending_place q) words) = same_sets _ _ (λ i. slot_joined words _ q k v whole low refl i) in
+      let same : set_at (enable_place q) (set words (pending_place q k) (bit_or (get_or words (pending_place q k) 0) v)) ≡ set_at (enable_place q)
+      words = same_sets _ _ (λ i. kept (enable_place q) words (pending_place q k) _ i (λ j l e. omega (arith, e))) in
       λ t. record { pending = joined t; enabled = same t }
 
 pub nothing_replaced : (k : ℕ) (members : ℕ → Bool) → replaced_by k 0 members ≡ without_word k members
-nothing_replaced k members = same_sets _ _ (λ i. ap (λ b. cond (nat_eq (i / 64) k) b (members i)) (has_bit-zero (i % 64)) ∙ neither (nat_eq (i / 64) k) (members i))
+nothing_replaced k members = same_sets _ _ (λ i. ap (λ b. cond (nat_eq (i / 64) k) b (members i)) (has_bit-zero (i % 64))
+    ∙ neither (nat_eq (i / 64) k) (members i))
 
 -- ---- a word of memory
 
@@ -157,7 +176,8 @@ entries_past : (vm file place : ℕ) → place < WORDS_OF_SLOTS → (entry_word_
 entries_past vm file place low = (λ e. omega arith, λ e. omega arith)
 
 module _ (w : World) (g : Vcpu) (there : Home) (whole : IsWhole w) (stands : is_vcpu_in w.vms g ≡ true) where
-  pub in_slot-places : (place v : ℕ) → place < WORDS_OF_SLOTS → places_of (with_word w place v) g there ≡ record (places_of w g there) { slot = mrif_in (set w.memory place v) (slot_of w.vms g) }
+  pub in_slot-places : (place v : ℕ) → place < WORDS_OF_SLOTS
+      → places_of (with_word w place v) g there ≡ record (places_of w g there) { slot = mrif_in (set w.memory place v) (slot_of w.vms g) }
   in_slot-places place v low =
       let past = entries_past g.vm g.number place low in
       let first = get_or-set_other w.memory place (entry_word_place g.vm g.number) v 0 past.0 in
@@ -179,7 +199,8 @@ module _ (w : World) (g : Vcpu) (there : Home) (whole : IsWhole w) (stands : is_
       let slot = in_table at v (omega arith) in
       let first = get_or-set_same w.memory at v 0 (omega arith) in
       let second = get_or-set_other w.memory at (at + 1) v 0 (λ e. omega arith) in
-      let all : places_of (with_word w at v) g there ≡ record (places_of w g there) { word0 = v } = λ t. record (places_of w g there) { slot = slot t; word0 = first t; word1 = second t } in
+      let all : places_of (with_word w at v) g there ≡ record (places_of w g there) { word0 = v } =
+      λ t. record (places_of w g there) { slot = slot t; word0 = first t; word1 = second t } in
       ap (λ place. places_of (with_word w place v) g there) same ∙ all
 
   pub word1-places : (v : ℕ) → places_of (with_word w (entry_word_place g.vm g.number + 1) v) g there ≡ record (places_of w g there) { word1 = v }
@@ -194,7 +215,8 @@ module _ (w : World) (g : Vcpu) (there : Home) (whole : IsWhole w) (stands : is_
 
   -- ---- an entry, and a record
 
-  pub fence-places : places_of (with_fence w g.vm g.number) g there ≡ record (places_of w g there) { in_force = decoded (places_of w g there).word0 (places_of w g there).word1 }
+  pub fence-places : places_of (with_fence w g.vm g.number) g there ≡ record (places_of w g there)
+      { in_force = decoded (places_of w g there).word0 (places_of w g there).word1 }
   fence-places =
       let entry = vcpu_entry w g.vm g.number whole stands in
       let at = entry_at w g.vm g.number whole entry.0 entry.3 in
@@ -210,7 +232,8 @@ module _ (w : World) (g : Vcpu) (there : Home) (whole : IsWhole w) (stands : is_
   stage_here s = let low = slot_low w g whole stands in get_or-set_same w.stages (slot_of w.vms g) s no_stage (omega (arith, low, whole.stages))
 
   -- whatever is made of the record
-  pub stage-places : (s : Stage) → places_of (with_stage w g s) g there ≡ record (places_of w g there) { stage = s.written; stage_in_force = s.in_force }
+  pub stage-places : (s : Stage) → places_of (with_stage w g s) g there ≡ record (places_of w g there)
+      { stage = s.written; stage_in_force = s.in_force }
   stage-places s = let new = stage_here s in λ t. record (places_of w g there) { stage = (new t).written; stage_in_force = (new t).in_force }
 
   pub map-places : (to : Option GuestPlace) → places_of (with_map w g to) g there ≡ record (places_of w g there) { stage = to }
@@ -221,16 +244,21 @@ module _ (w : World) (g : Vcpu) (there : Home) (whole : IsWhole w) (stands : is_
 
 -- ---- a notice
 
-file_in-posted : (w : World) (hart : ℕ) (f : FileState) (notices : ℕ) (o : Option GuestPlace) → hart < w.imsic.harts → ((r : GuestPlace) → o ≡ Some r → IsThere w.imsic (spot_of r))
+file_in-posted : (w : World) (hart : ℕ) (f : FileState) (notices : ℕ) (o : Option GuestPlace) → hart < w.imsic.harts
+    → ((r : GuestPlace) → o ≡ Some r → IsThere w.imsic (spot_of r))
     → file_in (record w { imsic = with_file w.imsic (SupervisorFile hart) f; notices = notices }) o ≡ file_in w o
 file_in-posted w hart f notices None low stands = refl
-file_in-posted w hart f notices (Some r) low stands = ap shown (kept_elsewhere w.imsic (SupervisorFile hart) (spot_of r) f low (stands r refl) (λ e. absurd (cc)))
+file_in-posted w hart f notices (Some r) low stands =
+    ap shown (kept_elsewhere w.imsic (SupervisorFile hart) (spot_of r) f low (stands r refl) (λ e. absurd (cc)))
 
-pub posts-places : (w u : World) (g : Vcpu) (there : Home) (hart identity : ℕ) → hart < w.imsic.harts → ((r : GuestPlace) → own_file there ≡ Some r → IsThere w.imsic (spot_of r)) → ((r : GuestPlace) → next_file there ≡ Some r → IsThere w.imsic (spot_of r))
+pub posts-places : (w u : World) (g : Vcpu) (there : Home) (hart identity : ℕ) → hart < w.imsic.harts
+    → ((r : GuestPlace) → own_file there ≡ Some r → IsThere w.imsic (spot_of r))
+    → ((r : GuestPlace) → next_file there ≡ Some r → IsThere w.imsic (spot_of r))
     → Posts w u (SupervisorFile hart) identity → places_of u g there ≡ places_of w g there
 posts-places w u g there hart identity low own next p =
     let f = file_at u.imsic (SupervisorFile hart) in
     let e = file_in-posted w hart f u.notices (own_file there) low own in
     let o = file_in-posted w hart f u.notices (next_file there) low next in
-    let all : places_of (record w { imsic = with_file w.imsic (SupervisorFile hart) f; notices = u.notices }) g there ≡ places_of w g there = λ k. record (places_of w g there) { own = e k; next = o k } in
+    let all : places_of (record w { imsic = with_file w.imsic (SupervisorFile hart) f; notices = u.notices }) g there ≡ places_of w g there =
+    λ k. record (places_of w g there) { own = e k; next = o k } in
     ap (λ (x : World). places_of x g there) (p.rest ∙ ap (λ (j : ImsicState). record w { imsic = j; notices = u.notices }) p.lands.others) ∙ all

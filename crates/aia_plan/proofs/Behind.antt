@@ -43,9 +43,11 @@ none_after true any h e = not-true any h
 none_after false any h e = absurd (false≢true e)
 
 none_behind : (first second : Step → Bool) (x : Step) (rest : Plan) → Before first second (x ∷ rest) → second x ≡ true → list_any first rest ≡ false
-none_behind first second x rest h e = none_after (second x) (list_any first rest) (and_parts (not (second x && list_any first rest)) (before first second rest) h).0 e
+none_behind first second x rest h e = none_after (second x) (list_any first rest)
+    (and_parts (not (second x && list_any first rest)) (before first second rest) h).0 e
 
-pub left_after : (words : ℕ) (c e : Option ℕ) (x : Step) (rest : Plan) → Left words c e (x ∷ rest) → Left words (takes_pending x) (takes_enables x) rest
+pub left_after : (words : ℕ) (c e : Option ℕ) (x : Step) (rest : Plan) → Left words c e (x ∷ rest)
+    → Left words (takes_pending x) (takes_enables x) rest
 left_after words c e x rest r = record {
   one_word0 = after _ _ x rest r.one_word0;
   one_fence = after _ _ x rest r.one_fence;
@@ -85,11 +87,20 @@ itself w = eq-eqb w w refl
 
 pub guard_of : (words : ℕ) (c e : Option ℕ) (x : Step) (rest : Plan) → Left words c e (x ∷ rest) → Guard x rest
 guard_of words c e Word0 rest r = none_behind (is_step Word0) (is_step Word0) Word0 rest r.one_word0 refl
-guard_of words c e Fence rest r = (none_behind (is_step Word0) (is_step Fence) Fence rest r.word0_first refl, none_behind (is_step Fence) (is_step Fence) Fence rest r.one_fence refl)
+guard_of words c e Fence rest r = (
+  none_behind (is_step Word0) (is_step Fence) Fence rest r.word0_first refl,
+  none_behind (is_step Fence) (is_step Fence) Fence rest r.one_fence refl,
+)
 guard_of words c e Map rest r = none_behind is_record is_record Map rest r.one_record refl
 guard_of words c e Unmap rest r = none_behind is_record is_record Unmap rest r.one_record refl
 guard_of words c e Remap rest r = none_behind is_record is_record Remap rest r.one_record refl
-guard_of words c e GFence rest r = (none_behind is_record (is_step GFence) GFence rest r.record_first refl, none_behind (is_step GFence) (is_step GFence) GFence rest r.one_gfence refl)
-guard_of words c e (TakeP w) rest r = (none_behind (is_step Fence) (is_step (TakeP w)) (TakeP w) rest (r.fence_first w r.inside.0) (itself w), none_behind (is_step GFence) (is_step (TakeP w)) (TakeP w) rest (r.gfence_first w r.inside.0) (itself w))
+guard_of words c e GFence rest r = (
+  none_behind is_record (is_step GFence) GFence rest r.record_first refl,
+  none_behind (is_step GFence) (is_step GFence) GFence rest r.one_gfence refl,
+)
+guard_of words c e (TakeP w) rest r = (
+  none_behind (is_step Fence) (is_step (TakeP w)) (TakeP w) rest (r.fence_first w r.inside.0) (itself w),
+  none_behind (is_step GFence) (is_step (TakeP w)) (TakeP w) rest (r.gfence_first w r.inside.0) (itself w),
+)
 guard_of words c e (TakeE w) rest r = none_behind (is_step (TakeE w)) (is_step (TakeE w)) (TakeE w) rest (r.one_enables w r.inside.0) (itself w)
 guard_of words c e x rest r = tt

@@ -23,10 +23,12 @@ or_together false b c = refl
 pub land_law : (is old bit new asked : Bool) → (((is && (old || bit)) || new) || (is && asked)) ≡ ((is && ((old || (is && asked)) || bit)) || new)
 land_law false old bit new asked = or_none new
 land_law true true bit new asked = refl
-land_law true false bit new asked = ap (λ x. x || asked) (or_swapped bit new) ∙ or_together new bit asked ∙ or_swapped new (bit || asked) ∙ ap (λ x. x || new) (or_swapped bit asked)
+land_law true false bit new asked = ap (λ x. x || asked) (or_swapped bit new) ∙ or_together new bit asked ∙ or_swapped new (bit || asked)
+    ∙ ap (λ x. x || new) (or_swapped bit asked)
 
 -- a word is taken
-pub take_law : (is old new here bit : Bool) → (here ≡ true → bit ≡ old) → ((is && (old || false)) || new) ≡ ((is && ((not here && old) || (here && bit))) || new)
+pub take_law : (is old new here bit : Bool) → (here ≡ true → bit ≡ old)
+    → ((is && (old || false)) || new) ≡ ((is && ((not here && old) || (here && bit))) || new)
 take_law is old new true bit same = ap (λ x. (is && x) || new) (or_none old ∙ sym (same refl))
 take_law is old new false bit same = refl
 
@@ -38,7 +40,8 @@ put_law true true new here bit = refl
 put_law true false new here bit = or_swapped (here && bit) new
 
 -- a word is put: in place of what is there, which is nothing
-pub replace_law : (is old new here bit : Bool) → (here ≡ true → new ≡ false) → ((is && (old || (here && bit))) || new) ≡ ((is && (old || false)) || ((not here && new) || (here && (is && bit))))
+pub replace_law : (is old new here bit : Bool) → (here ≡ true → new ≡ false)
+    → ((is && (old || (here && bit))) || new) ≡ ((is && (old || false)) || ((not here && new) || (here && (is && bit))))
 replace_law false old new true bit fresh = fresh refl
 replace_law true true new true bit fresh = refl
 replace_law true false new true bit fresh = ap (λ x. bit || x) (fresh refl) ∙ or_none bit
@@ -50,7 +53,8 @@ drain_law true old later none h = refl
 drain_law false old later none h = h none
 
 -- the new place has nothing yet of a word that is still to be taken
-pub fresh_law : (is here new later bit : Bool) → (here ≡ true → later ≡ false) → ((here || later) ≡ true → new ≡ false) → later ≡ true → ((not here && new) || (here && (is && bit))) ≡ false
+pub fresh_law : (is here new later bit : Bool) → (here ≡ true → later ≡ false) → ((here || later) ≡ true → new ≡ false) → later ≡ true
+    → ((not here && new) || (here && (is && bit))) ≡ false
 fresh_law is true new later bit gone h e = absurd (false≢true (sym (gone refl) ∙ e))
 fresh_law is false new later bit gone h e = or_from new false (h e) refl
 

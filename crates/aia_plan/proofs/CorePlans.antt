@@ -34,9 +34,12 @@ appended : (P : Step → Type 0) (xs ys : Plan) → AllByRecursion P xs → AllB
 appended P [] ys all others = others
 appended P (x ∷ xs) ys all others = (all.0, appended P xs ys all.1 others)
 
-each_inside : (words : ℕ) (of_word : ℕ → Plan) → ((w : ℕ) → w < words → AllByRecursion (IsInside words) (of_word w)) → (from count : ℕ) → from + count ≤ words → AllByRecursion (IsInside words) (each_word of_word from count)
+each_inside : (words : ℕ) (of_word : ℕ → Plan) → ((w : ℕ) → w < words → AllByRecursion (IsInside words) (of_word w)) → (from count : ℕ)
+    → from + count ≤ words → AllByRecursion (IsInside words) (each_word of_word from count)
 each_inside words of_word each from zero most = tt
-each_inside words of_word each from (suc count) most = appended (IsInside words) (of_word from) (each_word of_word (suc from) count) (each from (omega arith)) (each_inside words of_word each (suc from) count (omega arith))
+each_inside words of_word each from (suc count) most =
+    appended (IsInside words) (of_word from) (each_word of_word (suc from) count) (each from (omega arith))
+    (each_inside words of_word each (suc from) count (omega arith))
 
 all_inside : (words : ℕ) → AllByRecursion (IsInside words) (all_words words)
 all_inside words =
@@ -48,8 +51,10 @@ looks_inside : (words : ℕ) → AllByRecursion (IsInside words) (each_word (λ 
 looks_inside words = each_inside words (λ w. Look w ∷ []) (λ w low. (low, tt)) 0 words (omega arith)
 
 -- steps in front, all words, and steps at the end
-around : (words : ℕ) (front last : Plan) → AllByRecursion (IsInside words) front → AllByRecursion (IsInside words) last → AllByRecursion (IsInside words) (front ++ all_words words ++ last)
-around words front last first end = appended (IsInside words) (front ++ all_words words) last (appended (IsInside words) front (all_words words) first (all_inside words)) end
+around : (words : ℕ) (front last : Plan) → AllByRecursion (IsInside words) front → AllByRecursion (IsInside words) last
+    → AllByRecursion (IsInside words) (front ++ all_words words ++ last)
+around words front last first end = appended (IsInside words) (front ++ all_words words) last
+    (appended (IsInside words) front (all_words words) first (all_inside words)) end
 
 -- a step that names no word
 abbrev is_plain : Step → Bool
@@ -70,7 +75,8 @@ one_inside words step e = tt
 
 plain_inside : (words : ℕ) (plan : Plan) → list_all is_plain plan ≡ true → AllByRecursion (IsInside words) plan
 plain_inside words [] e = tt
-plain_inside words (x ∷ later) e = let both = and_parts (is_plain x) (list_all is_plain later) e in (one_inside words x both.0, plain_inside words later both.1)
+plain_inside words (x ∷ later) e = let both = and_parts (is_plain x) (list_all is_plain later) e in
+    (one_inside words x both.0, plain_inside words later both.1)
 
 first_inside : (kind : Kind) (words : ℕ) → AllByRecursion (IsInside words) (first_steps kind)
 first_inside Leave words = plain_inside words (first_steps Leave) refl

@@ -30,7 +30,14 @@ enable_unsafe words plan i (r, was, lost) safe = false≢true (sym lost ∙ (mov
 
 starts : (words : ℕ) (pending enabled : ℕ → Bool) → IsStart words (begun pending enabled)
 starts words pending enabled = record {
-  routes = record { entry_written = refl; entry_in_force = refl; record_written = refl; record_in_force = refl; flights = All-nil (λ (f : Flight). f.side ≡ Old) };
+  routes = record {
+    entry_written = refl;
+    entry_in_force = refl;
+    record_written = refl;
+    record_in_force = refl;
+    flights =
+        All-nil (λ (f : Flight). f.side ≡ Old);
+  };
   no_pending = λ i inside. refl;
   no_enabled = λ i inside. refl;
   nothing_carried = λ bit. refl;
@@ -39,25 +46,99 @@ starts words pending enabled = record {
 }
 
 pub fence_too_early_loses : Loses 1 fence_too_early 5
-fence_too_early_loses = (record { start = begun no_bits no_bits; run = fence_too_early_run; begins = starts 1 no_bits no_bits; steps = refl; within = omega arith }, refl, refl)
+fence_too_early_loses = (
+  record {
+    start = begun no_bits no_bits;
+    run = fence_too_early_run;
+    begins = starts 1 no_bits no_bits;
+    steps = refl;
+    within = omega arith;
+  },
+  refl,
+  refl,
+)
 
 pub gfence_too_early_loses : Loses 1 gfence_too_early 5
-gfence_too_early_loses = (record { start = begun no_bits no_bits; run = gfence_too_early_run; begins = starts 1 no_bits no_bits; steps = refl; within = omega arith }, refl, refl)
+gfence_too_early_loses = (
+  record {
+    start = begun no_bits no_bits;
+    run = gfence_too_early_run;
+    begins = starts 1 no_bits no_bits;
+    steps = refl;
+    within = omega arith;
+  },
+  refl,
+  refl,
+)
 
 pub taken_before_fence_loses : Loses 1 taken_before_fence 5
-taken_before_fence_loses = (record { start = begun no_bits no_bits; run = taken_before_fence_run; begins = starts 1 no_bits no_bits; steps = refl; within = omega arith }, refl, refl)
+taken_before_fence_loses = (
+  record {
+    start = begun no_bits no_bits;
+    run = taken_before_fence_run;
+    begins = starts 1 no_bits no_bits;
+    steps = refl;
+    within = omega arith;
+  },
+  refl,
+  refl,
+)
 
 pub taken_before_gfence_loses : Loses 1 taken_before_gfence 5
-taken_before_gfence_loses = (record { start = begun no_bits no_bits; run = taken_before_gfence_run; begins = starts 1 no_bits no_bits; steps = refl; within = omega arith }, refl, refl)
+taken_before_gfence_loses = (
+  record {
+    start = begun no_bits no_bits;
+    run = taken_before_gfence_run;
+    begins = starts 1 no_bits no_bits;
+    steps =
+        refl;
+    within = omega arith;
+  },
+  refl,
+  refl,
+)
 
 pub taken_together_loses : Loses 2 taken_together 69
-taken_together_loses = (record { start = begun (only 69) no_bits; run = all_steps taken_together; begins = starts 2 (only 69) no_bits; steps = refl; within = omega arith }, refl, refl)
+taken_together_loses = (
+  record {
+    start = begun (only 69) no_bits;
+    run = all_steps taken_together;
+    begins = starts 2 (only 69) no_bits;
+    steps =
+        refl;
+    within = omega arith;
+  },
+  refl,
+  refl,
+)
 
 pub taken_together_doubles : Doubles 2 taken_together 5
-taken_together_doubles = (record { start = begun (only 69) no_bits; run = all_steps taken_together; begins = starts 2 (only 69) no_bits; steps = refl; within = omega arith }, refl, refl)
+taken_together_doubles = (
+  record {
+    start = begun (only 69) no_bits;
+    run = all_steps taken_together;
+    begins = starts 2 (only 69) no_bits;
+    steps =
+        refl;
+    within = omega arith;
+  },
+  refl,
+  refl,
+)
 
 pub enables_put_twice_loses : LosesEnable 1 enables_put_twice 5
-enables_put_twice_loses = (record { start = begun no_bits (only 5); run = all_steps enables_put_twice; begins = starts 1 no_bits (only 5); steps = refl; within = omega arith }, refl, refl)
+enables_put_twice_loses = (
+  record {
+    start = begun no_bits (only 5);
+    run = all_steps enables_put_twice;
+    begins = starts 1 no_bits (only 5);
+    steps =
+        refl;
+    within = omega arith;
+  },
+  refl,
+  refl,
+)
 
 -- ---- plans that are refused, and safe
 

@@ -33,20 +33,23 @@ none_before first second (x ∷ later) none =
     behind_none false before = refl
 
 -- exactly once is: it stands, and not twice
-once_law : (is any once before : Bool) → once ≡ (any && before) → (any ≡ false → before ≡ true) → (if is then not any else once) ≡ ((is || any) && (not (is && any) && before))
+once_law : (is any once before : Bool) → once ≡ (any && before) → (any ≡ false → before ≡ true)
+    → (if is then not any else once) ≡ ((is || any) && (not (is && any) && before))
 once_law true true once before e none = refl
 once_law true false once before e none = sym (none refl)
 once_law false any once before e none = e
 
 pub once_is : (step : Step) (plan : Plan) → is_once step plan ≡ (stands step plan && comes_before step step plan)
 once_is step [] = refl
-once_is step (x ∷ later) = once_law (is_step step x) (stands step later) (is_once step later) (comes_before step step later) (once_is step later) (none_before step step later)
+once_is step (x ∷ later) = once_law (is_step step x) (stands step later) (is_once step later) (comes_before step step later) (once_is step later)
+    (none_before step step later)
 
 pub once_stands : (step : Step) (plan : Plan) → is_once step plan ≡ true → stands step plan ≡ true
 once_stands step plan once = (and_parts (stands step plan) (comes_before step step plan) (sym (once_is step plan) ∙ once)).0
 
 pub once_before : (step : Step) (plan : Plan) → is_once step plan ≡ true → Before (is_step step) (is_step step) plan
-once_before step plan once = sym (comes_before-before step step plan) ∙ (and_parts (stands step plan) (comes_before step step plan) (sym (once_is step plan) ∙ once)).1
+once_before step plan once = sym (comes_before-before step step plan)
+    ∙ (and_parts (stands step plan) (comes_before step step plan) (sym (once_is step plan) ∙ once)).1
 
 pub in_order : (first second : Step) (plan : Plan) → comes_before first second plan ≡ true → Before (is_step first) (is_step second) plan
 in_order first second plan e = sym (comes_before-before first second plan) ∙ e
@@ -84,7 +87,8 @@ own_is kinds.Shift test none =
     ap (λ x. x || (test Unmap || test Remap)) e.0 ∙ ap (λ x. x || test Remap) e.1
 
 -- of a plan, and so of its first step and of the others
-split_law : (a b any_a any_b : Bool) → (not (a || any_a) && (not (b || any_b) && true)) ≡ true → ((not a && (not b && true)) ≡ true) × ((not any_a && (not any_b && true)) ≡ true)
+split_law : (a b any_a any_b : Bool) → (not (a || any_a) && (not (b || any_b) && true)) ≡ true → ((not a && (not b && true)) ≡ true)
+    × ((not any_a && (not any_b && true)) ≡ true)
 split_law true b any_a any_b e = absurd (false≢true e)
 split_law false true true any_b e = absurd (false≢true e)
 split_law false true false any_b e = absurd (false≢true e)
@@ -92,7 +96,8 @@ split_law false false true any_b e = absurd (false≢true e)
 split_law false false false true e = absurd (false≢true e)
 split_law false false false false e = (refl, refl)
 
-split : (kind : Kind) (x : Step) (later : Plan) → NoOther kind (λ step. stands step (x ∷ later)) → NoOther kind (λ step. is_step step x) × NoOther kind (λ step. stands step later)
+split : (kind : Kind) (x : Step) (later : Plan) → NoOther kind (λ step. stands step (x ∷ later)) → NoOther kind (λ step. is_step step x)
+    × NoOther kind (λ step. stands step later)
 split kinds.Leave x later none = split_law (is_step Map x) (is_step Remap x) (stands Map later) (stands Remap later) none
 split kinds.Arrive x later none = split_law (is_step Unmap x) (is_step Remap x) (stands Unmap later) (stands Remap later) none
 split kinds.Shift x later none = split_law (is_step Map x) (is_step Unmap x) (stands Map later) (stands Unmap later) none
@@ -105,7 +110,8 @@ any_record kind (x ∷ later) none =
     ap (λ b. b || list_any is_record later) (own_is kind (λ step. is_step step x) both.0)
     ∙ ap (λ b. is_step (own_record kind) x || b) (any_record kind later both.1)
 
-pub record_before_record : (kind : Kind) (plan : Plan) → NoOther kind (λ step. stands step plan) → before is_record is_record plan ≡ comes_before (own_record kind) (own_record kind) plan
+pub record_before_record : (kind : Kind) (plan : Plan) → NoOther kind (λ step. stands step plan)
+    → before is_record is_record plan ≡ comes_before (own_record kind) (own_record kind) plan
 record_before_record kind [] none = refl
 record_before_record kind (x ∷ later) none =
     let both = split kind x later none in
@@ -113,7 +119,8 @@ record_before_record kind (x ∷ later) none =
     ∙ ap (λ b. not (is_step (own_record kind) x && b) && before is_record is_record later) (any_record kind later both.1)
     ∙ ap (λ b. not (is_step (own_record kind) x && stands (own_record kind) later) && b) (record_before_record kind later both.1)
 
-pub record_before : (kind : Kind) (second : Step) (plan : Plan) → NoOther kind (λ step. stands step plan) → before is_record (is_step second) plan ≡ comes_before (own_record kind) second plan
+pub record_before : (kind : Kind) (second : Step) (plan : Plan) → NoOther kind (λ step. stands step plan)
+    → before is_record (is_step second) plan ≡ comes_before (own_record kind) second plan
 record_before kind second [] none = refl
 record_before kind second (x ∷ later) none =
     let both = split kind x later none in
@@ -183,13 +190,15 @@ rule_is_safe kind words plan inside e =
     let turns = all_turns kind plan keeps.turns in
     let late = all_late words plan keeps.late in
     let enables = and_parts (all_below (λ w. is_once (TakeE w) plan) words) (are_paired takes_enables puts_enables None plan) keeps.enables in
-    let enables_once : (w : ℕ) → w < words → is_once (TakeE w) plan ≡ true = λ w low. below_passes (λ w. is_once (TakeE w) plan) words w enables.0 low in
+    let enables_once : (w : ℕ) → w < words → is_once (TakeE w) plan ≡ true =
+    λ w low. below_passes (λ w. is_once (TakeE w) plan) words w enables.0 low in
     left_is_safe words plan
     (record {
       one_word0 = once_before Word0 plan turns.word0;
       one_fence = once_before Fence plan turns.fence;
       one_gfence = once_before GFence plan turns.gfence;
-      one_record = record_before_record kind plan turns.others ∙ comes_before-before (own_record kind) (own_record kind) plan ∙ once_before (own_record kind) plan turns.own;
+      one_record = record_before_record kind plan turns.others ∙ comes_before-before (own_record kind) (own_record kind) plan
+          ∙ once_before (own_record kind) plan turns.own;
       word0_first = in_order Word0 Fence plan turns.word0_first;
       record_first = record_before kind GFence plan turns.others ∙ turns.own_first;
       fence_first = λ w low. in_order Fence (TakeP w) plan (late w low).fence;

@@ -25,7 +25,8 @@ same_lease l p q here there e =
     let high = here.2 in
     let small = there.1 in
     let big = there.2 in
-    let at = same_from_place p.hart (p.file - 1) q.hart (q.file - 1) l.guests (omega (arith, low, high)) (omega (arith, small, big)) (sym (placed l p low) ∙ e ∙ placed l q small) in
+    let at = same_from_place p.hart (p.file - 1) q.hart (q.file - 1) l.guests (omega (arith, low, high)) (omega (arith, small, big))
+    (sym (placed l p low) ∙ e ∙ placed l q small) in
     let less = at.1 in
     ap (λ b. b && nat_eq p.file q.file) (eq-eqb p.hart q.hart at.0) ∙ eq-eqb p.file q.file (omega (arith, low, small, less))
 
@@ -36,5 +37,7 @@ out_here l p b there long =
     let within = lease_within l p there in
     get_or-set_same l.out (lease_place l p) b false (omega (arith, within, long))
 
-pub out_elsewhere : (l : Leases) (p q : GuestPlace) (b : Bool) → IsFileThere l p → IsFileThere l q → is_place q p ≡ false → is_out (with_out l p b) q ≡ is_out l q
-out_elsewhere l p q b here there apart = get_or-set_other l.out (lease_place l p) (lease_place l q) b false (λ e. false≢true (sym apart ∙ same_lease l q p there here e))
+pub out_elsewhere : (l : Leases) (p q : GuestPlace) (b : Bool) → IsFileThere l p → IsFileThere l q → is_place q p ≡ false
+    → is_out (with_out l p b) q ≡ is_out l q
+out_elsewhere l p q b here there apart = get_or-set_other l.out (lease_place l p) (lease_place l q) b false
+    (λ e. false≢true (sym apart ∙ same_lease l q p there here e))

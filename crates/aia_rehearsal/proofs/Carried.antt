@@ -78,11 +78,13 @@ module _ (i j : ImsicState) (harts : i.harts ≡ j.harts) (guests : i.guests ≡
 
 -- the machine and the stores in flight stay
 pub stand_on : (w u : World) (r : Rehearsed) (hand : Carried) (z y : Transit) → SameMachine w u → u.flights ≡ w.flights → y.flights ≡ z.flights
-    → SetsStand (width w) (sets_at u (at Old r.passage)) (sets_at u (at New r.passage)) hand y → RoutesStand r.passage (routes_of u (mover_of r.passage)) y → StandsFor w r z → StandsFor u (record r { hand = hand }) y
+    → SetsStand (width w) (sets_at u (at Old r.passage)) (sets_at u (at New r.passage)) hand y
+    → RoutesStand r.passage (routes_of u (mover_of r.passage)) y → StandsFor w r z → StandsFor u (record r { hand = hand }) y
 stand_on w u r hand z y same flights fly sets routes s = record {
   of = of_same w u r.passage same s.of;
   two = s.two;
-  sets = subst (λ words. SetsStand words (sets_at u (at Old r.passage)) (sets_at u (at New r.passage)) hand y) (ap (λ n. (n + 1) / 64) (sym same.n)) sets;
+  sets = subst (λ words. SetsStand words (sets_at u (at Old r.passage)) (sets_at u (at New r.passage)) hand y)
+      (ap (λ n. (n + 1) / 64) (sym same.n)) sets;
   routes = routes;
   flights = record {
     own = fly ∙ s.flights.own ∙ kept r.passage.who.found.vm;
@@ -91,7 +93,8 @@ stand_on w u r hand z y same flights fly sets routes s = record {
 }
   where
     kept : (vm : ℕ) → flights_in w.imsic r.passage (flight_of w vm) ≡ flights_in u.imsic r.passage (flight_of u vm)
-    kept vm = flights_same w.imsic u.imsic (sym same.harts) (sym same.guests) r.passage (flight_of w vm) ∙ ap (λ lists. flights_in u.imsic r.passage (slice_index_or lists vm [])) (sym flights)
+    kept vm = flights_same w.imsic u.imsic (sym same.harts) (sym same.guests) r.passage (flight_of w vm)
+        ∙ ap (λ lists. flights_in u.imsic r.passage (slice_index_or lists vm [])) (sym flights)
 
 pub same_machine : (w : World) → SameMachine w w
 same_machine w = record { n = refl; vms = refl; harts = refl; guests = refl }

@@ -41,7 +41,8 @@ landed_on (Some side) x z = landed side x z
 only_stores_same : (w u : World) → OnlyStores w u → SameMachine w u × (u.flights ≡ w.flights)
 only_stores_same w u rest = (stored_same w u rest, ap (λ (x : World). x.flights) rest)
 
-module _ (w u : World) (r : Rehearsed) (z : Transit) (hits : ends.Place → Bool) (offset value : ℕ) (s : StandsFor w r z) (seen : Seen w u r.passage hits offset value) where
+module _ (w u : World) (r : Rehearsed) (z : Transit) (hits : ends.Place → Bool) (offset value : ℕ) (s : StandsFor w r z)
+    (seen : Seen w u r.passage hits offset value) where
   abbrev x : ℕ
   x = identity_asked offset value
 
@@ -55,7 +56,8 @@ module _ (w u : World) (r : Rehearsed) (z : Transit) (hits : ends.Place → Bool
   routes_kept routes = subst (λ y. RoutesStand r.passage y z) (sym seen.routes) routes
 
   nowhere : hits r.passage.old ≡ false → hits r.passage.new ≡ false → StandsFor u r z
-  nowhere old new = stand_on w u r r.hand z z same.0 same.1 refl (rw (seen.missed r.passage.old s.of.old old, seen.missed r.passage.new s.of.new new) s.sets) (routes_kept s.routes) s
+  nowhere old new = stand_on w u r r.hand z z same.0 same.1 refl
+      (rw (seen.missed r.passage.old s.of.old old, seen.missed r.passage.new s.of.new new) s.sets) (routes_kept s.routes) s
 
   at_old : hits r.passage.old ≡ true → hits r.passage.new ≡ false → StandsFor u r (landed Old x z)
   at_old old new =
@@ -67,7 +69,14 @@ module _ (w u : World) (r : Rehearsed) (z : Transit) (hits : ends.Place → Bool
         new_enabled = s.sets.new_enabled;
         carried_pending = s.sets.carried_pending;
         carried_enables = s.sets.carried_enables;
-      })) (let routes = routes_kept s.routes in record { entry_written = routes.entry_written; notice = routes.notice; entry_in_force = routes.entry_in_force; record_written = routes.record_written; record_in_force = routes.record_in_force }) s
+      })) (let routes = routes_kept s.routes in record {
+        entry_written = routes.entry_written;
+        notice = routes.notice;
+        entry_in_force = routes.entry_in_force;
+        record_written =
+            routes.record_written;
+        record_in_force = routes.record_in_force;
+      }) s
 
   at_new : hits r.passage.old ≡ false → hits r.passage.new ≡ true → StandsFor u r (landed New x z)
   at_new old new =
@@ -79,7 +88,14 @@ module _ (w u : World) (r : Rehearsed) (z : Transit) (hits : ends.Place → Bool
         new_enabled = λ i low. s.sets.new_enabled i low ∙ sym (adds.enabled i);
         carried_pending = s.sets.carried_pending;
         carried_enables = s.sets.carried_enables;
-      })) (let routes = routes_kept s.routes in record { entry_written = routes.entry_written; notice = routes.notice; entry_in_force = routes.entry_in_force; record_written = routes.record_written; record_in_force = routes.record_in_force }) s
+      })) (let routes = routes_kept s.routes in record {
+        entry_written = routes.entry_written;
+        notice = routes.notice;
+        entry_in_force = routes.entry_in_force;
+        record_written =
+            routes.record_written;
+        record_in_force = routes.record_in_force;
+      }) s
 
   pub store_lands : (hits r.passage.old ≡ true → hits r.passage.new ≡ false) → StandsFor u r (landed_on (side_by hits r.passage) x z)
   store_lands one = elim (cases_Bool (hits r.passage.old)) [
@@ -115,12 +131,14 @@ page_there w page some = by_spot (page_spot w.imsic page) refl
     by_spot : (spot : Spot) → page_spot w.imsic page ≡ spot → IsThere w.imsic (page_spot w.imsic page)
     by_spot (MachineFile hart) is = subst (IsThere w.imsic) (sym is) (machine_of_spot w.imsic.harts w.imsic.guests (page * PAGE) hart is).0
     by_spot (SupervisorFile hart) is = subst (IsThere w.imsic) (sym is) (host_of_spot w.imsic.harts w.imsic.guests (page * PAGE) hart is).0
-    by_spot (GuestFile hart file) is = let found = guest_of_spot w.imsic.harts w.imsic.guests (page * PAGE) hart file is in subst (IsThere w.imsic) (sym is) (found.0, found.1, found.2)
+    by_spot (GuestFile hart file) is = let found = guest_of_spot w.imsic.harts w.imsic.guests (page * PAGE) hart file is in
+        subst (IsThere w.imsic) (sym is) (found.0, found.1, found.2)
     by_spot Nowhere is = absurd (some is)
 
 pub named_spot_there : (w : World) (a : GuestPlace) → named_spot w.imsic a ≢ Nowhere → IsThere w.imsic (named_spot w.imsic a)
 named_spot_there w a some = elim (cases_Bool (nat_lt a.hart w.imsic.harts && is_in_range 1 w.imsic.guests a.file)) [
-  | inl named ↦ let inside : IsThere w.imsic (spot_of a) = (grind (arith, nat_tests), grind (arith, nat_tests), grind (arith, nat_tests)) in subst (IsThere w.imsic) (sym (cond-true _ _ _ named)) inside
+  | inl named ↦ let inside : IsThere w.imsic (spot_of a) = (grind (arith, nat_tests), grind (arith, nat_tests), grind (arith, nat_tests)) in
+      subst (IsThere w.imsic) (sym (cond-true _ _ _ named)) inside
   | inr past ↦ absurd (some (cond-false _ _ _ past))
 ]
 
@@ -133,17 +151,21 @@ module _ (w u : World) (p : Passage) (offset value : ℕ) (whole : IsWhole w) wh
     missed = λ b there none. seen.missed b there (same b ∙ none);
   }
 
-  nothing_led : (slot : ℕ) (entry : Entry) → ((b : ends.Place) → leads w.imsic slot b entry ≡ false) → u ≡ w → Seen w u p (λ b. leads w.imsic slot b entry) offset value
+  nothing_led : (slot : ℕ) (entry : Entry) → ((b : ends.Place) → leads w.imsic slot b entry ≡ false) → u ≡ w
+      → Seen w u p (λ b. leads w.imsic slot b entry) offset value
   nothing_led slot entry none e = seen_none w u p offset value whole (λ b. leads w.imsic slot b entry) none e
 
   pub entry_seen : (entry : Entry) → ReachesBy entry w u offset value → Seen w u p (λ b. leads w.imsic p.who.found.slot b entry) offset value
-  entry_seen (Basic page) reaches = hit_same (file_hit (page_spot w.imsic page)) (λ b. leads w.imsic p.who.found.slot b (Basic page)) by_place (at_spot w u p offset value whole (page_spot w.imsic page) (page_there w page) reaches)
+  entry_seen (Basic page) reaches = hit_same (file_hit (page_spot w.imsic page)) (λ b. leads w.imsic p.who.found.slot b (Basic page)) by_place
+      (at_spot w u p offset value whole (page_spot w.imsic page) (page_there w page) reaches)
     where
       by_place : (b : ends.Place) → file_hit (page_spot w.imsic page) b ≡ leads w.imsic p.who.found.slot b (Basic page)
       by_place (File b) = refl
       by_place Slot = refl
-  entry_seen (Mrif addr page identity) reaches = hit_same (slot_hit (slot_at addr) p.who.found.slot) (λ b. leads w.imsic p.who.found.slot b (Mrif addr page identity)) by_place
-      (at_slot w u p offset value whole (slot_at addr) (page_spot w.imsic page) identity (λ n e. (slot_begins addr n e).0) (page_there w page) reaches)
+  entry_seen (Mrif addr page identity) reaches =
+      hit_same (slot_hit (slot_at addr) p.who.found.slot) (λ b. leads w.imsic p.who.found.slot b (Mrif addr page identity)) by_place
+      (at_slot w u p offset value whole (slot_at addr) (page_spot w.imsic page) identity (λ n e. (slot_begins addr n e).0)
+      (page_there w page) reaches)
     where
       by_place : (b : ends.Place) → slot_hit (slot_at addr) p.who.found.slot b ≡ leads w.imsic p.who.found.slot b (Mrif addr page identity)
       by_place (File b) = refl
@@ -165,10 +187,12 @@ module _ (w u : World) (p : Passage) (offset value : ℕ) (whole : IsWhole w) wh
       none Slot = refl
 
 module _ (w u : World) (r : Rehearsed) (z : Transit) (offset value : ℕ) (whole : IsWhole w) (s : StandsFor w r z) where
-  pub one_led : (entry : Entry) → leads w.imsic r.passage.who.found.slot r.passage.old entry ≡ true → leads w.imsic r.passage.who.found.slot r.passage.new entry ≡ false
+  pub one_led : (entry : Entry) → leads w.imsic r.passage.who.found.slot r.passage.old entry ≡ true
+      → leads w.imsic r.passage.who.found.slot r.passage.new entry ≡ false
   one_led entry led = by_places entry r.passage.old r.passage.new s.two led
     where
-      by_places : (entry : Entry) (a b : ends.Place) → AreTwo a b → leads w.imsic r.passage.who.found.slot a entry ≡ true → leads w.imsic r.passage.who.found.slot b entry ≡ false
+      by_places : (entry : Entry) (a b : ends.Place) → AreTwo a b → leads w.imsic r.passage.who.found.slot a entry ≡ true
+          → leads w.imsic r.passage.who.found.slot b entry ≡ false
       by_places (Basic page) (File a) (File b) two led = one_file_hit (page_spot w.imsic page) (File a) (File b) two led
       by_places (Basic page) (File a) Slot two led = refl
       by_places (Basic page) Slot b two led = absurd (cc)
@@ -183,5 +207,7 @@ module _ (w u : World) (r : Rehearsed) (z : Transit) (offset value : ℕ) (whole
       by_places Misconfigured Slot b two led = absurd (cc)
 
   -- a store goes along an entry
-  pub entry_lands : (entry : Entry) → ReachesBy entry w u offset value → StandsFor u r (landed_on (side_of w.imsic r.passage entry) (identity_asked offset value) z)
-  entry_lands entry reaches = store_lands w u r z (λ b. leads w.imsic r.passage.who.found.slot b entry) offset value s (entry_seen w u r.passage offset value whole entry reaches) (one_led entry)
+  pub entry_lands : (entry : Entry) → ReachesBy entry w u offset value
+      → StandsFor u r (landed_on (side_of w.imsic r.passage entry) (identity_asked offset value) z)
+  entry_lands entry reaches = store_lands w u r z (λ b. leads w.imsic r.passage.who.found.slot b entry) offset value s
+      (entry_seen w u r.passage offset value whole entry reaches) (one_led entry)

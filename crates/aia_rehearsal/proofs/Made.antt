@@ -56,7 +56,8 @@ use Rattle.aia_plan.specs.Transit.{Happening as happenings}
 use Rattle.aia_rehearsal.proofs.RouteSteps.{write_entry, refetched, write_record, fence_record}
 use Rattle.aia_rehearsal.proofs.Theorem.{led_stands, begun_stands}
 
-module _ (files : ImsicState) (w : World) (n harts guests : ℕ) (vm : Vm) (who : Who) (new : IsNew (new_world files n) harts guests n) (whole : IsWhole w) (makes : MakesVm (new_world files n) w vm) (is : IsWho w who) (first : who.found.vm ≡ 0) where
+module _ (files : ImsicState) (w : World) (n harts guests : ℕ) (vm : Vm) (who : Who) (new : IsNew (new_world files n) harts guests n)
+    (whole : IsWhole w) (makes : MakesVm (new_world files n) w vm) (is : IsWho w who) (first : who.found.vm ≡ 0) where
   abbrev g : Vcpu
   g = vcpu who.found.vm who.found.number
 
@@ -70,7 +71,8 @@ module _ (files : ImsicState) (w : World) (n harts guests : ℕ) (vm : Vm) (who 
   notice_is = sym (is.notice ∙ ap (λ vms. notice_hart vms g) makes.vms ∙ ap (λ v. notice_hart (vm ∷ []) (vcpu v who.found.number)) first)
 
   stage_is : stage_of w g ≡ no_stage
-  stage_is = let low = slot_low w g whole is.there in ap (λ (x : World). slice_index_or x.stages (slot_of w.vms g) no_stage) makes.rest ∙ get_or-replicate VCPUS (slot_of w.vms g) no_stage no_stage low
+  stage_is = let low = slot_low w g whole is.there in ap (λ (x : World). slice_index_or x.stages (slot_of w.vms g) no_stage) makes.rest
+      ∙ get_or-replicate VCPUS (slot_of w.vms g) no_stage no_stage low
 
   none_flies : (v : ℕ) → flight_of w v ≡ []
   none_flies v = ap (λ lists. slice_index_or lists v []) makes.flights ∙ none v
@@ -83,7 +85,8 @@ module _ (files : ImsicState) (w : World) (n harts guests : ℕ) (vm : Vm) (who 
       none (suc v) = refl
 
   none_leads : (p : Passage) (side : TransitSide) (v : ℕ) → NoneLeads w p side v
-  none_leads p side v = subst (λ l. All (λ (store : Flying). leads w.imsic p.who.found.slot (on side p) store.entry ≡ false) l) (sym (none_flies v)) (All-nil _)
+  none_leads p side v = subst (λ l. All (λ (store : Flying). leads w.imsic p.who.found.slot (on side p) store.entry ≡ false) l)
+      (sym (none_flies v)) (All-nil _)
 
   -- all leads to the slot
   module _ (old place : ends.Place) where
@@ -92,10 +95,15 @@ module _ (files : ImsicState) (w : World) (n harts guests : ℕ) (vm : Vm) (who 
 
     led : (side : TransitSide) → names_on side p ≡ None → LeadsTo w p side
     led side none = record {
-      word0 = ap (λ v. get_or w.memory (entry_word_place v who.found.number) 0) first ∙ makes.word0 who.found.number vcpu_low ∙ ap (λ q. mrif_word (slot_address q)) none_before ∙ ap (entry_word who.found.slot) (sym none);
-      word1 = ap (λ v. get_or w.memory (entry_word_place v who.found.number + 1) 0) first ∙ makes.word1 who.found.number vcpu_low ∙ ap (λ q. notice_word (notice_page vm) (q + 1)) none_before ∙ ap (λ hart. notice_word (supervisor_page hart / PAGE) (who.found.slot + 1)) notice_is;
-      in_force = ap (λ v. entry_in_force (table_of w.tables v) who.found.number) first ∙ makes.in_force who.found.number ∙ cond-true _ _ _ (lt-ltb _ _ vcpu_low) ∙ ap (λ q. Mrif (slot_address q) (notice_page vm) (q + 1)) none_before
-          ∙ ap (λ hart. Mrif (slot_address who.found.slot) (supervisor_page hart / PAGE) (who.found.slot + 1)) notice_is ∙ ap (leads_to who.found.slot who.found.notice) (sym none);
+      word0 = ap (λ v. get_or w.memory (entry_word_place v who.found.number) 0) first ∙ makes.word0 who.found.number vcpu_low
+          ∙ ap (λ q. mrif_word (slot_address q)) none_before ∙ ap (entry_word who.found.slot) (sym none);
+      word1 = ap (λ v. get_or w.memory (entry_word_place v who.found.number + 1) 0) first ∙ makes.word1 who.found.number vcpu_low
+          ∙ ap (λ q. notice_word (notice_page vm) (q + 1)) none_before
+          ∙ ap (λ hart. notice_word (supervisor_page hart / PAGE) (who.found.slot + 1)) notice_is;
+      in_force = ap (λ v. entry_in_force (table_of w.tables v) who.found.number) first ∙ makes.in_force who.found.number
+          ∙ cond-true _ _ _ (lt-ltb _ _ vcpu_low) ∙ ap (λ q. Mrif (slot_address q) (notice_page vm) (q + 1)) none_before
+          ∙ ap (λ hart. Mrif (slot_address who.found.slot) (supervisor_page hart / PAGE) (who.found.slot + 1)) notice_is
+          ∙ ap (leads_to who.found.slot who.found.notice) (sym none);
       record_written = ap (λ (x : Stage). x.written) stage_is ∙ sym none;
       record_in_force = ap (λ (x : Stage). x.in_force) stage_is ∙ sym none;
     }
@@ -106,7 +114,8 @@ module _ (files : ImsicState) (w : World) (n harts guests : ℕ) (vm : Vm) (who 
     arrival = record { who = who; old = Slot; new = File a }
 
     other_slot : (n page identity : ℕ) → n < VCPUS → n ≢ who.found.slot → side_of w.imsic arrival (Mrif (slot_address n) page identity) ≡ None
-    other_slot n page identity low other = cond-false _ _ _ (ap (λ o. names o who.found.slot) (slot_found n low) ∙ ne_eqb n who.found.slot other) ∙ refl
+    other_slot n page identity low other = cond-false _ _ _
+        (ap (λ o. names o who.found.slot) (slot_found n low) ∙ ne_eqb n who.found.slot other) ∙ refl
 
     not_valid : side_of w.imsic arrival NotValid ≡ None
     not_valid = refl
@@ -115,22 +124,27 @@ module _ (files : ImsicState) (w : World) (n harts guests : ℕ) (vm : Vm) (who 
     plus_none n = omega arith
 
     other_number : (n : ℕ) → g ≢ vcpu who.found.vm n → n ≢ who.found.slot
-    other_number n other e = other (let same : who.found.number ≡ n = sym (plus_none who.found.number) ∙ none_before ∙ sym e in λ k. vcpu who.found.vm (same k))
+    other_number n other e = other (let same : who.found.number ≡ n = sym (plus_none who.found.number) ∙ none_before
+        ∙ sym e in λ k. vcpu who.found.vm (same k))
 
     few_vcpus : vm.vcpus ≤ VCPUS
     few_vcpus = let total : vcpus_in w.vms ≡ vm.vcpus + 0 = ap vcpus_in makes.vms in let most = whole.vcpus in omega (arith, total, most)
 
     made_elsewhere : (n : ℕ) → g ≢ vcpu who.found.vm n → side_of w.imsic arrival (made_entry vm 0 n) ≡ None
     made_elsewhere n other = elim (cases_Bool (nat_lt n vm.vcpus)) [
-      | inl inside ↦ ap (side_of w.imsic arrival) (cond-true _ _ _ inside) ∙ ap (λ q. side_of w.imsic arrival (Mrif (slot_address q) (notice_page vm) (q + 1))) (plus_none n)
-          ∙ other_slot n (notice_page vm) (n + 1) (let low : n < vm.vcpus = ltb-true _ _ inside in omega (arith, low, few_vcpus)) (other_number n other)
+      | inl inside ↦ ap (side_of w.imsic arrival) (cond-true _ _ _ inside)
+          ∙ ap (λ q. side_of w.imsic arrival (Mrif (slot_address q) (notice_page vm) (q + 1))) (plus_none n)
+          ∙ other_slot n (notice_page vm) (n + 1) (let low : n < vm.vcpus = ltb-true _ _ inside in omega (arith, low, few_vcpus))
+          (other_number n other)
       | inr past ↦ ap (side_of w.imsic arrival) (cond-false _ _ _ past) ∙ not_valid
     ]
 
     in_force_elsewhere : (x : Vcpu) → x ≢ g → side_of w.imsic arrival (entry_in_force (table_of w.tables x.vm) x.number) ≡ None
     in_force_elsewhere x other = elim (cases_eq x.vm 0) [
-      | inl zero_vm ↦ ap (λ v. side_of w.imsic arrival (entry_in_force (table_of w.tables v) x.number)) zero_vm ∙ ap (side_of w.imsic arrival) (makes.in_force x.number)
-          ∙ made_elsewhere x.number (λ e. other (let number : who.found.number ≡ x.number = ap (λ (y : Vcpu). y.number) e in λ k. vcpu ((zero_vm ∙ sym first) k) (sym number k)))
+      | inl zero_vm ↦ ap (λ v. side_of w.imsic arrival (entry_in_force (table_of w.tables v) x.number)) zero_vm
+          ∙ ap (side_of w.imsic arrival) (makes.in_force x.number)
+          ∙ made_elsewhere x.number (λ e. other (let number : who.found.number ≡ x.number = ap (λ (y : Vcpu). y.number) e in
+          λ k. vcpu ((zero_vm ∙ sym first) k) (sym number k)))
       | inr some_vm ↦
           let past : length w.tables ≤ x.vm = let one : length w.tables ≡ 0 + 1 = makes.count in omega (arith, one, some_vm) in
           ap (λ t. side_of w.imsic arrival (entry_in_force t x.number)) (get_or_past w.tables x.vm no_table past) ∙ not_valid
@@ -141,18 +155,27 @@ module _ (files : ImsicState) (w : World) (n harts guests : ℕ) (vm : Vm) (who 
       where
         by_vm : (v : ℕ) → x.vm ≡ v → is_vcpu_in (vm ∷ []) x ≡ true → (x.vm ≡ 0) × (x.number < vm.vcpus)
         by_vm zero is inside = (is, ltb-true _ _ (sym (ap (λ n. is_vcpu_in (vm ∷ []) (vcpu n x.number)) is) ∙ inside))
-        by_vm (suc v) is inside = let none : is_vcpu_in (vm ∷ []) (vcpu (suc v) x.number) ≡ true = sym (ap (λ n. is_vcpu_in (vm ∷ []) (vcpu n x.number)) is) ∙ inside in absurd (omega (arith, ltb-true _ _ none))
+        by_vm (suc v) is inside = let none : is_vcpu_in (vm ∷ []) (vcpu (suc v) x.number) ≡ true =
+            sym (ap (λ n. is_vcpu_in (vm ∷ []) (vcpu n x.number)) is) ∙ inside in absurd (omega (arith, ltb-true _ _ none))
 
-    written_elsewhere : (x : Vcpu) → is_vcpu_in w.vms x ≡ true → x ≢ g → side_of w.imsic arrival (decoded (routes_of w x).word0 (routes_of w x).word1) ≡ None
+    written_elsewhere : (x : Vcpu) → is_vcpu_in w.vms x ≡ true → x ≢ g
+        → side_of w.imsic arrival (decoded (routes_of w x).word0 (routes_of w x).word1) ≡ None
     written_elsewhere x there other =
         let at = first_vm x there in
         let low : x.number < VCPUS = let small = at.1 in omega (arith, small, few_vcpus) in
-        let hart : vm.notice_hart < HARTS = let there_hart = notice_hart_there w g whole is.there in omega (arith, there_hart, is.notice, notice_is, whole.harts) in
-        let word0 : (routes_of w x).word0 ≡ entry_word x.number None = ap (λ v. get_or w.memory (entry_word_place v x.number) 0) at.0 ∙ makes.word0 x.number at.1 ∙ ap (λ q. mrif_word (slot_address q)) (plus_none x.number) in
-        let word1 : (routes_of w x).word1 ≡ second_word x.number vm.notice_hart = ap (λ v. get_or w.memory (entry_word_place v x.number + 1) 0) at.0 ∙ makes.word1 x.number at.1 ∙ ap (λ q. notice_word (notice_page vm) (q + 1)) (plus_none x.number) in
-        ap (λ n. side_of w.imsic arrival (decoded n (routes_of w x).word1)) word0 ∙ ap (λ n. side_of w.imsic arrival (decoded (entry_word x.number None) n)) word1
+        let hart : vm.notice_hart < HARTS = let there_hart = notice_hart_there w g whole is.there in
+        omega (arith, there_hart, is.notice, notice_is, whole.harts) in
+        let word0 : (routes_of w x).word0 ≡ entry_word x.number None = ap (λ v. get_or w.memory (entry_word_place v x.number) 0) at.0
+        ∙ makes.word0 x.number at.1 ∙ ap (λ q. mrif_word (slot_address q)) (plus_none x.number) in
+        let word1 : (routes_of w x).word1 ≡ second_word x.number vm.notice_hart =
+        ap (λ v. get_or w.memory (entry_word_place v x.number + 1) 0) at.0 ∙ makes.word1 x.number at.1
+        ∙ ap (λ q. notice_word (notice_page vm) (q + 1)) (plus_none x.number) in
+        ap (λ n. side_of w.imsic arrival (decoded n (routes_of w x).word1)) word0
+        ∙ ap (λ n. side_of w.imsic arrival (decoded (entry_word x.number None) n)) word1
         ∙ ap (side_of w.imsic arrival) (entry_back x.number vm.notice_hart None low hart (λ p e. absurd (cc)))
-        ∙ other_slot x.number (supervisor_page vm.notice_hart / PAGE) (x.number + 1) low (other_number x.number (λ e. other (let number : who.found.number ≡ x.number = ap (λ (y : Vcpu). y.number) e in λ k. vcpu ((at.0 ∙ sym first) k) (sym number k))))
+        ∙ other_slot x.number (supervisor_page vm.notice_hart / PAGE) (x.number + 1) low
+        (other_number x.number (λ e. other (let number : who.found.number ≡ x.number = ap (λ (y : Vcpu). y.number) e in
+        λ k. vcpu ((at.0 ∙ sym first) k) (sym number k))))
 
     alone : IsAlone w arrival
     alone = record {
@@ -160,16 +183,19 @@ module _ (files : ImsicState) (w : World) (n harts guests : ℕ) (vm : Vm) (who 
       written = written_elsewhere;
       records = λ x there other side b named e.
           let low = slot_low w x whole there in
-          let none : stage_of w x ≡ no_stage = ap (λ (y : World). slice_index_or y.stages (slot_of w.vms x) no_stage) makes.rest ∙ get_or-replicate VCPUS (slot_of w.vms x) no_stage no_stage low in
+          let none : stage_of w x ≡ no_stage = ap (λ (y : World). slice_index_or y.stages (slot_of w.vms x) no_stage) makes.rest
+          ∙ get_or-replicate VCPUS (slot_of w.vms x) no_stage no_stage low in
           let empty : None ≡ Some b = sym (ap (λ (y : Stage). y.in_force) none) ∙ e in absurd (cc);
     }
 
   file_empty : (a : GuestPlace) → IsThere w.imsic (spot_of a) → SameFile (shown (file_at w.imsic (spot_of a))) (empty_file n)
   file_empty a there =
       let same : w.imsic ≡ files = ap (λ (x : World). x.imsic) makes.rest in
-      subst (λ (i : ImsicState). SameFile (shown (file_at i (spot_of a))) (empty_file n)) (sym same) (new.files.each (spot_of a) (subst (λ (i : ImsicState). IsThere i (spot_of a)) same there))
+      subst (λ (i : ImsicState). SameFile (shown (file_at i (spot_of a))) (empty_file n)) (sym same)
+      (new.files.each (spot_of a) (subst (λ (i : ImsicState). IsThere i (spot_of a)) same there))
 
-  arrives : (a : GuestPlace) → IsThere w.imsic (spot_of a) → IsBegun w (record { passage = record { who = who; old = Slot; new = File a }; hand = empty_hand })
+  arrives : (a : GuestPlace) → IsThere w.imsic (spot_of a)
+      → IsBegun w (record { passage = record { who = who; old = Slot; new = File a }; hand = empty_hand })
   arrives a there = record {
     of = record { who = is; old = tt; new = there };
     two = tt;
@@ -183,46 +209,75 @@ module _ (files : ImsicState) (w : World) (n harts guests : ℕ) (vm : Vm) (who 
   }
 
   -- as a leave has ended
-  leaves : (a : GuestPlace) → IsThere w.imsic (spot_of a) → StandsFor w (record { passage = record { who = who; old = File a; new = Slot }; hand = empty_hand }) (state_at New w (record { passage = record { who = who; old = File a; new = Slot }; hand = empty_hand }))
+  leaves : (a : GuestPlace) → IsThere w.imsic (spot_of a)
+      → StandsFor w (record { passage = record { who = who; old = File a; new = Slot }; hand = empty_hand })
+      (state_at New w (record { passage = record { who = who; old = File a; new = Slot }; hand = empty_hand }))
   leaves a there =
       let r : Rehearsed = record { passage = record { who = who; old = File a; new = Slot }; hand = empty_hand } in
-      led_stands w r New (record { who = is; old = there; new = tt }) tt (led (File a) Slot New refl) (λ v other. none_leads r.passage Old v) (λ v other. none_leads r.passage New v)
+      led_stands w r New (record { who = is; old = there; new = tt }) tt (led (File a) Slot New refl) (λ v other. none_leads r.passage Old v)
+      (λ v other. none_leads r.passage New v)
 
 -- the same of a fabric that is new
-module _ (before w : World) (n harts guests : ℕ) (vm : Vm) (who : Who) (new : IsNew before harts guests n) (whole : IsWhole w) (makes : MakesVm before w vm) (is : IsWho w who) (first : who.found.vm ≡ 0) where
+module _ (before w : World) (n harts guests : ℕ) (vm : Vm) (who : Who) (new : IsNew before harts guests n) (whole : IsWhole w)
+    (makes : MakesVm before w vm) (is : IsWho w who) (first : who.found.vm ≡ 0) where
   new_here : IsNew (new_world before.imsic n) harts guests n
   new_here = record { world = refl; hart_count = new.hart_count; guest_count = new.guest_count; files = new.files }
 
   makes_here : MakesVm (new_world before.imsic n) w vm
   makes_here = subst (λ (x : World). MakesVm x w vm) new.world makes
 
-  pub may_arrive : (a : GuestPlace) → IsThere w.imsic (spot_of a) → IsBegun w (record { passage = record { who = who; old = Slot; new = File a }; hand = empty_hand })
+  pub may_arrive : (a : GuestPlace) → IsThere w.imsic (spot_of a)
+      → IsBegun w (record { passage = record { who = who; old = Slot; new = File a }; hand = empty_hand })
   may_arrive a there = arrives before.imsic w n harts guests vm who new_here whole makes_here is first a there
 
-  pub has_left : (a : GuestPlace) → IsThere w.imsic (spot_of a) → StandsFor w (record { passage = record { who = who; old = File a; new = Slot }; hand = empty_hand }) (state_at New w (record { passage = record { who = who; old = File a; new = Slot }; hand = empty_hand }))
+  pub has_left : (a : GuestPlace) → IsThere w.imsic (spot_of a)
+      → StandsFor w (record { passage = record { who = who; old = File a; new = Slot }; hand = empty_hand })
+      (state_at New w (record { passage = record { who = who; old = File a; new = Slot }; hand = empty_hand }))
   has_left a there = leaves before.imsic w n harts guests vm who new_here whole makes_here is first a there
 
   -- once the entry and the record were written for a file and put in force, it may shift to another one
-  pub may_shift : (a b : GuestPlace) → IsThere w.imsic (spot_of a) → IsThere w.imsic (spot_of b) → is_place a b ≡ false → (x y v u : World) → IsWhole x → IsWhole y → IsWhole v
-      → x ≡ with_entry_word w who.found.vm who.found.number 0 (entry_word who.found.slot (Some a)) → y ≡ with_fence x who.found.vm who.found.number → v ≡ with_map y (vcpu who.found.vm who.found.number) (Some a) → u ≡ with_gfence v (vcpu who.found.vm who.found.number)
-      → StandsFor u (record { passage = record { who = who; old = File a; new = File b }; hand = empty_hand }) (state_at Old u (record { passage = record { who = who; old = File a; new = File b }; hand = empty_hand }))
+  pub may_shift : (a b : GuestPlace) → IsThere w.imsic (spot_of a) → IsThere w.imsic (spot_of b) → is_place a b ≡ false → (x y v u : World)
+      → IsWhole x → IsWhole y → IsWhole v
+      → x ≡ with_entry_word w who.found.vm who.found.number 0 (entry_word who.found.slot (Some a))
+      → y ≡ with_fence x who.found.vm who.found.number → v ≡ with_map y (vcpu who.found.vm who.found.number) (Some a)
+      → u ≡ with_gfence v (vcpu who.found.vm who.found.number)
+      → StandsFor u (record { passage = record { who = who; old = File a; new = File b }; hand = empty_hand })
+      (state_at Old u (record { passage = record { who = who; old = File a; new = File b }; hand = empty_hand }))
   may_shift a b there too apart x y v u whole_x whole_y whole_v e1 e2 e3 e4 =
       let r : Rehearsed = record { passage = record { who = who; old = Slot; new = File a }; hand = empty_hand } in
       let p : Passage = record { who = who; old = File a; new = File b } in
       let z = state_at Old w r in
       let s1 = subst (λ (m : World). StandsFor m r (stepped Word0 z)) (sym e1) (write_entry w r z whole (begun_stands w r (may_arrive a there))) in
-      let s2 = subst (λ (m : World). StandsFor m r (happened happenings.Refetches (stepped Word0 z))) (sym e2) (refetched x r (stepped Word0 z) whole_x s1) in
-      let s3 = subst (λ (m : World). StandsFor m r (stepped Map (happened happenings.Refetches (stepped Word0 z)))) (sym e3) (write_record y r (happened happenings.Refetches (stepped Word0 z)) whole_y s2) in
-      let s4 = subst (λ (m : World). StandsFor m r (stepped GFence (stepped Map (happened happenings.Refetches (stepped Word0 z))))) (sym e4) (fence_record v r (stepped Map (happened happenings.Refetches (stepped Word0 z))) whole_v s3) in
-      let files : u.imsic ≡ w.imsic = ap (λ (m : World). m.imsic) e4 ∙ ap (λ (m : World). m.imsic) e3 ∙ ap (λ (m : World). m.imsic) e2 ∙ ap (λ (m : World). m.imsic) e1 in
-      let lists : u.flights ≡ w.flights = ap (λ (m : World). m.flights) e4 ∙ ap (λ (m : World). m.flights) e3 ∙ ap (λ (m : World). m.flights) e2 ∙ ap (λ (m : World). m.flights) e1 in
+      let s2 = subst (λ (m : World). StandsFor m r (happened happenings.Refetches (stepped Word0 z))) (sym e2)
+      (refetched x r (stepped Word0 z) whole_x s1) in
+      let s3 = subst (λ (m : World). StandsFor m r (stepped Map (happened happenings.Refetches (stepped Word0 z)))) (sym e3)
+      (write_record y r (happened happenings.Refetches (stepped Word0 z)) whole_y s2) in
+      let s4 = subst (λ (m : World). StandsFor m r (stepped GFence (stepped Map (happened happenings.Refetches (stepped Word0 z))))) (sym e4)
+      (fence_record v r (stepped Map (happened happenings.Refetches (stepped Word0 z))) whole_v s3) in
+      let files : u.imsic ≡ w.imsic = ap (λ (m : World). m.imsic) e4 ∙ ap (λ (m : World). m.imsic) e3 ∙ ap (λ (m : World). m.imsic) e2
+      ∙ ap (λ (m : World). m.imsic) e1 in
+      let lists : u.flights ≡ w.flights = ap (λ (m : World). m.flights) e4 ∙ ap (λ (m : World). m.flights) e3 ∙ ap (λ (m : World). m.flights) e2
+      ∙ ap (λ (m : World). m.flights) e1 in
       led_stands u (record { passage = p; hand = empty_hand }) Old
-      (record { who = s4.of.who; old = subst (λ (i : ImsicState). IsThere i (spot_of a)) (sym files) there; new = subst (λ (i : ImsicState). IsThere i (spot_of b)) (sym files) too })
+      (record {
+        who = s4.of.who;
+        old = subst (λ (i : ImsicState). IsThere i (spot_of a)) (sym files) there;
+        new =
+            subst (λ (i : ImsicState). IsThere i (spot_of b)) (sym files) too;
+      })
       apart
-      (record { word0 = s4.routes.entry_written; word1 = s4.routes.notice; in_force = s4.routes.entry_in_force; record_written = s4.routes.record_written; record_in_force = s4.routes.record_in_force })
+      (record {
+        word0 = s4.routes.entry_written;
+        word1 = s4.routes.notice;
+        in_force = s4.routes.entry_in_force;
+        record_written =
+            s4.routes.record_written;
+        record_in_force = s4.routes.record_in_force;
+      })
       (λ k other. none_in_flight u p Old k lists) (λ k other. none_in_flight u p New k lists)
     where
       none_in_flight : (u : World) (p : Passage) (side : TransitSide) (k : ℕ) → u.flights ≡ w.flights → NoneLeads u p side k
       none_in_flight u p side k lists =
-          let none : flight_of u k ≡ [] = ap (λ l. slice_index_or l k []) lists ∙ none_flies before.imsic w n harts guests vm who new_here whole makes_here is first k in
+          let none : flight_of u k ≡ [] = ap (λ l. slice_index_or l k []) lists
+          ∙ none_flies before.imsic w n harts guests vm who new_here whole makes_here is first k in
           subst (λ l. All (λ (store : Flying). leads u.imsic p.who.found.slot (on side p) store.entry ≡ false) l) (sym none) (All-nil _)

@@ -33,7 +33,8 @@ module _ (w : World) (slot k v : ℕ) (whole : IsWhole w) (low : slot < VCPUS) w
   -- ---- the place itself
 
   pub pending_here : (place : ends.Place) → IsFileThere w place → k < pending_words w (at_of slot place)
-      → sets_at (with_pending w (at_of slot place) k v) (at_of slot place) ≡ record (sets_at w (at_of slot place)) { pending = replaced_by k v (sets_at w (at_of slot place)).pending }
+      → sets_at (with_pending w (at_of slot place) k v) (at_of slot place) ≡ record (sets_at w (at_of slot place))
+      { pending = replaced_by k v (sets_at w (at_of slot place)).pending }
   pending_here (File p) there few =
       let was = file_at w.imsic (spot_of p) in
       ap (λ f. of_file (shown f)) (here w (spot_of p) (record was { pending = set was.pending k v }) whole there)
@@ -41,31 +42,38 @@ module _ (w : World) (slot k v : ℕ) (whole : IsWhole w) (low : slot < VCPUS) w
   pending_here Slot there few = ap of_slot (slot_pending-written w.memory slot k v (has_slot w slot whole low) few)
 
   pub enabled_here : (place : ends.Place) → IsFileThere w place → k < enable_words w (at_of slot place)
-      → sets_at (with_enable w (at_of slot place) k v) (at_of slot place) ≡ record (sets_at w (at_of slot place)) { enabled = replaced_by k v (sets_at w (at_of slot place)).enabled }
+      → sets_at (with_enable w (at_of slot place) k v) (at_of slot place) ≡ record (sets_at w (at_of slot place))
+      { enabled = replaced_by k v (sets_at w (at_of slot place)).enabled }
   enabled_here (File p) there few =
       let was = file_at w.imsic (spot_of p) in
       ap (λ f. of_file (shown f)) (here w (spot_of p) (record was { enabled = set was.enabled k v }) whole there)
       ∙ ap (λ members. record (of_file (shown was)) { enabled = members }) (word_replaced was.enabled k v few)
   enabled_here Slot there few = ap of_slot (slot_enabled-written w.memory slot k v (has_slot w slot whole low) few)
 
-  pub pending_shown : (place : ends.Place) → k < pending_words w (at_of slot place) → Shows (pending_at w (at_of slot place) k) k (sets_at w (at_of slot place)).pending
+  pub pending_shown : (place : ends.Place) → k < pending_words w (at_of slot place)
+      → Shows (pending_at w (at_of slot place) k) k (sets_at w (at_of slot place)).pending
   pending_shown (File p) few i e = ap (λ x. has_bit (get_or (file_at w.imsic (spot_of p)).pending x 0) (i % 64)) (sym e)
   pending_shown Slot few i e = place_shows (pending_place slot) w.memory k i few e
 
-  pub enabled_shown : (place : ends.Place) → k < enable_words w (at_of slot place) → Shows (enable_at w (at_of slot place) k) k (sets_at w (at_of slot place)).enabled
+  pub enabled_shown : (place : ends.Place) → k < enable_words w (at_of slot place)
+      → Shows (enable_at w (at_of slot place) k) k (sets_at w (at_of slot place)).enabled
   enabled_shown (File p) few i e = ap (λ x. has_bit (get_or (file_at w.imsic (spot_of p)).enabled x 0) (i % 64)) (sym e)
   enabled_shown Slot few i e = place_shows (enable_place slot) w.memory k i few e
 
   -- ---- the other place
 
-  pub pending_elsewhere : (a b : ends.Place) → AreTwo a b → IsFileThere w a → IsFileThere w b → sets_at (with_pending w (at_of slot a) k v) (at_of slot b) ≡ sets_at w (at_of slot b)
-  pending_elsewhere (File p) (File q) two there inside = ap (λ f. of_file (shown f)) (kept_elsewhere w.imsic (spot_of p) (spot_of q) _ there inside (spots_apart q p (other_way p q two)))
+  pub pending_elsewhere : (a b : ends.Place) → AreTwo a b → IsFileThere w a → IsFileThere w b
+      → sets_at (with_pending w (at_of slot a) k v) (at_of slot b) ≡ sets_at w (at_of slot b)
+  pending_elsewhere (File p) (File q) two there inside =
+      ap (λ f. of_file (shown f)) (kept_elsewhere w.imsic (spot_of p) (spot_of q) _ there inside (spots_apart q p (other_way p q two)))
   pending_elsewhere (File p) Slot two there inside = refl
   pending_elsewhere Slot (File q) two there inside = refl
   pending_elsewhere Slot Slot two there inside = absurd two
 
-  pub enabled_elsewhere : (a b : ends.Place) → AreTwo a b → IsFileThere w a → IsFileThere w b → sets_at (with_enable w (at_of slot a) k v) (at_of slot b) ≡ sets_at w (at_of slot b)
-  enabled_elsewhere (File p) (File q) two there inside = ap (λ f. of_file (shown f)) (kept_elsewhere w.imsic (spot_of p) (spot_of q) _ there inside (spots_apart q p (other_way p q two)))
+  pub enabled_elsewhere : (a b : ends.Place) → AreTwo a b → IsFileThere w a → IsFileThere w b
+      → sets_at (with_enable w (at_of slot a) k v) (at_of slot b) ≡ sets_at w (at_of slot b)
+  enabled_elsewhere (File p) (File q) two there inside =
+      ap (λ f. of_file (shown f)) (kept_elsewhere w.imsic (spot_of p) (spot_of q) _ there inside (spots_apart q p (other_way p q two)))
   enabled_elsewhere (File p) Slot two there inside = refl
   enabled_elsewhere Slot (File q) two there inside = refl
   enabled_elsewhere Slot Slot two there inside = absurd two
@@ -78,10 +86,12 @@ module _ (w : World) (slot k v : ℕ) (whole : IsWhole w) (low : slot < VCPUS) w
       let second = get_or-set_other w.memory place (entry_word_place g.vm g.number + 1) v 0 (λ e. omega (arith, e, few)) in
       λ t. record (routes_of w g) { word0 = first t; word1 = second t }
 
-  pub pending_routes : (g : Vcpu) (place : ends.Place) → k < pending_words w (at_of slot place) → routes_of (with_pending w (at_of slot place) k v) g ≡ routes_of w g
+  pub pending_routes : (g : Vcpu) (place : ends.Place) → k < pending_words w (at_of slot place)
+      → routes_of (with_pending w (at_of slot place) k v) g ≡ routes_of w g
   pending_routes g (File p) few = refl
   pending_routes g Slot few = word_elsewhere g (pending_place slot k) (omega (arith, low, few))
 
-  pub enabled_routes : (g : Vcpu) (place : ends.Place) → k < enable_words w (at_of slot place) → routes_of (with_enable w (at_of slot place) k v) g ≡ routes_of w g
+  pub enabled_routes : (g : Vcpu) (place : ends.Place) → k < enable_words w (at_of slot place)
+      → routes_of (with_enable w (at_of slot place) k v) g ≡ routes_of w g
   enabled_routes g (File p) few = refl
   enabled_routes g Slot few = word_elsewhere g (enable_place slot k) (omega (arith, low, few))

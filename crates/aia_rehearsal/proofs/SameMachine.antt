@@ -33,8 +33,14 @@ same_by : (w u x : World) → u ≡ x → SameMachine w x → SameMachine w u
 same_by w u x e same = subst (λ (y : World). SameMachine w y) (sym e) same
 
 word_same : (w : World) (place : At) (k v : ℕ) → SameMachine w (with_pending w place k v) × SameMachine w (with_enable w place k v)
-word_same w (ats.File spot) k v = (record { n = refl; vms = refl; harts = refl; guests = refl }, record { n = refl; vms = refl; harts = refl; guests = refl })
-word_same w (ats.Slot q) k v = (record { n = refl; vms = refl; harts = refl; guests = refl }, record { n = refl; vms = refl; harts = refl; guests = refl })
+word_same w (ats.File spot) k v = (
+  record { n = refl; vms = refl; harts = refl; guests = refl },
+  record { n = refl; vms = refl; harts = refl; guests = refl },
+)
+word_same w (ats.Slot q) k v = (
+  record { n = refl; vms = refl; harts = refl; guests = refl },
+  record { n = refl; vms = refl; harts = refl; guests = refl },
+)
 
 put_same : (w u : World) (place : ends.Place) (reg : FileReg) (v : ℕ) → Puts w u place reg v → SameMachine w u
 put_same w u (File a) reg v puts = same_by w u _ puts.others (record { n = refl; vms = refl; harts = refl; guests = refl })
@@ -66,7 +72,13 @@ step_of step w u r t of makes e = subst (λ (x : Rehearsed). IsOf u x.passage) (
 
 -- one after the other
 pub same_again : (w u x : World) → SameMachine w u → SameMachine u x → SameMachine w x
-same_again w u x first second = record { n = second.n ∙ first.n; vms = second.vms ∙ first.vms; harts = second.harts ∙ first.harts; guests = second.guests ∙ first.guests }
+same_again w u x first second = record {
+  n = second.n ∙ first.n;
+  vms = second.vms ∙ first.vms;
+  harts = second.harts
+      ∙ first.harts;
+  guests = second.guests ∙ first.guests;
+}
 
 -- ---- so does all that happens
 
@@ -77,8 +89,10 @@ sends_same (Fault entry) w u vm offset value e = same_by w u w e (same_machine w
 
 pub event_same : (event : RehearsedEvent) (w : World) (r : Rehearsed) (u : World) (t : Rehearsed) → Happens event w r u t → SameMachine w u
 event_same (Steps step) w r u t (inside, makes, e) = step_same step w u r makes
-event_same (DeviceStores vm addr value) w r u t (low, reaches, e) = stored_same w u (reaches_rest (route_of (table_of w.tables vm) addr) w u (addr % PAGE) value reaches)
-event_same (PeerStores vm to value) w r u t (there, relays, e) = stored_same w u (record_rest (stage_of w (vcpu vm to)).in_force w u (vcpu vm to) value relays)
+event_same (DeviceStores vm addr value) w r u t (low, reaches, e) =
+    stored_same w u (reaches_rest (route_of (table_of w.tables vm) addr) w u (addr % PAGE) value reaches)
+event_same (PeerStores vm to value) w r u t (there, relays, e) =
+    stored_same w u (record_rest (stage_of w (vcpu vm to)).in_force w u (vcpu vm to) value relays)
 event_same (DeviceSends vm addr value) w r u t (low, sends, e) = sends_same (route_of (table_of w.tables vm) addr) w u vm (addr % PAGE) value sends
 event_same (StoreLands vm k) w r u t (low, l, e) =
     let same = stored_same w l.stored (entry_rest l.store.entry w l.stored l.store.offset l.store.value l.reaches) in

@@ -33,8 +33,10 @@ first_word bits bit low = has_bit-clear bits 0 bit (omega arith) low ∙ ap (λ 
     by_number n = grind (arith, nat_tests)
 
 identities_shown : (k bits bit : ℕ) → bit < 64 → has_bit (identities_in k bits) bit ≡ (is_identity (64 * k + bit) && has_bit bits bit)
-identities_shown zero bits bit low = let same : bit ≡ 64 * 0 + bit = omega arith in first_word bits bit low ∙ ap (λ n. is_identity n && has_bit bits bit) same
-identities_shown (suc k) bits bit low = let some : is_identity (64 * suc k + bit) ≡ true = grind (arith, nat_tests) in ap (λ n. has_bit n bit) (cond-false _ _ _ (ne_eqb (suc k) 0 (λ e. omega (arith, e)))) ∙ ap (λ b. b && has_bit bits bit) (sym some)
+identities_shown zero bits bit low = let same : bit ≡ 64 * 0 + bit = omega arith in first_word bits bit low
+    ∙ ap (λ n. is_identity n && has_bit bits bit) same
+identities_shown (suc k) bits bit low = let some : is_identity (64 * suc k + bit) ≡ true = grind (arith, nat_tests) in
+    ap (λ n. has_bit n bit) (cond-false _ _ _ (ne_eqb (suc k) 0 (λ e. omega (arith, e)))) ∙ ap (λ b. b && has_bit bits bit) (sym some)
 
 -- ---- one word of a set
 
@@ -52,10 +54,13 @@ word_in k i word bits was members carried same shows bit = elim (cases_eq (i / 6
   | inl e ↦
       let low : i % 64 < 64 = omega arith in
       let added : (is_identity i && carried (i % 64)) ≡ has_bit (identities_in k bits) (i % 64) =
-      ap (λ b. is_identity i && b) bit ∙ ap (λ n. is_identity n && has_bit bits (i % 64)) (sym (identity_at k i e)) ∙ sym (identities_shown k bits (i % 64) low) in
+      ap (λ b. is_identity i && b) bit ∙ ap (λ n. is_identity n && has_bit bits (i % 64)) (sym (identity_at k i e))
+      ∙ sym (identities_shown k bits (i % 64) low) in
       ap (λ b. was i || (b && (is_identity i && carried (i % 64)))) (eq-eqb k (i / 64) (sym e)) ∙ ap (λ b. was i || b) added
-      ∙ ap (λ b. b || has_bit (identities_in k bits) (i % 64)) (same ∙ sym (shows i e)) ∙ sym (has_bit-or word (identities_in k bits) (i % 64)) ∙ sym (cond-true _ _ _ (eq-eqb (i / 64) k e))
-  | inr ne ↦ ap (λ b. was i || (b && (is_identity i && carried (i % 64)))) (ne_eqb k (i / 64) (λ e. ne (sym e))) ∙ or_none (was i) ∙ same ∙ sym (cond-false _ _ _ (ne_eqb (i / 64) k ne))
+      ∙ ap (λ b. b || has_bit (identities_in k bits) (i % 64)) (same ∙ sym (shows i e)) ∙ sym (has_bit-or word (identities_in k bits) (i % 64))
+      ∙ sym (cond-true _ _ _ (eq-eqb (i / 64) k e))
+  | inr ne ↦ ap (λ b. was i || (b && (is_identity i && carried (i % 64)))) (ne_eqb k (i / 64) (λ e. ne (sym e))) ∙ or_none (was i) ∙ same
+      ∙ sym (cond-false _ _ _ (ne_eqb (i / 64) k ne))
 ]
   where
     or_none : (b : Bool) → (b || false) ≡ b
@@ -69,9 +74,12 @@ word_put k i bits was members carried same bit = elim (cases_eq (i / 64) k) [
   | inl e ↦
       let low : i % 64 < 64 = omega arith in
       let added : (is_identity i && carried (i % 64)) ≡ has_bit (identities_in k bits) (i % 64) =
-      ap (λ b. is_identity i && b) bit ∙ ap (λ n. is_identity n && has_bit bits (i % 64)) (sym (identity_at k i e)) ∙ sym (identities_shown k bits (i % 64) low) in
-      ap (λ b. (not b && was i) || (b && (is_identity i && carried (i % 64)))) (eq-eqb k (i / 64) (sym e)) ∙ added ∙ sym (cond-true _ _ _ (eq-eqb (i / 64) k e))
-  | inr ne ↦ ap (λ b. (not b && was i) || (b && (is_identity i && carried (i % 64)))) (ne_eqb k (i / 64) (λ e. ne (sym e))) ∙ or_none (was i) ∙ same ∙ sym (cond-false _ _ _ (ne_eqb (i / 64) k ne))
+      ap (λ b. is_identity i && b) bit ∙ ap (λ n. is_identity n && has_bit bits (i % 64)) (sym (identity_at k i e))
+      ∙ sym (identities_shown k bits (i % 64) low) in
+      ap (λ b. (not b && was i) || (b && (is_identity i && carried (i % 64)))) (eq-eqb k (i / 64) (sym e)) ∙ added
+      ∙ sym (cond-true _ _ _ (eq-eqb (i / 64) k e))
+  | inr ne ↦ ap (λ b. (not b && was i) || (b && (is_identity i && carried (i % 64)))) (ne_eqb k (i / 64) (λ e. ne (sym e))) ∙ or_none (was i)
+      ∙ same ∙ sym (cond-false _ _ _ (ne_eqb (i / 64) k ne))
 ]
   where
     or_none : (b : Bool) → (b || false) ≡ b
@@ -84,7 +92,8 @@ module _ (words k : ℕ) (old new : TwoSets) (hand : Carried) (z : Transit) (low
   inside : (bit : ℕ) → bit < 64 → (64 * k + bit) / 64 < words
   inside bit few = omega (arith, low, few)
 
-  pub pending_taken : (x : ℕ) → Shows x k old.pending → SetsStand words (record old { pending = replaced_by k 0 old.pending }) new (record hand { pending = x }) (stepped (TakeP k) z)
+  pub pending_taken : (x : ℕ) → Shows x k old.pending
+      → SetsStand words (record old { pending = replaced_by k 0 old.pending }) new (record hand { pending = x }) (stepped (TakeP k) z)
   pending_taken x shows = record {
     old_pending = λ i few. word_out k i z.old_pending old.pending (s.old_pending i few);
     old_enabled = s.old_enabled;
@@ -94,7 +103,8 @@ module _ (words k : ℕ) (old new : TwoSets) (hand : Carried) (z : Transit) (low
     carried_enables = s.carried_enables;
   }
 
-  pub enables_taken : (x : ℕ) → Shows x k old.enabled → SetsStand words (record old { enabled = replaced_by k 0 old.enabled }) new (record hand { enables = x }) (stepped (TakeE k) z)
+  pub enables_taken : (x : ℕ) → Shows x k old.enabled
+      → SetsStand words (record old { enabled = replaced_by k 0 old.enabled }) new (record hand { enables = x }) (stepped (TakeE k) z)
   enables_taken x shows = record {
     old_pending = s.old_pending;
     old_enabled = λ i few. word_out k i z.old_enabled old.enabled (s.old_enabled i few);
@@ -105,22 +115,26 @@ module _ (words k : ℕ) (old new : TwoSets) (hand : Carried) (z : Transit) (low
   }
 
   pub pending_put : (word : ℕ) → Shows word k new.pending
-      → SetsStand words old (record new { pending = replaced_by k (bit_or word (identities_in k hand.pending)) new.pending }) (record hand { pending = 0 }) (stepped (PutP k) z)
+      → SetsStand words old (record new { pending = replaced_by k (bit_or word (identities_in k hand.pending)) new.pending })
+      (record hand { pending = 0 }) (stepped (PutP k) z)
   pending_put word shows = record {
     old_pending = s.old_pending;
     old_enabled = s.old_enabled;
-    new_pending = λ i few. word_in k i word hand.pending z.new_pending new.pending z.carried_pending (s.new_pending i few) shows (s.carried_pending (i % 64) (omega arith));
+    new_pending = λ i few. word_in k i word hand.pending z.new_pending new.pending z.carried_pending (s.new_pending i few) shows
+        (s.carried_pending (i % 64) (omega arith));
     new_enabled = s.new_enabled;
     carried_pending = λ bit few. sym (has_bit-zero bit);
     carried_enables = s.carried_enables;
   }
 
-  pub enables_put : SetsStand words old (record new { enabled = replaced_by k (identities_in k hand.enables) new.enabled }) (record hand { enables = 0 }) (stepped (PutE k) z)
+  pub enables_put : SetsStand words old (record new { enabled = replaced_by k (identities_in k hand.enables) new.enabled })
+      (record hand { enables = 0 }) (stepped (PutE k) z)
   enables_put = record {
     old_pending = s.old_pending;
     old_enabled = s.old_enabled;
     new_pending = s.new_pending;
-    new_enabled = λ i few. word_put k i hand.enables z.new_enabled new.enabled z.carried_enables (s.new_enabled i few) (s.carried_enables (i % 64) (omega arith));
+    new_enabled = λ i few. word_put k i hand.enables z.new_enabled new.enabled z.carried_enables (s.new_enabled i few)
+        (s.carried_enables (i % 64) (omega arith));
     carried_pending = s.carried_pending;
     carried_enables = λ bit few. sym (has_bit-zero bit);
   }

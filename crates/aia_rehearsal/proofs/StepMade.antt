@@ -54,13 +54,15 @@ place_is slot Slot file e = ap (λ x. place_at x slot) e
 -- ---- the word of an access
 
 no_zero : (k bits : ℕ) → NoZero k (identities_in k bits)
-no_zero k bits first = subst (λ x. has_bit (identities_in x bits) 0 ≡ false) (sym first) (ap (λ bit. nat_eq bit 1) (bit_at_clear_same w64 bits 0 (omega arith)))
+no_zero k bits first = subst (λ x. has_bit (identities_in x bits) 0 ≡ false) (sym first)
+    (ap (λ bit. nat_eq bit 1) (bit_at_clear_same w64 bits 0 (omega arith)))
 
 number_fits : (place : ends.Place) (access : Access) (P : Access → Type 0) → P access → IfSome (number_at place access) P
 number_fits (File p) access P is = is
 number_fits Slot access P is = tt
 
-pub word_fits : (words : ℕ) (r : Rehearsed) (step : Step) (access : Access) → IsInside words step → access_made step r.passage ≡ Some access → WordFits access words (hand_for access r.hand).word
+pub word_fits : (words : ℕ) (r : Rehearsed) (step : Step) (access : Access) → IsInside words step → access_made step r.passage ≡ Some access
+    → WordFits access words (hand_for access r.hand).word
 word_fits words r step access inside is = subst (λ found. IfSome found Fits) is (by_step step inside)
   where
     Fits : Access → Type 0
@@ -80,7 +82,8 @@ word_fits words r step access inside is = subst (λ found. IfSome found Fits) is
 
 -- ---- what it makes
 
-module _ (w u : World) (r : Rehearsed) (way : Way) (hand : Hand) (leaves : left way ≡ file_of r.passage.old) (leads : led_to way ≡ file_of r.passage.new) where
+module _ (w u : World) (r : Rehearsed) (way : Way) (hand : Hand) (leaves : left way ≡ file_of r.passage.old)
+    (leads : led_to way ≡ file_of r.passage.new) where
   -- once the executor made the access, the step is made
   abbrev IsMade : (made carries : Type 0) → Access → Type 0
   IsMade made carries access = Executes access (moved r.passage.who way at_first (hand_for access r.hand)) w u hand → made × carries
@@ -98,28 +101,41 @@ module _ (w u : World) (r : Rehearsed) (way : Way) (hand : Hand) (leaves : left 
   new_is = place_is slot r.passage.new (led_to way) leads
 
   -- the numbers
-  quiet : (place : ends.Place) → left way ≡ file_of place → IfSome (number_at place accesses.TakeDelivery) (λ access. IsMade (Puts w u place Delivery 0)
+  quiet : (place : ends.Place) → left way ≡ file_of place
+      → IfSome (number_at place accesses.TakeDelivery) (λ access. IsMade (Puts w u place Delivery 0)
       (carrying access hand ≡ record r { hand = record r.hand { delivery = delivery_taken w place r.hand.delivery } }) access)
   quiet (File p) e = λ is. (
     subst (λ o. PutsRegister w u (spot_in o) Delivery 0) e is.makes,
-    ap (carrying accesses.TakeDelivery) is.carries ∙ ap (λ o. record r { hand = record r.hand { delivery = (file_at w.imsic (spot_in o)).delivery } }) e,
+    ap (carrying accesses.TakeDelivery) is.carries
+        ∙ ap (λ o. record r { hand = record r.hand { delivery = (file_at w.imsic (spot_in o)).delivery } }) e,
   )
   quiet Slot e = tt
 
-  threshold : (place : ends.Place) → left way ≡ file_of place → IfSome (number_at place accesses.TakeThreshold) (λ access. IsMade (Puts w u place Threshold 0)
+  threshold : (place : ends.Place) → left way ≡ file_of place
+      → IfSome (number_at place accesses.TakeThreshold) (λ access. IsMade (Puts w u place Threshold 0)
       (carrying access hand ≡ record r { hand = record r.hand { threshold = threshold_taken w place r.hand.threshold } }) access)
   threshold (File p) e = λ is. (
     subst (λ o. PutsRegister w u (spot_in o) Threshold 0) e is.makes,
-    ap (carrying accesses.TakeThreshold) is.carries ∙ ap (λ o. record r { hand = record r.hand { threshold = (file_at w.imsic (spot_in o)).threshold } }) e,
+    ap (carrying accesses.TakeThreshold) is.carries
+        ∙ ap (λ o. record r { hand = record r.hand { threshold = (file_at w.imsic (spot_in o)).threshold } }) e,
   )
   threshold Slot e = tt
 
-  putt : (place : ends.Place) → led_to way ≡ file_of place → IfSome (number_at place accesses.PutThreshold) (λ access. IsMade (Puts w u place Threshold r.hand.threshold) (carrying access hand ≡ r) access)
-  putt (File p) e = λ is. (subst (λ o. PutsRegister w u (spot_in o) Threshold r.hand.threshold) e is.makes, ap (carrying accesses.PutThreshold) is.carries)
+  putt : (place : ends.Place) → led_to way ≡ file_of place
+      → IfSome (number_at place accesses.PutThreshold)
+      (λ access. IsMade (Puts w u place Threshold r.hand.threshold) (carrying access hand ≡ r) access)
+  putt (File p) e = λ is. (
+    subst (λ o. PutsRegister w u (spot_in o) Threshold r.hand.threshold) e is.makes,
+    ap (carrying accesses.PutThreshold) is.carries,
+  )
   putt Slot e = tt
 
-  wake : (place : ends.Place) → led_to way ≡ file_of place → IfSome (number_at place accesses.PutDelivery) (λ access. IsMade (Puts w u place Delivery r.hand.delivery) (carrying access hand ≡ r) access)
-  wake (File p) e = λ is. (subst (λ o. PutsRegister w u (spot_in o) Delivery r.hand.delivery) e is.makes, ap (carrying accesses.PutDelivery) is.carries)
+  wake : (place : ends.Place) → led_to way ≡ file_of place
+      → IfSome (number_at place accesses.PutDelivery) (λ access. IsMade (Puts w u place Delivery r.hand.delivery) (carrying access hand ≡ r) access)
+  wake (File p) e = λ is. (
+    subst (λ o. PutsRegister w u (spot_in o) Delivery r.hand.delivery) e is.makes,
+    ap (carrying accesses.PutDelivery) is.carries,
+  )
   wake Slot e = tt
 
   by_step : (step : Step) → IfSome (access_made step r.passage) (λ access. IsMade (Makes step r w u) (carrying access hand ≡ after step r w) access)
@@ -153,21 +169,25 @@ module _ (w u : World) (r : Rehearsed) (way : Way) (hand : Hand) (leaves : left 
   by_step Wake = wake r.passage.new leads
   by_step step = λ is. (is.makes, ap (carrying accesses.Fence) is.carries)
 
-  pub made : (step : Step) (access : Access) → access_made step r.passage ≡ Some access → Executes access (moved r.passage.who way at_first (hand_for access r.hand)) w u hand
+  pub made : (step : Step) (access : Access) → access_made step r.passage ≡ Some access
+      → Executes access (moved r.passage.who way at_first (hand_for access r.hand)) w u hand
       → Makes step r w u × (record r { hand = carried_after access hand r.hand } ≡ after step r w)
   made step access is = subst (λ found. IfSome found (λ x. IsMade (Makes step r w u) (carrying x hand ≡ after step r w) x)) is (by_step step)
 
 -- ---- as the executor is called
 
 -- s is the rehearsal r by its parts; the executor was given their files and what is carried
-pub step_made : (w u : World) (s r : Rehearsed) → s ≡ r → NotBothSlots s.passage.old s.passage.new → (step : Step) (found : Option Access) (access : Access) → found ≡ access_made step r.passage → found ≡ Some access
+pub step_made : (w u : World) (s r : Rehearsed) → s ≡ r → NotBothSlots s.passage.old s.passage.new
+    → (step : Step) (found : Option Access) (access : Access) → found ≡ access_made step r.passage → found ≡ Some access
     → (given hand : Hand) → given ≡ hand_for access r.hand → (old new : Option GuestPlace) → old ≡ file_of s.passage.old → new ≡ file_of s.passage.new
     → ((way : Way) (at : Progress) → left way ≡ old → led_to way ≡ new → Executes access (moved s.passage.who way at given) w u hand)
     → Makes step r w u × (record r { hand = carried_after access hand r.hand } ≡ after step r w)
 step_made w u s r same two step found access finds is given hand gives old new is_old is_new executes =
-    made w u r way hand (leaves ∙ ap (λ (x : Rehearsed). file_of x.passage.old) same) (leads ∙ ap (λ (x : Rehearsed). file_of x.passage.new) same) step access (sym finds ∙ is)
+    made w u r way hand (leaves ∙ ap (λ (x : Rehearsed). file_of x.passage.old) same) (leads ∙ ap (λ (x : Rehearsed). file_of x.passage.new) same)
+    step access (sym finds ∙ is)
     (subst (λ (x : Rehearsed). Executes access (moved x.passage.who way at_first (hand_for access r.hand)) w u hand) same
-    (subst (λ (h : Hand). Executes access (moved s.passage.who way at_first h) w u hand) gives (executes way at_first (leaves ∙ sym is_old) (leads ∙ sym is_new))))
+    (subst (λ (h : Hand). Executes access (moved s.passage.who way at_first h) w u hand) gives
+    (executes way at_first (leaves ∙ sym is_old) (leads ∙ sym is_new))))
   where
     way : Way
     way = way_of s.passage.old s.passage.new two

@@ -24,15 +24,22 @@ module _ (w u : World) (r : Rehearsed) (z : Transit) (whole : IsWhole w) (s : St
   step_stands Unmap inside e = subst (λ (x : World). StandsFor x r (stepped Unmap z)) (sym e) (write_record w r z whole s)
   step_stands Remap inside e = subst (λ (x : World). StandsFor x r (stepped Remap z)) (sym e) (write_record w r z whole s)
   step_stands GFence inside e = subst (λ (x : World). StandsFor x r (stepped GFence z)) (sym e) (fence_record w r z whole s)
-  step_stands (TakeP k) inside makes = subst (λ (x : World). StandsFor x (after (TakeP k) r w) (stepped (TakeP k) z)) (sym makes.1) (take_pending w r z whole s k inside makes.0)
-  step_stands (PutP k) inside makes = subst (λ (x : World). StandsFor x (after (PutP k) r w) (stepped (PutP k) z)) (sym makes.1) (put_pending w r z whole s k inside makes.0)
-  step_stands (TakeE k) inside makes = subst (λ (x : World). StandsFor x (after (TakeE k) r w) (stepped (TakeE k) z)) (sym makes.1) (take_enables w r z whole s k inside makes.0)
-  step_stands (PutE k) inside makes = subst (λ (x : World). StandsFor x (after (PutE k) r w) (stepped (PutE k) z)) (sym makes.1) (put_enables w r z whole s k inside makes.0)
-  step_stands (Look k) inside e = subst (λ (x : World). StandsFor x (after (Look k) r w) z) (sym e) (seen_more w r z whole s (hand_after (Look k) r w) refl refl)
+  step_stands (TakeP k) inside makes = subst (λ (x : World). StandsFor x (after (TakeP k) r w) (stepped (TakeP k) z)) (sym makes.1)
+      (take_pending w r z whole s k inside makes.0)
+  step_stands (PutP k) inside makes = subst (λ (x : World). StandsFor x (after (PutP k) r w) (stepped (PutP k) z)) (sym makes.1)
+      (put_pending w r z whole s k inside makes.0)
+  step_stands (TakeE k) inside makes = subst (λ (x : World). StandsFor x (after (TakeE k) r w) (stepped (TakeE k) z)) (sym makes.1)
+      (take_enables w r z whole s k inside makes.0)
+  step_stands (PutE k) inside makes = subst (λ (x : World). StandsFor x (after (PutE k) r w) (stepped (PutE k) z)) (sym makes.1)
+      (put_enables w r z whole s k inside makes.0)
+  step_stands (Look k) inside e = subst (λ (x : World). StandsFor x (after (Look k) r w) z) (sym e)
+      (seen_more w r z whole s (hand_after (Look k) r w) refl refl)
   step_stands TakeT inside makes = number_put w r z whole s u r.passage.old Threshold 0 (hand_after TakeT r w) (λ file. refl) s.of.old makes refl refl
   step_stands PutT inside makes = number_put w r z whole s u r.passage.new Threshold r.hand.threshold r.hand (λ file. refl) s.of.new makes refl refl
   step_stands Post inside makes = posted w r z whole s u r.hand.seen makes
   step_stands Wake inside makes = number_put w r z whole s u r.passage.new Delivery r.hand.delivery r.hand (λ file. refl) s.of.new makes refl refl
 
-pub rehearsed : (w u : World) (r t : Rehearsed) (step : Step) → IsWhole w → IsInside (width w) step → Makes step r w u → t ≡ after step r w → (z : Transit) → StandsFor w r z → StandsFor u t (stepped step z)
-rehearsed w u r t step whole inside makes e z s = subst (λ (x : Rehearsed). StandsFor u x (stepped step z)) (sym e) (step_stands w u r z whole s step inside makes)
+pub rehearsed : (w u : World) (r t : Rehearsed) (step : Step) → IsWhole w → IsInside (width w) step → Makes step r w u → t ≡ after step r w
+    → (z : Transit) → StandsFor w r z → StandsFor u t (stepped step z)
+rehearsed w u r t step whole inside makes e z s =
+    subst (λ (x : Rehearsed). StandsFor u x (stepped step z)) (sym e) (step_stands w u r z whole s step inside makes)

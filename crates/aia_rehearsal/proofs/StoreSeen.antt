@@ -42,7 +42,8 @@ use Rattle.aia_file.proofs.SizeLemmas.{few_identities}
 
 -- ---- the identity for which a store asks
 
-asks_for : (number : Option ℕ) (n i : ℕ) → i ≤ n → n ≤ IDENTITIES → names (implemented n number) i ≡ (is_identity i && nat_eq (unwrap_or (implemented IDENTITIES number) 0) i)
+asks_for : (number : Option ℕ) (n i : ℕ) → i ≤ n → n ≤ IDENTITIES
+    → names (implemented n number) i ≡ (is_identity i && nat_eq (unwrap_or (implemented IDENTITIES number) 0) i)
 asks_for None n i low few = by_number i
   where
     by_number : (i : ℕ) → false ≡ (is_identity i && nat_eq 0 i)
@@ -61,8 +62,10 @@ settled true false = refl
 settled false true = refl
 settled false false = refl
 
-added : (n offset value i : ℕ) (was : ℕ → Bool) → i ≤ n → n ≤ IDENTITIES → settle (request_said n offset value i) (was i) ≡ with_one (identity_asked offset value) was i
-added n offset value i was low few = settled (names (requested n offset value) i) (was i) ∙ ap (λ b. was i || b) (asks_for (number_written offset value) n i low few)
+added : (n offset value i : ℕ) (was : ℕ → Bool) → i ≤ n → n ≤ IDENTITIES
+    → settle (request_said n offset value i) (was i) ≡ with_one (identity_asked offset value) was i
+added n offset value i was low few = settled (names (requested n offset value) i) (was i)
+    ∙ ap (λ b. was i || b) (asks_for (number_written offset value) n i low few)
 
 all_words : (n : ℕ) → is_greatest_identity n ≡ true → (n + 1) / 64 * 64 ≡ n + 1
 all_words n greatest = grind (arith, nat_tests)
@@ -78,7 +81,8 @@ pub record Adds (words : ℕ) (was now : TwoSets) (x : ℕ) : Type 0 where
 pub record Seen (w u : World) (p : Passage) (hits : ends.Place → Bool) (offset value : ℕ) : Type 0 where
   pub rest : OnlyStores w u
   pub routes : routes_of u (mover_of p) ≡ routes_of w (mover_of p)
-  pub hit : (b : ends.Place) → IsFileThere w b → hits b ≡ true → Adds (width w) (sets_at w (at_of p.who.found.slot b)) (sets_at u (at_of p.who.found.slot b)) (identity_asked offset value)
+  pub hit : (b : ends.Place) → IsFileThere w b → hits b ≡ true
+      → Adds (width w) (sets_at w (at_of p.who.found.slot b)) (sets_at u (at_of p.who.found.slot b)) (identity_asked offset value)
   pub missed : (b : ends.Place) → IsFileThere w b → hits b ≡ false → sets_at u (at_of p.who.found.slot b) ≡ sets_at w (at_of p.who.found.slot b)
 
 abbrev pub file_hit : Spot → ends.Place → Bool
@@ -107,8 +111,10 @@ module _ (w u : World) (p : Passage) (offset value : ℕ) (whole : IsWhole w) wh
   inside : (i : ℕ) → i / 64 < width w → i ≤ w.n
   inside i low = let all = all_words w.n whole.greatest in omega (arith, low, all)
 
-  routes_by : OnlyStores w u → get_or u.memory (entry_word_place (mover_of p).vm (mover_of p).number) 0 ≡ get_or w.memory (entry_word_place (mover_of p).vm (mover_of p).number) 0
-      → get_or u.memory (entry_word_place (mover_of p).vm (mover_of p).number + 1) 0 ≡ get_or w.memory (entry_word_place (mover_of p).vm (mover_of p).number + 1) 0 → routes_of u (mover_of p) ≡ routes_of w (mover_of p)
+  routes_by : OnlyStores w u → get_or u.memory (entry_word_place (mover_of p).vm (mover_of p).number) 0 ≡ get_or w.memory
+      (entry_word_place (mover_of p).vm (mover_of p).number) 0
+      → get_or u.memory (entry_word_place (mover_of p).vm (mover_of p).number + 1) 0 ≡ get_or w.memory
+      (entry_word_place (mover_of p).vm (mover_of p).number + 1) 0 → routes_of u (mover_of p) ≡ routes_of w (mover_of p)
   routes_by rest first second =
       let tables = ap (λ (x : World). entry_in_force (table_of x.tables (mover_of p).vm) (mover_of p).number) rest in
       let stages : stage_of u (mover_of p) ≡ stage_of w (mover_of p) = ap (λ (x : World). stage_of x (mover_of p)) rest in
@@ -127,26 +133,34 @@ module _ (w u : World) (p : Passage) (offset value : ℕ) (whole : IsWhole w) wh
       one_state : u ≡ with_state w (spot_of a) (file_at u.imsic (spot_of a))
       one_state = stores.rest ∙ ap (λ (j : ImsicState). record w { imsic = j }) stores.lands.others
 
-      here : Adds (width w) (of_file (shown (file_at w.imsic (spot_of a)))) (of_file (shown (file_at u.imsic (spot_of a)))) (identity_asked offset value)
+      here : Adds (width w) (of_file (shown (file_at w.imsic (spot_of a)))) (of_file (shown (file_at u.imsic (spot_of a))))
+          (identity_asked offset value)
       here = record {
-        pending = λ i low. stores.lands.lands.pending i ∙ ap (λ n. settle (request_said n offset value i) ((shown (file_at w.imsic (spot_of a))).pending i)) (width_at w (spot_of a) whole there)
+        pending = λ i low. stores.lands.lands.pending i
+            ∙ ap (λ n. settle (request_said n offset value i) ((shown (file_at w.imsic (spot_of a))).pending i)) (width_at w (spot_of a) whole there)
             ∙ added w.n offset value i (shown (file_at w.imsic (spot_of a))).pending (inside i low) few;
         enabled = stores.lands.lands.enabled;
       }
 
-      hit : (b : ends.Place) → IsFileThere w b → file_hit (spot_of a) b ≡ true → Adds (width w) (sets_at w (at_of p.who.found.slot b)) (sets_at u (at_of p.who.found.slot b)) (identity_asked offset value)
+      hit : (b : ends.Place) → IsFileThere w b → file_hit (spot_of a) b ≡ true
+          → Adds (width w) (sets_at w (at_of p.who.found.slot b)) (sets_at u (at_of p.who.found.slot b)) (identity_asked offset value)
       hit Slot standing led = absurd (cc)
-      hit (File b) standing led = subst (λ (x : GuestPlace). Adds (width w) (of_file (shown (file_at w.imsic (spot_of x)))) (of_file (shown (file_at u.imsic (spot_of x)))) (identity_asked offset value)) (sym (same_place b a led)) here
+      hit (File b) standing led = subst (λ (x : GuestPlace). Adds (width w) (of_file (shown (file_at w.imsic (spot_of x))))
+          (of_file (shown (file_at u.imsic (spot_of x)))) (identity_asked offset value)) (sym (same_place b a led)) here
 
-      missed : (b : ends.Place) → IsFileThere w b → file_hit (spot_of a) b ≡ false → sets_at u (at_of p.who.found.slot b) ≡ sets_at w (at_of p.who.found.slot b)
+      missed : (b : ends.Place) → IsFileThere w b → file_hit (spot_of a) b ≡ false
+          → sets_at u (at_of p.who.found.slot b) ≡ sets_at w (at_of p.who.found.slot b)
       missed Slot standing none = ap (λ (x : World). of_slot (mrif_in x.memory p.who.found.slot)) one_state
-      missed (File b) standing none = ap (λ (x : World). of_file (shown (file_at x.imsic (spot_of b)))) one_state ∙ ap (λ f. of_file (shown f)) (kept_elsewhere w.imsic (spot_of a) (spot_of b) (file_at u.imsic (spot_of a)) there standing (spots_apart b a none))
+      missed (File b) standing none = ap (λ (x : World). of_file (shown (file_at x.imsic (spot_of b)))) one_state
+          ∙ ap (λ f. of_file (shown f)) (kept_elsewhere w.imsic (spot_of a) (spot_of b) (file_at u.imsic (spot_of a)) there standing
+          (spots_apart b a none))
 
   no_file : (spot : Spot) → ((b : GuestPlace) → is_file_at b spot ≡ false) → (b : ends.Place) → file_hit spot b ≡ false
   no_file spot none (File b) = none b
   no_file spot none Slot = refl
 
-  pub at_spot : (spot : Spot) → (spot ≢ Nowhere → IsThere w.imsic spot) → StoresInGuestFile w u spot offset value → Seen w u p (file_hit spot) offset value
+  pub at_spot : (spot : Spot) → (spot ≢ Nowhere → IsThere w.imsic spot) → StoresInGuestFile w u spot offset value
+      → Seen w u p (file_hit spot) offset value
   at_spot (GuestFile hart file) there stores = in_file (record { hart = hart; file = file }) (there (λ e. absurd (cc))) stores
   at_spot (MachineFile hart) there e = seen_none (file_hit (MachineFile hart)) (no_file (MachineFile hart) (λ b. refl)) e
   at_spot (SupervisorFile hart) there e = seen_none (file_hit (SupervisorFile hart)) (no_file (SupervisorFile hart) (λ b. refl)) e
@@ -169,12 +183,15 @@ module _ (w u : World) (p : Passage) (offset value : ℕ) (whole : IsWhole w) wh
     noticed_posts : (host : Spot) → IsThere w.imsic host → ((b : GuestPlace) → spot_of b ≢ host) → Posts mid u host identity → Noticed s
     noticed_posts host standing other posts = record {
       memory = ap (λ (x : World). x.memory) posts.rest;
-      files = λ b inside. ap (λ (i : ImsicState). file_at i (spot_of b)) posts.lands.others ∙ kept_elsewhere w.imsic host (spot_of b) (file_at u.imsic host) standing inside (other b);
+      files = λ b inside. ap (λ (i : ImsicState). file_at i (spot_of b)) posts.lands.others
+          ∙ kept_elsewhere w.imsic host (spot_of b) (file_at u.imsic host) standing inside (other b);
     }
 
     noticed_at : (host : Spot) → host ≡ spot → NoticedAt mid u host identity → Noticed s
-    noticed_at (MachineFile hart) is posts = noticed_posts (MachineFile hart) (subst (IsThere w.imsic) (sym is) (there (λ e. absurd (cc)))) (λ b e. absurd (cc)) posts
-    noticed_at (SupervisorFile hart) is posts = noticed_posts (SupervisorFile hart) (subst (IsThere w.imsic) (sym is) (there (λ e. absurd (cc)))) (λ b e. absurd (cc)) posts
+    noticed_at (MachineFile hart) is posts = noticed_posts (MachineFile hart) (subst (IsThere w.imsic) (sym is) (there (λ e. absurd (cc))))
+        (λ b e. absurd (cc)) posts
+    noticed_at (SupervisorFile hart) is posts = noticed_posts (SupervisorFile hart) (subst (IsThere w.imsic) (sym is) (there (λ e. absurd (cc))))
+        (λ b e. absurd (cc)) posts
     noticed_at (GuestFile hart file) is e = noticed_none e
     noticed_at Nowhere is e = noticed_none e
 
@@ -186,7 +203,8 @@ module _ (w u : World) (p : Passage) (offset value : ℕ) (whole : IsWhole w) wh
     in_slot : s < VCPUS → StoresInSlot w u (Some s) spot identity offset value → Seen w u p (slot_hit (Some s) q) offset value
     in_slot low stores = record {
       rest = rest;
-      routes = routes_by rest (ap (λ words. get_or words (entry_word_place (mover_of p).vm (mover_of p).number) 0) noticed.memory ∙ kept.0) (ap (λ words. get_or words (entry_word_place (mover_of p).vm (mover_of p).number + 1) 0) noticed.memory ∙ kept.1);
+      routes = routes_by rest (ap (λ words. get_or words (entry_word_place (mover_of p).vm (mover_of p).number) 0) noticed.memory ∙ kept.0)
+          (ap (λ words. get_or words (entry_word_place (mover_of p).vm (mover_of p).number + 1) 0) noticed.memory ∙ kept.1);
       hit = hit;
       missed = missed;
     }
@@ -197,8 +215,10 @@ module _ (w u : World) (p : Passage) (offset value : ℕ) (whole : IsWhole w) wh
         noticed : Noticed s
         noticed = noticed_by (stored (mrif_in w.memory s) (requested IDENTITIES offset value)) stores
 
-        kept : (get_or (with_store w s offset value).memory (entry_word_place (mover_of p).vm (mover_of p).number) 0 ≡ get_or w.memory (entry_word_place (mover_of p).vm (mover_of p).number) 0)
-            × (get_or (with_store w s offset value).memory (entry_word_place (mover_of p).vm (mover_of p).number + 1) 0 ≡ get_or w.memory (entry_word_place (mover_of p).vm (mover_of p).number + 1) 0)
+        kept : (get_or (with_store w s offset value).memory (entry_word_place (mover_of p).vm (mover_of p).number) 0 ≡ get_or w.memory
+            (entry_word_place (mover_of p).vm (mover_of p).number) 0)
+            × (get_or (with_store w s offset value).memory (entry_word_place (mover_of p).vm (mover_of p).number + 1) 0 ≡ get_or w.memory
+            (entry_word_place (mover_of p).vm (mover_of p).number + 1) 0)
         kept = entry_words_kept w (mover_of p) s offset value whole low
 
         here : Adds (width w) (of_slot (mrif_in w.memory s)) (of_slot (mrif_in u.memory s)) (identity_asked offset value)
@@ -206,22 +226,28 @@ module _ (w u : World) (p : Passage) (offset value : ℕ) (whole : IsWhole w) wh
             let takes = slot_takes_store w.memory s offset value (has_slot w s whole low) in
             record {
               pending = λ i inside_word. ap (λ words. (mrif_in words s).pending i) noticed.memory ∙ takes.pending i
-                  ∙ added IDENTITIES offset value i (mrif_in w.memory s).pending (let fits = few in let low_i = inside i inside_word in omega (arith, low_i, fits)) (omega arith);
+                  ∙ added IDENTITIES offset value i (mrif_in w.memory s).pending
+                  (let fits = few in let low_i = inside i inside_word in omega (arith, low_i, fits)) (omega arith);
               enabled = λ i. ap (λ words. (mrif_in words s).enabled i) noticed.memory ∙ takes.enabled i;
             }
 
-        hit : (b : ends.Place) → IsFileThere w b → slot_hit (Some s) q b ≡ true → Adds (width w) (sets_at w (at_of p.who.found.slot b)) (sets_at u (at_of p.who.found.slot b)) (identity_asked offset value)
+        hit : (b : ends.Place) → IsFileThere w b → slot_hit (Some s) q b ≡ true
+            → Adds (width w) (sets_at w (at_of p.who.found.slot b)) (sets_at u (at_of p.who.found.slot b)) (identity_asked offset value)
         hit (File b) standing led = absurd (cc)
-        hit Slot standing led = subst (λ n. Adds (width w) (of_slot (mrif_in w.memory n)) (of_slot (mrif_in u.memory n)) (identity_asked offset value)) (eqb-true s q led) here
+        hit Slot standing led = subst (λ n. Adds (width w) (of_slot (mrif_in w.memory n)) (of_slot (mrif_in u.memory n))
+            (identity_asked offset value)) (eqb-true s q led) here
 
-        missed : (b : ends.Place) → IsFileThere w b → slot_hit (Some s) q b ≡ false → sets_at u (at_of p.who.found.slot b) ≡ sets_at w (at_of p.who.found.slot b)
+        missed : (b : ends.Place) → IsFileThere w b → slot_hit (Some s) q b ≡ false
+            → sets_at u (at_of p.who.found.slot b) ≡ sets_at w (at_of p.who.found.slot b)
         missed (File b) standing none = ap (λ f. of_file (shown f)) (noticed.files b standing)
-        missed Slot standing none = ap (λ words. of_slot (mrif_in words q)) noticed.memory ∙ ap of_slot (other_slot_stays w.memory s q offset value (λ e. let same : nat_eq s q ≡ true = eq-eqb s q e in absurd (cc)))
+        missed Slot standing none = ap (λ words. of_slot (mrif_in words q)) noticed.memory
+            ∙ ap of_slot (other_slot_stays w.memory s q offset value (λ e. let same : nat_eq s q ≡ true = eq-eqb s q e in absurd (cc)))
 
   no_slot : (b : ends.Place) → slot_hit None q b ≡ false
   no_slot (File b) = refl
   no_slot Slot = refl
 
-  pub at_slot : (o : Option ℕ) (spot : Spot) (identity : ℕ) → ((s : ℕ) → o ≡ Some s → s < VCPUS) → (spot ≢ Nowhere → IsThere w.imsic spot) → StoresInSlot w u o spot identity offset value → Seen w u p (slot_hit o q) offset value
+  pub at_slot : (o : Option ℕ) (spot : Spot) (identity : ℕ) → ((s : ℕ) → o ≡ Some s → s < VCPUS) → (spot ≢ Nowhere → IsThere w.imsic spot)
+      → StoresInSlot w u o spot identity offset value → Seen w u p (slot_hit o q) offset value
   at_slot None spot identity low there e = seen_none (slot_hit None q) no_slot e
   at_slot (Some s) spot identity low there stores = in_slot s spot identity there (low s refl) stores

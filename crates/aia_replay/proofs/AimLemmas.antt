@@ -45,7 +45,7 @@ use Rattle.aia_hyp_values.proofs.MoveWhole.{one_step_more}
 use Rattle.aia_replay.specs.declared.machine.Machine.{Machine}
 use Rattle.aia_replay.specs.declared.wires.Wires.{Wires}
 use Rattle.aia_replay.specs.Wires.{WiresAim, targets_of}
-use Rattle.aia_replay.specs.Stands.{MachineStands, MachineTakes, act_taken, StandsForSome}
+use Rattle.aia_replay.specs.Stands.{MachineStands, MachineTakes, act_taken, EngineStandsForSome}
 use Rattle.aia_aplic_values.proofs.SizeLemmas.{same_sources, same_harts}
 use Rattle.aia_model.specs.Passable.{is_passable}
 use Rattle.aia_source.specs.Registers.{is_by_msi, domaincfg_kept, same_bool}
@@ -205,7 +205,7 @@ pass_taken_by m n source vm number identity given tells passes aims = record {
 
 -- ---- what the core asks of the sources of a machine that stands
 
-pub same_harts_there : (m : Machine) → StandsForSome m → m.core.world.imsic.harts ≡ (targets_of m.wires.aplic).harts
+pub same_harts_there : (m : Machine) → EngineStandsForSome m → m.core.world.imsic.harts ≡ (targets_of m.wires.aplic).harts
 same_harts_there m some =
     some.stands.holds.core.harts ∙ sym (same_harts some.past) ∙ sym (harts-stand m.wires.aplic (acts_of some.past) some.stands.holds.aplic)
 
@@ -217,7 +217,7 @@ tells_of m h source there stands =
       ready = passable-stands m.wires.aplic (acts_of h) source stands.holds.aplic ∙ ap (λ b. b && is_passable (acts_of h) source) is;
     }
 
-pub may_pass : (m : Machine) (source : ℕ) → ((past : Past) → AplicStands m.wires.aplic past → is_source past source ≡ true) → StandsForSome m → MayPass m.core (targets_of m.wires.aplic) source
+pub may_pass : (m : Machine) (source : ℕ) → ((past : Past) → AplicStands m.wires.aplic past → is_source past source ≡ true) → EngineStandsForSome m → MayPass m.core (targets_of m.wires.aplic) source
 may_pass m source there some = record {
   past = some.past;
   happens = some.stands.happens;

@@ -20,7 +20,7 @@ use Rattle.aia_aplic_values.proofs.SendingLemmas.{msis_next, settled_next}
 use Rattle.aia_replay.specs.declared.machine.Machine.{Machine}
 use Rattle.aia_hyp_values.specs.Core.{CoreState}
 use Rattle.aia_hyp_values.specs.Stands.{CoreStands, CoreHears, line_served, MayGo}
-use Rattle.aia_replay.specs.Stands.{MachineHolds, MachineTakes, MachineServes, Delivers, act_taken, StandsForSome, CanDeliver, CanDeliverSome}
+use Rattle.aia_replay.specs.Stands.{MachineHolds, MachineTakes, MachineServes, Delivers, act_taken, EngineStandsForSome, CanDeliver, CanDeliverSome}
 use Rattle.aia_model.specs.Passes.{passed_by}
 use Rattle.aia_model.specs.Aim.{pass_reach, IsForwardIf}
 use Rattle.aia_model.specs.PassesStand.{AreForwards}
@@ -105,7 +105,7 @@ can_deliver n h line (Some word) e good holds = record {
   forwards = subst (AreForwards h) (sym (no_msis (acts_of h) (none_waits h))) tt;
 }
 
-pub can_deliver_some : (m n : Machine) (line : Line) (given : Answer) → StandsForSome m → MachineTakes m n line given → CanDeliverSome n
+pub can_deliver_some : (m n : Machine) (line : Line) (given : Answer) → EngineStandsForSome m → MachineTakes m n line given → CanDeliverSome n
 can_deliver_some m n line given some takes =
     let h = some.past in
     record { events = line_served (refusal h line) h line; acts = act_taken (refusal h line) h line; can = can_deliver n h line (refusal h line) refl some.stands.happens (takes.takes h some.stands) }

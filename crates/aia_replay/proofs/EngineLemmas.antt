@@ -15,7 +15,7 @@ use Rattle.aia_model.proofs.AnswerLemmas.{answered, after_by, machine_refusal}
 use Rattle.aia_aplic_values.proofs.SendingLemmas.{none_begun}
 use Rattle.aia_model.specs.Act.Act.{Made}
 use Rattle.aia_replay.specs.declared.machine.Machine.{Machine}
-use Rattle.aia_replay.specs.Stands.{StandsForSome, EngineState, MachineHolds, MachineStands, StandsFor, Serves}
+use Rattle.aia_replay.specs.Stands.{EngineStandsForSome, EngineState, MachineHolds, MachineStands, StandsFor, Serves}
 use Rattle.aia_replay.proofs.DeliveryLemmas.{after_delivery, all_sent}
 use Rattle.aia_model.specs.Histories.{IsHistory}
 use Rattle.aia_model.proofs.HistoryLemmas.{after_happens}
@@ -62,7 +62,7 @@ made_stands m harts guests n sources size holds =
       happens = subst IsHistory (after_by [] line None (made_accepted harts guests n sources size)) (after_happens [] line tt);
     }
 
-pub made_stands_for_some : (m : Machine) (harts guests n sources : ℕ) → is_machine_size harts guests n sources ≡ true → MachineHolds m (Accepted (MachineLine harts guests n sources) ∷ []) (Made harts sources ∷ []) → StandsForSome m
+pub made_stands_for_some : (m : Machine) (harts guests n sources : ℕ) → is_machine_size harts guests n sources ≡ true → MachineHolds m (Accepted (MachineLine harts guests n sources) ∷ []) (Made harts sources ∷ []) → EngineStandsForSome m
 made_stands_for_some m harts guests n sources size holds = record { past = history_after None [] (MachineLine harts guests n sources); stands = made_stands m harts guests n sources size holds }
 
 pub machine_made : (old new : EngineState) (m : Machine) (harts guests n sources : ℕ) → old ≡ None → new ≡ Some m → is_machine_size harts guests n sources ≡ true

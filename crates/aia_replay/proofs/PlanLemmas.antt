@@ -20,7 +20,7 @@ use Rattle.aia_replay.specs.declared.plan_reader.PlanReader.{PlanReader}
 use Rattle.aia_replay.specs.declared.program.Status.{Status}
 use Rattle.aia_replay.specs.declared.program.Status.TheVariants.{Done, ReadFault, WriteFault, Memory, TooLong}
 use Rattle.aia_io.specs.Lines.{NoEnd}
-use Rattle.aia_replay.specs.Runs.{Ends}
+use Rattle.aia_replay.specs.Runs.{RunEnds}
 use Rattle.aia_replay.specs.Plans.{BeginsPlan, FeedsPlan, FinishesPlan, HoldsPlan, StreamsPlan, plan_read}
 use Rattle.aia_io.specs.Taken.{ReadsOn}
 use Rattle.aia_replay.proofs.CutLemmas.{texts_front, take_again}
@@ -216,7 +216,7 @@ few_or_one_more streams = (
 
 -- reading ended before the plan did
 pub audit_unread : {kind : Kind} {status : Status} {words : ℕ} {read : PlanRead} {left rest : Supply} {a b : ℕ} (before : Option (List ℕ)) (c : ℕ) → StreamsPlan status words read left rest → status ≢ Done → (status ≡ ReadFault → Rose a b) → a ≤ b
-    → Ends (Some (Audit kind words)) status left rest before before a b c c
+    → RunEnds (Some (Audit kind words)) status left rest before before a b c c
 audit_unread {status = status} before c streams other rose later =
     let not_lacking : status ≢ Memory = λ is. elim streams.ends [
       | inl done ↦ absurd (cc)
@@ -260,7 +260,7 @@ of_script P kind words read (Some script) bytes text whole is told holds =
     subst P (told ∙ ap (λ r. read_word kind words r ++ 10 ∷ []) is ∙ ap (audit_text kind words) (sym whole)) holds
 
 pub audit_done : {kind : Kind} {words : ℕ} {read : PlanRead} {left rest : Supply} {text : List ℕ} {before now : Option (List ℕ)} {a b c d : ℕ} → StreamsPlan Done words read left rest → Rose left.ends rest.ends → text ≡ read_word kind words read ++ 10 ∷ [] → Appends before now text → a ≤ b → c ≤ d
-    → Ends (Some (Audit kind words)) Done left rest before now a b c d
+    → RunEnds (Some (Audit kind words)) Done left rest before now a b c d
 audit_done {kind} {words} {read} {left} {rest} {text} {before} {now} streams ended told wrote source_later sink_later = record {
   as_asked = record {
     done = λ e. (of_script (λ xs. Appends before now xs) kind words read left.to_come streams.bytes text (streams.whole refl).0 (streams.whole refl).1 told wrote, all_taken streams ended);
@@ -279,7 +279,7 @@ audit_done {kind} {words} {read} {left} {rest} {text} {before} {now} streams end
 }
 
 pub audit_cut : {kind : Kind} {words : ℕ} {read : PlanRead} {left rest : Supply} {text : List ℕ} {before now : Option (List ℕ)} {a b c d : ℕ} → StreamsPlan Done words read left rest → Rose left.ends rest.ends → text ≡ read_word kind words read ++ 10 ∷ [] → CutOff before now text → Rose c d → a ≤ b → c ≤ d
-    → Ends (Some (Audit kind words)) WriteFault left rest before now a b c d
+    → RunEnds (Some (Audit kind words)) WriteFault left rest before now a b c d
 audit_cut {kind} {words} {read} {left} {rest} {text} {before} {now} streams ended told cut rose source_later sink_later = record {
   as_asked = record {
     done = λ e. absurd (cc);

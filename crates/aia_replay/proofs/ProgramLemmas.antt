@@ -8,7 +8,7 @@ use Rattle.aia_model.specs.Script.{answers}
 use Rattle.aia_replay.specs.declared.program.Status.{Status}
 use Rattle.aia_replay.specs.declared.program.Status.TheVariants.{Done, Usage, ReadFault, WriteFault, Memory, TooLong}
 use Rattle.aia_io.specs.declared.limits.TheConstants.{SOURCE_BYTES}
-use Rattle.aia_replay.specs.Runs.{AnswersWhole, WritesLines, CutsLines, StopsAtMachine, IsDoneOrMemory, Ends}
+use Rattle.aia_replay.specs.Runs.{AnswersWhole, WritesLines, CutsLines, StopsAtMachine, IsDoneOrMemory, RunEnds}
 use Rattle.aia_io.specs.Taken.{IsAllLeft}
 use Rattle.aia_io.specs.Ends.{Supply, Gives, Rose, CutOff, TakesAtMost}
 use Rattle.aia_replay.specs.declared.replayer.Replayer.{Replayer}
@@ -99,7 +99,7 @@ stopped_front r left rest before mid now stop cut =
 -- ---- how a run ends
 
 -- where the reading ended
-pub ends_read : {status : Status} {left rest : Supply} {before now : Option (List ℕ)} {a b c d : ℕ} → Streams status left rest before now → (status ≡ Done → Rose left.ends rest.ends) → (status ≡ ReadFault → Rose a b) → a ≤ b → c ≤ d → Ends (Some Replay) status left rest before now a b c d
+pub ends_read : {status : Status} {left rest : Supply} {before now : Option (List ℕ)} {a b c d : ℕ} → Streams status left rest before now → (status ≡ Done → Rose left.ends rest.ends) → (status ≡ ReadFault → Rose a b) → a ≤ b → c ≤ d → RunEnds (Some Replay) status left rest before now a b c d
 ends_read {status} {left} {rest} {before} {now} streams ended rose source_later sink_later =
     let bytes = streams.bytes in
     let took = streams.taken in
@@ -123,7 +123,7 @@ ends_read {status} {left} {rest} {before} {now} streams ended rose source_later 
     }
 
 -- where the sink failed
-pub ends_cut : {left rest : Supply} {before now : Option (List ℕ)} {a b c d : ℕ} → StreamsFront left rest before now → Rose c d → a ≤ b → c ≤ d → Ends (Some Replay) WriteFault left rest before now a b c d
+pub ends_cut : {left rest : Supply} {before now : Option (List ℕ)} {a b c d : ℕ} → StreamsFront left rest before now → Rose c d → a ≤ b → c ≤ d → RunEnds (Some Replay) WriteFault left rest before now a b c d
 ends_cut {left} {rest} cut rose source_later sink_later = record {
   as_asked = record {
     done = λ e. absurd (cc);
@@ -143,7 +143,7 @@ ends_cut {left} {rest} cut rose source_later sink_later = record {
 }
 
 -- where memory lacked, and what waited is written
-pub ends_stopped : {r : Replayer} {left rest : Supply} {before mid now : Option (List ℕ)} {a b c d : ℕ} → StreamsStop r left rest before mid → Appends mid now r.out.bytes.items → a ≤ b → c ≤ d → Ends (Some Replay) Memory left rest before now a b c d
+pub ends_stopped : {r : Replayer} {left rest : Supply} {before mid now : Option (List ℕ)} {a b c d : ℕ} → StreamsStop r left rest before mid → Appends mid now r.out.bytes.items → a ≤ b → c ≤ d → RunEnds (Some Replay) Memory left rest before now a b c d
 ends_stopped {r} {left} {rest} {before} {mid} {now} stop wrote source_later sink_later =
     let few : TakesAtMost SOURCE_BYTES left rest = (stop.bytes, stop.taken, stop.limit) in
     record {
@@ -166,7 +166,7 @@ ends_stopped {r} {left} {rest} {before} {mid} {now} stop wrote source_later sink
 
 -- ---- a generated script
 
-pub generate_usage : {asked : Option Subcommand} {count seed : ℕ} {status : Status} {left rest : Supply} {before now : Option (List ℕ)} {a b c d : ℕ} → asked ≡ Some (Generate count seed) → Ends (Some (Generate count seed)) status left rest before now a b c d
+pub generate_usage : {asked : Option Subcommand} {count seed : ℕ} {status : Status} {left rest : Supply} {before now : Option (List ℕ)} {a b c d : ℕ} → asked ≡ Some (Generate count seed) → RunEnds (Some (Generate count seed)) status left rest before now a b c d
     → (status ≡ Usage) ↔ (asked ≡ None)
 generate_usage asks ends = (
   λ is. elim ends.as_asked.ends [
@@ -179,7 +179,7 @@ generate_usage asks ends = (
   λ none. absurd (cc),
 )
 
-pub generate_complete : {count seed : ℕ} {status : Status} {left rest : Supply} {before now : Option (List ℕ)} {a b c d : ℕ} → Ends (Some (Generate count seed)) status left rest before now a b c d → (¬ Rose c d) → IsDoneOrMemory status
+pub generate_complete : {count seed : ℕ} {status : Status} {left rest : Supply} {before now : Option (List ℕ)} {a b c d : ℕ} → RunEnds (Some (Generate count seed)) status left rest before now a b c d → (¬ Rose c d) → IsDoneOrMemory status
 generate_complete ends no_fault = elim ends.as_asked.ends [
   | inl done ↦ inl done
   | inr other ↦ elim other [

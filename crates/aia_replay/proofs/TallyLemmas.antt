@@ -15,7 +15,7 @@ use Rattle.aia_generate.proofs.DrawLemmas.{generated-length}
 use Rattle.aia_generate.proofs.NoticeLemmas.{few_notices}
 use Rattle.aia_generate.proofs.TallyLemmas.{after_lines-append, generated_told}
 use Rattle.aia_replay.specs.declared.program.Status.TheVariants.{Done, WriteFault}
-use Rattle.aia_replay.specs.Runs.{Ends}
+use Rattle.aia_replay.specs.Runs.{RunEnds}
 use Rattle.aia_replay.specs.Stands.{EngineState, StandsFor, Serves}
 
 pub stands_one_more : (old new : EngineState) (lines : List Line) (line : Line) (given : Answer) → StandsFor old (after_lines [] lines) → Serves old new line given → StandsFor new (after_lines [] (lines ++ line ∷ []))
@@ -33,7 +33,7 @@ is_summary t count seed notices few tallies counted =
     generated_told t count seed notices tallies (omega (arith, lines, few)) (counted ∙ exact)
 
 pub summary_written : {count seed : ℕ} {text : List ℕ} {before now : Option (List ℕ)} {a b : ℕ} (left : Supply) (faults : ℕ) → text ≡ summary count seed → Appends before now text → a ≤ b
-    → Ends (Some (Generate count seed)) Done left left before now faults faults a b
+    → RunEnds (Some (Generate count seed)) Done left left before now faults faults a b
 summary_written {before = before} {now = now} left faults told wrote later = record {
   as_asked = record {
     ends = inl refl;
@@ -51,7 +51,7 @@ summary_written {before = before} {now = now} left faults told wrote later = rec
 }
 
 pub summary_cut : {count seed : ℕ} {text : List ℕ} {before now : Option (List ℕ)} {a b : ℕ} (left : Supply) (faults : ℕ) → text ≡ summary count seed → CutOff before now text → Rose a b → a ≤ b
-    → Ends (Some (Generate count seed)) WriteFault left left before now faults faults a b
+    → RunEnds (Some (Generate count seed)) WriteFault left left before now faults faults a b
 summary_cut {before = before} {now = now} left faults told cut rose later = record {
   as_asked = record {
     ends = inr (inl refl);

@@ -1,10 +1,11 @@
 -- What a run promises, by its status. Vocabulary.
-use Rattle.std.specs.Prelude.{◌≡◌, ◌≢◌, ℕ, ◌+◌, ◌≤◌, ◌⊎◌, Bool, true, false, List, [], ◌∷◌, ◌++◌, length, Option, Some, None, IfSome}
+use Rattle.std.specs.Prelude.{◌≡◌, ◌≢◌, ℕ, ◌+◌, ◌≤◌, ◌⊎◌, Bool, true, false, List, [], ◌∷◌, ◌++◌, length, Option, Some, None}
 use Rattle.std.specs.Io.KnownBytes.{Appends}
 use Rattle.aia_io.specs.Ends.{Supply, Gives, Rose, RoseBy, Takes, CutOff, TakesAll, TakesAtMost}
 use Rattle.aia_io.specs.declared.limits.TheConstants.{SOURCE_BYTES}
 use Rattle.aia_io.specs.Taken.{IsAllLeft}
 use Rattle.aia_io.specs.Words.{EndsUnasked}
+use Rattle.aia_io.specs.Written.{CutsAll, WritesAll}
 pub use Rattle.aia_io.specs.Lines.{NoEnd}
 use Rattle.aia_command.specs.declared.subcommand.Subcommand.{Subcommand}
 use Rattle.aia_command.specs.declared.subcommand.Subcommand.TheVariants.{Replay, Generate, Audit}
@@ -22,7 +23,7 @@ use Rattle.aia_replay.specs.declared.program.Status.TheVariants.{Done, Usage, Re
 
 -- What the sink took is the answers of all that the source had left, where it tells that.
 abbrev pub WritesAnswers : Supply → Option (List ℕ) → Option (List ℕ) → Type 0
-WritesAnswers left before now = IfSome left.to_come (λ script. Appends before now (answers script))
+WritesAnswers = WritesAll answers
 
 -- Nothing was taken of the source, and nothing was written.
 abbrev pub TouchesNothing : Supply → Supply → Option (List ℕ) → Option (List ℕ) → Type 0
@@ -129,13 +130,11 @@ pub record EndsGenerate (status : Status) (text : List ℕ) (left rest : Supply)
 -- What the sink took is what is printed of all that the source had left, where it tells that: the
 -- verdict on the plan, or which of its texts is bad.
 abbrev pub WritesVerdict : Kind → ℕ → Supply → Option (List ℕ) → Option (List ℕ) → Type 0
-WritesVerdict kind words left before now =
-    IfSome left.to_come (λ plan. Appends before now (audit_text kind words plan))
+WritesVerdict kind words = WritesAll (audit_text kind words)
 
 -- The sink failed, and took a front of that.
 abbrev pub CutsVerdict : Kind → ℕ → Supply → Option (List ℕ) → Option (List ℕ) → Type 0
-CutsVerdict kind words left before now =
-    IfSome left.to_come (λ plan. CutOff before now (audit_text kind words plan))
+CutsVerdict kind words = CutsAll (audit_text kind words)
 
 -- A run of `audit`, of a plan of a move of a kind, of files of so many words: it writes once all is
 -- read, and nothing before. Memory may lack for the words of the command line alone.
@@ -173,7 +172,7 @@ reads_source (Some (Audit kind words)) = true
 -- source had left before and after it, what the sink had taken before and after it, and the counts
 -- of faults of the source and of the sink, each before and after it. Each fault has its cause, and
 -- memory lacks where nothing was touched, or for a machine that a script asks for.
-pub record Ends (asked : Option Subcommand) (status : Status) (left rest : Supply)
+pub record RunEnds (asked : Option Subcommand) (status : Status) (left rest : Supply)
     (before now : Option (List ℕ)) (source_old source_new sink_old sink_new : ℕ) : Type 0 where
   pub as_asked : EndsAsAsked asked status left rest before now
   pub read_fault : status ≡ ReadFault → Rose source_old source_new

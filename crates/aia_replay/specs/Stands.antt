@@ -34,7 +34,7 @@ pub record MachineStands (m : Machine) (h : History) : Type 0 where
   pub holds : MachineHolds m h (acts_of h)
   pub happens : IsHistory h
 
-pub record StandsForSome (m : Machine) : Type 0 where
+pub record EngineStandsForSome (m : Machine) : Type 0 where
   pub past : History
   pub stands : MachineStands m past
 
@@ -92,7 +92,7 @@ StandsFor machine h = MatchOption machine (h ≡ []) (λ m. MachineStands m h)
 -- A machine that stands does so for some history.
 abbrev pub IsSound : EngineState → Type 0
 IsSound None = Unit {0}
-IsSound (Some m) = StandsForSome m
+IsSound (Some m) = EngineStandsForSome m
 
 -- The engine answers a line as the model does, and stands for the history after it.
 pub record Serves (old new : EngineState) (line : Line) (given : Answer) : Type 0 where

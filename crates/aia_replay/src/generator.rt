@@ -3,7 +3,7 @@ ghost use Rattle.aia_io.specs.Ends.{Supply};
 ghost use Rattle.aia_model.specs.Answer.{after_lines};
 ghost use Rattle.aia_generate.specs.Generated.{generated};
 ghost use Rattle.aia_generate.specs.Tally.{Tallies};
-ghost use Rattle.aia_replay.specs.Runs.{Ends};
+ghost use Rattle.aia_replay.specs.Runs.{RunEnds};
 ghost use Rattle.aia_replay.specs.Stands.{StandsFor};
 
 use crate::engine::Engine;
@@ -17,7 +17,7 @@ use std::alloc::{AllocError, Global};
 /// Runs the script that two numbers generate, and writes its summary.
 pub fn summarize<K: Sink>(alloc: Global, count: u64, seed: u64, sink: &mut K) -> Status
     requires { count ≤ MOST_LINES }
-    ensures { (left : Supply) (faults : ℕ) → Ends (Some (Subcommand.Generate count seed)) result
+    ensures { (left : Supply) (faults : ℕ) → RunEnds (Some (Subcommand.Generate count seed)) result
         left left (K.taken sink.old) (K.taken sink.new) faults faults (K.faults sink.old)
         (K.faults sink.new) }
 {
@@ -38,7 +38,7 @@ fn summarize_by<K: Sink>(
 ) -> Status
     requires few { count ≤ MOST_LINES }
     requires stands { StandsFor engine.old [] }
-    ensures { (left : Supply) (faults : ℕ) → Ends (Some (Subcommand.Generate count seed)) result
+    ensures { (left : Supply) (faults : ℕ) → RunEnds (Some (Subcommand.Generate count seed)) result
         left left (K.taken sink.old) (K.taken sink.new) faults faults (K.faults sink.old)
         (K.faults sink.new) }
 {

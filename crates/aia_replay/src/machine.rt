@@ -10,7 +10,7 @@ ghost use Rattle.aia_model.specs.Act.Act.{Made};
 ghost use Rattle.aia_model.specs.Refusal.{is_machine_size};
 ghost use Rattle.aia_hyp_values.specs.HostFiles.{IsHost, csr_line};
 ghost use Rattle.aia_hyp_values.specs.Stands.{answer_by};
-ghost use Rattle.aia_replay.specs.Stands.{MachineHolds, MachineStands, StandsForSome, CanDeliverSome, MachineTakes, MachineServes, Delivers};
+ghost use Rattle.aia_replay.specs.Stands.{MachineHolds, MachineStands, EngineStandsForSome, CanDeliverSome, MachineTakes, MachineServes, Delivers};
 ghost use Rattle.aia_aplic_values.specs.Aplic.{AplicStands};
 ghost use Rattle.aia_model.specs.SourceOf.{is_source};
 ghost use Rattle.aia_model.specs.Passes.{has_passes};
@@ -65,7 +65,7 @@ impl Machine {
     #[inline(always)]
     pub fn line(&mut self, line: &Line, answer: &mut Answer)
         requires listed { IsListed line.now }
-        requires stands { StandsForSome self.old }
+        requires stands { EngineStandsForSome self.old }
         ensures { MachineServes self.old self.new line.now answer.new }
     {
         self.serve(line, answer);
@@ -84,7 +84,7 @@ impl Machine {
     #[inline(always)]
     fn serve(&mut self, line: &Line, answer: &mut Answer)
         requires listed { IsListed line.now }
-        requires stands { StandsForSome self.old }
+        requires stands { EngineStandsForSome self.old }
         ensures { MachineTakes self.old self.new line.now answer.new }
     {
         *answer = match *line {
@@ -162,7 +162,7 @@ impl Machine {
 
     /// Passes a wired source to a virtual hart, by the core; `Range` where the source isn't there.
     fn pass(&mut self, source: u64, vm: u64, number: u64, identity: u64) -> Answer
-        requires { StandsForSome self.old }
+        requires { EngineStandsForSome self.old }
         ensures { MachineTakes self.old self.new (Line.Pass source vm number identity) result }
     {
         if !self.has_source(source) {
@@ -176,7 +176,7 @@ impl Machine {
 
     /// Moves a virtual hart, by all steps of its move.
     fn whole_move(&mut self, vm: u64, number: u64, want: Want) -> Answer
-        requires { StandsForSome self.old }
+        requires { EngineStandsForSome self.old }
         ensures { MachineTakes self.old self.new (Line.Move vm number want) result }
     {
         okay(self.core.whole(vm, number, want, &mut self.wires))
@@ -184,7 +184,7 @@ impl Machine {
 
     /// Does the next step of the move of a virtual hart.
     fn step(&mut self, vm: u64, number: u64) -> Answer
-        requires { StandsForSome self.old }
+        requires { EngineStandsForSome self.old }
         ensures { MachineTakes self.old self.new (Line.Step vm number) result }
     {
         match self.core.step(vm, number, &mut self.wires) {
@@ -248,7 +248,7 @@ impl Machine {
 
     /// Stores to a register of the APLIC, or else by the core.
     fn store(&mut self, addr: u64, value: u32) -> Answer
-        requires { StandsForSome self.old }
+        requires { EngineStandsForSome self.old }
         ensures { MachineTakes self.old self.new (Line.Store addr value) result }
     {
         match domain_at(addr) {
@@ -261,7 +261,7 @@ impl Machine {
     /// is no multiple of 4, `Guarded` where the store would redirect the MSIs of passed sources.
     fn store_register(&mut self, name: DomainName, addr: u64, value: u32) -> Answer
         requires named { domain_at addr ≡ Some name }
-        requires stands { StandsForSome self.old }
+        requires stands { EngineStandsForSome self.old }
         ensures { MachineTakes self.old self.new (Line.Store addr value) result }
     {
         if addr % 4 != 0 {

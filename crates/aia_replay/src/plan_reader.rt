@@ -5,7 +5,7 @@ ghost use Rattle.aia_io.specs.Ends.{Rose};
 ghost use Rattle.aia_plan.specs.Plan.{IsWidth};
 ghost use Rattle.aia_audit.specs.PlanText.{with_text};
 ghost use Rattle.aia_replay.specs.Plans.{AreInside, BeginsPlan, FeedsPlan, FinishesPlan, StreamsPlan, plan_read};
-ghost use Rattle.aia_replay.specs.Runs.{Ends};
+ghost use Rattle.aia_replay.specs.Runs.{RunEnds};
 
 use crate::pieces::{LINE, keep, line_end};
 use crate::plan_so_far::PlanSoFar;
@@ -133,7 +133,7 @@ pub fn audit_plan<S: Source, K: Sink>(
     requires { IsWidth words }
     ensures usage { result ≢ Status.Usage }
     ensures memory { result ≢ Status.Memory }
-    ensures ends { Ends (Some (Subcommand.Audit kind words)) result (S.supply source.old)
+    ensures ends { RunEnds (Some (Subcommand.Audit kind words)) result (S.supply source.old)
         (S.supply source.new) (K.taken sink.old) (K.taken sink.new) (S.faults source.old)
         (S.faults source.new) (K.faults sink.old) (K.faults sink.new) }
 {

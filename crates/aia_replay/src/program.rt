@@ -2,7 +2,7 @@ ghost use Rattle.std.specs.Prelude.{◌≡◌, ◌≢◌, ◌↔◌, ◌⊎◌, 
 ghost use Rattle.aia_io.specs.Ends.{Rose, TakesAll};
 ghost use Rattle.aia_command.specs.CommandLine.{subcommand_of};
 ghost use Rattle.aia_io.specs.Words.{asked};
-ghost use Rattle.aia_replay.specs.Runs.{reads_source, Ends, StopsAtMachine, WritesAnswers, WritesVerdict, FitsIn, IsDoneOrMemory};
+ghost use Rattle.aia_replay.specs.Runs.{reads_source, RunEnds, StopsAtMachine, WritesAnswers, WritesVerdict, FitsIn, IsDoneOrMemory};
 ghost use Rattle.aia_replay.specs.Streams.{Begins};
 
 use crate::generator::summarize;
@@ -61,7 +61,7 @@ pub fn run<S: Source, K: Sink>(
 
     // What every ending promises, by what the words ask for: its cause, what was then written, and
     // how much was taken.
-    ensures ends { Ends (asked subcommand_of words.now) result (S.supply source.old)
+    ensures ends { RunEnds (asked subcommand_of words.now) result (S.supply source.old)
         (S.supply source.new) (K.taken sink.old) (K.taken sink.new) (S.faults source.old)
         (S.faults source.new) (K.faults sink.old) (K.faults sink.new) }
     ensures unread { (count seed : ℕ)
@@ -100,7 +100,7 @@ fn replay<S: Source, K: Sink>(alloc: Global, source: &mut S, sink: &mut K) -> St
     ensures usage { result ≢ Status.Usage }
     ensures machine { result ≡ Status.Memory → StopsAtMachine (S.supply source.old)
         (S.supply source.new) (K.taken sink.old) (K.taken sink.new) }
-    ensures ends { Ends (Some Subcommand.Replay) result (S.supply source.old)
+    ensures ends { RunEnds (Some Subcommand.Replay) result (S.supply source.old)
         (S.supply source.new) (K.taken sink.old) (K.taken sink.new) (S.faults source.old)
         (S.faults source.new) (K.faults sink.old) (K.faults sink.new) }
 {
@@ -122,7 +122,7 @@ fn replay_by<S: Source, K: Sink>(
     ensures usage { result ≢ Status.Usage }
     ensures machine { result ≡ Status.Memory → StopsAtMachine (S.supply source.old)
         (S.supply source.new) (K.taken sink.old) (K.taken sink.new) }
-    ensures ends { Ends (Some Subcommand.Replay) result (S.supply source.old)
+    ensures ends { RunEnds (Some Subcommand.Replay) result (S.supply source.old)
         (S.supply source.new) (K.taken sink.old) (K.taken sink.new) (S.faults source.old)
         (S.faults source.new) (K.faults sink.old) (K.faults sink.new) }
 {

@@ -6,7 +6,7 @@ ghost use Rattle.aia_command.specs.declared.subcommand.Subcommand.TheVariants.{R
 ghost use Rattle.aia_plan.specs.declared.step.Kind.{Kind};
 ghost use Rattle.aia_command.specs.CommandLine.{subcommand_of};
 ghost use Rattle.aia_io.specs.Ends.{Rose, TakesAll};
-ghost use Rattle.aia_replay.specs.Runs.{Ends, FitsIn, IsDoneOrMemory, WritesAnswers, WritesVerdict, reads_source};
+ghost use Rattle.aia_replay.specs.Runs.{RunEnds, FitsIn, IsDoneOrMemory, WritesAnswers, WritesVerdict, reads_source};
 ghost use Rattle.aia_io.specs.Words.{AreNoText, AreRefused, asked_by, words_of};
 ghost use Rattle.aia_replay.specs.Command.{exit_number, exit_numbers};
 
@@ -50,9 +50,9 @@ pub fn command<S: Source, K: Sink>(
 
     // What every number promises, by what the words ask for.
     ensures ends { (status : Status) → exit_status result ≡ exit_number status
-        → Ends (asked_by subcommand_of arguments) status (S.supply source.old) (S.supply source.new)
-        (K.taken sink.old) (K.taken sink.new) (S.faults source.old) (S.faults source.new)
-        (K.faults sink.old) (K.faults sink.new) }
+        → RunEnds (asked_by subcommand_of arguments) status (S.supply source.old)
+        (S.supply source.new) (K.taken sink.old) (K.taken sink.new) (S.faults source.old)
+        (S.faults source.new) (K.faults sink.old) (K.faults sink.new) }
     ensures unread { (count seed : ℕ)
         → asked_by subcommand_of arguments ≡ Some (Generate count seed) → source.new ≡ source.old }
 
@@ -86,7 +86,7 @@ fn run_words<S: Source, K: Sink>(
     source: &mut S,
     sink: &mut K,
 ) -> Status
-    ensures ends { Ends (subcommand_of (words_of arguments.now)) result (S.supply source.old)
+    ensures ends { RunEnds (subcommand_of (words_of arguments.now)) result (S.supply source.old)
         (S.supply source.new) (K.taken sink.old) (K.taken sink.new) (S.faults source.old)
         (S.faults source.new) (K.faults sink.old) (K.faults sink.new) }
     ensures unread { (count seed : ℕ)

@@ -8,7 +8,8 @@ digit_above : (v k : ℕ) → v / 2 ^ (8 * k + 4) ≡ v / 2 ^ (8 * k) / 16
 digit_above v k = sym (shr-shr v (8 * k) 4)
 
 -- the two digits of a byte
-two_digits : (place v : ℕ) → 0 < place → hex_digits (2 * place) v ≡ digit_character (v / 2 ^ (8 * (place - 1)) % 256 / 16) ∷ digit_character (v / 2 ^ (8 * (place - 1)) % 256 % 16) ∷ hex_digits (2 * (place - 1)) v
+two_digits : (place v : ℕ) → 0 < place → hex_digits (2 * place) v ≡ digit_character (v / 2 ^ (8 * (place - 1)) % 256 / 16) ∷ digit_character
+    (v / 2 ^ (8 * (place - 1)) % 256 % 16) ∷ hex_digits (2 * (place - 1)) v
 unfolding hex_digits
 two_digits place v h =
     let k = place - 1 in
@@ -18,7 +19,8 @@ two_digits place v h =
     let here : 4 * (2 * k) ≡ 8 * k = omega arith in
     let high : v / 2 ^ (4 * suc (2 * k)) % 16 ≡ x % 256 / 16 = ap (λ e. v / 2 ^ e % 16) above ∙ ap (λ q. q % 16) (digit_above v k) ∙ higher x in
     let low : v / 2 ^ (4 * (2 * k)) % 16 ≡ x % 256 % 16 = ap (λ e. v / 2 ^ e % 16) here ∙ lower x in
-    ap (λ n. hex_digits n v) count ∙ ap (λ d. digit_character d ∷ digit_character (v / 2 ^ (4 * (2 * k)) % 16) ∷ hex_digits (2 * k) v) high ∙ ap (λ d. digit_character (x % 256 / 16) ∷ digit_character d ∷ hex_digits (2 * k) v) low
+    ap (λ n. hex_digits n v) count ∙ ap (λ d. digit_character d ∷ digit_character (v / 2 ^ (4 * (2 * k)) % 16) ∷ hex_digits (2 * k) v) high
+    ∙ ap (λ d. digit_character (x % 256 / 16) ∷ digit_character d ∷ hex_digits (2 * k) v) low
   where
     higher : (x : ℕ) → x / 16 % 16 ≡ x % 256 / 16
     higher x = omega arith
@@ -27,7 +29,8 @@ two_digits place v h =
     lower x = omega arith
 
 -- they are appended
-pub byte_pushed : (mid new out all : List ℕ) (a b byte place v : ℕ) → 0 < place → mid ≡ out ++ a ∷ [] → new ≡ mid ++ b ∷ [] → byte ≡ v / 2 ^ (8 * (place - 1)) % 256 → a ≡ digit_character (byte / 16) → b ≡ digit_character (byte % 16)
+pub byte_pushed : (mid new out all : List ℕ) (a b byte place v : ℕ) → 0 < place → mid ≡ out ++ a ∷ [] → new ≡ mid ++ b ∷ []
+    → byte ≡ v / 2 ^ (8 * (place - 1)) % 256 → a ≡ digit_character (byte / 16) → b ≡ digit_character (byte % 16)
     → out ++ hex_digits (2 * place) v ≡ all → new ++ hex_digits (2 * (place - 1)) v ≡ all
 byte_pushed mid new out all a b byte place v h first second is high low before =
     let rest = hex_digits (2 * (place - 1)) v in
@@ -70,7 +73,9 @@ row_low from (suc count) (suc k) h =
     ap (λ i. get_or (rows from (suc count)) i 0) e ∙ row_low (suc from) count k (omega arith) ∙ ap (λ x. digit_character (x % 16)) at
 
 pub pair_high : (table : List ℕ) (b : ℕ) → table ≡ rows 0 256 → b < 256 → get_or table (2 * b) 0 ≡ digit_character (b / 16)
-pair_high table b is low = let e : 0 + b ≡ b = omega arith in ap (λ (xs : List ℕ). get_or xs (2 * b) 0) is ∙ row_high 0 256 b low ∙ ap (λ x. digit_character (x / 16)) e
+pair_high table b is low = let e : 0 + b ≡ b = omega arith in ap (λ (xs : List ℕ). get_or xs (2 * b) 0) is ∙ row_high 0 256 b low
+    ∙ ap (λ x. digit_character (x / 16)) e
 
 pub pair_low : (table : List ℕ) (b : ℕ) → table ≡ rows 0 256 → b < 256 → get_or table (2 * b + 1) 0 ≡ digit_character (b % 16)
-pair_low table b is low = let e : 0 + b ≡ b = omega arith in ap (λ (xs : List ℕ). get_or xs (2 * b + 1) 0) is ∙ row_low 0 256 b low ∙ ap (λ x. digit_character (x % 16)) e
+pair_low table b is low = let e : 0 + b ≡ b = omega arith in ap (λ (xs : List ℕ). get_or xs (2 * b + 1) 0) is ∙ row_low 0 256 b low
+    ∙ ap (λ x. digit_character (x % 16)) e

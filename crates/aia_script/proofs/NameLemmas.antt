@@ -9,7 +9,9 @@ use Rattle.aia_model.specs.Grammar.{is_csr, name_among}
 use Rattle.aia_model.specs.AnswerText.{name_text}
 
 -- the row of a CSR has its name
-pub name_there : (rows : List (Bor (List ℕ) × Csr)) (i : ℕ) (first : Bor (List ℕ) × Csr) (name : Option (List ℕ)) (csr : Csr) → i < length rows → (get_or rows i first).1 ≡ csr → name_among (map (λ row. (row.0.now, row.1)) (drop i rows)) csr ≡ name → (get_or rows i first).0.now ≡ name_text name
+pub name_there : (rows : List (Bor (List ℕ) × Csr)) (i : ℕ) (first : Bor (List ℕ) × Csr) (name : Option (List ℕ)) (csr : Csr) → i < length rows
+    → (get_or rows i first).1 ≡ csr → name_among (map (λ row. (row.0.now, row.1)) (drop i rows)) csr ≡ name
+    → (get_or rows i first).0.now ≡ name_text name
 name_there rows i first name csr there is rest =
     let row = get_or rows i first in
     sym (ap name_text (cond-true _ _ _ (itself row.1 csr is)))

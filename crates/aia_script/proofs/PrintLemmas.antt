@@ -23,7 +23,9 @@ use Rattle.aia_script.specs.declared.number.Radix.TheVariants.{Decimal, Hexadeci
 use Rattle.aia_script.specs.Digits.{base}
 
 -- an instruction after other words
-pub joined_instruction : (word : List ℕ) (level : Level) (csr : Csr) (op : Op) → join_with_byte 32 (word ∷ map field_text (fields (instruction level) (access_values level csr op))) ≡ word ++ 32 ∷ join_with_byte 32 (map field_text (fields (instruction level) (access_values level csr op)))
+pub joined_instruction : (word : List ℕ) (level : Level) (csr : Csr) (op : Op)
+    → join_with_byte 32 (word ∷ map field_text (fields (instruction level) (access_values level csr op))) ≡ word ++ 32 ∷ join_with_byte 32
+    (map field_text (fields (instruction level) (access_values level csr op)))
 joined_instruction word level csr ops.Read = refl
 joined_instruction word level csr (ops.Write v) = refl
 joined_instruction word level csr (ops.Set v) = refl
@@ -49,17 +51,24 @@ two_digits Decimal = omega arith
 two_digits Hexadecimal = omega arith
 
 -- the digits above the last one, and the last one
-pub digits_above : (radix : Radix) (b n : ℕ) → b ≡ base radix → 0 < n → length (digits_of (base radix) n) ≡ length (digits_of (base radix) (n / b)) + 1
-digits_above radix b n e some = ap length (subst (λ b. digits_of (base radix) n ≡ digits_of (base radix) (n / b) ++ n % b ∷ []) (sym e) (digits_of_step (base radix) n (two_digits radix) some)) ∙ length-append (digits_of (base radix) (n / b)) (n % b ∷ [])
+pub digits_above : (radix : Radix) (b n : ℕ) → b ≡ base radix → 0 < n
+    → length (digits_of (base radix) n) ≡ length (digits_of (base radix) (n / b)) + 1
+digits_above radix b n e some = ap length (subst (λ b. digits_of (base radix) n ≡ digits_of (base radix) (n / b) ++ n % b ∷ []) (sym e)
+    (digits_of_step (base radix) n (two_digits radix) some)) ∙ length-append (digits_of (base radix) (n / b)) (n % b ∷ [])
 
 -- one digit is appended
-pub digit_appended : (new mid out : List ℕ) (radix : Radix) (b n d : ℕ) → b ≡ base radix → 0 < n → mid ≡ out ++ map digit_character (digits_of (base radix) (n / b)) → new ≡ mid ++ d ∷ [] → d ≡ digit_character (n % b) → new ≡ out ++ map digit_character (digits_of (base radix) n)
+pub digit_appended : (new mid out : List ℕ) (radix : Radix) (b n d : ℕ) → b ≡ base radix → 0 < n
+    → mid ≡ out ++ map digit_character (digits_of (base radix) (n / b)) → new ≡ mid ++ d ∷ [] → d ≡ digit_character (n % b)
+    → new ≡ out ++ map digit_character (digits_of (base radix) n)
 digit_appended new mid out radix b n d e some above pushed is =
-    let step : digits_of (base radix) n ≡ digits_of (base radix) (n / b) ++ n % b ∷ [] = subst (λ b. digits_of (base radix) n ≡ digits_of (base radix) (n / b) ++ n % b ∷ []) (sym e) (digits_of_step (base radix) n (two_digits radix) some) in
+    let step : digits_of (base radix) n ≡ digits_of (base radix) (n / b) ++ n % b ∷ [] =
+    subst (λ b. digits_of (base radix) n ≡ digits_of (base radix) (n / b) ++ n % b ∷ []) (sym e)
+    (digits_of_step (base radix) n (two_digits radix) some) in
     pushed
     ∙ ap (λ m. m ++ d ∷ []) above
     ∙ append_assoc out (map digit_character (digits_of (base radix) (n / b))) (d ∷ [])
-    ∙ ap (λ t. out ++ t) (ap (λ d. map digit_character (digits_of (base radix) (n / b)) ++ d ∷ []) is ∙ sym (map-append digit_character (digits_of (base radix) (n / b)) (n % b ∷ [])) ∙ ap (map digit_character) (sym step))
+    ∙ ap (λ t. out ++ t) (ap (λ d. map digit_character (digits_of (base radix) (n / b)) ++ d ∷ []) is
+    ∙ sym (map-append digit_character (digits_of (base radix) (n / b)) (n % b ∷ [])) ∙ ap (map digit_character) (sym step))
 
 -- what is left of a number is smaller
 pub smaller : (radix : Radix) (b n : ℕ) → b ≡ base radix → 0 < n → n / b < n
@@ -71,7 +80,8 @@ digit_low Decimal b n e = rw e (omega arith)
 digit_low Hexadecimal b n e = rw e (omega arith)
 
 -- the fields of a CSR instruction whose operand is in range
-pub access_in_range : (level : Level) (csr : Csr) (op : Op) → FitsOp op → AllByRecursion FitsField (fields (instruction level) (access_values level csr op))
+pub access_in_range : (level : Level) (csr : Csr) (op : Op) → FitsOp op
+    → AllByRecursion FitsField (fields (instruction level) (access_values level csr op))
 access_in_range level csr ops.Read fits = (tt, (tt, tt))
 access_in_range level csr (ops.Write v) fits = (tt, (tt, (fits, tt)))
 access_in_range level csr (ops.Set v) fits = (tt, (tt, (fits, tt)))

@@ -30,7 +30,8 @@ with_words n o = o >>= λ ws. Some (n, ws)
 abbrev with_number : List (List ℕ) → Option ℕ → Option (ℕ × List (List ℕ))
 with_number ws o = o >>= λ n. Some (n, ws)
 
-one_digit : (radix : Radix) (most n c d : ℕ) (cs : List ℕ) → 0 < most → digit_in radix c ≡ Some d → number_from radix most n (c ∷ cs) ≡ number_from radix (most - 1) (n * base radix + d) cs
+one_digit : (radix : Radix) (most n c d : ℕ) (cs : List ℕ) → 0 < most → digit_in radix c ≡ Some d
+    → number_from radix most n (c ∷ cs) ≡ number_from radix (most - 1) (n * base radix + d) cs
 unfolding number_from
 one_digit radix zero n c d cs h e = absurd (omega arith)
 one_digit radix (suc most) n c d cs h e =
@@ -52,14 +53,16 @@ no_digit_here radix (suc most) n c cs e =
 
 -- ---- at a place of a text
 
-pub digit_taken : (radix : Radix) (most n at d : ℕ) (text : List ℕ) → at < most → at < length text → digit_in radix (get_or text at 0) ≡ Some d → number_from radix (most - at) n (drop at text) ≡ number_from radix (most - (at + 1)) (n * base radix + d) (drop (at + 1) text)
+pub digit_taken : (radix : Radix) (most n at d : ℕ) (text : List ℕ) → at < most → at < length text → digit_in radix (get_or text at 0) ≡ Some d
+    → number_from radix (most - at) n (drop at text) ≡ number_from radix (most - (at + 1)) (n * base radix + d) (drop (at + 1) text)
 digit_taken radix most n at d text room there e =
     let less : most - at - 1 ≡ most - (at + 1) = omega arith in
     at_drop_more (number_from radix (most - at) n) text at 0 there
     ∙ one_digit radix (most - at) n (get_or text at 0) d (drop (at + 1) text) (omega arith) e
     ∙ ap (λ k. number_from radix k (n * base radix + d) (drop (at + 1) text)) less
 
-pub digits_end : (radix : Radix) (most n at : ℕ) (text : List ℕ) → at < length text → digit_in radix (get_or text at 0) ≡ None → number_from radix most n (drop at text) ≡ ended n (drop at text)
+pub digits_end : (radix : Radix) (most n at : ℕ) (text : List ℕ) → at < length text → digit_in radix (get_or text at 0) ≡ None
+    → number_from radix most n (drop at text) ≡ ended n (drop at text)
 digits_end radix most n at text there e =
     at_drop_more (number_from radix most n) text at 0 there
     ∙ no_digit_here radix most n (get_or text at 0) (drop (at + 1) text) e
@@ -120,9 +123,11 @@ pub stays_large : (radix : Radix) (most n : ℕ) (text : List ℕ) → 2 ^ 64 �
 unfolding number_from
 stays_large radix most n [] high = large_ended n [] high
 stays_large radix zero n (c ∷ cs) high = large_ended n (c ∷ cs) high
-stays_large radix (suc most) n (c ∷ cs) high = chosen (nat_eq c 32) (digit_in radix c) (λ d. stays_large radix most (n * base radix + d) cs (grown n (base radix) d (some_base radix) high))
+stays_large radix (suc most) n (c ∷ cs) high =
+    chosen (nat_eq c 32) (digit_in radix c) (λ d. stays_large radix most (n * base radix + d) cs (grown n (base radix) d (some_base radix) high))
   where
-    chosen : (b : Bool) (o : Option ℕ) → ((d : ℕ) → below_limit (number_from radix most (n * base radix + d) cs) ≡ None) → below_limit (cond b (ended n (c ∷ cs)) (o >>= λ d. number_from radix most (n * base radix + d) cs)) ≡ None
+    chosen : (b : Bool) (o : Option ℕ) → ((d : ℕ) → below_limit (number_from radix most (n * base radix + d) cs) ≡ None)
+        → below_limit (cond b (ended n (c ∷ cs)) (o >>= λ d. number_from radix most (n * base radix + d) cs)) ≡ None
     chosen true o rest = large_ended n (c ∷ cs) high
     chosen false None rest = refl
     chosen false (Some d) rest = rest d
@@ -148,7 +153,8 @@ value_within radix (suc most) n (c ∷ cs) = digit_in radix c >>= λ d. value_wi
 abbrev of_first : {X : Type 0} → List (List ℕ) → (List ℕ → List (List ℕ) → Option X) → Option X
 of_first ws f = word_at ws >>= λ p. f p.0 p.1
 
-onto : {X : Type 0} (c : ℕ) (ws : List (List ℕ)) (f : List ℕ → List (List ℕ) → Option X) → 0 < length ws → of_first (onto_first c ws) f ≡ of_first ws (λ w rest. f (c ∷ w) rest)
+onto : {X : Type 0} (c : ℕ) (ws : List (List ℕ)) (f : List ℕ → List (List ℕ) → Option X) → 0 < length ws
+    → of_first (onto_first c ws) f ≡ of_first ws (λ w rest. f (c ∷ w) rest)
 onto c [] f some = absurd (omega arith)
 onto c (w ∷ ws) f some = refl
 
@@ -156,18 +162,22 @@ some_words : (text : List ℕ) → 0 < length (words_of text)
 some_words text = let e : length (words_of text) ≡ count_by (λ b. nat_eq b 32) text + 1 = length-slice_split (λ b. nat_eq b 32) text in omega arith
 
 -- a character that is no space belongs to the first word
-in_word : {X : Type 0} (c : ℕ) (cs : List ℕ) (f : List ℕ → List (List ℕ) → Option X) → nat_eq c 32 ≡ false → of_first (words_of (c ∷ cs)) f ≡ of_first (words_of cs) (λ w rest. f (c ∷ w) rest)
+in_word : {X : Type 0} (c : ℕ) (cs : List ℕ) (f : List ℕ → List (List ℕ) → Option X) → nat_eq c 32 ≡ false
+    → of_first (words_of (c ∷ cs)) f ≡ of_first (words_of cs) (λ w rest. f (c ∷ w) rest)
 in_word c cs f e = ap (λ ws. of_first ws f) (cond-false _ _ _ e) ∙ onto c (words_of cs) f (some_words cs)
 
-ends_word : {X : Type 0} (c : ℕ) (cs : List ℕ) (f : List ℕ → List (List ℕ) → Option X) → nat_eq c 32 ≡ true → of_first (words_of (c ∷ cs)) f ≡ f [] (words_of cs)
+ends_word : {X : Type 0} (c : ℕ) (cs : List ℕ) (f : List ℕ → List (List ℕ) → Option X) → nat_eq c 32 ≡ true
+    → of_first (words_of (c ∷ cs)) f ≡ f [] (words_of cs)
 ends_word c cs f e = ap (λ ws. of_first ws f) (cond-true _ _ _ e)
 
-same_of_first : {X : Type 0} (ws : List (List ℕ)) (f g : List ℕ → List (List ℕ) → Option X) → ((w : List ℕ) (rest : List (List ℕ)) → f w rest ≡ g w rest) → of_first ws f ≡ of_first ws g
+same_of_first : {X : Type 0} (ws : List (List ℕ)) (f g : List ℕ → List (List ℕ) → Option X)
+    → ((w : List ℕ) (rest : List (List ℕ)) → f w rest ≡ g w rest) → of_first ws f ≡ of_first ws g
 same_of_first [] f g same = refl
 same_of_first (w ∷ ws) f g same = same w ws
 
 -- a digit that is read before the rest of its word
-digit_first : (o : Option ℕ) (ws : List (List ℕ)) (f : ℕ → List ℕ → Option ℕ) → (o >>= λ d. of_first ws (λ w rest. with_number rest (f d w))) ≡ of_first ws (λ w rest. with_number rest (o >>= λ d. f d w))
+digit_first : (o : Option ℕ) (ws : List (List ℕ)) (f : ℕ → List ℕ → Option ℕ)
+    → (o >>= λ d. of_first ws (λ w rest. with_number rest (f d w))) ≡ of_first ws (λ w rest. with_number rest (o >>= λ d. f d w))
 digit_first None [] f = refl
 digit_first None (w ∷ ws) f = refl
 digit_first (Some d) [] f = refl
@@ -182,13 +192,15 @@ tested true = inl refl
 tested false = inr refl
 
 -- reading digits to the end of the word is reading the digits of the first word
-spelled : (radix : Radix) (most n : ℕ) (text : List ℕ) → number_from radix most n text ≡ of_first (words_of text) (λ w rest. with_number rest (value_within radix most n w))
+spelled : (radix : Radix) (most n : ℕ) (text : List ℕ)
+    → number_from radix most n text ≡ of_first (words_of text) (λ w rest. with_number rest (value_within radix most n w))
 unfolding number_from value_within
 spelled radix most n [] = refl
 spelled radix zero n (c ∷ cs) =
     elim (tested (nat_eq c 32)) [
       | inl space ↦ ap (with_words n) (cond-true _ _ _ space) ∙ sym (ends_word c cs (λ w rest. with_number rest (value_within radix zero n w)) space)
-      | inr more ↦ ap (with_words n) (cond-false _ _ _ more) ∙ sym (in_word c cs (λ w rest. with_number rest (value_within radix zero n w)) more ∙ none (words_of cs))
+      | inr more ↦ ap (with_words n) (cond-false _ _ _ more)
+          ∙ sym (in_word c cs (λ w rest. with_number rest (value_within radix zero n w)) more ∙ none (words_of cs))
     ]
   where
     none : (ws : List (List ℕ)) → ◌≡◌ {A = Option (ℕ × List (List ℕ))} (of_first ws (λ w rest. with_number rest None)) None
@@ -196,7 +208,8 @@ spelled radix zero n (c ∷ cs) =
     none (w ∷ ws) = refl
 spelled radix (suc most) n (c ∷ cs) =
     elim (tested (nat_eq c 32)) [
-      | inl space ↦ cond-true _ _ _ space ∙ ap (with_words n) (cond-true _ _ _ space) ∙ sym (ends_word c cs (λ w rest. with_number rest (value_within radix (suc most) n w)) space)
+      | inl space ↦ cond-true _ _ _ space ∙ ap (with_words n) (cond-true _ _ _ space)
+          ∙ sym (ends_word c cs (λ w rest. with_number rest (value_within radix (suc most) n w)) space)
       | inr more ↦
           cond-false _ _ _ more
           ∙ then_same (digit_in radix c) _ _ (λ d. spelled radix most (n * base radix + d) cs)
@@ -205,13 +218,15 @@ spelled radix (suc most) n (c ∷ cs) =
     ]
 
 -- the same where there is room for all
-spelled_all : (radix : Radix) (most n : ℕ) (text : List ℕ) → length text ≤ most → number_from radix most n text ≡ of_first (words_of text) (λ w rest. with_number rest (value_after (digit_in radix) (base radix) n w))
+spelled_all : (radix : Radix) (most n : ℕ) (text : List ℕ) → length text ≤ most
+    → number_from radix most n text ≡ of_first (words_of text) (λ w rest. with_number rest (value_after (digit_in radix) (base radix) n w))
 unfolding number_from
 spelled_all radix most n [] room = refl
 spelled_all radix zero n (c ∷ cs) room = absurd (omega arith)
 spelled_all radix (suc most) n (c ∷ cs) room =
     elim (tested (nat_eq c 32)) [
-      | inl space ↦ cond-true _ _ _ space ∙ ap (with_words n) (cond-true _ _ _ space) ∙ sym (ends_word c cs (λ w rest. with_number rest (value_after (digit_in radix) (base radix) n w)) space)
+      | inl space ↦ cond-true _ _ _ space ∙ ap (with_words n) (cond-true _ _ _ space)
+          ∙ sym (ends_word c cs (λ w rest. with_number rest (value_after (digit_in radix) (base radix) n w)) space)
       | inr more ↦
           cond-false _ _ _ more
           ∙ then_same (digit_in radix c) _ _ (λ d. spelled_all radix most (n * base radix + d) cs (omega arith))
@@ -229,7 +244,8 @@ beyond : (radix : Radix) (most n : ℕ) (w : List ℕ) → most < length w → v
 unfolding value_within
 beyond radix most n [] past = absurd (omega arith)
 beyond radix zero n (c ∷ w) past = refl
-beyond radix (suc most) n (c ∷ w) past = then_same (digit_in radix c) _ _ (λ d. beyond radix most (n * base radix + d) w (omega arith)) ∙ never (digit_in radix c)
+beyond radix (suc most) n (c ∷ w) past = then_same (digit_in radix c) _ _ (λ d. beyond radix most (n * base radix + d) w (omega arith))
+    ∙ never (digit_in radix c)
   where
     never : (o : Option ℕ) → ◌≡◌ {A = Option ℕ} (o >>= λ d. None) None
     never None = refl
@@ -238,7 +254,8 @@ beyond radix (suc most) n (c ∷ w) past = then_same (digit_in radix c) _ _ (λ 
 -- ---- the number of a text's first word
 
 -- the limit is asked of the number alone
-limit_first : (ws : List (List ℕ)) (f : List ℕ → Option ℕ) → below_limit (of_first ws (λ w rest. with_number rest (f w))) ≡ of_first ws (λ w rest. with_number rest (f w >>= below (2 ^ 64)))
+limit_first : (ws : List (List ℕ)) (f : List ℕ → Option ℕ)
+    → below_limit (of_first ws (λ w rest. with_number rest (f w))) ≡ of_first ws (λ w rest. with_number rest (f w >>= below (2 ^ 64)))
 limit_first [] f = refl
 limit_first (w ∷ ws) f = each (f w)
   where
@@ -259,20 +276,26 @@ none_first [] = refl
 none_first (w ∷ ws) = refl
 
 -- a decimal number
-decimal_word : (c : ℕ) (cs : List ℕ) → nat_eq c 48 ≡ false → (decimal_digit c >>= λ d. below_limit (number_from Decimal (length cs) d cs)) ≡ of_first (words_of (c ∷ cs)) (λ w rest. with_number rest (number_of w))
+decimal_word : (c : ℕ) (cs : List ℕ) → nat_eq c 48 ≡ false
+    → (decimal_digit c >>= λ d. below_limit (number_from Decimal (length cs) d cs)) ≡ of_first (words_of (c ∷ cs))
+    (λ w rest. with_number rest (number_of w))
 decimal_word c cs other =
     elim (tested (nat_eq c 32)) [
-      | inl space ↦ ap (λ o. o >>= λ d. below_limit (number_from Decimal (length cs) d cs)) (space_is_none Decimal c space) ∙ sym (ends_word c cs (λ w rest. with_number rest (number_of w)) space)
+      | inl space ↦ ap (λ o. o >>= λ d. below_limit (number_from Decimal (length cs) d cs)) (space_is_none Decimal c space)
+          ∙ sym (ends_word c cs (λ w rest. with_number rest (number_of w)) space)
       | inr more ↦
-          then_same (decimal_digit c) _ _ (λ d. ap below_limit (spelled_all Decimal (length cs) d cs (omega arith)) ∙ limit_first (words_of cs) (λ w. value_after decimal_digit 10 d w))
+          then_same (decimal_digit c) _ _ (λ d. ap below_limit (spelled_all Decimal (length cs) d cs (omega arith))
+          ∙ limit_first (words_of cs) (λ w. value_after decimal_digit 10 d w))
           ∙ digit_first (decimal_digit c) (words_of cs) (λ d w. value_after decimal_digit 10 d w >>= below (2 ^ 64))
           ∙ same_of_first (words_of cs) _ _ (λ w rest. ap (with_number rest) (digits c w other))
           ∙ sym (in_word c cs (λ w rest. with_number rest (number_of w)) more)
     ]
   where
-    digits : (c : ℕ) (w : List ℕ) → nat_eq c 48 ≡ false → (decimal_digit c >>= λ d. value_after decimal_digit 10 d w >>= below (2 ^ 64)) ≡ number_of (c ∷ w)
+    digits : (c : ℕ) (w : List ℕ) → nat_eq c 48 ≡ false
+        → (decimal_digit c >>= λ d. value_after decimal_digit 10 d w >>= below (2 ^ 64)) ≡ number_of (c ∷ w)
     digits c w other =
-        then_same (decimal_digit c) _ _ (λ d. let from : d ≡ 0 * 10 + d = omega arith in ap (λ n. value_after decimal_digit 10 n w >>= below (2 ^ 64)) from)
+        then_same (decimal_digit c) _ _ (λ d. let from : d ≡ 0 * 10 + d = omega arith in
+        ap (λ n. value_after decimal_digit 10 n w >>= below (2 ^ 64)) from)
         ∙ sym (then_then (decimal_digit c) (λ d. value_after decimal_digit 10 (0 * 10 + d) w) (below (2 ^ 64)))
         ∙ sym (cond-false _ _ _ other)
 
@@ -289,7 +312,8 @@ hex_digits c w =
           ∙ sym (cond-false _ _ _ out)
       | inr room ↦
           let fits : is_in_range 1 16 (length (c ∷ w)) ≡ true = grind (arith, nat_tests) in
-          then_same (hex_digit c) _ _ (λ d. let from : d ≡ 0 * 16 + d = omega arith in ap (λ o. o >>= below (2 ^ 64)) (within Hexadecimal 15 d w room) ∙ ap (λ n. value_after hex_digit 16 n w >>= below (2 ^ 64)) from)
+          then_same (hex_digit c) _ _ (λ d. let from : d ≡ 0 * 16 + d = omega arith in
+          ap (λ o. o >>= below (2 ^ 64)) (within Hexadecimal 15 d w room) ∙ ap (λ n. value_after hex_digit 16 n w >>= below (2 ^ 64)) from)
           ∙ sym (then_then (hex_digit c) (λ d. value_after hex_digit 16 (0 * 16 + d) w) (below (2 ^ 64)))
           ∙ sym (cond-true _ _ _ fits)
     ]
@@ -303,9 +327,11 @@ x_word : (cs : List ℕ) → after_x cs ≡ of_first (words_of cs) (λ w rest. w
 x_word [] = refl
 x_word (c ∷ cs) =
     elim (tested (nat_eq c 32)) [
-      | inl space ↦ ap (λ o. o >>= λ d. below_limit (number_from Hexadecimal 15 d cs)) (space_is_none Hexadecimal c space) ∙ sym (ends_word c cs (λ w rest. with_number rest (hexed w)) space)
+      | inl space ↦ ap (λ o. o >>= λ d. below_limit (number_from Hexadecimal 15 d cs)) (space_is_none Hexadecimal c space)
+          ∙ sym (ends_word c cs (λ w rest. with_number rest (hexed w)) space)
       | inr more ↦
-          then_same (hex_digit c) _ _ (λ d. ap below_limit (spelled Hexadecimal 15 d cs) ∙ limit_first (words_of cs) (λ w. value_within Hexadecimal 15 d w))
+          then_same (hex_digit c) _ _ (λ d. ap below_limit (spelled Hexadecimal 15 d cs)
+          ∙ limit_first (words_of cs) (λ w. value_within Hexadecimal 15 d w))
           ∙ digit_first (hex_digit c) (words_of cs) (λ d w. value_within Hexadecimal 15 d w >>= below (2 ^ 64))
           ∙ same_of_first (words_of cs) _ _ (λ w rest. ap (with_number rest) (hex_digits c w))
           ∙ sym (in_word c cs (λ w rest. with_number rest (hexed w)) more)
@@ -320,14 +346,17 @@ zero_word (c ∷ cs) =
           let more : nat_eq c 32 ≡ false = grind (arith, nat_tests) in
           cond-true _ _ _ x
           ∙ x_word cs
-          ∙ same_of_first (words_of cs) _ _ (λ w rest. ap (λ b. with_number rest (if b && is_in_range 1 16 (length w) then value_after hex_digit 16 0 w >>= below (2 ^ 64) else None)) (sym x))
+          ∙ same_of_first (words_of cs) _ _ (λ w rest. ap
+          (λ b. with_number rest (if b && is_in_range 1 16 (length w) then value_after hex_digit 16 0 w >>= below (2 ^ 64) else None)) (sym x))
           ∙ sym (in_word c cs (λ w rest. with_number rest (text.after_zero w)) more)
       | inr other ↦ cond-false _ _ _ other ∙ elim (tested (nat_eq c 32)) [
         | inl space ↦ ap (with_words 0) (cond-true _ _ _ space) ∙ sym (ends_word c cs (λ w rest. with_number rest (text.after_zero w)) space)
         | inr more ↦
             ap (with_words 0) (cond-false _ _ _ more)
             ∙ sym (none_first (words_of cs))
-            ∙ same_of_first (words_of cs) _ _ (λ w rest. ap (λ b. with_number rest (if b && is_in_range 1 16 (length w) then value_after hex_digit 16 0 w >>= below (2 ^ 64) else None)) (sym other))
+            ∙ same_of_first (words_of cs) _ _ (λ w rest. ap
+            (λ b. with_number rest (if b && is_in_range 1 16 (length w) then value_after hex_digit 16 0 w >>= below (2 ^ 64) else None))
+            (sym other))
             ∙ sym (in_word c cs (λ w rest. with_number rest (text.after_zero w)) more)
       ]
     ]

@@ -8,12 +8,12 @@ use Rattle.aia_plan.specs.declared.step.Step.{Step}
 use Rattle.aia_plan.specs.declared.step.Step.TheVariants.{Quiet, Word1, Word0, Fence, Map, Unmap, Remap, GFence, TakeP, PutP, TakeE, PutE, Look, TakeT, PutT, Post, Wake}
 
 -- What follows the name of a step: nothing, or the number of a word.
-pub data Form : Type 0 where
-  Alone : (step : Step) → Form
-  OfWord : (step : ℕ → Step) → Form
+pub data StepForm : Type 0 where
+  Alone : (step : Step) → StepForm
+  OfWord : (step : ℕ → Step) → StepForm
 
 -- The names of steps, each with its form.
-abbrev pub step_forms : List (List ℕ × Form)
+abbrev pub step_forms : List (List ℕ × StepForm)
 step_forms =
     (codes "quiet", Alone Quiet)
     ∷ (codes "word1", Alone Word1)
@@ -44,7 +44,7 @@ word_step count step words = do
 
 -- The step that a form and the words after the name spell, of files of so many words of 64
 -- identities.
-abbrev pub step_after : ℕ → Form → Words → Option Step
+abbrev pub step_after : ℕ → StepForm → Words → Option Step
 step_after count (Alone step) words = whole words step
 step_after count (OfWord step) words = word_step count step words
 

@@ -37,8 +37,11 @@ use Rattle.aia_tests.specs.PassHistories.{stored, made, one_ready}
 -- ---- a core with such a source
 
 -- a store to a register of the APLIC is nothing to the core
-store_rests : (x : CoreState) (h : History) (addr value : ℕ) (d : DomainName) → domain_at addr ≡ Some d → CoreStands x h → CoreStands x (Accepted (lines.Store addr value) ∷ h)
-store_rests x h addr value d there = line_rests x h (lines.Store addr value) refl (hosts_line h (lines.Store addr value) refl refl (λ g. refl) (λ g m. refl)) (λ f. cond-false _ _ _ (no_file_there addr f (λ none. let bad : ◌≡◌ {A = Option DomainName} None (Some d) = sym none ∙ there in absurd (cc))))
+store_rests : (x : CoreState) (h : History) (addr value : ℕ) (d : DomainName) → domain_at addr ≡ Some d → CoreStands x h
+    → CoreStands x (Accepted (lines.Store addr value) ∷ h)
+store_rests x h addr value d there = line_rests x h (lines.Store addr value) refl
+    (hosts_line h (lines.Store addr value) refl refl (λ g. refl) (λ g m. refl))
+    (λ f. cond-false _ _ _ (no_file_there addr f (λ none. let bad : ◌≡◌ {A = Option DomainName} None (Some d) = sym none ∙ there in absurd (cc))))
 
 stores_rest : (x : CoreState) → CoreStands x (Accepted (lines.Machine 1 1 63 2) ∷ []) → CoreStands x stored
 stores_rest x stands =
@@ -50,20 +53,24 @@ unfolding ones passes_of home
 vm_free = refl
 
 pub made_stands : (x y : CoreState) (given : Answer) → CoreBegins x 1 1 63 → CoreTakes x y (lines.Vm 1 8 0) given → CoreStands y made
-made_stands x y given begins takes = subst (λ (r : Option Answer). CoreStands y (line_served r stored (lines.Vm 1 8 0))) vm_free (takes.stands stored (stores_rest x (begins 2)))
+made_stands x y given begins takes = subst (λ (r : Option Answer). CoreStands y (line_served r stored (lines.Vm 1 8 0))) vm_free
+    (takes.stands stored (stores_rest x (begins 2)))
 
 pub made_happens : IsHistory made
-unfolding passes_of addresses_of domain_register_of wire_of enabled target pending home flight in_force_of least_of look_saw file_by select_by ones all_senders genmsi_waits newest
+unfolding passes_of addresses_of domain_register_of wire_of enabled target pending home flight in_force_of least_of look_saw file_by select_by
+    ones all_senders genmsi_waits newest
 made_happens = (refl, (refl, (refl, (refl, (refl, (refl, (refl, (refl, tt))))))))
 
 -- ---- what is told of its sources
 
 told : (t source : ℕ) → is_in_range 1 2 source ≡ true → TellsOf (one_ready t) made source
-unfolding passes_of addresses_of domain_register_of wire_of enabled target pending home flight in_force_of least_of look_saw file_by select_by ones all_senders genmsi_waits newest
+unfolding passes_of addresses_of domain_register_of wire_of enabled target pending home flight in_force_of least_of look_saw file_by select_by
+    ones all_senders genmsi_waits newest
 told t zero low = absurd (false≢true low)
 told t (suc zero) low = record { there = refl; ready = refl }
 told t (suc (suc zero)) low = record { there = refl; ready = refl }
-told t (suc (suc (suc source))) low = let none : is_in_range 1 2 (suc (suc (suc source))) ≡ false = grind (arith, nat_tests) in absurd (false≢true (sym none ∙ low))
+told t (suc (suc (suc source))) low = let none : is_in_range 1 2 (suc (suc (suc source))) ≡ false = grind (arith, nat_tests) in
+    absurd (false≢true (sym none ∙ low))
 
 pub may_pass : (x : CoreState) (t source : ℕ) → CoreStands x made → is_in_range 1 2 source ≡ true → MayPass x (one_ready t) source
 may_pass x t source stands low = record { past = made; happens = made_happens; stands = stands; tells = told t source low }
@@ -79,7 +86,8 @@ aims_first t u source target e = record {
   aimed = λ is. ap (λ b. cond b u 0) is ∙ e ∙ ap (λ b. cond b target t) is;
   unready = λ is. ap (λ b. cond b u 0) is ∙ sym (ap (λ b. cond b t 0) is);
   others = λ s other. elim (cases_Bool (nat_eq s 1)) [
-    | inl is ↦ ap (λ b. cond b u 0) is ∙ e ∙ ap (λ b. cond b target t) (ne_eqb source 1 (λ same. other (eqb-true s 1 is ∙ sym same))) ∙ sym (ap (λ b. cond b t 0) is)
+    | inl is ↦ ap (λ b. cond b u 0) is ∙ e ∙ ap (λ b. cond b target t) (ne_eqb source 1 (λ same. other (eqb-true s 1 is ∙ sym same)))
+        ∙ sym (ap (λ b. cond b t 0) is)
     | inr is ↦ ap (λ b. cond b u 0) is ∙ sym (ap (λ b. cond b t 0) is)
   ];
 }

@@ -28,12 +28,14 @@ write_clears : (h : History) (g : Vcpu) (op : Op) (i : ℕ) → refusal h (Guest
     → (guest_file (after h (GuestCsr g.vm g.number Reg op)) g).pending i ≡ false
 write_clears h g op i ok word =
     let line = GuestCsr g.vm g.number Reg op in
-    ap (λ file. file.pending i) (file_after_line h line g (none_forwarded h line g refl) refl ok ∙ ap (λ deed. file_after (guest_select h g) deed (guest_file h g)) (cond-true _ _ _ (is_itself g)))
+    ap (λ file. file.pending i) (file_after_line h line g (none_forwarded h line g refl) refl ok
+    ∙ ap (λ deed. file_after (guest_select h g) deed (guest_file h g)) (cond-true _ _ _ (is_itself g)))
     ∙ ap (λ n. settle (eip_said n (register_of (guest_select h g)) op i) ((guest_file h g).pending i)) (guest_greatest h g)
     ∙ ap (λ said. settle said ((guest_file h g).pending i)) word
 
 -- given what a claim leaves
-pub gone : ((h : History) (g : Vcpu) (op : Op) (i : ℕ) → refusal h (GuestCsr g.vm g.number Topei op) ≡ None → is_writing op ≡ true → IsLeastToClaim (guest_file h g) i → guest_file (after h (GuestCsr g.vm g.number Topei op)) g ≡ without (guest_file h g) i)
+pub gone : ((h : History) (g : Vcpu) (op : Op) (i : ℕ) → refusal h (GuestCsr g.vm g.number Topei op) ≡ None → is_writing op ≡ true
+    → IsLeastToClaim (guest_file h g) i → guest_file (after h (GuestCsr g.vm g.number Topei op)) g ≡ without (guest_file h g) i)
     → (h : History) (line : Line) (g : Vcpu) (i : ℕ) → refusal h line ≡ None → Clears h line g i → (guest_file (after h line) g).pending i ≡ false
 gone left h (GuestCsr vm number Topei op) g i ok clears =
     let own = vcpu vm number in
@@ -42,6 +44,7 @@ gone left h (GuestCsr vm number Topei op) g i ok clears =
     (ap (λ file. file.pending i) (left h own op i ok clears.1 (top_is_least (guest_file h own) i top)) ∙ cond-true _ _ _ (eq-eqb i i refl))
 gone left h (GuestCsr vm number Reg op) g i ok clears =
     let own = vcpu vm number in
-    let word : eip_said (greatest_identity_of h) (register_of (guest_select h own)) op i ≡ Clear = subst (λ x. eip_said (greatest_identity_of h) (register_of (guest_select h x)) op i ≡ Clear) (sym clears.0) clears.1 in
+    let word : eip_said (greatest_identity_of h) (register_of (guest_select h own)) op i ≡ Clear =
+    subst (λ x. eip_said (greatest_identity_of h) (register_of (guest_select h x)) op i ≡ Clear) (sym clears.0) clears.1 in
     subst (λ x. (guest_file (after h (GuestCsr vm number Reg op)) x).pending i ≡ false) clears.0 (write_clears h own op i ok word)
 gone left h line g i ok clears = absurd clears

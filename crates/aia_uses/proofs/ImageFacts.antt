@@ -44,27 +44,33 @@ pub has_four : (x : GuestState) → x.file.n ≡ 63 → (k : ℕ) → k < parts_
 has_four x is k low = four_there k (subst (λ n. k < parts_in ((n + 1) / 64)) is low)
 
 pub told_stands : has_machine (history_of TOLD.now) ≡ true
-unfolding number_at n32_at flag_at csr_at line_at reading word_of least_of packed ones select_by file_by majors_of home flight passes_of in_force_of stage_in_force_of look_saw newest genmsi_waits all_senders answer after
+unfolding number_at n32_at flag_at csr_at line_at reading word_of least_of packed ones select_by file_by majors_of home flight passes_of
+    in_force_of stage_in_force_of look_saw newest genmsi_waits all_senders answer after
 told_stands = refl
 
 pub told_greatest : greatest_identity_of (history_of TOLD.now) ≡ 63
-unfolding number_at n32_at flag_at csr_at line_at reading word_of least_of packed ones select_by file_by majors_of home flight passes_of in_force_of stage_in_force_of look_saw newest genmsi_waits all_senders answer after
+unfolding number_at n32_at flag_at csr_at line_at reading word_of least_of packed ones select_by file_by majors_of home flight passes_of
+    in_force_of stage_in_force_of look_saw newest genmsi_waits all_senders answer after
 told_greatest = refl
 
 pub save_allowed : refusal (history_of TOLD.now) (Save 0 0 3) ≡ None
-unfolding number_at n32_at flag_at csr_at line_at reading word_of least_of packed ones select_by file_by majors_of home flight passes_of in_force_of stage_in_force_of look_saw newest genmsi_waits all_senders answer after
+unfolding number_at n32_at flag_at csr_at line_at reading word_of least_of packed ones select_by file_by majors_of home flight passes_of
+    in_force_of stage_in_force_of look_saw newest genmsi_waits all_senders answer after
 save_allowed = refl
 
 pub last_part : part_of (state_of (history_of TOLD.now) (vcpu 0 0)) 3 ≡ parts.Word 0 2 2
-unfolding number_at n32_at flag_at csr_at line_at reading word_of least_of packed ones select_by file_by majors_of home flight passes_of in_force_of stage_in_force_of look_saw newest genmsi_waits all_senders answer after
+unfolding number_at n32_at flag_at csr_at line_at reading word_of least_of packed ones select_by file_by majors_of home flight passes_of
+    in_force_of stage_in_force_of look_saw newest genmsi_waits all_senders answer after
 last_part = refl
 
 pub told_n : (state_of (history_of TOLD.now) (vcpu 0 0)).file.n ≡ 63
-unfolding number_at n32_at flag_at csr_at line_at reading word_of least_of packed ones select_by file_by majors_of home flight passes_of in_force_of stage_in_force_of look_saw newest genmsi_waits all_senders answer after
+unfolding number_at n32_at flag_at csr_at line_at reading word_of least_of packed ones select_by file_by majors_of home flight passes_of
+    in_force_of stage_in_force_of look_saw newest genmsi_waits all_senders answer after
 told_n = refl
 
 pub last_told : 3 < parts_in (((state_of (history_of TOLD.now) (vcpu 0 0)).file.n + 1) / 64)
-unfolding number_at n32_at flag_at csr_at line_at reading word_of least_of packed ones select_by file_by majors_of home flight passes_of in_force_of stage_in_force_of look_saw newest genmsi_waits all_senders answer after
+unfolding number_at n32_at flag_at csr_at line_at reading word_of least_of packed ones select_by file_by majors_of home flight passes_of
+    in_force_of stage_in_force_of look_saw newest genmsi_waits all_senders answer after
 last_told = omega arith
 
 pub last_there : 3 < parts_in (((state_of asked (vcpu 0 0)).file.n + 1) / 64)
@@ -73,13 +79,15 @@ last_there = omega arith
 
 -- a state that is the one of the script has 1 pending
 pub gives_one : {x : GuestState} → x ≡ state_of (history_of TOLD.now) (vcpu 0 0) → x.file.pending 1 ≡ true
-unfolding number_at n32_at flag_at csr_at line_at reading word_of least_of packed ones select_by file_by majors_of home flight passes_of in_force_of stage_in_force_of look_saw newest genmsi_waits all_senders answer after
+unfolding number_at n32_at flag_at csr_at line_at reading word_of least_of packed ones select_by file_by majors_of home flight passes_of
+    in_force_of stage_in_force_of look_saw newest genmsi_waits all_senders answer after
 gives_one e = ap (λ state. state.file.pending 1) e
 
 abbrev state : ℕ → InterruptFile → VsMajorState → GuestState
 state select file majors = record { select = select; file = file; majors = majors }
 
-pub same_parts : (h other : History) (g x : Vcpu) → guest_select h g ≡ guest_select other x → guest_file h g ≡ guest_file other x → majors_of h g ≡ majors_of other x → state_of h g ≡ state_of other x
+pub same_parts : (h other : History) (g x : Vcpu) → guest_select h g ≡ guest_select other x → guest_file h g ≡ guest_file other x
+    → majors_of h g ≡ majors_of other x → state_of h g ≡ state_of other x
 same_parts h other g x select file majors =
     ap (λ s. state s (guest_file h g) (majors_of h g)) select
     ∙ ap (λ f. state (guest_select other x) f (majors_of h g)) file

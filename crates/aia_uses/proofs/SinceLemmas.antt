@@ -34,7 +34,8 @@ told_of past event g i e is = absurd (false≢true (sym (not-true _ e) ∙ anew 
     anew (inl begun) = or_left _ _ (ap (λ x. begins_leave past x g) begun.0 ∙ and_from _ _ (is_itself g) begun.1)
     anew (inr asks) = or_right _ _ (ap is_ask asks)
 
-pub noticed_shown : (h : History) (g : Vcpu) (i : ℕ) → noticed_since h g i ≡ true → HappenedSince (λ past event. noticed past event ≡ Some g) (IsToBeTold g i) h
+pub noticed_shown : (h : History) (g : Vcpu) (i : ℕ) → noticed_since h g i ≡ true
+    → HappenedSince (λ past event. noticed past event ≡ Some g) (IsToBeTold g i) h
 unfolding noticed_since
 noticed_shown [] g i e = false≢true e
 noticed_shown (event ∷ past) g i e = elim (or_cases (names_vcpu (noticed past event) g) _ e) [
@@ -42,7 +43,8 @@ noticed_shown (event ∷ past) g i e = elim (or_cases (names_vcpu (noticed past 
   | inr before ↦ let parts = and_parts _ (noticed_since past g i) before in inr (told_of past event g i parts.0, noticed_shown past g i parts.1)
 ]
 
-pub told_shown : (h : History) (f : FileName) (n : ℕ) (g : Vcpu) (i : ℕ) → told_since h f n g i ≡ true → HappenedSince (λ past event. pending_said (select_of past f) (file_of past f) (deed_at f past event) n ≡ Ask) (IsToBeTold g i) h
+pub told_shown : (h : History) (f : FileName) (n : ℕ) (g : Vcpu) (i : ℕ) → told_since h f n g i ≡ true
+    → HappenedSince (λ past event. pending_said (select_of past f) (file_of past f) (deed_at f past event) n ≡ Ask) (IsToBeTold g i) h
 unfolding told_since
 told_shown [] f n g i e = false≢true e
 told_shown (event ∷ past) f n g i e = elim (or_cases (is_ask (host_pending_said past event f n)) _ e) [
@@ -50,21 +52,27 @@ told_shown (event ∷ past) f n g i e = elim (or_cases (is_ask (host_pending_sai
   | inr before ↦ let parts = and_parts _ (told_since past f n g i) before in inr (told_of past event g i parts.0, told_shown past f n g i parts.1)
 ]
 
-cleared_shown : (h : History) (f : FileName) (n : ℕ) (g : Vcpu) (i : ℕ) → cleared_since h f n g i ≡ true → HappenedSince (λ past event. pending_said (select_of past f) (file_of past f) (deed_at f past event) n ≡ Clear) (IsToBeTold g i) h
+cleared_shown : (h : History) (f : FileName) (n : ℕ) (g : Vcpu) (i : ℕ) → cleared_since h f n g i ≡ true
+    → HappenedSince (λ past event. pending_said (select_of past f) (file_of past f) (deed_at f past event) n ≡ Clear) (IsToBeTold g i) h
 unfolding cleared_since
 cleared_shown [] f n g i e = false≢true e
 cleared_shown (event ∷ past) f n g i e = elim (or_cases (is_clear (host_pending_said past event f n)) _ e) [
   | inl now ↦ inl (clear_of _ now)
-  | inr before ↦ let parts = and_parts _ (cleared_since past f n g i) before in inr (told_of past event g i parts.0, cleared_shown past f n g i parts.1)
+  | inr before ↦ let parts = and_parts _ (cleared_since past f n g i) before in
+      inr (told_of past event g i parts.0, cleared_shown past f n g i parts.1)
 ]
 
-pub none_cleared : (h : History) (f : FileName) (n : ℕ) (g : Vcpu) (i : ℕ) → ¬ HappenedSince (λ past event. pending_said (select_of past f) (file_of past f) (deed_at f past event) n ≡ Clear) (IsToBeTold g i) h → cleared_since h f n g i ≡ false
+pub none_cleared : (h : History) (f : FileName) (n : ℕ) (g : Vcpu) (i : ℕ)
+    → ¬ HappenedSince (λ past event. pending_said (select_of past f) (file_of past f) (deed_at f past event) n ≡ Clear) (IsToBeTold g i) h
+    → cleared_since h f n g i ≡ false
 none_cleared h f n g i none = false_from_ne_true (cleared_since h f n g i) (λ e. none (cleared_shown h f n g i e))
 
 not_noticed : (past : History) (event : Event) (g : Vcpu) → not (names_vcpu (noticed past event) g) ≡ true → ¬ (noticed past event ≡ Some g)
 not_noticed past event g e is = false≢true (sym (not-true _ e) ∙ ap (λ o. names_vcpu o g) is ∙ is_itself g)
 
-after_notice_shown : (h : History) (f : FileName) (n : ℕ) (g : Vcpu) → cleared_since_notice h f n g ≡ true → HappenedAfter (λ past event. pending_said (select_of past f) (file_of past f) (deed_at f past event) n ≡ Clear) (λ past event. noticed past event ≡ Some g) h
+after_notice_shown : (h : History) (f : FileName) (n : ℕ) (g : Vcpu) → cleared_since_notice h f n g ≡ true
+    → HappenedAfter (λ past event. pending_said (select_of past f) (file_of past f) (deed_at f past event) n ≡ Clear)
+    (λ past event. noticed past event ≡ Some g) h
 unfolding cleared_since_notice
 after_notice_shown [] f n g e = false≢true e
 after_notice_shown (event ∷ past) f n g e =
@@ -76,5 +84,7 @@ after_notice_shown (event ∷ past) f n g e =
       ],
     )
 
-pub none_after_notice : (h : History) (f : FileName) (n : ℕ) (g : Vcpu) → ¬ HappenedAfter (λ past event. pending_said (select_of past f) (file_of past f) (deed_at f past event) n ≡ Clear) (λ past event. noticed past event ≡ Some g) h → cleared_since_notice h f n g ≡ false
+pub none_after_notice : (h : History) (f : FileName) (n : ℕ) (g : Vcpu)
+    → ¬ HappenedAfter (λ past event. pending_said (select_of past f) (file_of past f) (deed_at f past event) n ≡ Clear)
+    (λ past event. noticed past event ≡ Some g) h → cleared_since_notice h f n g ≡ false
 none_after_notice h f n g none = false_from_ne_true (cleared_since_notice h f n g) (λ e. none (after_notice_shown h f n g e))

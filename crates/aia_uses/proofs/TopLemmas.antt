@@ -31,4 +31,5 @@ has_least file i may = by_top (top_of file) refl
     by_top None top =
         let low = may.0 in
         let high = may.1 in
-        absurd (false≢true (sym (least_of_is_none (may_top file) 1 file.n top i low (omega (arith, high))) ∙ and_from _ _ (and_from (file.pending i) (file.enabled i) may.2 may.3) may.4))
+        absurd (false≢true (sym (least_of_is_none (may_top file) 1 file.n top i low (omega (arith, high)))
+        ∙ and_from _ _ (and_from (file.pending i) (file.enabled i) may.2 may.3) may.4))

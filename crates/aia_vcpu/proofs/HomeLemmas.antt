@@ -17,7 +17,8 @@ use Rattle.aia_vcpu.specs.Routes.{origin, MayLand}
 pub same_place : (p q : GuestPlace) → is_place p q ≡ true → p ≡ q
 same_place p q e =
     let both = and_parts (nat_eq p.hart q.hart) (nat_eq p.file q.file) e in
-    ap (λ hart. record { hart = hart; file = p.file }) (eqb-true p.hart q.hart both.0) ∙ ap (λ file. record { hart = q.hart; file = file }) (eqb-true p.file q.file both.1)
+    ap (λ hart. record { hart = hart; file = p.file }) (eqb-true p.hart q.hart both.0)
+    ∙ ap (λ file. record { hart = q.hart; file = file }) (eqb-true p.file q.file both.1)
 
 pub is_itself_place : (p : GuestPlace) → is_place p p ≡ true
 is_itself_place p = grind (arith, nat_tests)
@@ -27,7 +28,8 @@ some_same p q e = let same : p ≡ q = cc in subst (λ (r : GuestPlace). is_plac
 
 -- ---- an end of a way is a file, so the access after both sets is not the last one
 
-pub not_the_last : (way : Way) (words : ℕ) → plan_step (old_end way) (new_end way) words (TakeEnables 0) + 2 * words + 1 < plan_steps (old_end way) (new_end way) words
+pub not_the_last : (way : Way) (words : ℕ) → plan_step (old_end way) (new_end way) words (TakeEnables 0) + 2 * words + 1 < plan_steps
+    (old_end way) (new_end way) words
 not_the_last (Outward from) words = omega arith
 not_the_last (Inward to) words = omega arith
 not_the_last (Across from to) words = omega arith
@@ -98,12 +100,14 @@ new_is_held (OnWay (Inward to) at) p e = some_same to p e
 new_is_held (OnWay (Across from to) at) p e = or_right (is_place p from) (is_place p to) (some_same to p e)
 new_is_held there p e = absurd (cc)
 
-pub landing_is_held : (words : ℕ) (there : Home) (reach : Option GuestPlace) (p : GuestPlace) → MayLand words there reach → reach ≡ Some p → holds p there ≡ true
+pub landing_is_held : (words : ℕ) (there : Home) (reach : Option GuestPlace) (p : GuestPlace) → MayLand words there reach → reach ≡ Some p
+    → holds p there ≡ true
 landing_is_held words there reach p (inl m) e = origin_is_held there p (sym m.0 ∙ e)
 landing_is_held words there reach p (inr m) e = new_is_held there p (sym m.0 ∙ e)
 
 -- ---- it rests in memory another way: what is so of every way to rest stays
 
-pub resting_keeps : (P : Home → Type 0) → ((from to : Rest) → P (InMemory from) → P (InMemory to)) → (rest : Rest) (there : Home) → P there → P (resting rest there)
+pub resting_keeps : (P : Home → Type 0) → ((from to : Rest) → P (InMemory from) → P (InMemory to)) → (rest : Rest) (there : Home) → P there
+    → P (resting rest there)
 resting_keeps P same rest (InMemory before) p = same before rest p
 resting_keeps P same rest there p = p

@@ -22,7 +22,8 @@ pub vcpus_all : (vms : List Vm) (at : ℕ) → length vms ≤ at → vcpus_in (t
 vcpus_all vms at past = ap vcpus_in (take_all at vms past)
 
 -- a slot is that of the virtual harts of one VM
-pub owner : (vms : List Vm) (at left q : ℕ) (g : Vcpu) → left + vcpus_in (take at vms) ≡ q → left < (vm_in vms at).vcpus → is_vcpu_in vms g ≡ true → slot_of vms g ≡ q
+pub owner : (vms : List Vm) (at left q : ℕ) (g : Vcpu) → left + vcpus_in (take at vms) ≡ q → left < (vm_in vms at).vcpus → is_vcpu_in vms g ≡ true
+    → slot_of vms g ≡ q
     → (vm_in vms at).notice_hart ≡ notice_hart vms g
 owner vms at left q g split low there is =
     let here : is_vcpu_in vms (vcpu at left) ≡ true = lt-ltb _ _ low in

@@ -15,7 +15,8 @@ use Rattle.aia_vcpu.proofs.RouteLemmas.{reach_kept, stepped_by, stage_by_stepped
 -- ---- a step that aims is no fence, and leaves all routes as they were
 
 pub aim_is_no_fence : (passes : ℕ) (there : Home) → is_aiming passes there ≡ true → is_at_fence there ≡ false
-aim_is_no_fence passes (OnWay way at) e = let here : nat_eq at.steps (aims_step (OnWay way at)) ≡ true = (and_parts _ _ e).0 in grind (arith, nat_tests)
+aim_is_no_fence passes (OnWay way at) e = let here : nat_eq at.steps (aims_step (OnWay way at)) ≡ true = (and_parts _ _ e).0 in
+    grind (arith, nat_tests)
 aim_is_no_fence passes there e = refl
 
 aim_is_closed : (passes : ℕ) (there : Home) → is_aiming passes there ≡ true → is_closed there ≡ true
@@ -30,14 +31,16 @@ aimed_by_table : (there : Home) (r : Bool) → devices_by r (aimed there) ≡ de
 aimed_by_table (OnWay way at) r = refl
 aimed_by_table there r = refl
 
-pub further_kept : (passes words : ℕ) (there : Home) (place : Option GuestPlace) → MayReach there place → MayReach (further passes words there) (reach_stepped there place)
+pub further_kept : (passes words : ℕ) (there : Home) (place : Option GuestPlace) → MayReach there place
+    → MayReach (further passes words there) (reach_stepped there place)
 further_kept passes words there place m = by_aim (is_aiming passes there) refl
   where
     by_aim : (b : Bool) → is_aiming passes there ≡ b → MayReach (further passes words there) (reach_stepped there place)
     by_aim true e = rw e (rw (aim_is_no_fence passes there e) (aimed_reach there place m))
     by_aim false e = rw e (reach_kept words there place m)
 
-pub further_by : (passes words : ℕ) (there : Home) (r : Bool) (reach : Option GuestPlace) → reach ≡ devices_by r there → reach_stepped there reach ≡ devices_by false (further passes words there)
+pub further_by : (passes words : ℕ) (there : Home) (r : Bool) (reach : Option GuestPlace) → reach ≡ devices_by r there
+    → reach_stepped there reach ≡ devices_by false (further passes words there)
 further_by passes words there r reach e = by_aim (is_aiming passes there) refl
   where
     by_aim : (b : Bool) → is_aiming passes there ≡ b → reach_stepped there reach ≡ devices_by false (further passes words there)
@@ -49,7 +52,8 @@ further_by passes words there r reach e = by_aim (is_aiming passes there) refl
 
 -- nor is it the fence of the G-stage record, which is made
 aim_is_no_gfence : (passes : ℕ) (there : Home) → is_aiming passes there ≡ true → is_at_gfence there ≡ false
-aim_is_no_gfence passes (OnWay way at) e = let here : nat_eq at.steps (aims_step (OnWay way at)) ≡ true = (and_parts _ _ e).0 in grind (arith, nat_tests)
+aim_is_no_gfence passes (OnWay way at) e = let here : nat_eq at.steps (aims_step (OnWay way at)) ≡ true = (and_parts _ _ e).0 in
+    grind (arith, nat_tests)
 aim_is_no_gfence passes there e = refl
 
 aimed_stage : (there : Home) → peers_reach (aimed there) ≡ peers_reach there
@@ -117,7 +121,8 @@ ended_aimed passes (OnWay way at) a = rest_aimed passes (at_rest (led_to way)) (
 ended_aimed passes there a = a
 
 one_more_aimed : (passes : ℕ) (there : Home) → is_aiming passes there ≡ false → AreAimed passes there → AreAimed passes (one_more there)
-one_more_aimed passes (OnWay way at) e a = let c = count_on passes (aims_step (OnWay way at)) at.steps at.aims e (record { late = a.late; all = a.all }) in record { late = c.late; all = c.all }
+one_more_aimed passes (OnWay way at) e a = let c =
+    count_on passes (aims_step (OnWay way at)) at.steps at.aims e (record { late = a.late; all = a.all }) in record { late = c.late; all = c.all }
 one_more_aimed passes there e a = a
 
 aimed_aimed : (passes : ℕ) (there : Home) → is_aiming passes there ≡ true → AreAimed passes (aimed there)
@@ -141,7 +146,8 @@ further_aimed passes words there a = by_aim (is_aiming passes there) refl
 over : (passes r t d k a : ℕ) (old new : Option GuestPlace) → nat_lt r passes ≡ true → nat_lt 0 t ≡ true → nat_le t d ≡ true → Counts passes t k a
     → (((if nat_lt r a then new else old) ≡ old) × (nat_lt d k ≡ false)) ⊎ (((if nat_lt r a then new else old) ≡ new) × (nat_lt 0 k ≡ true))
 over passes r t d k a old new below first low c = elim (cases_Bool (nat_lt r a)) [
-  | inl e ↦ let one : nat_lt 0 a ≡ true = grind (arith, nat_tests) in let begun = c.late one in inr (ap (λ b. if b then new else old) e, grind (arith, nat_tests))
+  | inl e ↦ let one : nat_lt 0 a ≡ true = grind (arith, nat_tests) in let begun = c.late one in
+      inr (ap (λ b. if b then new else old) e, grind (arith, nat_tests))
   | inr e ↦ elim (cases_Bool (nat_lt t k)) [
     | inl past ↦ let all = c.all past in let no : true ≡ false = grind (arith, nat_tests) in absurd (cc)
     | inr early ↦ inl (ap (λ b. if b then new else old) e, grind (arith, nat_tests))
@@ -149,11 +155,16 @@ over passes r t d k a old new below first low c = elim (cases_Bool (nat_lt r a))
 ]
 
 pub pass_lands : (passes words r : ℕ) (there : Home) → nat_lt r passes ≡ true → AreAimed passes there → MayLand words there (pass_reaches r there)
-pass_lands passes words r (Resident p) below a = let e : nat_lt r 0 ≡ false = grind (arith, nat_tests) in inl (ap (λ b. if b then None else Some p) e, refl)
-pass_lands passes words r (OnWay way at) below a = over passes r (aims_step (OnWay way at)) (first_take (OnWay way at)) at.steps at.aims (left way) (led_to way) below (grind (arith, nat_tests)) (grind (arith, nat_tests)) (record { late = a.late; all = a.all })
+pass_lands passes words r (Resident p) below a = let e : nat_lt r 0 ≡ false = grind (arith, nat_tests) in
+    inl (ap (λ b. if b then None else Some p) e, refl)
+pass_lands passes words r (OnWay way at) below a =
+    over passes r (aims_step (OnWay way at)) (first_take (OnWay way at)) at.steps at.aims (left way) (led_to way) below (grind (arith, nat_tests))
+    (grind (arith, nat_tests)) (record { late = a.late; all = a.all })
 pass_lands passes words r there below a = let e : nat_lt r 0 ≡ false = grind (arith, nat_tests) in inl (ap (λ b. if b then None else None) e, refl)
 
 -- once a word is taken, each pass leads to the new place
-pub pass_drained : (passes words w r : ℕ) (there : Home) → nat_lt r passes ≡ true → AreAimed passes there → is_moving there ≡ true → is_drained words there w ≡ true → pass_reaches r there ≡ new_file there
-pass_drained passes words w r (OnWay way at) below a moves drained = let all = a.all (grind (arith, nat_tests)) in let e : nat_lt r at.aims ≡ true = grind (arith, nat_tests) in ap (λ b. if b then led_to way else left way) e
+pub pass_drained : (passes words w r : ℕ) (there : Home) → nat_lt r passes ≡ true → AreAimed passes there → is_moving there ≡ true
+    → is_drained words there w ≡ true → pass_reaches r there ≡ new_file there
+pass_drained passes words w r (OnWay way at) below a moves drained = let all = a.all (grind (arith, nat_tests)) in
+    let e : nat_lt r at.aims ≡ true = grind (arith, nat_tests) in ap (λ b. if b then led_to way else left way) e
 pass_drained passes words w r there below a moves drained = absurd (cc)

@@ -18,7 +18,8 @@ pub carried_pending : (words w : ℕ) (there : Home) → is_last_made words ther
 carried_pending words w (OnWay way at) e = grind (arith, nat_tests)
 carried_pending words w there e = absurd (cc)
 
-pub carried_enables : (words w : ℕ) (there : Home) → is_last_made words there (TakeEnables w) ≡ true → steps_done there ≡ enables_step words there w + 1
+pub carried_enables : (words w : ℕ) (there : Home) → is_last_made words there (TakeEnables w) ≡ true
+    → steps_done there ≡ enables_step words there w + 1
 carried_enables words w (OnWay way at) e = grind (arith, nat_tests)
 carried_enables words w there e = absurd (cc)
 
@@ -31,7 +32,8 @@ pub closing_closed : (words : ℕ) (there : Home) → is_moving there ≡ true �
 closing_closed words (OnWay way at) moves come = grind (arith, nat_tests)
 closing_closed words there moves come = absurd (cc)
 
-pub drain_closed : (words : ℕ) (there : Home) → is_moving there ≡ true → has_come words there DrainPhase ≡ true → (is_closed there ≡ true) × (is_stage_closed there ≡ true)
+pub drain_closed : (words : ℕ) (there : Home) → is_moving there ≡ true → has_come words there DrainPhase ≡ true → (is_closed there ≡ true)
+    × (is_stage_closed there ≡ true)
 drain_closed words (OnWay way at) moves come = (grind (arith, nat_tests), grind (arith, nat_tests))
 drain_closed words there moves come = absurd (cc)
 
@@ -51,11 +53,13 @@ sets_first Memory words = omega arith
 
 pub looks_moved : (words w : ℕ) (there : Home) → is_moving there ≡ true → w < words → has_come words there LookPhase ≡ true
     → (is_enable_taken words there w ≡ true) × (is_enable_put words there w ≡ true)
-looks_moved words w (OnWay way at) moves low come = let begin = looks_begin (old_end way) (new_end way) words in (grind (arith, nat_tests), grind (arith, nat_tests))
+looks_moved words w (OnWay way at) moves low come = let begin = looks_begin (old_end way) (new_end way) words in
+    (grind (arith, nat_tests), grind (arith, nat_tests))
 looks_moved words w there moves low come = absurd (cc)
 
 -- a phase comes after those before it
-pub after_enable : (words : ℕ) (there : Home) → is_moving there ≡ true → has_come words there LookPhase ≡ true → has_come words there EnablePhase ≡ true
+pub after_enable : (words : ℕ) (there : Home) → is_moving there ≡ true → has_come words there LookPhase ≡ true
+    → has_come words there EnablePhase ≡ true
 after_enable words (OnWay way at) moves come = let begin = looks_begin (old_end way) (new_end way) words in grind (arith, nat_tests)
 after_enable words there moves come = absurd (cc)
 

@@ -21,7 +21,8 @@ at_back : (xs ys : List Access) (k : ℕ) (a : Access) → slice_get ys k ≡ So
 at_back [] ys k a e = let same : 0 + k ≡ k = omega arith in rw same e
 at_back (x ∷ xs) ys k a e = let same : suc (length xs) + k ≡ suc (length xs + k) = omega arith in rw same (at_back xs ys k a e)
 
-behind : (xs ys : List Access) (long k at : ℕ) (a : Access) → length xs ≡ long → at ≡ long + k → slice_get ys k ≡ Some a → slice_get (xs ++ ys) at ≡ Some a
+behind : (xs ys : List Access) (long k at : ℕ) (a : Access) → length xs ≡ long → at ≡ long + k → slice_get ys k ≡ Some a
+    → slice_get (xs ++ ys) at ≡ Some a
 behind xs ys long k at a l same e = let there : at ≡ length xs + k = omega arith in rw there (at_back xs ys k a e)
 
 -- ---- two accesses a word, and one
@@ -55,7 +56,8 @@ module _ (one : ℕ → Access) where
   ones-at : (from count w : ℕ) → w < count → slice_get (each_word (λ w. one w ∷ []) from count) w ≡ Some (one (from + w))
   ones-at from zero w low = absurd (omega arith)
   ones-at from (suc count) zero low = let same : from + 0 ≡ from = omega arith in ap (λ w. Some (one w)) (sym same)
-  ones-at from (suc count) (suc w) low = let same : suc from + w ≡ from + suc w = omega arith in ones-at (suc from) count w (omega arith) ∙ ap (λ w. Some (one w)) same
+  ones-at from (suc count) (suc w) low = let same : suc from + w ≡ from + suc w = omega arith in ones-at (suc from) count w (omega arith)
+      ∙ ap (λ w. Some (one w)) same
 
 -- ---- both sets
 
@@ -63,22 +65,27 @@ all_words-length : (words : ℕ) → length (all_words words) ≡ 4 * words
 all_words-length words =
     let one = pairs-length TakePending PutPending 0 words in
     let two = pairs-length TakeEnables PutEnables 0 words in
-    let both = length-append (each_word (λ w. TakePending w ∷ PutPending w ∷ []) 0 words) (each_word (λ w. TakeEnables w ∷ PutEnables w ∷ []) 0 words) in
+    let both = length-append (each_word (λ w. TakePending w ∷ PutPending w ∷ []) 0 words)
+    (each_word (λ w. TakeEnables w ∷ PutEnables w ∷ []) 0 words) in
     omega arith
 
 module _ (words w : ℕ) (low : w < words) where
   take_pending-at : slice_get (all_words words) (2 * w) ≡ Some (TakePending w)
-  take_pending-at = at_front _ _ (2 * w) (TakePending w) (pairs-first TakePending PutPending 0 words w low ∙ ap (λ w. Some (TakePending w)) (omega arith))
+  take_pending-at = at_front _ _ (2 * w) (TakePending w)
+      (pairs-first TakePending PutPending 0 words w low ∙ ap (λ w. Some (TakePending w)) (omega arith))
 
   put_pending-at : slice_get (all_words words) (2 * w + 1) ≡ Some (PutPending w)
-  put_pending-at = at_front _ _ (2 * w + 1) (PutPending w) (pairs-second TakePending PutPending 0 words w low ∙ ap (λ w. Some (PutPending w)) (omega arith))
+  put_pending-at = at_front _ _ (2 * w + 1) (PutPending w)
+      (pairs-second TakePending PutPending 0 words w low ∙ ap (λ w. Some (PutPending w)) (omega arith))
 
   take_enables-at : slice_get (all_words words) (2 * words + 2 * w) ≡ Some (TakeEnables w)
-  take_enables-at = behind (each_word (λ w. TakePending w ∷ PutPending w ∷ []) 0 words) _ (2 * words) (2 * w) _ (TakeEnables w) (pairs-length TakePending PutPending 0 words) refl
+  take_enables-at = behind (each_word (λ w. TakePending w ∷ PutPending w ∷ []) 0 words) _ (2 * words) (2 * w) _ (TakeEnables w)
+      (pairs-length TakePending PutPending 0 words) refl
       (pairs-first TakeEnables PutEnables 0 words w low ∙ ap (λ w. Some (TakeEnables w)) (omega arith))
 
   put_enables-at : slice_get (all_words words) (2 * words + (2 * w + 1)) ≡ Some (PutEnables w)
-  put_enables-at = behind (each_word (λ w. TakePending w ∷ PutPending w ∷ []) 0 words) _ (2 * words) (2 * w + 1) _ (PutEnables w) (pairs-length TakePending PutPending 0 words) refl
+  put_enables-at = behind (each_word (λ w. TakePending w ∷ PutPending w ∷ []) 0 words) _ (2 * words) (2 * w + 1) _ (PutEnables w)
+      (pairs-length TakePending PutPending 0 words) refl
       (pairs-second TakeEnables PutEnables 0 words w low ∙ ap (λ w. Some (PutEnables w)) (omega arith))
 
 -- ---- the plan between two ends
@@ -129,23 +136,32 @@ module _ (from to : End) (words : ℕ) where
   at_route : (k at : ℕ) (a : Access) → at ≡ before_entry from to + k → slice_get routes k ≡ Some a → slice_get (plan from to words) at ≡ Some a
   at_route k at a same e = behind (first_part from to) _ (before_entry from to) k at a (first_part-length from to) same (at_front routes _ k a e)
 
-  at_rest : (k at : ℕ) (a : Access) → at ≡ before_entry from to + 4 + k → slice_get (all_words words ++ last_part from to words) k ≡ Some a → slice_get (plan from to words) at ≡ Some a
-  at_rest k at a same e = behind (first_part from to) _ (before_entry from to) (4 + k) at a (first_part-length from to) (omega (arith, same)) (behind routes _ 4 k (4 + k) a refl refl e)
+  at_rest : (k at : ℕ) (a : Access) → at ≡ before_entry from to + 4 + k → slice_get (all_words words ++ last_part from to words) k ≡ Some a
+      → slice_get (plan from to words) at ≡ Some a
+  at_rest k at a same e = behind (first_part from to) _ (before_entry from to) (4 + k) at a (first_part-length from to) (omega (arith, same))
+      (behind routes _ 4 k (4 + k) a refl refl e)
 
-  at_word : (k at : ℕ) (a : Access) → at ≡ before_entry from to + 4 + k → slice_get (all_words words) k ≡ Some a → slice_get (plan from to words) at ≡ Some a
+  at_word : (k at : ℕ) (a : Access) → at ≡ before_entry from to + 4 + k → slice_get (all_words words) k ≡ Some a
+      → slice_get (plan from to words) at ≡ Some a
   at_word k at a same e = at_rest k at a same (at_front (all_words words) _ k a e)
 
-  at_look : (k at : ℕ) (a : Access) → at ≡ before_entry from to + 4 + 4 * words + k → slice_get (looks to words) k ≡ Some a → slice_get (plan from to words) at ≡ Some a
-  at_look k at a same e = at_rest (4 * words + k) at a (omega (arith, same)) (behind (all_words words) _ (4 * words) k _ a (all_words-length words) refl (at_front (looks to words) _ k a e))
+  at_look : (k at : ℕ) (a : Access) → at ≡ before_entry from to + 4 + 4 * words + k → slice_get (looks to words) k ≡ Some a
+      → slice_get (plan from to words) at ≡ Some a
+  at_look k at a same e = at_rest (4 * words + k) at a (omega (arith, same))
+      (behind (all_words words) _ (4 * words) k _ a (all_words-length words) refl (at_front (looks to words) _ k a e))
 
-  at_number : (k at : ℕ) (a : Access) → at ≡ before_entry from to + 4 + word_steps to words + k → slice_get (numbers from to) k ≡ Some a → slice_get (plan from to words) at ≡ Some a
+  at_number : (k at : ℕ) (a : Access) → at ≡ before_entry from to + 4 + word_steps to words + k → slice_get (numbers from to) k ≡ Some a
+      → slice_get (plan from to words) at ≡ Some a
   at_number k at a same e =
       let all = length-append (all_words words) (looks to words) in
       let some = all_words-length words in
       let looked = looked-length to words in
-      at_rest (word_steps to words + k) at a (omega (arith, same)) (behind (all_words words) _ (4 * words) (length (looks to words) + k) _ a some (omega (arith, all, some, looked)) (at_back (looks to words) (numbers from to) k a e))
+      at_rest (word_steps to words + k) at a (omega (arith, same))
+      (behind (all_words words) _ (4 * words) (length (looks to words) + k) _ a some (omega (arith, all, some, looked))
+      (at_back (looks to words) (numbers from to) k a e))
 
-pub stands : (from to : End) (words : ℕ) (access : Access) → plan_has from to words access ≡ true → slice_get (plan from to words) (plan_step from to words access) ≡ Some access
+pub stands : (from to : End) (words : ℕ) (access : Access) → plan_has from to words access ≡ true
+    → slice_get (plan from to words) (plan_step from to words access) ≡ Some access
 stands File to words TakeDelivery has = refl
 stands File Memory words WriteNotice has = refl
 stands Memory Memory words WriteNotice has = refl
@@ -154,17 +170,23 @@ stands from to words Fence has = at_route from to words 1 _ Fence refl refl
 stands from to words Map has = at_route from to words 2 _ Map refl refl
 stands from to words GFence has = at_route from to words 3 (plan_step from to words GFence) GFence (omega arith) refl
 stands from to words (TakePending w) has = at_word from to words (2 * w) _ (TakePending w) refl (take_pending-at words w (ltb-true _ _ has))
-stands from to words (PutPending w) has = at_word from to words (2 * w + 1) (plan_step from to words (PutPending w)) (PutPending w) (omega arith) (put_pending-at words w (ltb-true _ _ has))
-stands from to words (TakeEnables w) has = at_word from to words (2 * words + 2 * w) (plan_step from to words (TakeEnables w)) (TakeEnables w) (omega arith) (take_enables-at words w (ltb-true _ _ has))
-stands from to words (PutEnables w) has = at_word from to words (2 * words + (2 * w + 1)) (plan_step from to words (PutEnables w)) (PutEnables w) (omega arith) (put_enables-at words w (ltb-true _ _ has))
-stands from Memory words (Look w) has = at_look from Memory words w _ (Look w) refl (ones-at Look 0 words w (ltb-true _ _ has) ∙ ap (λ w. Some (Look w)) (omega arith))
+stands from to words (PutPending w) has = at_word from to words (2 * w + 1) (plan_step from to words (PutPending w)) (PutPending w) (omega arith)
+    (put_pending-at words w (ltb-true _ _ has))
+stands from to words (TakeEnables w) has = at_word from to words (2 * words + 2 * w) (plan_step from to words (TakeEnables w)) (TakeEnables w)
+    (omega arith) (take_enables-at words w (ltb-true _ _ has))
+stands from to words (PutEnables w) has = at_word from to words (2 * words + (2 * w + 1)) (plan_step from to words (PutEnables w)) (PutEnables w)
+    (omega arith) (put_enables-at words w (ltb-true _ _ has))
+stands from Memory words (Look w) has = at_look from Memory words w _ (Look w) refl
+    (ones-at Look 0 words w (ltb-true _ _ has) ∙ ap (λ w. Some (Look w)) (omega arith))
 stands File to words TakeThreshold has = at_number File to words 0 (plan_step File to words TakeThreshold) TakeThreshold (omega arith) refl
-stands from File words PutThreshold has = at_number from File words (one_at_file from) (plan_step from File words PutThreshold) PutThreshold (omega arith) (either from)
+stands from File words PutThreshold has = at_number from File words (one_at_file from) (plan_step from File words PutThreshold) PutThreshold
+    (omega arith) (either from)
   where
     either : (from : End) → slice_get (numbers from File) (one_at_file from) ≡ Some PutThreshold
     either File = refl
     either Memory = refl
-stands from File words PutDelivery has = at_number from File words (one_at_file from + 1) (plan_step from File words PutDelivery) PutDelivery (omega arith) (either from)
+stands from File words PutDelivery has = at_number from File words (one_at_file from + 1) (plan_step from File words PutDelivery) PutDelivery
+    (omega arith) (either from)
   where
     either : (from : End) → slice_get (numbers from File) (one_at_file from + 1) ≡ Some PutDelivery
     either File = refl
@@ -182,14 +204,16 @@ stands from Memory words PutThreshold has = absurd (cc)
 stands from Memory words PutDelivery has = absurd (cc)
 stands from File words Post has = absurd (cc)
 
-pub plan_agrees : (words : ℕ) (there : Home) (access : Access) → has_access words there access ≡ true → slice_get (plan_of words there) (step_of words there access) ≡ Some access
+pub plan_agrees : (words : ℕ) (there : Home) (access : Access) → has_access words there access ≡ true
+    → slice_get (plan_of words there) (step_of words there access) ≡ Some access
 plan_agrees words (OnWay way at) access has = stands (old_end way) (new_end way) words access has
 plan_agrees words there access has = absurd (cc)
 
 pub next_in_plan : (words : ℕ) (there : Home) (access : Access) → IsNext words there access → next_access words there ≡ Some access
 next_in_plan words there access next = ap (λ k. slice_get (plan_of words there) k) next.step ∙ plan_agrees words there access next.has
 
-pub one_a_step : (words : ℕ) (there : Home) (a b : Access) → has_access words there a ≡ true → has_access words there b ≡ true → step_of words there a ≡ step_of words there b → a ≡ b
+pub one_a_step : (words : ℕ) (there : Home) (a b : Access) → has_access words there a ≡ true → has_access words there b ≡ true
+    → step_of words there a ≡ step_of words there b → a ≡ b
 one_a_step words there a b has too same =
     let first = plan_agrees words there a has in
     let second = plan_agrees words there b too in
@@ -202,11 +226,13 @@ abbrev pub last_access : End → Access
 last_access File = PutDelivery
 last_access Memory = Post
 
-last_stands : (from to : End) (words : ℕ) → (plan_has from to words (last_access to) ≡ true) × (plan_step from to words (last_access to) + 1 ≡ plan_steps from to words)
+last_stands : (from to : End) (words : ℕ) → (plan_has from to words (last_access to) ≡ true)
+    × (plan_step from to words (last_access to) + 1 ≡ plan_steps from to words)
 last_stands from File words = (refl, omega arith)
 last_stands from Memory words = (refl, omega arith)
 
-pub last_is : (words : ℕ) (way : Way) (at : Progress) (access : Access) → IsNext words (OnWay way at) access → is_at_last words (OnWay way at) ≡ true → access ≡ last_access (new_end way)
+pub last_is : (words : ℕ) (way : Way) (at : Progress) (access : Access) → IsNext words (OnWay way at) access
+    → is_at_last words (OnWay way at) ≡ true → access ≡ last_access (new_end way)
 last_is words way at access next last =
     let stands = last_stands (old_end way) (new_end way) words in
     one_a_step words (OnWay way at) access (last_access (new_end way)) next.has stands.0 (omega (arith, next.step, stands.1, eqb-true _ _ last))
@@ -296,7 +322,8 @@ get_low (x ∷ xs) zero a e = omega arith
 get_low (x ∷ xs) (suc k) a e = let rest = get_low xs k a e in omega (arith, rest)
 
 -- what stands at a place of the list is what the table has there
-pub listed : (from to : End) (words k : ℕ) (access : Access) → slice_get (plan from to words) k ≡ Some access → (plan_has from to words access ≡ true) × (plan_step from to words access ≡ k)
+pub listed : (from to : End) (words k : ℕ) (access : Access) → slice_get (plan from to words) k ≡ Some access
+    → (plan_has from to words access ≡ true) × (plan_step from to words access ≡ k)
 listed from to words k access e =
     let f = found from to words k (omega (arith, get_low (plan from to words) k access e, plan-length from to words)) in
     let same : Some f.0 ≡ Some access = sym (ap (λ n. slice_get (plan from to words) n) f.2 ∙ stands from to words f.0 f.1) ∙ e in

@@ -24,16 +24,20 @@ names_may old new w k = elim (cases_Bool (nat_lt w k)) [
   | inr e ↦ inl (ap (λ b. if b then new else old) e, grind (arith, nat_tests))
 ]
 
-may_on : (old new : Option GuestPlace) (w k : ℕ) (place : Option GuestPlace) → nat_eq k (w + 1) ≡ false → May old new w k place → May old new w (k + 1) place
+may_on : (old new : Option GuestPlace) (w k : ℕ) (place : Option GuestPlace) → nat_eq k (w + 1) ≡ false → May old new w k place
+    → May old new w (k + 1) place
 may_on old new w k place other (inl p) = inl (p.0, grind (arith, nat_tests, p.1))
 may_on old new w k place other (inr p) = inr (p.0, grind (arith, nat_tests, p.1))
 
-may_fence : (old new : Option GuestPlace) (w k : ℕ) (place : Option GuestPlace) → nat_eq k (w + 1) ≡ true → May old new w (k + 1) place → place ≡ (if nat_lt w k then new else old)
+may_fence : (old new : Option GuestPlace) (w k : ℕ) (place : Option GuestPlace) → nat_eq k (w + 1) ≡ true → May old new w (k + 1) place
+    → place ≡ (if nat_lt w k then new else old)
 may_fence old new w k place here (inl p) = let no : true ≡ false = grind (arith, nat_tests, p.1) in absurd (cc)
-may_fence old new w k place here (inr p) = let written : nat_lt w k ≡ true = grind (arith, nat_tests) in p.0 ∙ sym (ap (λ b. if b then new else old) written)
+may_fence old new w k place here (inr p) = let written : nat_lt w k ≡ true = grind (arith, nat_tests) in p.0
+    ∙ sym (ap (λ b. if b then new else old) written)
 
 may_fenced : (old new : Option GuestPlace) (w k : ℕ) → nat_eq k (w + 1) ≡ true → May old new w (k + 1) (if nat_lt w k then new else old)
-may_fenced old new w k here = let written : nat_lt w k ≡ true = grind (arith, nat_tests) in inr (ap (λ b. if b then new else old) written, grind (arith, nat_tests))
+may_fenced old new w k here = let written : nat_lt w k ≡ true = grind (arith, nat_tests) in
+    inr (ap (λ b. if b then new else old) written, grind (arith, nat_tests))
 
 may_late : (old new : Option GuestPlace) (w k : ℕ) (place : Option GuestPlace) → nat_lt (w + 1) k ≡ true → May old new w k place → place ≡ new
 may_late old new w k place late (inl p) = let no : true ≡ false = sym late ∙ p.1 in absurd (cc)
@@ -74,9 +78,14 @@ rests_mapped : (to : Option GuestPlace) → peers_reach (at_rest to) ≡ to
 rests_mapped None = refl
 rests_mapped (Some p) = refl
 
-pub reach_ended : (words : ℕ) (there : Home) (place : Option GuestPlace) → is_at_last words there ≡ true → MayReach there place → MayReach (ended there) place
+pub reach_ended : (words : ℕ) (there : Home) (place : Option GuestPlace) → is_at_last words there ≡ true → MayReach there place
+    → MayReach (ended there) place
 reach_ended words (OnWay way at) place last m =
-    inl (may_late (left way) (led_to way) (plan_step (old_end way) (new_end way) 0 WriteEntry) at.steps place (grind (arith, nat_tests)) m ∙ sym (rests_at (led_to way)), rests_open (led_to way))
+    inl (
+      may_late (left way) (led_to way) (plan_step (old_end way) (new_end way) 0 WriteEntry) at.steps place (grind (arith, nat_tests)) m
+          ∙ sym (rests_at (led_to way)),
+      rests_open (led_to way),
+    )
 reach_ended words there place last m = m
 
 -- ---- where stores land
@@ -103,11 +112,14 @@ peers_land old new s t k before = elim (cases_Bool (nat_lt s k)) [
 ]
 
 pub peers_may : (words : ℕ) (there : Home) → MayLand words there (peers_reach there)
-peers_may words (OnWay way at) = peers_land (left way) (led_to way) (plan_step (old_end way) (new_end way) 0 GFence) (plan_step (old_end way) (new_end way) 0 (TakePending 0)) at.steps (grind (arith, nat_tests))
+peers_may words (OnWay way at) = peers_land (left way) (led_to way) (plan_step (old_end way) (new_end way) 0 GFence)
+    (plan_step (old_end way) (new_end way) 0 (TakePending 0)) at.steps (grind (arith, nat_tests))
 peers_may words there = inl (refl, refl)
 
-pub reach_drained : (words w : ℕ) (there : Home) (place : Option GuestPlace) → is_moving there ≡ true → is_drained words there w ≡ true → MayReach there place → place ≡ new_file there
-reach_drained words w (OnWay way at) place moves drained m = may_late (left way) (led_to way) (plan_step (old_end way) (new_end way) 0 WriteEntry) at.steps place (grind (arith, nat_tests)) m
+pub reach_drained : (words w : ℕ) (there : Home) (place : Option GuestPlace) → is_moving there ≡ true → is_drained words there w ≡ true
+    → MayReach there place → place ≡ new_file there
+reach_drained words w (OnWay way at) place moves drained m =
+    may_late (left way) (led_to way) (plan_step (old_end way) (new_end way) 0 WriteEntry) at.steps place (grind (arith, nat_tests)) m
 reach_drained words w there place moves drained m = absurd (cc)
 
 -- ---- the step that makes the fence
@@ -120,7 +132,8 @@ abbrev pub reach_after : Access → Home → Option GuestPlace → Option GuestP
 reach_after access there was = if is_fence access then entry_names there else was
 
 -- how many words a file has is nothing to the fence
-same_fence : (words : ℕ) (there : Home) → (step_of words there Fence ≡ step_of 0 there Fence) × (has_access words there Fence ≡ has_access 0 there Fence)
+same_fence : (words : ℕ) (there : Home) → (step_of words there Fence ≡ step_of 0 there Fence)
+    × (has_access words there Fence ≡ has_access 0 there Fence)
 same_fence words (OnWay way at) = (refl, refl)
 same_fence words there = (refl, refl)
 
@@ -137,11 +150,13 @@ fence_is_next words there access next = elim (cases_Bool (is_at_fence there)) [
   | inl here ↦
       let parts = and_parts (has_access 0 there Fence) (nat_eq (steps_done there) (step_of 0 there Fence)) here in
       let at_step : steps_done there ≡ step_of 0 there Fence = eqb-true _ _ parts.1 in
-      ap is_fence (one_a_step words there access Fence next.has ((same_fence words there).1 ∙ parts.0) (sym next.step ∙ at_step ∙ sym (same_fence words there).0)) ∙ sym here
+      ap is_fence (one_a_step words there access Fence next.has ((same_fence words there).1 ∙ parts.0)
+      (sym next.step ∙ at_step ∙ sym (same_fence words there).0)) ∙ sym here
   | inr other ↦ no_fence words there access next other ∙ sym other
 ]
 
-pub reach_next : (words : ℕ) (there : Home) (access : Access) (was : Option GuestPlace) → IsNext words there access → reach_after access there was ≡ reach_stepped there was
+pub reach_next : (words : ℕ) (there : Home) (access : Access) (was : Option GuestPlace) → IsNext words there access
+    → reach_after access there was ≡ reach_stepped there was
 reach_next words there access was next = ap (λ b. if b then entry_names there else was) (fence_is_next words there access next)
 
 -- ---- a step, whichever it is, and a move that begins
@@ -150,7 +165,8 @@ pub unlast : (words : ℕ) (there : Home) → is_at_fence there ≡ true → is_
 unlast words (OnWay way at) here = grind (arith, nat_tests)
 unlast words there here = absurd (cc)
 
-pub reach_kept : (words : ℕ) (there : Home) (place : Option GuestPlace) → MayReach there place → MayReach (stepped words there) (reach_stepped there place)
+pub reach_kept : (words : ℕ) (there : Home) (place : Option GuestPlace) → MayReach there place
+    → MayReach (stepped words there) (reach_stepped there place)
 reach_kept words there place m = elim (cases_Bool (is_at_fence there)) [
   | inl here ↦ rw (here, unlast words there here) (reach_fenced there here)
   | inr other ↦ rw other (either (is_at_last words there) refl other)
@@ -180,7 +196,8 @@ shifting_reach to there place m = m
 abbrev By : Option GuestPlace → Option GuestPlace → ℕ → ℕ → Bool → Option GuestPlace
 By old new w k fetched = if nat_lt (w + 1) k || (nat_lt w k && fetched) then new else old
 
-by_step : (old new : Option GuestPlace) (w k : ℕ) (fetched : Bool) (place : Option GuestPlace) → place ≡ By old new w k fetched → (if nat_eq k (w + 1) then (if nat_lt w k then new else old) else place) ≡ By old new w (k + 1) false
+by_step : (old new : Option GuestPlace) (w k : ℕ) (fetched : Bool) (place : Option GuestPlace) → place ≡ By old new w k fetched
+    → (if nat_eq k (w + 1) then (if nat_lt w k then new else old) else place) ≡ By old new w (k + 1) false
 by_step old new w k fetched place e = elim (cases_Bool (nat_eq k (w + 1))) [
   | inl here ↦
       let written : nat_lt w k ≡ true = grind (arith, nat_tests) in
@@ -198,7 +215,8 @@ by_step old new w k fetched place e = elim (cases_Bool (nat_eq k (w + 1))) [
   ]
 ]
 
-by_last : (old new : Option GuestPlace) (w k : ℕ) (fetched : Bool) (place : Option GuestPlace) → nat_lt (w + 1) k ≡ true → place ≡ By old new w k fetched → (if nat_eq k (w + 1) then (if nat_lt w k then new else old) else place) ≡ new
+by_last : (old new : Option GuestPlace) (w k : ℕ) (fetched : Bool) (place : Option GuestPlace) → nat_lt (w + 1) k ≡ true
+    → place ≡ By old new w k fetched → (if nat_eq k (w + 1) then (if nat_lt w k then new else old) else place) ≡ new
 by_last old new w k fetched place late e =
     let other : nat_eq k (w + 1) ≡ false = grind (arith, nat_tests) in
     rw other (e ∙ ap (λ b. if b || (nat_lt w k && fetched) then new else old) late)
@@ -209,16 +227,20 @@ by_fetch old new w k = elim (cases_Bool (nat_lt w k)) [
   | inr unwritten ↦ let unclosed : nat_lt (w + 1) k ≡ false = grind (arith, nat_tests) in rw (unwritten, unclosed) refl
 ]
 
-step_by : (there : Home) (fetched : Bool) (place : Option GuestPlace) → place ≡ devices_by fetched there → reach_stepped there place ≡ devices_by false (one_more there)
+step_by : (there : Home) (fetched : Bool) (place : Option GuestPlace) → place ≡ devices_by fetched there
+    → reach_stepped there place ≡ devices_by false (one_more there)
 step_by (OnWay way at) fetched place e = by_step (left way) (led_to way) (plan_step (old_end way) (new_end way) 0 WriteEntry) at.steps fetched place e
 step_by there fetched place e = e
 
-last_by : (words : ℕ) (there : Home) (fetched : Bool) (place : Option GuestPlace) → is_at_last words there ≡ true → place ≡ devices_by fetched there → reach_stepped there place ≡ devices_by false (ended there)
+last_by : (words : ℕ) (there : Home) (fetched : Bool) (place : Option GuestPlace) → is_at_last words there ≡ true
+    → place ≡ devices_by fetched there → reach_stepped there place ≡ devices_by false (ended there)
 last_by words (OnWay way at) fetched place last e =
-    by_last (left way) (led_to way) (plan_step (old_end way) (new_end way) 0 WriteEntry) at.steps fetched place (grind (arith, nat_tests)) e ∙ sym (rests_reached (led_to way))
+    by_last (left way) (led_to way) (plan_step (old_end way) (new_end way) 0 WriteEntry) at.steps fetched place (grind (arith, nat_tests)) e
+    ∙ sym (rests_reached (led_to way))
 last_by words there fetched place last e = e
 
-pub stepped_by : (words : ℕ) (there : Home) (fetched : Bool) (place : Option GuestPlace) → place ≡ devices_by fetched there → reach_stepped there place ≡ devices_by false (stepped words there)
+pub stepped_by : (words : ℕ) (there : Home) (fetched : Bool) (place : Option GuestPlace) → place ≡ devices_by fetched there
+    → reach_stepped there place ≡ devices_by false (stepped words there)
 stepped_by words there fetched place e = either (is_at_last words there) refl
   where
     either : (b : Bool) → is_at_last words there ≡ b → reach_stepped there place ≡ devices_by false (if b then ended there else one_more there)
@@ -244,13 +266,15 @@ shifting_by to fetched there = refl
 
 -- ---- the G-stage record, likewise: a step w writes it, and the next one fences it
 
-by_fence : (old new : Option GuestPlace) (w k : ℕ) → nat_eq k (w + 1) ≡ true → (if nat_lt w k then new else old) ≡ (if nat_lt (w + 1) (k + 1) then new else old)
+by_fence : (old new : Option GuestPlace) (w k : ℕ) → nat_eq k (w + 1) ≡ true
+    → (if nat_lt w k then new else old) ≡ (if nat_lt (w + 1) (k + 1) then new else old)
 by_fence old new w k here =
     let written : nat_lt w k ≡ true = grind (arith, nat_tests) in
     let closed : nat_lt (w + 1) (k + 1) ≡ true = grind (arith, nat_tests) in
     ap (λ b. if b then new else old) (written ∙ sym closed)
 
-by_other : (old new : Option GuestPlace) (w k : ℕ) → nat_eq k (w + 1) ≡ false → (if nat_lt (w + 1) k then new else old) ≡ (if nat_lt (w + 1) (k + 1) then new else old)
+by_other : (old new : Option GuestPlace) (w k : ℕ) → nat_eq k (w + 1) ≡ false
+    → (if nat_lt (w + 1) k then new else old) ≡ (if nat_lt (w + 1) (k + 1) then new else old)
 by_other old new w k other = ap (λ b. if b then new else old) (grind (arith, nat_tests))
 
 by_late : (old new : Option GuestPlace) (w k : ℕ) → nat_lt (w + 1) k ≡ true → (if nat_lt (w + 1) k then new else old) ≡ new
@@ -265,7 +289,8 @@ stage_on (OnWay way at) other = by_other (left way) (led_to way) (plan_step (old
 stage_on there other = refl
 
 stage_ended : (words : ℕ) (there : Home) → is_at_last words there ≡ true → peers_reach there ≡ peers_reach (ended there)
-stage_ended words (OnWay way at) last = by_late (left way) (led_to way) (plan_step (old_end way) (new_end way) 0 Map) at.steps (grind (arith, nat_tests)) ∙ sym (rests_mapped (led_to way))
+stage_ended words (OnWay way at) last = by_late (left way) (led_to way) (plan_step (old_end way) (new_end way) 0 Map) at.steps
+    (grind (arith, nat_tests)) ∙ sym (rests_mapped (led_to way))
 stage_ended words there last = refl
 
 stage_unlast : (words : ℕ) (there : Home) → is_at_gfence there ≡ true → is_at_last words there ≡ false
@@ -278,7 +303,8 @@ stage_by_stepped words there = elim (cases_Bool (is_at_gfence there)) [
   | inr other ↦ rw other (either (is_at_last words there) refl other)
 ]
   where
-    either : (b : Bool) → is_at_last words there ≡ b → is_at_gfence there ≡ false → peers_reach there ≡ peers_reach (if b then ended there else one_more there)
+    either : (b : Bool) → is_at_last words there ≡ b → is_at_gfence there ≡ false
+        → peers_reach there ≡ peers_reach (if b then ended there else one_more there)
     either true last other = stage_ended words there last
     either false on other = stage_on there other
 

@@ -22,7 +22,8 @@ below_by (first ∷ later) (suc vm) number low = let rest = below_by later vm nu
 pub slot_below : (vms : List Vm) (g : Vcpu) → is_vcpu_in vms g ≡ true → slot_of vms g < vcpus_in vms
 slot_below vms g there = below_by vms g.vm g.number (numbered vms g.vm g.number there)
 
-one_by : (vms : List Vm) (a m b n : ℕ) → m < (vm_in vms a).vcpus → n < (vm_in vms b).vcpus → slot_of vms (vcpu a m) ≡ slot_of vms (vcpu b n) → (a ≡ b) × (m ≡ n)
+one_by : (vms : List Vm) (a m b n : ℕ) → m < (vm_in vms a).vcpus → n < (vm_in vms b).vcpus → slot_of vms (vcpu a m) ≡ slot_of vms (vcpu b n)
+    → (a ≡ b) × (m ≡ n)
 one_by [] a m b n low small e = absurd (omega (arith, low))
 one_by (first ∷ later) zero m zero n low small e = (omega arith, omega (arith, e))
 one_by (first ∷ later) zero m (suc b) n low small e = absurd (omega (arith, low, e))

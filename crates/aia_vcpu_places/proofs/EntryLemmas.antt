@@ -11,8 +11,10 @@ use Rattle.aia_vcpu.proofs.HomeLemmas.{led_to_is_held}
 use Rattle.aia_vcpu_places.specs.Places.{leads_to, entry_word, second_word, IsInMap, FilesFit}
 use Rattle.aia_regs.specs.declared.limits.TheConstants.{HARTS, SLOTS}
 
-pub entry_back : (q hart : ℕ) (o : Option GuestPlace) → q < SLOTS → hart < HARTS → ((p : GuestPlace) → o ≡ Some p → IsInMap p) → decoded (entry_word q o) (second_word q hart) ≡ leads_to q hart o
-entry_back q hart None low few fits = mrif_back (slot_address q) (supervisor_page hart / PAGE) (q + 1) (omega arith) (omega arith) (omega arith) (omega arith)
+pub entry_back : (q hart : ℕ) (o : Option GuestPlace) → q < SLOTS → hart < HARTS → ((p : GuestPlace) → o ≡ Some p → IsInMap p)
+    → decoded (entry_word q o) (second_word q hart) ≡ leads_to q hart o
+entry_back q hart None low few fits = mrif_back (slot_address q) (supervisor_page hart / PAGE) (q + 1) (omega arith) (omega arith) (omega arith)
+    (omega arith)
 entry_back q hart (Some p) low few fits = let near = fits p refl in basic_back (guest_page p.hart p.file / PAGE) (second_word q hart) (omega arith)
 
 pub new_fits : (way : Way) (at : Progress) → FilesFit (OnWay way at) → (p : GuestPlace) → led_to way ≡ Some p → IsInMap p

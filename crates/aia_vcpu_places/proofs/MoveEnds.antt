@@ -49,21 +49,29 @@ rests_unseen : (to : Option GuestPlace) (seen : Bool) → (is_leaving (at_rest t
 rests_unseen None seen = refl
 rests_unseen (Some p) seen = refl
 
-module _ (n words q hart : ℕ) (reach : Option GuestPlace) (at : Progress) (v : Places) (hand : Hand) (file : InterruptFile) (saw : Bool) (within : IsWithin n words file) where
+module _ (n words q hart : ℕ) (reach : Option GuestPlace) (at : Progress) (v : Places) (hand : Hand) (file : InterruptFile) (saw : Bool)
+    (within : IsWithin n words file) where
   -- the places after it
   abbrev after : Way → Places
   after way = places_ended n (OnWay way at) (places_after q hart (last_access (new_end way)) (OnWay way at) v hand)
 
-  rests-sets : (way : Way) → HoldsSets words v (OnWay way at) hand.word file → ((i : ℕ) → i / 64 < words → ((old_place v (OnWay way at)).pending i ≡ false) × ((old_place v (OnWay way at)).enabled i ≡ false))
-      → ((i : ℕ) → i / 64 < words → (file.pending i ≡ (new_place v (OnWay way at)).pending i) × ((new_place v (OnWay way at)).enabled i ≡ file.enabled i)) → HoldsSets words (after way) (at_rest (led_to way)) hand.word file
-  rests-sets (Outward from) s old new = to_sets words hand.word (after (Outward from)) (InMemory Parked) file (stand-holds words hand.word (of_slot v.slot) file new) (λ z i l. refl) (λ i l. (refl, refl)) (λ i l. let p = s.past i l in (refl, refl, p.2, p.3, p.4))
-  rests-sets (Inward to) s old new = to_sets words hand.word (after (Inward to)) (Resident to) file (stand-holds words hand.word (of_file v.own) file new) (λ z i l. refl) old s.past
-  rests-sets (Across from to) s old new = to_sets words hand.word (after (Across from to)) (Resident to) file (stand-holds words hand.word (of_file v.next) file new) (λ z i l. refl) s.spare (λ i l. let p = s.past i l in (p.2, p.3, refl, refl, p.4))
+  rests-sets : (way : Way) → HoldsSets words v (OnWay way at) hand.word file
+      → ((i : ℕ) → i / 64 < words → ((old_place v (OnWay way at)).pending i ≡ false) × ((old_place v (OnWay way at)).enabled i ≡ false))
+      → ((i : ℕ) → i / 64 < words → (file.pending i ≡ (new_place v (OnWay way at)).pending i)
+      × ((new_place v (OnWay way at)).enabled i ≡ file.enabled i)) → HoldsSets words (after way) (at_rest (led_to way)) hand.word file
+  rests-sets (Outward from) s old new = to_sets words hand.word (after (Outward from)) (InMemory Parked) file
+      (stand-holds words hand.word (of_slot v.slot) file new) (λ z i l. refl) (λ i l. (refl, refl))
+      (λ i l. let p = s.past i l in (refl, refl, p.2, p.3, p.4))
+  rests-sets (Inward to) s old new = to_sets words hand.word (after (Inward to)) (Resident to) file
+      (stand-holds words hand.word (of_file v.own) file new) (λ z i l. refl) old s.past
+  rests-sets (Across from to) s old new = to_sets words hand.word (after (Across from to)) (Resident to) file
+      (stand-holds words hand.word (of_file v.next) file new) (λ z i l. refl) s.spare (λ i l. let p = s.past i l in (p.2, p.3, refl, refl, p.4))
 
   whole : hand.delivery ≡ file.delivery → hand.delivery % 2 ≡ file.delivery
   whole e = ap (λ x. x % 2) e ∙ mod-eq_of_lt within.delivery
 
-  rests-numbers : (way : Way) → at.steps + 1 ≡ plan_steps (old_end way) (new_end way) words → HoldsNumbers words v (OnWay way at) hand file → HoldsNumbers words (after way) (at_rest (led_to way)) hand file
+  rests-numbers : (way : Way) → at.steps + 1 ≡ plan_steps (old_end way) (new_end way) words → HoldsNumbers words v (OnWay way at) hand file
+      → HoldsNumbers words (after way) (at_rest (led_to way)) hand file
   rests-numbers (Outward from) e p = record {
     own_delivery = refl;
     next_delivery = p.next_delivery;
@@ -76,7 +84,8 @@ module _ (n words q hart : ℕ) (reach : Option GuestPlace) (at : Progress) (v :
     own_delivery = whole (p.kept_delivery refl);
     next_delivery = p.next_delivery;
     kept_delivery = λ z. absurd (cc);
-    own_threshold = let in_own : threshold_in_own words (OnWay (Inward to) at) ≡ true = grind (arith, nat_tests) in p.own_threshold ∙ ap (λ b. if b then file.threshold else 0) in_own;
+    own_threshold = let in_own : threshold_in_own words (OnWay (Inward to) at) ≡ true = grind (arith, nat_tests) in p.own_threshold
+        ∙ ap (λ b. if b then file.threshold else 0) in_own;
     next_threshold = p.next_threshold;
     kept_threshold = λ z. absurd (cc);
   }
@@ -84,7 +93,8 @@ module _ (n words q hart : ℕ) (reach : Option GuestPlace) (at : Progress) (v :
     own_delivery = whole (p.kept_delivery (grind (arith, nat_tests)));
     next_delivery = refl;
     kept_delivery = λ z. absurd (cc);
-    own_threshold = let in_next : threshold_in_next words (OnWay (Across from to) at) ≡ true = grind (arith, nat_tests) in p.next_threshold ∙ ap (λ b. if b then file.threshold else 0) in_next;
+    own_threshold = let in_next : threshold_in_next words (OnWay (Across from to) at) ≡ true = grind (arith, nat_tests) in p.next_threshold
+        ∙ ap (λ b. if b then file.threshold else 0) in_next;
     next_threshold = refl;
     kept_threshold = λ z. absurd (cc);
   }
@@ -94,7 +104,8 @@ module _ (n words q hart : ℕ) (reach : Option GuestPlace) (at : Progress) (v :
   rests-routes (Inward to) = record { word0 = refl; word1 = refl; in_force = refl; stage = refl; stage_in_force = refl }
   rests-routes (Across from to) = record { word0 = refl; word1 = refl; in_force = refl; stage = refl; stage_in_force = refl }
 
-  rests : (way : Way) → is_at_last words (OnWay way at) ≡ true → Holds words q hart reach v (OnWay way at) hand file saw → Holds words q hart reach (after way) (at_rest (led_to way)) hand file false
+  rests : (way : Way) → is_at_last words (OnWay way at) ≡ true → Holds words q hart reach v (OnWay way at) hand file saw
+      → Holds words q hart reach (after way) (at_rest (led_to way)) hand file false
   rests way last h =
       let there = OnWay way at in
       let first = plan_step (old_end way) (new_end way) 0 (TakePending 0) in
@@ -120,23 +131,28 @@ module _ (n words q hart : ℕ) (reach : Option GuestPlace) (at : Progress) (v :
 unfenced : (there : Home) (was : Option GuestPlace) → is_at_fence there ≡ false → reach_stepped there was ≡ was
 unfenced there was other = ap (λ b. if b then entry_names there else was) other
 
-pub move_ended : (n words q hart : ℕ) (reach : Option GuestPlace) (access : Access) (there : Home) (v : Places) (hand : Hand) (u : Places) (now : Hand) (file : InterruptFile) (saw : Bool) → IsWithin n words file
-    → IsNext words there access → is_at_last words there ≡ true → StepMade q hart access there v hand u now → Holds words q hart reach v there hand file saw
+pub move_ended : (n words q hart : ℕ) (reach : Option GuestPlace) (access : Access) (there : Home) (v : Places) (hand : Hand) (u : Places)
+    (now : Hand) (file : InterruptFile) (saw : Bool) → IsWithin n words file
+    → IsNext words there access → is_at_last words there ≡ true → StepMade q hart access there v hand u now
+    → Holds words q hart reach v there hand file saw
     → Holds words q hart (reach_stepped there reach) (places_ended n there u) (ended there) now file false
 move_ended n words q hart reach access (OnWay way at) v hand u now file saw within next last made h =
     let there = OnWay way at in
     let which = last_is words way at access next last in
     let carried : now ≡ hand = takes_nothing (new_end way) there v hand now (subst (λ a. CarriedAfter a there v hand now) which made.carried) in
-    let places : u ≡ places_after q hart (last_access (new_end way)) there v hand = made.places ∙ ap (λ a. places_after q hart a there v hand) which in
+    let places : u ≡ places_after q hart (last_access (new_end way)) there v hand = made.places
+    ∙ ap (λ a. places_after q hart a there v hand) which in
     subst (λ o. Holds words q hart o (places_ended n there u) (ended there) now file false) (sym (unfenced there reach (grind (arith, nat_tests))))
     (subst (λ (x : Places). Holds words q hart reach (places_ended n there x) (ended there) now file false) (sym places)
-    (subst (λ (x : Hand). Holds words q hart reach (places_ended n there (places_after q hart (last_access (new_end way)) there v hand)) (ended there) x file false) (sym carried) (rests n words q hart reach at v hand file saw within way last h)))
+    (subst (λ (x : Hand). Holds words q hart reach (places_ended n there (places_after q hart (last_access (new_end way)) there v hand))
+    (ended there) x file false) (sym carried) (rests n words q hart reach at v hand file saw within way last h)))
 move_ended n words q hart reach access there v hand u now file saw within next last made h = absurd (cc)
 
 -- ---- the file that is left
 
 -- the last access is not made there
-left_alone : (q hart : ℕ) (way : Way) (at : Progress) (v : Places) (hand : Hand) (p : GuestPlace) → left way ≡ Some p → (places_after q hart (last_access (new_end way)) (OnWay way at) v hand).own ≡ v.own
+left_alone : (q hart : ℕ) (way : Way) (at : Progress) (v : Places) (hand : Hand) (p : GuestPlace) → left way ≡ Some p
+    → (places_after q hart (last_access (new_end way)) (OnWay way at) v hand).own ≡ v.own
 left_alone q hart (Outward from) at v hand p e = refl
 left_alone q hart (Inward to) at v hand p e = absurd (cc)
 left_alone q hart (Across from to) at v hand p e = refl
@@ -147,8 +163,10 @@ threshold_first File File words e = omega arith
 threshold_first File Memory words e = omega arith
 threshold_first Memory to words e = absurd (cc)
 
-pub left_empty : (words q hart : ℕ) (reach : Option GuestPlace) (access : Access) (there : Home) (v : Places) (hand : Hand) (u : Places) (now : Hand) (file : InterruptFile) (saw : Bool) (p : GuestPlace) → old_file there ≡ Some p
-    → IsNext words there access → is_at_last words there ≡ true → StepMade q hart access there v hand u now → Holds words q hart reach v there hand file saw
+pub left_empty : (words q hart : ℕ) (reach : Option GuestPlace) (access : Access) (there : Home) (v : Places) (hand : Hand) (u : Places)
+    (now : Hand) (file : InterruptFile) (saw : Bool) (p : GuestPlace) → old_file there ≡ Some p
+    → IsNext words there access → is_at_last words there ≡ true → StepMade q hart access there v hand u now
+    → Holds words q hart reach v there hand file saw
     → IsEmpty u.own
 left_empty words q hart reach access (OnWay way at) v hand u now file saw p leaves next last made h =
     let there = OnWay way at in
@@ -156,19 +174,28 @@ left_empty words q hart reach access (OnWay way at) v hand u now file saw p leav
     let come : has_come words there LastPhase ≡ true = grind (arith, nat_tests) in
     let taken : is_made words there TakeThreshold ≡ true = grind (arith, nat_tests) in
     let knows = last_knows words q hart reach v there hand file saw p leaves come h in
-    let places : u ≡ places_after q hart (last_access (new_end way)) there v hand = made.places ∙ ap (λ a. places_after q hart a there v hand) (last_is words way at access next last) in
+    let places : u ≡ places_after q hart (last_access (new_end way)) there v hand = made.places
+    ∙ ap (λ a. places_after q hart a there v hand) (last_is words way at access next last) in
     let same : u.own ≡ v.own = ap (λ (x : Places). x.own) places ∙ left_alone q hart way at v hand p leaves in
-    subst IsEmpty (sym same) (record { pending = knows.0.pending; enabled = knows.0.enabled; delivery = knows.0.delivery; threshold = knows.1 ∙ ap (λ b. if b then 0 else file.threshold) taken })
+    subst IsEmpty (sym same) (record {
+      pending = knows.0.pending;
+      enabled = knows.0.enabled;
+      delivery = knows.0.delivery;
+      threshold = knows.1
+          ∙ ap (λ b. if b then 0 else file.threshold) taken;
+    })
 left_empty words q hart reach access there v hand u now file saw p leaves next last made h = absurd (cc)
 
 -- ---- it begins
 
-resting_may : (there later : Home) (place : Option GuestPlace) → origin later ≡ origin there → is_closed later ≡ false → is_written there ≡ false → MayReach there place → MayReach later place
+resting_may : (there later : Home) (place : Option GuestPlace) → origin later ≡ origin there → is_closed later ≡ false → is_written there ≡ false
+    → MayReach there place → MayReach later place
 resting_may there later place same unclosed unwritten (inl p) = inl (p.0 ∙ sym same, unclosed)
 resting_may there later place same unclosed unwritten (inr p) = let no : true ≡ false = sym p.1 ∙ unwritten in absurd (cc)
 
 -- at rest nothing is written yet
-begin-routes : (q hart : ℕ) (reach : Option GuestPlace) (v u : Places) (there : Home) (way : Way) → steps_done there ≡ 0 → origin there ≡ left way → SameRoutes v u → HoldsRoutes q hart reach v there → HoldsRoutes q hart reach u (OnWay way at_first)
+begin-routes : (q hart : ℕ) (reach : Option GuestPlace) (v u : Places) (there : Home) (way : Way) → steps_done there ≡ 0 → origin there ≡ left way
+    → SameRoutes v u → HoldsRoutes q hart reach v there → HoldsRoutes q hart reach u (OnWay way at_first)
 begin-routes q hart reach v u there way rests same routes h = routes_stay q hart reach v u there (OnWay way at_first) (record {
   entry = unwritten WriteEntry;
   may = λ place m. resting_may there (OnWay way at_first) place (sym same) (grind (arith, nat_tests)) (grind (arith, nat_tests)) m;
@@ -176,7 +203,8 @@ begin-routes q hart reach v u there way rests same routes h = routes_stay q hart
   peers = unwritten GFence;
 }) routes h
   where
-    unwritten : (access : Access) → (if is_early_made (OnWay way at_first) access then led_to way else left way) ≡ (if is_early_made there access then new_file there else origin there)
+    unwritten : (access : Access) → (if is_early_made (OnWay way at_first) access then led_to way else left way)
+        ≡ (if is_early_made there access then new_file there else origin there)
     unwritten access =
         let early : is_early_made there access ≡ false = grind (arith, nat_tests) in
         let none : is_early_made (OnWay way at_first) access ≡ false = grind (arith, nat_tests) in
@@ -184,13 +212,16 @@ begin-routes q hart reach v u there way rests same routes h = routes_stay q hart
 
 module _ (n words q hart : ℕ) (reach : Option GuestPlace) (v : Places) (hand now : Hand) (file : InterruptFile) (saw : Bool) where
   -- what the old place has stays, and the new place is empty
-  begin-sets : (way : Way) (u : Places) → HoldsAt words 0 0 0 hand.word (old_place u (OnWay way at_first)) no_sets file → ((i : ℕ) → i / 64 < words → ((new_place u (OnWay way at_first)).pending i ≡ false) × ((new_place u (OnWay way at_first)).enabled i ≡ false))
+  begin-sets : (way : Way) (u : Places) → HoldsAt words 0 0 0 hand.word (old_place u (OnWay way at_first)) no_sets file
+      → ((i : ℕ) → i / 64 < words → ((new_place u (OnWay way at_first)).pending i ≡ false) × ((new_place u (OnWay way at_first)).enabled i ≡ false))
       → IsSpare words u (OnWay way at_first) → IsPast words u → HoldsSets words u (OnWay way at_first) now.word file
   begin-sets way u old none spare past = to_sets words now.word u (OnWay way at_first) file
-      (begin-holds words (plan_step (old_end way) (new_end way) 0 (TakePending 0)) (plan_step (old_end way) (new_end way) words (TakeEnables 0)) (old_place u (OnWay way at_first)) (new_place u (OnWay way at_first)) file hand.word now.word none old) (λ z i l. (none i l).0) spare past
+      (begin-holds words (plan_step (old_end way) (new_end way) 0 (TakePending 0)) (plan_step (old_end way) (new_end way) words (TakeEnables 0))
+      (old_place u (OnWay way at_first)) (new_place u (OnWay way at_first)) file hand.word now.word none old) (λ z i l. (none i l).0) spare past
 
   -- both numbers stand in the file that is left
-  begin-numbers : (way : Way) (u : Places) → is_file (old_end way) ≡ true → u.own.delivery ≡ file.delivery → u.own.threshold ≡ file.threshold → u.next.delivery ≡ 0 → u.next.threshold ≡ 0 → HoldsNumbers words u (OnWay way at_first) now file
+  begin-numbers : (way : Way) (u : Places) → is_file (old_end way) ≡ true → u.own.delivery ≡ file.delivery → u.own.threshold ≡ file.threshold
+      → u.next.delivery ≡ 0 → u.next.threshold ≡ 0 → HoldsNumbers words u (OnWay way at_first) now file
   begin-numbers way u leaves delivery threshold next_delivery next_threshold =
       let quiet : delivery_in_own (OnWay way at_first) ≡ true = grind (arith, nat_tests) in
       let in_own : threshold_in_own words (OnWay way at_first) ≡ true = grind (arith, nat_tests) in
@@ -205,39 +236,52 @@ module _ (n words q hart : ℕ) (reach : Option GuestPlace) (v : Places) (hand n
       }
 
   -- nothing was seen yet
-  pub leave_begins : (p : GuestPlace) → now.seen ≡ false → Holds words q hart reach v (Resident p) hand file saw → Holds words q hart reach v (OnWay (Outward p) at_first) now file false
+  pub leave_begins : (p : GuestPlace) → now.seen ≡ false → Holds words q hart reach v (Resident p) hand file saw
+      → Holds words q hart reach v (OnWay (Outward p) at_first) now file false
   leave_begins p unseen h = record {
     sets = begin-sets (Outward p) v (of_sets words hand.word v (Resident p) file h.sets) h.sets.spare (λ i l. (refl, refl)) h.sets.past;
     numbers = begin-numbers (Outward p) v refl h.numbers.own_delivery h.numbers.own_threshold h.numbers.next_delivery h.numbers.next_threshold;
-    routes = begin-routes q hart reach v v (Resident p) (Outward p) refl refl (record { word0 = refl; word1 = refl; in_force = refl; stage = refl; stage_in_force = refl }) h.routes;
+    routes = begin-routes q hart reach v v (Resident p) (Outward p) refl refl
+        (record { word0 = refl; word1 = refl; in_force = refl; stage = refl; stage_in_force = refl }) h.routes;
     looks = unseen;
   }
 
   -- the new file is empty; all else of the places is as it was
-  pub shift_begins : (p to : GuestPlace) (u : Places) → u ≡ record v { next = u.next } → IsEmpty u.next → Holds words q hart reach v (Resident p) hand file saw → Holds words q hart reach u (OnWay (Across p to) at_first) now file false
-  shift_begins p to u same empty h = subst (λ (x : Places). Holds words q hart reach x (OnWay (Across p to) at_first) now file false) (sym same) (record {
-    sets = begin-sets (Across p to) (record v { next = u.next }) (of_sets words hand.word v (Resident p) file h.sets) (λ i l. (empty.pending i, empty.enabled i)) h.sets.spare (λ i l. let p = h.sets.past i l in (p.0, p.1, empty.pending i, empty.enabled i, p.4));
-    numbers = begin-numbers (Across p to) (record v { next = u.next }) refl h.numbers.own_delivery h.numbers.own_threshold empty.delivery empty.threshold;
-    routes = begin-routes q hart reach v (record v { next = u.next }) (Resident p) (Across p to) refl refl (record { word0 = refl; word1 = refl; in_force = refl; stage = refl; stage_in_force = refl }) h.routes;
-    looks = refl;
-  })
+  pub shift_begins : (p to : GuestPlace) (u : Places) → u ≡ record v { next = u.next } → IsEmpty u.next
+      → Holds words q hart reach v (Resident p) hand file saw → Holds words q hart reach u (OnWay (Across p to) at_first) now file false
+  shift_begins p to u same empty h = subst (λ (x : Places). Holds words q hart reach x (OnWay (Across p to) at_first) now file false)
+      (sym same) (record {
+        sets = begin-sets (Across p to) (record v { next = u.next }) (of_sets words hand.word v (Resident p) file h.sets)
+            (λ i l. (empty.pending i, empty.enabled i)) h.sets.spare
+            (λ i l. let p = h.sets.past i l in (p.0, p.1, empty.pending i, empty.enabled i, p.4));
+        numbers = begin-numbers (Across p to) (record v { next = u.next }) refl h.numbers.own_delivery h.numbers.own_threshold empty.delivery
+            empty.threshold;
+        routes = begin-routes q hart reach v (record v { next = u.next }) (Resident p) (Across p to) refl refl
+            (record { word0 = refl; word1 = refl; in_force = refl; stage = refl; stage_in_force = refl }) h.routes;
+        looks = refl;
+      })
 
   -- the numbers that were kept are carried
-  pub arrive_begins : {rest : Rest} (to : GuestPlace) (u : Places) → u ≡ record v { own = u.own } → IsEmpty u.own → now.delivery ≡ hand.delivery → now.threshold ≡ hand.threshold → Holds words q hart reach v (InMemory rest) hand file saw
+  pub arrive_begins : {rest : Rest} (to : GuestPlace) (u : Places) → u ≡ record v { own = u.own } → IsEmpty u.own → now.delivery ≡ hand.delivery
+      → now.threshold ≡ hand.threshold → Holds words q hart reach v (InMemory rest) hand file saw
       → Holds words q hart reach u (OnWay (Inward to) at_first) now file false
-  arrive_begins {rest = rest} to u same empty delivery threshold h = subst (λ (x : Places). Holds words q hart reach x (OnWay (Inward to) at_first) now file false) (sym same) (record {
-    sets = begin-sets (Inward to) (record v { own = u.own }) (of_sets words hand.word v (InMemory rest) file h.sets) (λ i l. (empty.pending i, empty.enabled i)) (λ i l. (refl, refl)) (λ i l. let p = h.sets.past i l in (empty.pending i, empty.enabled i, p.2, p.3, p.4));
-    numbers = record {
-      own_delivery = empty.delivery;
-      next_delivery = h.numbers.next_delivery;
-      kept_delivery = λ z. delivery ∙ h.numbers.kept_delivery refl;
-      own_threshold = empty.threshold ∙ sym (ap (λ b. if b then file.threshold else 0) not_in_own);
-      next_threshold = h.numbers.next_threshold;
-      kept_threshold = λ z. threshold ∙ h.numbers.kept_threshold refl;
-    };
-    routes = begin-routes q hart reach v (record v { own = u.own }) (InMemory rest) (Inward to) refl refl (record { word0 = refl; word1 = refl; in_force = refl; stage = refl; stage_in_force = refl }) h.routes;
-    looks = refl;
-  })
+  arrive_begins {rest = rest} to u same empty delivery threshold h =
+      subst (λ (x : Places). Holds words q hart reach x (OnWay (Inward to) at_first) now file false) (sym same) (record {
+        sets = begin-sets (Inward to) (record v { own = u.own }) (of_sets words hand.word v (InMemory rest) file h.sets)
+            (λ i l. (empty.pending i, empty.enabled i)) (λ i l. (refl, refl))
+            (λ i l. let p = h.sets.past i l in (empty.pending i, empty.enabled i, p.2, p.3, p.4));
+        numbers = record {
+          own_delivery = empty.delivery;
+          next_delivery = h.numbers.next_delivery;
+          kept_delivery = λ z. delivery ∙ h.numbers.kept_delivery refl;
+          own_threshold = empty.threshold ∙ sym (ap (λ b. if b then file.threshold else 0) not_in_own);
+          next_threshold = h.numbers.next_threshold;
+          kept_threshold = λ z. threshold ∙ h.numbers.kept_threshold refl;
+        };
+        routes = begin-routes q hart reach v (record v { own = u.own }) (InMemory rest) (Inward to) refl refl
+            (record { word0 = refl; word1 = refl; in_force = refl; stage = refl; stage_in_force = refl }) h.routes;
+        looks = refl;
+      })
     where
       not_in_own : threshold_in_own words (OnWay (Inward to) at_first) ≡ false
       not_in_own = grind (arith, nat_tests)

@@ -23,10 +23,12 @@ use Rattle.aia_vcpu_places.proofs.StayLemmas.{own_sets}
 
 -- the two ends of a move are two
 pub two_ends : (there : Home) → is_moving there ≡ true → AreApart there → new_file there ≢ origin there
-two_ends (OnWay (Across from to) at) moves apart = λ e. let same : to ≡ from = cc in let itself : is_place from to ≡ true = rw same (is_itself_place from) in let no : true ≡ false = sym itself ∙ apart in absurd (cc)
+two_ends (OnWay (Across from to) at) moves apart = λ e. let same : to ≡ from = cc in let itself : is_place from to ≡ true =
+    rw same (is_itself_place from) in let no : true ≡ false = sym itself ∙ apart in absurd (cc)
 two_ends there moves apart = λ e. absurd (cc)
 
-module _ (words q hart : ℕ) (reach : Option GuestPlace) (v : Places) (there : Home) (hand : Hand) (file : InterruptFile) (saw : Bool) (moves : is_moving there ≡ true) (h : Holds words q hart reach v there hand file saw) where
+module _ (words q hart : ℕ) (reach : Option GuestPlace) (v : Places) (there : Home) (hand : Hand) (file : InterruptFile) (saw : Bool)
+    (moves : is_moving there ≡ true) (h : Holds words q hart reach v there hand file saw) where
   pub closing_knows : has_come words there ClosingPhase ≡ true → v.in_force ≡ leads_to q hart (new_file there)
   closing_knows come = h.routes.in_force ∙ ap (leads_to q hart) (closed_reach there reach (closing_closed words there moves come) h.routes.may)
 
@@ -46,7 +48,8 @@ module _ (words q hart : ℕ) (reach : Option GuestPlace) (v : Places) (there : 
       let both = enable_drained words (i / 64) there moves low come in
       let empty = drained_knows i low both.0 in (
         empty,
-        sym (h.sets.union i low ∙ ap (λ b. b || ((new_place v there).pending i || (is_last_made words there (TakePending (i / 64)) && has_bit hand.word (i % 64)))) empty
+        sym (h.sets.union i low ∙ ap (λ b. b || ((new_place v there).pending
+            i || (is_last_made words there (TakePending (i / 64)) && has_bit hand.word (i % 64)))) empty
             ∙ ap (λ b. (new_place v there).pending i || (b && has_bit hand.word (i % 64))) both.1 ∙ or_false ((new_place v there).pending i)),
       )
     where
@@ -61,7 +64,8 @@ module _ (words q hart : ℕ) (reach : Option GuestPlace) (v : Places) (there : 
       (h.sets.old_enables i low ∙ ap (λ b. not b && file.enabled i) both.0, h.sets.new_enables i low ∙ ap (λ b. b && file.enabled i) both.1)
 
 -- the file that is left, once only its threshold may be there
-pub last_knows : (words q hart : ℕ) (reach : Option GuestPlace) (v : Places) (there : Home) (hand : Hand) (file : InterruptFile) (saw : Bool) (p : GuestPlace) → old_file there ≡ Some p
+pub last_knows : (words q hart : ℕ) (reach : Option GuestPlace) (v : Places) (there : Home) (hand : Hand) (file : InterruptFile) (saw : Bool)
+    (p : GuestPlace) → old_file there ≡ Some p
     → has_come words there LastPhase ≡ true → Holds words q hart reach v there hand file saw
     → IsEmpty (record v.own { threshold = 0 }) × (v.own.threshold ≡ (if is_made words there TakeThreshold then 0 else file.threshold))
 last_knows words q hart reach v (OnWay way at) hand file saw p old come h =
@@ -69,17 +73,31 @@ last_knows words q hart reach v (OnWay way at) hand file saw p old come h =
     let leaves : is_file (old_end way) ≡ true = ap (λ o. is_file (end_at o)) old in
     let looks = after_looks words there refl come in
     let quiet : delivery_in_own there ≡ false = grind (arith, nat_tests) in
-    let empty : (i : ℕ) → i / 64 < words → ((old_place v there).pending i ≡ false) × ((old_place v there).enabled i ≡ false) = λ i low. ((enable_knows words q hart reach v there hand file saw refl h (after_enable words there refl looks) i low).0, (looks_knows words q hart reach v there hand file saw refl h looks i low).0) in
-    let all = in_file (subst (λ (sets : TwoSets). (i : ℕ) → i / 64 < words → (sets.pending i ≡ false) × (sets.enabled i ≡ false)) (own_sets v (old_end way) leaves) empty) (λ i g. ((h.sets.past i g).0, (h.sets.past i g).1)) in (
-      record { pending = λ i. (all i).0; enabled = λ i. (all i).1; delivery = h.numbers.own_delivery ∙ ap (λ b. if b then file.delivery else 0) quiet; threshold = refl },
-      h.numbers.own_threshold ∙ ap (λ b. if (if b then not (is_made words there TakeThreshold) else is_made words there PutThreshold) then file.threshold else 0) leaves ∙ turned (is_made words there TakeThreshold),
+    let empty : (i : ℕ) → i / 64 < words → ((old_place v there).pending i ≡ false)
+    × ((old_place v there).enabled i ≡ false) = λ i
+    low. (
+      (enable_knows words q hart reach v there hand file saw refl h (after_enable words there refl looks) i low).0,
+      (looks_knows words q hart reach v there hand file saw refl h looks i low).0,
+    ) in
+    let all = in_file (subst (λ (sets : TwoSets). (i : ℕ) → i / 64 < words → (sets.pending i ≡ false) × (sets.enabled i ≡ false))
+    (own_sets v (old_end way) leaves) empty) (λ i g. ((h.sets.past i g).0, (h.sets.past i g).1)) in (
+      record {
+        pending = λ i. (all i).0;
+        enabled = λ i. (all i).1;
+        delivery = h.numbers.own_delivery
+            ∙ ap (λ b. if b then file.delivery else 0) quiet;
+        threshold = refl;
+      },
+      h.numbers.own_threshold ∙ ap (λ b. if (if b then not (is_made words there TakeThreshold) else is_made words there PutThreshold) then
+          file.threshold else 0) leaves ∙ turned (is_made words there TakeThreshold),
     )
   where
     turned : (b : Bool) → (if not b then file.threshold else 0) ≡ (if b then 0 else file.threshold)
     turned true = refl
     turned false = refl
 
-    in_file : ((i : ℕ) → i / 64 < words → (v.own.pending i ≡ false) × (v.own.enabled i ≡ false)) → ((i : ℕ) → words ≤ i / 64 → (v.own.pending i ≡ false) × (v.own.enabled i ≡ false))
+    in_file : ((i : ℕ) → i / 64 < words → (v.own.pending i ≡ false) × (v.own.enabled i ≡ false))
+        → ((i : ℕ) → words ≤ i / 64 → (v.own.pending i ≡ false) × (v.own.enabled i ≡ false))
         → (i : ℕ) → (v.own.pending i ≡ false) × (v.own.enabled i ≡ false)
     in_file within past i = elim (cases_lt (i / 64) words) [
       | inl low ↦ within i low

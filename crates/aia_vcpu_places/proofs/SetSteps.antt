@@ -18,10 +18,12 @@ is_last_done step done = nat_eq done (step + 1)
 -- HoldsSets of a move with so many steps done: its first take is the step `first`, that of the
 -- enabled set the step `enables`
 pub record HoldsAt (words first enables done word : ℕ) (old new : TwoSets) (file : InterruptFile) : Type 0 where
-  pub union : (i : ℕ) → i / 64 < words → file.pending i ≡ (old.pending i || (new.pending i || (is_last_done (first + 2 * (i / 64)) done && has_bit word (i % 64))))
+  pub union : (i : ℕ) → i / 64 < words → file.pending
+      i ≡ (old.pending i || (new.pending i || (is_last_done (first + 2 * (i / 64)) done && has_bit word (i % 64))))
   pub drained : (i : ℕ) → i / 64 < words → (is_done (first + 2 * (i / 64)) done && old.pending i) ≡ false
   pub old_enables : (i : ℕ) → i / 64 < words → old.enabled i ≡ (not (is_done (enables + 2 * (i / 64)) done) && file.enabled i)
-  pub carried_enables : (i : ℕ) → i / 64 < words → (is_last_done (enables + 2 * (i / 64)) done && has_bit word (i % 64)) ≡ (is_last_done (enables + 2 * (i / 64)) done && file.enabled i)
+  pub carried_enables : (i : ℕ) → i / 64 < words
+      → (is_last_done (enables + 2 * (i / 64)) done && has_bit word (i % 64)) ≡ (is_last_done (enables + 2 * (i / 64)) done && file.enabled i)
   pub new_enables : (i : ℕ) → i / 64 < words → new.enabled i ≡ (is_done (enables + 2 * (i / 64) + 1) done && file.enabled i)
 
 moves : (a b : Bool) → (a || (b || false)) ≡ (b || a)
@@ -36,7 +38,8 @@ joins false true c = refl
 joins false false true = refl
 joins false false false = refl
 
-module _ (words first enables done word next : ℕ) (old new : TwoSets) (file : InterruptFile) (order : first + 2 * words ≤ enables) (p : HoldsAt words first enables done word old new file) where
+module _ (words first enables done word next : ℕ) (old new : TwoSets) (file : InterruptFile) (order : first + 2 * words ≤ enables)
+    (p : HoldsAt words first enables done word old new file) where
   -- no word of a set is taken or put
   pub before-holds : done < first → HoldsAt words first enables (done + 1) next old new file
   before-holds low = record {
@@ -103,7 +106,8 @@ module _ (words first enables done word next : ℕ) (old new : TwoSets) (file : 
         → HoldsAt words first enables (done + 1) next (record old { pending = without_word w old.pending }) new file
     take_pending-holds at shows = record {
       union = λ i l. elim (cases_Bool (nat_eq (i / 64) w)) [
-        | inl e ↦ rw (e, taken (i / 64) e, shows i (eqb-true (i / 64) w e)) (rw (none (i / 64)) at (p.union i l) ∙ moves (old.pending i) (new.pending i))
+        | inl e ↦ rw (e, taken (i / 64) e, shows i (eqb-true (i / 64) w e))
+            (rw (none (i / 64)) at (p.union i l) ∙ moves (old.pending i) (new.pending i))
         | inr e ↦ rw (e, not_taken (i / 64) e) (rw (none (i / 64)) at (p.union i l))
       ];
       drained = λ i l. elim (cases_Bool (nat_eq (i / 64) w)) [
@@ -290,7 +294,8 @@ module _ (words first enables : ℕ) (old new : TwoSets) (file : InterruptFile) 
       unput : (j : ℕ) → nat_lt (enables + 2 * j + 1) 0 ≡ false
       unput j = grind (arith, nat_tests)
 
-  module _ (done word : ℕ) (order : first + 2 * words ≤ enables) (p : HoldsAt words first enables done word old new file) (high : enables + 2 * words ≤ done) where
+  module _ (done word : ℕ) (order : first + 2 * words ≤ enables) (p : HoldsAt words first enables done word old new file)
+      (high : enables + 2 * words ≤ done) where
     pub old_is_empty : (i : ℕ) → i / 64 < words → (old.pending i ≡ false) × (old.enabled i ≡ false)
     old_is_empty i l = (rw (drained (i / 64) l) at (p.drained i l), rw (out (i / 64) l) at (p.old_enables i l))
       where
@@ -301,7 +306,11 @@ module _ (words first enables : ℕ) (old new : TwoSets) (file : InterruptFile) 
         out j l = grind (arith, nat_tests)
 
     pub new_has_all : (i : ℕ) → i / 64 < words → (file.pending i ≡ new.pending i) × (new.enabled i ≡ file.enabled i)
-    new_has_all i l = (p.union i l ∙ alone (old.pending i) (new.pending i) _ (has_bit word (i % 64)) (old_is_empty i l).0 (none (i / 64) l) ∙ or_false (new.pending i), rw (put (i / 64) l) at (p.new_enables i l))
+    new_has_all i l = (
+      p.union i l ∙ alone (old.pending i) (new.pending i) _ (has_bit word (i % 64)) (old_is_empty i l).0 (none (i / 64) l)
+          ∙ or_false (new.pending i),
+      rw (put (i / 64) l) at (p.new_enables i l),
+    )
       where
         none : (j : ℕ) → j < words → nat_eq done (first + 2 * j + 1) ≡ false
         none j l = grind (arith, nat_tests)
@@ -314,7 +323,8 @@ module _ (words first enables : ℕ) (old new : TwoSets) (file : InterruptFile) 
         or_false false = refl
 
 -- a place that has both sets holds them, while nothing moves
-pub stand-holds : (words word : ℕ) (old : TwoSets) (file : InterruptFile) → ((i : ℕ) → i / 64 < words → (file.pending i ≡ old.pending i) × (old.enabled i ≡ file.enabled i))
+pub stand-holds : (words word : ℕ) (old : TwoSets) (file : InterruptFile)
+    → ((i : ℕ) → i / 64 < words → (file.pending i ≡ old.pending i) × (old.enabled i ≡ file.enabled i))
     → HoldsAt words 0 0 0 word old no_sets file
 stand-holds words word old file same = record {
   union = λ i l. (same i l).0 ∙ rw (uncarried (i / 64)) (sym (or_false (old.pending i)));
@@ -340,7 +350,11 @@ stand-holds words word old file same = record {
 -- the other way round
 pub old_has_all : (words word : ℕ) (old : TwoSets) (file : InterruptFile) → HoldsAt words 0 0 0 word old no_sets file
     → (i : ℕ) → i / 64 < words → (file.pending i ≡ old.pending i) × (old.enabled i ≡ file.enabled i)
-old_has_all words word old file p i l = (rw (uncarried (i / 64)) at (p.union i l) ∙ or_false (old.pending i), rw (untaken (i / 64)) at (p.old_enables i l))
+old_has_all words word old file p i l = (
+  rw (uncarried (i / 64)) at (p.union i l)
+      ∙ or_false (old.pending i),
+  rw (untaken (i / 64)) at (p.old_enables i l),
+)
   where
     or_false : (b : Bool) → (b || false) ≡ b
     or_false true = refl
@@ -369,7 +383,8 @@ module _ (words first enables done word : ℕ) (old new : TwoSets) (file : Inter
   pub lands_in_old-holds : done ≤ first → ((i : ℕ) → i / 64 < words → after i ≡ (asked i || old.pending i))
       → HoldsAt words first enables done word (record old { pending = after }) new (record file { pending = pending })
   lands_in_old-holds low place_after = record {
-    union = λ i l. file_after i l ∙ ap (λ x. asked i || x) (p.union i l) ∙ in_old (asked i) (old.pending i) (new.pending i) _ ∙ rw (place_after i l) refl;
+    union = λ i l. file_after i l ∙ ap (λ x. asked i || x) (p.union i l) ∙ in_old (asked i) (old.pending i) (new.pending i) _
+        ∙ rw (place_after i l) refl;
     drained = λ i l. rw (undone (i / 64)) refl;
     old_enables = p.old_enables;
     carried_enables = p.carried_enables;
@@ -383,7 +398,8 @@ module _ (words first enables done word : ℕ) (old new : TwoSets) (file : Inter
   pub lands_in_new-holds : ((i : ℕ) → i / 64 < words → after i ≡ (asked i || new.pending i))
       → HoldsAt words first enables done word old (record new { pending = after }) (record file { pending = pending })
   lands_in_new-holds place_after = record {
-    union = λ i l. file_after i l ∙ ap (λ x. asked i || x) (p.union i l) ∙ in_new (asked i) (old.pending i) (new.pending i) _ ∙ rw (place_after i l) refl;
+    union = λ i l. file_after i l ∙ ap (λ x. asked i || x) (p.union i l) ∙ in_new (asked i) (old.pending i) (new.pending i) _
+        ∙ rw (place_after i l) refl;
     drained = p.drained;
     old_enables = p.old_enables;
     carried_enables = p.carried_enables;

@@ -32,8 +32,22 @@ record Bounds (words : ℕ) (there : Home) : Type 0 where
   moved : (j : ℕ) → is_enable_put words there j ≡ nat_lt (step_of words there (TakeEnables 0) + 2 * j + 1) (steps_done there)
 
 bounds : (words : ℕ) (there : Home) → Bounds words there
-bounds words (OnWay way at) = record { drained = λ j. grind (arith, nat_tests); carried = λ j. grind (arith, nat_tests); disabled = λ j. grind (arith, nat_tests); carried_enables = λ j. grind (arith, nat_tests); moved = λ j. grind (arith, nat_tests) }
-bounds words there = record { drained = λ j. grind (arith, nat_tests); carried = λ j. grind (arith, nat_tests); disabled = λ j. grind (arith, nat_tests); carried_enables = λ j. grind (arith, nat_tests); moved = λ j. grind (arith, nat_tests) }
+bounds words (OnWay way at) = record {
+  drained = λ j. grind (arith, nat_tests);
+  carried = λ j. grind (arith, nat_tests);
+  disabled =
+      λ j. grind (arith, nat_tests);
+  carried_enables = λ j. grind (arith, nat_tests);
+  moved = λ j. grind (arith, nat_tests);
+}
+bounds words there = record {
+  drained = λ j. grind (arith, nat_tests);
+  carried = λ j. grind (arith, nat_tests);
+  disabled =
+      λ j. grind (arith, nat_tests);
+  carried_enables = λ j. grind (arith, nat_tests);
+  moved = λ j. grind (arith, nat_tests);
+}
 
 pub of_sets : (words word : ℕ) (v : Places) (there : Home) (file : InterruptFile) → HoldsSets words v there word file
     → HoldsAt words (first_take there) (step_of words there (TakeEnables 0)) (steps_done there) word (old_place v there) (new_place v there) file
@@ -106,7 +120,8 @@ pub record NumbersStay (words : ℕ) (there later : Home) : Type 0 where
   pub own : threshold_in_own words later ≡ threshold_in_own words there
   pub next : threshold_in_next words later ≡ threshold_in_next words there
 
-pub numbers_stay : (words : ℕ) (v u : Places) (there later : Home) (hand now : Hand) (file : InterruptFile) → NumbersStay words there later → SameNumbers v u → SameKept hand now
+pub numbers_stay : (words : ℕ) (v u : Places) (there later : Home) (hand now : Hand) (file : InterruptFile) → NumbersStay words there later
+    → SameNumbers v u → SameKept hand now
     → HoldsNumbers words v there hand file → HoldsNumbers words u later now file
 numbers_stay words v u there later hand now file stay same kept p = record {
   own_delivery = same.own_delivery ∙ p.own_delivery ∙ ap (λ b. if b then file.delivery else 0) (sym stay.delivery);
@@ -114,7 +129,8 @@ numbers_stay words v u there later hand now file stay same kept p = record {
   kept_delivery = λ e. kept.delivery ∙ p.kept_delivery (sym stay.delivery ∙ e);
   own_threshold = same.own_threshold ∙ p.own_threshold ∙ ap (λ b. if b then file.threshold else 0) (sym stay.own);
   next_threshold = same.next_threshold ∙ p.next_threshold ∙ ap (λ b. if b then file.threshold else 0) (sym stay.next);
-  kept_threshold = λ e. kept.threshold ∙ p.kept_threshold (ap (λ b. b || threshold_in_next words there) (sym stay.own) ∙ ap (λ b. threshold_in_own words later || b) (sym stay.next) ∙ e);
+  kept_threshold = λ e. kept.threshold ∙ p.kept_threshold
+      (ap (λ b. b || threshold_in_next words there) (sym stay.own) ∙ ap (λ b. threshold_in_own words later || b) (sym stay.next) ∙ e);
 }
 
 -- ---- the routes
@@ -132,7 +148,8 @@ pub record RoutesStay (there later : Home) : Type 0 where
   pub stage : stage_names later ≡ stage_names there
   pub peers : peers_reach later ≡ peers_reach there
 
-pub routes_stay : (q hart : ℕ) (reach : Option GuestPlace) (v u : Places) (there later : Home) → RoutesStay there later → SameRoutes v u → HoldsRoutes q hart reach v there → HoldsRoutes q hart reach u later
+pub routes_stay : (q hart : ℕ) (reach : Option GuestPlace) (v u : Places) (there later : Home) → RoutesStay there later → SameRoutes v u
+    → HoldsRoutes q hart reach v there → HoldsRoutes q hart reach u later
 routes_stay q hart reach v u there later stay same p = record {
   word0 = same.word0 ∙ p.word0 ∙ ap (entry_word q) (sym stay.entry);
   word1 = same.word1 ∙ p.word1;
@@ -148,11 +165,16 @@ pub or_false : (b : Bool) → (b || false) ≡ b
 or_false true = refl
 or_false false = refl
 
-pub unseen-before : (words : ℕ) (from : GuestPlace) (at : Progress) (file : InterruptFile) → at.steps < plan_step File Memory words (Look 0) → sees words (OnWay (Outward from) at) file ≡ false
-unseen-before words from at file low = let none : is_next words (OnWay (Outward from) at) (Look (look_word words (OnWay (Outward from) at))) ≡ false = grind (arith, nat_tests) in rw none refl
+pub unseen-before : (words : ℕ) (from : GuestPlace) (at : Progress) (file : InterruptFile) → at.steps < plan_step File Memory words (Look 0)
+    → sees words (OnWay (Outward from) at) file ≡ false
+unseen-before words from at file low = let none : is_next words (OnWay (Outward from) at)
+    (Look (look_word words (OnWay (Outward from) at))) ≡ false = grind (arith, nat_tests) in rw none refl
 
-pub unseen-after : (words : ℕ) (from : GuestPlace) (at : Progress) (file : InterruptFile) → plan_step File Memory words TakeThreshold ≤ at.steps → sees words (OnWay (Outward from) at) file ≡ false
-unseen-after words from at file high = let none : is_next words (OnWay (Outward from) at) (Look (look_word words (OnWay (Outward from) at))) ≡ false = grind (arith, nat_tests) in rw none refl
+pub unseen-after : (words : ℕ) (from : GuestPlace) (at : Progress) (file : InterruptFile) → plan_step File Memory words TakeThreshold ≤ at.steps
+    → sees words (OnWay (Outward from) at) file ≡ false
+unseen-after words from at file high = let none : is_next words (OnWay (Outward from) at)
+    (Look (look_word words (OnWay (Outward from) at))) ≡ false = grind (arith, nat_tests) in rw none refl
 
-pub seen_stays : (words : ℕ) (there : Home) (file : InterruptFile) (had has saw : Bool) → has ≡ had → sees words there file ≡ false → had ≡ saw → has ≡ (saw || sees words there file)
+pub seen_stays : (words : ℕ) (there : Home) (file : InterruptFile) (had has saw : Bool) → has ≡ had → sees words there file ≡ false → had ≡ saw
+    → has ≡ (saw || sees words there file)
 seen_stays words there file had has saw same none p = same ∙ p ∙ sym (or_false saw) ∙ ap (λ b. saw || b) (sym none)

@@ -57,7 +57,8 @@ past_names (Some x) n i high = elim (cases_eq x i) [
 
 -- ---- where it lands
 
-module _ (n words q hart offset value : ℕ) (reach : Option GuestPlace) (v : Places) (hand : Hand) (file : InterruptFile) (saw : Bool) (within : IsWithin n words file) (few : words ≤ FILE_WORDS) where
+module _ (n words q hart offset value : ℕ) (reach : Option GuestPlace) (v : Places) (hand : Hand) (file : InterruptFile) (saw : Bool)
+    (within : IsWithin n words file) (few : words ≤ FILE_WORDS) where
   -- what it asks for, of this file
   abbrev wanted : ℕ → Bool
   wanted i = names (requested file.n offset value) i
@@ -66,18 +67,23 @@ module _ (n words q hart offset value : ℕ) (reach : Option GuestPlace) (v : Pl
   in_file i l = asked_or (wanted i) (file.pending i)
 
   in_own : v.own.n ≡ n → (i : ℕ) → i / 64 < words → (landed offset value v.own).pending i ≡ (wanted i || v.own.pending i)
-  in_own size i l = asked_or (names (requested v.own.n offset value) i) (v.own.pending i) ∙ ap (λ m. names (requested m offset value) i || v.own.pending i) (size ∙ sym within.greatest)
+  in_own size i l = asked_or (names (requested v.own.n offset value) i) (v.own.pending i)
+      ∙ ap (λ m. names (requested m offset value) i || v.own.pending i) (size ∙ sym within.greatest)
 
   in_next : v.next.n ≡ n → (i : ℕ) → i / 64 < words → (landed offset value v.next).pending i ≡ (wanted i || v.next.pending i)
-  in_next size i l = asked_or (names (requested v.next.n offset value) i) (v.next.pending i) ∙ ap (λ m. names (requested m offset value) i || v.next.pending i) (size ∙ sym within.greatest)
+  in_next size i l = asked_or (names (requested v.next.n offset value) i) (v.next.pending i)
+      ∙ ap (λ m. names (requested m offset value) i || v.next.pending i) (size ∙ sym within.greatest)
 
   in_slot : (i : ℕ) → i / 64 < words → (after_store offset value v.slot).pending i ≡ (wanted i || v.slot.pending i)
   in_slot i l = asked_or (names (requested IDENTITIES offset value) i) (v.slot.pending i) ∙ ap (λ b. b || v.slot.pending i)
-      (same_names (number_written offset value) n i (omega (arith, within.all_words)) (omega (arith, within.all_words)) ∙ ap (λ m. names (requested m offset value) i) (sym within.greatest))
+      (same_names (number_written offset value) n i (omega (arith, within.all_words)) (omega (arith, within.all_words))
+      ∙ ap (λ m. names (requested m offset value) i) (sym within.greatest))
 
-  out_of : (size : ℕ) (set : ℕ → Bool) (i : ℕ) → size ≡ n → words ≤ i / 64 → set i ≡ false → settle (cond (names (requested size offset value) i) Ask Nothing) (set i) ≡ false
+  out_of : (size : ℕ) (set : ℕ → Bool) (i : ℕ) → size ≡ n → words ≤ i / 64 → set i ≡ false
+      → settle (cond (names (requested size offset value) i) Ask Nothing) (set i) ≡ false
   out_of size set i same past none =
-      asked_or (names (requested size offset value) i) (set i) ∙ ap (λ m. names (requested m offset value) i || set i) same ∙ ap (λ b. b || set i) (past_names (number_written offset value) n i (omega (arith, within.all_words))) ∙ none
+      asked_or (names (requested size offset value) i) (set i) ∙ ap (λ m. names (requested m offset value) i || set i) same
+      ∙ ap (λ b. b || set i) (past_names (number_written offset value) n i (omega (arith, within.all_words))) ∙ none
 
   -- the places as it leaves them
   abbrev in_own_file : Places
@@ -93,9 +99,12 @@ module _ (n words q hart offset value : ℕ) (reach : Option GuestPlace) (v : Pl
   Lands there u = Holds words q hart reach v there hand file saw → Holds words q hart reach u there hand (landed offset value file) saw
 
   abbrev AsSets : Home → TwoSets → TwoSets → Type 0
-  AsSets there old new = HoldsAt words (first_take there) (step_of words there (TakeEnables 0)) (steps_done there) hand.word old new (landed offset value file)
+  AsSets there old new = HoldsAt words (first_take there) (step_of words there (TakeEnables 0)) (steps_done there) hand.word old new
+      (landed offset value file)
 
-  same_rest : (there : Home) (u : Places) → AsSets there (old_place u there) (new_place u there) → IsFresh words u there → IsSpare words u there → IsPast words u → u.own.delivery ≡ v.own.delivery → u.own.threshold ≡ v.own.threshold → u.next.delivery ≡ v.next.delivery → u.next.threshold ≡ v.next.threshold
+  same_rest : (there : Home) (u : Places) → AsSets there (old_place u there) (new_place u there) → IsFresh words u there → IsSpare words u there
+      → IsPast words u → u.own.delivery ≡ v.own.delivery → u.own.threshold ≡ v.own.threshold → u.next.delivery ≡ v.next.delivery
+      → u.next.threshold ≡ v.next.threshold
       → u.word0 ≡ v.word0 → u.word1 ≡ v.word1 → u.in_force ≡ v.in_force → u.stage ≡ v.stage → u.stage_in_force ≡ v.stage_in_force → Lands there u
   same_rest there u sets fresh spare past od ot nd nt w0 w1 f s sf h = record {
     sets = to_sets words hand.word u there (landed offset value file) sets fresh spare past;
@@ -107,70 +116,109 @@ module _ (n words q hart offset value : ℕ) (reach : Option GuestPlace) (v : Pl
       next_threshold = nt ∙ h.numbers.next_threshold;
       kept_threshold = h.numbers.kept_threshold;
     };
-    routes = record { word0 = w0 ∙ h.routes.word0; word1 = w1 ∙ h.routes.word1; in_force = f ∙ h.routes.in_force; may = h.routes.may; stage = s ∙ h.routes.stage; stage_in_force = sf ∙ h.routes.stage_in_force };
+    routes = record {
+      word0 = w0 ∙ h.routes.word0;
+      word1 = w1 ∙ h.routes.word1;
+      in_force = f ∙ h.routes.in_force;
+      may = h.routes.may;
+      stage = s
+          ∙ h.routes.stage;
+      stage_in_force = sf ∙ h.routes.stage_in_force;
+    };
     looks = h.looks;
   }
 
-  own-lands : (there : Home) → v.own.n ≡ n → AsSets there (old_place in_own_file there) (new_place in_own_file there) → IsFresh words in_own_file there → IsSpare words in_own_file there → Lands there in_own_file
-  own-lands there size sets fresh spare h = same_rest there in_own_file sets fresh spare (λ i l. let p = h.sets.past i l in (out_of v.own.n v.own.pending i size l p.0, p.1, p.2, p.3, p.4)) refl refl refl refl refl refl refl refl refl h
+  own-lands : (there : Home) → v.own.n ≡ n → AsSets there (old_place in_own_file there) (new_place in_own_file there)
+      → IsFresh words in_own_file there → IsSpare words in_own_file there → Lands there in_own_file
+  own-lands there size sets fresh spare h = same_rest there in_own_file sets fresh spare
+      (λ i l. let p = h.sets.past i l in (out_of v.own.n v.own.pending i size l p.0, p.1, p.2, p.3, p.4)) refl refl refl refl refl refl
+      refl refl refl h
 
-  next-lands : (there : Home) → v.next.n ≡ n → AsSets there (old_place in_next_file there) (new_place in_next_file there) → IsFresh words in_next_file there → IsSpare words in_next_file there → Lands there in_next_file
-  next-lands there size sets fresh spare h = same_rest there in_next_file sets fresh spare (λ i l. let p = h.sets.past i l in (p.0, p.1, out_of v.next.n v.next.pending i size l p.2, p.3, p.4)) refl refl refl refl refl refl refl refl refl h
+  next-lands : (there : Home) → v.next.n ≡ n → AsSets there (old_place in_next_file there) (new_place in_next_file there)
+      → IsFresh words in_next_file there → IsSpare words in_next_file there → Lands there in_next_file
+  next-lands there size sets fresh spare h = same_rest there in_next_file sets fresh spare
+      (λ i l. let p = h.sets.past i l in (p.0, p.1, out_of v.next.n v.next.pending i size l p.2, p.3, p.4)) refl refl refl refl refl refl
+      refl refl refl h
 
-  memory-lands : (there : Home) → AsSets there (old_place in_memory there) (new_place in_memory there) → IsFresh words in_memory there → IsSpare words in_memory there → Lands there in_memory
+  memory-lands : (there : Home) → AsSets there (old_place in_memory there) (new_place in_memory there) → IsFresh words in_memory there
+      → IsSpare words in_memory there → Lands there in_memory
   memory-lands there sets fresh spare h = same_rest there in_memory sets fresh spare h.sets.past refl refl refl refl refl refl refl refl refl h
 
   -- it lands in the old place, of which nothing was taken, or in the new place
   module _ (there : Home) (h : Holds words q hart reach v there hand file saw) (after : ℕ → Bool) where
-    in_old : steps_done there ≤ first_take there → ((i : ℕ) → i / 64 < words → after i ≡ (wanted i || (old_place v there).pending i)) → AsSets there (record (old_place v there) { pending = after }) (new_place v there)
-    in_old early asks = lands_in_old-holds words (first_take there) (step_of words there (TakeEnables 0)) (steps_done there) hand.word (old_place v there) (new_place v there) file (of_sets words hand.word v there file h.sets) wanted after (landed offset value file).pending in_file early asks
+    in_old : steps_done there ≤ first_take there → ((i : ℕ) → i / 64 < words → after i ≡ (wanted i || (old_place v there).pending i))
+        → AsSets there (record (old_place v there) { pending = after }) (new_place v there)
+    in_old early asks = lands_in_old-holds words (first_take there) (step_of words there (TakeEnables 0)) (steps_done there) hand.word
+        (old_place v there) (new_place v there) file (of_sets words hand.word v there file h.sets) wanted after (landed offset value file).pending
+        in_file early asks
 
-    in_new : ((i : ℕ) → i / 64 < words → after i ≡ (wanted i || (new_place v there).pending i)) → AsSets there (old_place v there) (record (new_place v there) { pending = after })
-    in_new asks = lands_in_new-holds words (first_take there) (step_of words there (TakeEnables 0)) (steps_done there) hand.word (old_place v there) (new_place v there) file (of_sets words hand.word v there file h.sets) wanted after (landed offset value file).pending in_file asks
+    in_new : ((i : ℕ) → i / 64 < words → after i ≡ (wanted i || (new_place v there).pending i))
+        → AsSets there (old_place v there) (record (new_place v there) { pending = after })
+    in_new asks = lands_in_new-holds words (first_take there) (step_of words there (TakeEnables 0)) (steps_done there) hand.word
+        (old_place v there) (new_place v there) file (of_sets words hand.word v there file h.sets) wanted after (landed offset value file).pending
+        in_file asks
 
   abbrev Kept : Option GuestPlace → Home → Type 0
   Kept place there = Lands there (places_landed place there offset value v)
 
   parked-lands : (rest : Rest) → Kept None (InMemory rest)
-  parked-lands rest h = memory-lands (InMemory rest) (in_old (InMemory rest) h in_memory.slot.pending (omega arith) in_slot) (λ z i l. refl) (λ i l. (refl, refl)) h
+  parked-lands rest h = memory-lands (InMemory rest) (in_old (InMemory rest) h in_memory.slot.pending (omega arith) in_slot) (λ z i l. refl)
+      (λ i l. (refl, refl)) h
 
   resident-lands : (p : GuestPlace) → v.own.n ≡ n → Kept (Some p) (Resident p)
-  resident-lands p size h = own-lands (Resident p) size (in_old (Resident p) h in_own_file.own.pending (omega arith) (in_own size)) (λ z i l. refl) h.sets.spare h
+  resident-lands p size h = own-lands (Resident p) size (in_old (Resident p) h in_own_file.own.pending (omega arith) (in_own size))
+      (λ z i l. refl) h.sets.spare h
 
-  old-lands : (way : Way) (at : Progress) → v.own.n ≡ n → HasApart way → at.steps ≤ plan_step (old_end way) (new_end way) 0 (TakePending 0) → Kept (left way) (OnWay way at)
-  old-lands (Outward from) at size apart early h = let there = OnWay (Outward from) at in own-lands there size (in_old there h in_own_file.own.pending early (in_own size)) (is_fresh words hand.word v there file h.sets) h.sets.spare h
-  old-lands (Inward to) at size apart early h = let there = OnWay (Inward to) at in memory-lands there (in_old there h in_memory.slot.pending early in_slot) (is_fresh words hand.word v there file h.sets) h.sets.spare h
-  old-lands (Across from to) at size apart early h = let there = OnWay (Across from to) at in rw apart (own-lands there size (in_old there h in_own_file.own.pending early (in_own size)) (is_fresh words hand.word v there file h.sets) h.sets.spare h)
+  old-lands : (way : Way) (at : Progress) → v.own.n ≡ n → HasApart way → at.steps ≤ plan_step (old_end way) (new_end way) 0 (TakePending 0)
+      → Kept (left way) (OnWay way at)
+  old-lands (Outward from) at size apart early h = let there = OnWay (Outward from) at in
+      own-lands there size (in_old there h in_own_file.own.pending early (in_own size)) (is_fresh words hand.word v there file h.sets) h.sets.spare h
+  old-lands (Inward to) at size apart early h = let there = OnWay (Inward to) at in
+      memory-lands there (in_old there h in_memory.slot.pending early in_slot) (is_fresh words hand.word v there file h.sets) h.sets.spare h
+  old-lands (Across from to) at size apart early h = let there = OnWay (Across from to) at in
+      rw apart (own-lands there size (in_old there h in_own_file.own.pending early (in_own size)) (is_fresh words hand.word v there file h.sets)
+      h.sets.spare h)
 
   new-lands : (way : Way) (at : Progress) → v.own.n ≡ n → v.next.n ≡ n → 0 < at.steps → Kept (led_to way) (OnWay way at)
-  new-lands (Outward from) at size next_size some h = let there = OnWay (Outward from) at in memory-lands there (in_new there h in_memory.slot.pending in_slot) (λ z i l. absurd (omega arith)) h.sets.spare h
-  new-lands (Inward to) at size next_size some h = let there = OnWay (Inward to) at in own-lands there size (in_new there h in_own_file.own.pending (in_own size)) (λ z i l. absurd (omega arith)) h.sets.spare h
-  new-lands (Across from to) at size next_size some h = let there = OnWay (Across from to) at in rw (is_itself_place to) (next-lands there next_size (in_new there h in_next_file.next.pending (in_next next_size)) (λ z i l. absurd (omega arith)) h.sets.spare h)
+  new-lands (Outward from) at size next_size some h = let there = OnWay (Outward from) at in
+      memory-lands there (in_new there h in_memory.slot.pending in_slot) (λ z i l. absurd (omega arith)) h.sets.spare h
+  new-lands (Inward to) at size next_size some h = let there = OnWay (Inward to) at in
+      own-lands there size (in_new there h in_own_file.own.pending (in_own size)) (λ z i l. absurd (omega arith)) h.sets.spare h
+  new-lands (Across from to) at size next_size some h = let there = OnWay (Across from to) at in
+      rw (is_itself_place to) (next-lands there next_size (in_new there h in_next_file.next.pending (in_next next_size))
+      (λ z i l. absurd (omega arith)) h.sets.spare h)
 
   -- wherever a store may land
-  pub lands : (there : Home) → v.own.n ≡ n → v.next.n ≡ n → AreApart there → (place : Option GuestPlace) → MayLand words there place → Kept place there
+  pub lands : (there : Home) → v.own.n ≡ n → v.next.n ≡ n → AreApart there → (place : Option GuestPlace) → MayLand words there place
+      → Kept place there
   lands (InMemory rest) size next_size apart place (inl p) = subst (λ o. Kept o (InMemory rest)) (sym p.0) (parked-lands rest)
   lands (InMemory rest) size next_size apart place (inr p) = absurd (cc)
   lands (Resident in_file) size next_size apart place (inl p) = subst (λ o. Kept o (Resident in_file)) (sym p.0) (resident-lands in_file size)
   lands (Resident in_file) size next_size apart place (inr p) = absurd (cc)
-  lands (OnWay way at) size next_size apart place (inl p) = subst (λ o. Kept o (OnWay way at)) (sym p.0) (old-lands way at size apart (ltb-false _ _ p.1))
-  lands (OnWay way at) size next_size apart place (inr p) = subst (λ o. Kept o (OnWay way at)) (sym p.0) (new-lands way at size next_size (ltb-true _ _ p.1))
+  lands (OnWay way at) size next_size apart place (inl p) =
+      subst (λ o. Kept o (OnWay way at)) (sym p.0) (old-lands way at size apart (ltb-false _ _ p.1))
+  lands (OnWay way at) size next_size apart place (inr p) =
+      subst (λ o. Kept o (OnWay way at)) (sym p.0) (new-lands way at size next_size (ltb-true _ _ p.1))
 
   -- a device's, one in flight, and that of a peer
   pub device_lands : (there : Home) → v.own.n ≡ n → v.next.n ≡ n → AreApart there → Kept reach there
   device_lands there size next_size apart h = lands there size next_size apart reach (reach_lands words there reach h.routes.may) h
 
-  pub flying_lands : (there : Home) → v.own.n ≡ n → v.next.n ≡ n → AreApart there → (place : Option GuestPlace) → MayReach there place → Kept place there
+  pub flying_lands : (there : Home) → v.own.n ≡ n → v.next.n ≡ n → AreApart there → (place : Option GuestPlace) → MayReach there place
+      → Kept place there
   flying_lands there size next_size apart place may = lands there size next_size apart place (reach_lands words there place may)
 
   pub peer_lands : (there : Home) → v.own.n ≡ n → v.next.n ≡ n → AreApart there → Kept (peers_reach there) there
   peer_lands there size next_size apart = lands there size next_size apart (peers_reach there) (peers_may words there)
 
 -- an entry is fetched before its fence
-pub refetch_kept : (words q hart : ℕ) (reach : Option GuestPlace) (v : Places) (there : Home) (hand : Hand) (file : InterruptFile) (saw : Bool) → FilesFit there → q < SLOTS → hart < HARTS
-    → Holds words q hart reach v there hand file saw → Holds words q hart (entry_names there) (record v { in_force = decoded v.word0 v.word1 }) there hand file saw
+pub refetch_kept : (words q hart : ℕ) (reach : Option GuestPlace) (v : Places) (there : Home) (hand : Hand) (file : InterruptFile) (saw : Bool)
+    → FilesFit there → q < SLOTS → hart < HARTS
+    → Holds words q hart reach v there hand file saw
+    → Holds words q hart (entry_names there) (record v { in_force = decoded v.word0 v.word1 }) there hand file saw
 refetch_kept words q hart reach v there hand file saw fits low few h = record {
-  sets = to_sets words hand.word (record v { in_force = decoded v.word0 v.word1 }) there file (of_sets words hand.word v there file h.sets) (is_fresh words hand.word v there file h.sets) h.sets.spare h.sets.past;
+  sets = to_sets words hand.word (record v { in_force = decoded v.word0 v.word1 }) there file (of_sets words hand.word v there file h.sets)
+      (is_fresh words hand.word v there file h.sets) h.sets.spare h.sets.past;
   numbers = record {
     own_delivery = h.numbers.own_delivery;
     next_delivery = h.numbers.next_delivery;
@@ -182,7 +230,8 @@ refetch_kept words q hart reach v there hand file saw fits low few h = record {
   routes = record {
     word0 = h.routes.word0;
     word1 = h.routes.word1;
-    in_force = ap (λ w. decoded w v.word1) h.routes.word0 ∙ ap (λ w. decoded (entry_word q (entry_names there)) w) h.routes.word1 ∙ entry_back q hart (entry_names there) low few (names_fit there fits);
+    in_force = ap (λ w. decoded w v.word1) h.routes.word0 ∙ ap (λ w. decoded (entry_word q (entry_names there)) w) h.routes.word1
+        ∙ entry_back q hart (entry_names there) low few (names_fit there fits);
     may = names_reach there;
     stage = h.routes.stage;
     stage_in_force = h.routes.stage_in_force;
@@ -190,13 +239,15 @@ refetch_kept words q hart reach v there hand file saw fits low few h = record {
   looks = h.looks;
 }
   where
-    chosen_fits : (b : Bool) (x y : Option GuestPlace) → ((p : GuestPlace) → x ≡ Some p → IsInMap p) → ((p : GuestPlace) → y ≡ Some p → IsInMap p) → (p : GuestPlace) → (if b then x else y) ≡ Some p → IsInMap p
+    chosen_fits : (b : Bool) (x y : Option GuestPlace) → ((p : GuestPlace) → x ≡ Some p → IsInMap p) → ((p : GuestPlace) → y ≡ Some p → IsInMap p)
+        → (p : GuestPlace) → (if b then x else y) ≡ Some p → IsInMap p
     chosen_fits true x y f g = f
     chosen_fits false x y f g = g
 
     names_fit : (there : Home) → FilesFit there → (p : GuestPlace) → entry_names there ≡ Some p → IsInMap p
     names_fit (Resident r) fits p e = fits.own p e
-    names_fit (OnWay way at) fits p e = chosen_fits (is_written (OnWay way at)) (led_to way) (left way) (new_fits way at fits) (λ f z. fits.own f (left_is_own way f z)) p e
+    names_fit (OnWay way at) fits p e = chosen_fits (is_written (OnWay way at)) (led_to way) (left way) (new_fits way at fits)
+        (λ f z. fits.own f (left_is_own way f z)) p e
     names_fit there fits p e = absurd (cc)
 
 -- the files keep their sizes
@@ -205,7 +256,8 @@ pub places_landed-sizes : (n offset value : ℕ) (reach : Option GuestPlace) (th
 places_landed-sizes n offset value None there v own next = (own, next)
 places_landed-sizes n offset value (Some p) (OnWay (Across from to) at) v own next = either (is_place p to)
   where
-    either : (b : Bool) → ((cond b (record v { next = landed offset value v.next }) (record v { own = landed offset value v.own })).own.n ≡ n) × ((cond b (record v { next = landed offset value v.next }) (record v { own = landed offset value v.own })).next.n ≡ n)
+    either : (b : Bool) → ((cond b (record v { next = landed offset value v.next }) (record v { own = landed offset value v.own })).own.n ≡ n)
+        × ((cond b (record v { next = landed offset value v.next }) (record v { own = landed offset value v.own })).next.n ≡ n)
     either true = (own, next)
     either false = (own, next)
 places_landed-sizes n offset value (Some p) there v own next = (own, next)

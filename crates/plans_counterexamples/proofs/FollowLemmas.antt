@@ -3,12 +3,12 @@ use Rattle.std.proofs.Common.{◌≡◌, ℕ, Bool, true, false, not, ◌&&◌, 
 use Rattle.std.proofs.lemmas.Bool.{eq-eqb, eqb-true}
 use Rattle.plans_rules.specs.declared.step.Number.{Number}
 use Rattle.plans_rules.specs.declared.step.Number.TheVariants.{Threshold, Delivery}
-use Rattle.plans_rules.specs.declared.step.Place.{Place}
-use Rattle.plans_rules.specs.declared.step.Place.TheVariants.{Old, New}
-use Rattle.plans_rules.specs.declared.step.Step.{Step}
-use Rattle.plans_rules.specs.declared.step.Step.TheVariants.{Route, Fence, Switch, Zero, Take, Join, Put, ZeroNumber, TakeNumber, PutNumber, Free}
+use Rattle.plans_rules.specs.declared.step.AnyPlace.{AnyPlace}
+use Rattle.plans_rules.specs.declared.step.AnyPlace.TheVariants.{Old, New}
+use Rattle.plans_rules.specs.declared.step.AnyStep.{AnyStep}
+use Rattle.plans_rules.specs.declared.step.AnyStep.TheVariants.{Route, Fence, Switch, Zero, Take, Join, Put, ZeroNumber, TakeNumber, PutNumber, Free}
 use Rattle.plans_rules.specs.Setting.{Setting, is_old, is_pending, same_number}
-use Rattle.plans_rules.specs.Machine.{Flight, Machine, landed, all_landed, flights_of, flights_beside, led_to, with_number, stepped}
+use Rattle.plans_rules.specs.Machine.{AnyFlight, AnyMachine, landed, all_landed, flights_of, flights_beside, led_to, with_number, stepped}
 use Rattle.plans_counterexamples.specs.declared.trace.Case.{Case}
 use Rattle.plans_counterexamples.specs.declared.trace.Trace.{Trace}
 use Rattle.plans_counterexamples.specs.Trace.{Follows, names_bit, flights_by, trace_landed, trace_fenced, trace_after, worth}
@@ -22,7 +22,8 @@ itself b x = ap (λ e. b && e) (eq-eqb x x refl) ∙ and_true b
     and_true true = refl
     and_true false = refl
 
-pub follows_landed : (d : Setting) (c : Case) (place : Place) (t : Trace) (z : Machine) → Follows c t z → Follows c (trace_landed c place t) (landed d place c.identity z)
+pub follows_landed : (d : Setting) (c : Case) (place : AnyPlace) (t : Trace) (z : AnyMachine) → Follows c t z
+    → Follows c (trace_landed c place t) (landed d place c.identity z)
 follows_landed d c place t z v = record {
   old = ap₂ (λ b a. (b && is_old place) || a) (itself (is_pending c.bank) c.identity) v.old;
   new = ap₂ (λ b a. (b && not (is_old place)) || a) (itself (is_pending c.bank) c.identity) v.new;
@@ -45,7 +46,9 @@ follows_landed d c place t z v = record {
 -- ---- a fence
 
 -- other flights and another route in force
-with_others : (c : Case) (t : Trace) (z : Machine) (fs : List Flight) (f : Option Place) (F : ℕ → Place) (place : Place) → fs ≡ flights_by c f → F c.producer ≡ place → Follows c t z → Follows c (record t { flight = f; in_force = place }) (record z { flights = fs; in_force = F })
+with_others : (c : Case) (t : Trace) (z : AnyMachine) (fs : List AnyFlight) (f : Option AnyPlace) (F : ℕ → AnyPlace) (place : AnyPlace)
+    → fs ≡ flights_by c f → F c.producer ≡ place → Follows c t z
+    → Follows c (record t { flight = f; in_force = place }) (record z { flights = fs; in_force = F })
 with_others c t z fs f F place e g v = record {
   old = v.old;
   new = v.new;
@@ -61,55 +64,81 @@ with_others c t z fs f F place e g v = record {
   strayed = v.strayed;
 }
 
-fenced : (d : Setting) (c : Case) (t : Trace) (z : Machine) (f : Option Place) (b : Bool) (F : ℕ → Place) → F c.producer ≡ (if b then t.written else t.in_force) → Follows c (record t { flight = f }) (record z { flights = flights_by c f })
-    → Follows c (trace_fenced c b (record t { flight = f })) (record (all_landed d (if b then flights_by c f else []) z) { flights = if b then [] else flights_by c f; in_force = F })
-fenced d c t z f false F g v = with_others c (record t { flight = f }) (record z { flights = flights_by c f }) (flights_by c f) f F t.in_force refl g v
+fenced : (d : Setting) (c : Case) (t : Trace) (z : AnyMachine) (f : Option AnyPlace) (b : Bool) (F : ℕ → AnyPlace)
+    → F c.producer ≡ (if b then t.written else t.in_force) → Follows c (record t { flight = f }) (record z { flights = flights_by c f })
+    → Follows c (trace_fenced c b (record t { flight = f }))
+    (record (all_landed d (if b then flights_by c f else []) z) { flights = if b then [] else flights_by c f; in_force = F })
+fenced d c t z f false F g v = with_others c (record t { flight = f }) (record z { flights = flights_by c f }) (flights_by c f) f F
+    t.in_force refl g v
 fenced d c t z None true F g v = with_others c (record t { flight = None }) (record z { flights = [] }) [] None F t.written refl g v
 fenced d c t z (Some place) true F g v =
-    with_others c _ _ [] None F t.written refl g (follows_landed d c place (record t { flight = Some place }) (record z { flights = flights_by c (Some place) }) v)
+    with_others c _ _ [] None F t.written refl g (follows_landed d c place (record t { flight = Some place })
+    (record z { flights = flights_by c (Some place) }) v)
 
-those_of : (c : Case) (p : ℕ) (f : Option Place) → flights_of p (flights_by c f) ≡ (if nat_eq p c.producer then flights_by c f else [])
+those_of : (c : Case) (p : ℕ) (f : Option AnyPlace) → flights_of p (flights_by c f) ≡ (if nat_eq p c.producer then flights_by c f else [])
 those_of c p None = same (nat_eq p c.producer)
   where
-    same : (b : Bool) → ◌≡◌ {A = List Flight} [] (if b then [] else [])
+    same : (b : Bool) → ◌≡◌ {A = List AnyFlight} [] (if b then [] else [])
     same true = refl
     same false = refl
 those_of c p (Some place) = refl
 
-those_beside : (c : Case) (p : ℕ) (f : Option Place) → flights_beside p (flights_by c f) ≡ (if nat_eq p c.producer then [] else flights_by c f)
+those_beside : (c : Case) (p : ℕ) (f : Option AnyPlace) → flights_beside p (flights_by c f) ≡ (if nat_eq p c.producer then [] else flights_by c f)
 those_beside c p None = same (nat_eq p c.producer)
   where
-    same : (b : Bool) → ◌≡◌ {A = List Flight} [] (if b then [] else [])
+    same : (b : Bool) → ◌≡◌ {A = List AnyFlight} [] (if b then [] else [])
     same true = refl
     same false = refl
 those_beside c p (Some place) = refl
 
-led_here : (c : Case) (t : Trace) (z : Machine) (p : ℕ) → Follows c t z → led_to p (z.written p) z.in_force c.producer ≡ (if nat_eq p c.producer then t.written else t.in_force)
+led_here : (c : Case) (t : Trace) (z : AnyMachine) (p : ℕ) → Follows c t z
+    → led_to p (z.written p) z.in_force c.producer ≡ (if nat_eq p c.producer then t.written else t.in_force)
 led_here c t z p v = by_case (nat_eq p c.producer) refl
   where
     by_case : (b : Bool) → nat_eq p c.producer ≡ b → (if b then z.written p else z.in_force c.producer) ≡ (if b then t.written else t.in_force)
     by_case true e = ap z.written (eqb-true p c.producer e) ∙ v.written
     by_case false e = v.in_force
 
-follows_fence : (d : Setting) (c : Case) (t : Trace) (z : Machine) (p : ℕ) → Follows c t z → Follows c (trace_fenced c (nat_eq p c.producer) t) (stepped d (Fence p) z)
+follows_fence : (d : Setting) (c : Case) (t : Trace) (z : AnyMachine) (p : ℕ) → Follows c t z
+    → Follows c (trace_fenced c (nat_eq p c.producer) t) (stepped d (Fence p) z)
 follows_fence d c t z p v =
-    subst (λ fs. Follows c (trace_fenced c (nat_eq p c.producer) t) (record (all_landed d (flights_of p fs) z) { flights = flights_beside p fs; in_force = led_to p (z.written p) z.in_force })) (sym v.flights)
-    (subst (λ fs. Follows c (trace_fenced c (nat_eq p c.producer) t) (record (all_landed d fs z) { flights = flights_beside p (flights_by c t.flight); in_force = led_to p (z.written p) z.in_force })) (sym (those_of c p t.flight))
-    (subst (λ fs. Follows c (trace_fenced c (nat_eq p c.producer) t) (record (all_landed d (if nat_eq p c.producer then flights_by c t.flight else []) z) { flights = fs; in_force = led_to p (z.written p) z.in_force })) (sym (those_beside c p t.flight))
+    subst (λ fs. Follows c (trace_fenced c (nat_eq p c.producer) t)
+    (record (all_landed d (flights_of p fs) z) { flights = flights_beside p fs; in_force = led_to p (z.written p) z.in_force })) (sym v.flights)
+    (subst (λ fs. Follows c (trace_fenced c (nat_eq p c.producer) t)
+    (record (all_landed d fs z) { flights = flights_beside p (flights_by c t.flight); in_force = led_to p (z.written p) z.in_force }))
+    (sym (those_of c p t.flight))
+    (subst (λ fs. Follows c (trace_fenced c (nat_eq p c.producer) t)
+    (record (all_landed d (if nat_eq p c.producer then flights_by c t.flight else []) z)
+    { flights = fs; in_force = led_to p (z.written p) z.in_force })) (sym (those_beside c p t.flight))
     (fenced d c t z t.flight (nat_eq p c.producer) (led_to p (z.written p) z.in_force) (led_here c t z p v) (with_flights v))))
   where
     with_flights : Follows c t z → Follows c t (record z { flights = flights_by c t.flight })
-    with_flights v = record { old = v.old; new = v.new; hand = v.hand; due = v.due; old_number = v.old_number; new_number = v.new_number; hand_number = v.hand_number; written = v.written; in_force = v.in_force; flights = refl; freed = v.freed; strayed = v.strayed }
+    with_flights v = record {
+      old = v.old;
+      new = v.new;
+      hand = v.hand;
+      due = v.due;
+      old_number = v.old_number;
+      new_number = v.new_number;
+      hand_number = v.hand_number;
+      written = v.written;
+      in_force = v.in_force;
+      flights = refl;
+      freed = v.freed;
+      strayed = v.strayed;
+    }
 
 -- ---- the numbers
 
-numbered : (n m : Number) (numbers : Number → ℕ) (old value : Bool) → numbers m ≡ worth value → with_number n 0 numbers m ≡ worth (not (same_number n m) && value)
+numbered : (n m : Number) (numbers : Number → ℕ) (old value : Bool) → numbers m ≡ worth value
+    → with_number n 0 numbers m ≡ worth (not (same_number n m) && value)
 numbered Threshold Threshold numbers old value e = refl
 numbered Threshold Delivery numbers old value e = e
 numbered Delivery Threshold numbers old value e = e
 numbered Delivery Delivery numbers old value e = refl
 
-carried : (n m : Number) (from to : Number → ℕ) (a b : Bool) → from m ≡ worth a → to m ≡ worth b → with_number n (from n) to m ≡ worth ((same_number n m && a) || (not (same_number n m) && b))
+carried : (n m : Number) (from to : Number → ℕ) (a b : Bool) → from m ≡ worth a → to m ≡ worth b
+    → with_number n (from n) to m ≡ worth ((same_number n m && a) || (not (same_number n m) && b))
 carried Threshold Threshold from to a b e f = e ∙ ap worth (sym (or_false a))
   where
     or_false : (a : Bool) → (a || false) ≡ a
@@ -125,26 +154,240 @@ carried Delivery Threshold from to a b e f = f
 
 -- ---- a step
 
-route_case : (c : Case) (t : Trace) (z : Machine) (b : Bool) (W : ℕ → Place) → W c.producer ≡ (if b then New else z.written c.producer) → Follows c t z → Follows c (elim b [ true ↦ record t { written = New } | false ↦ t ]) (record z { written = W })
-route_case c t z true W e v = record { old = v.old; new = v.new; hand = v.hand; due = v.due; old_number = v.old_number; new_number = v.new_number; hand_number = v.hand_number; written = e; in_force = v.in_force; flights = v.flights; freed = v.freed; strayed = v.strayed }
-route_case c t z false W e v = record { old = v.old; new = v.new; hand = v.hand; due = v.due; old_number = v.old_number; new_number = v.new_number; hand_number = v.hand_number; written = e ∙ v.written; in_force = v.in_force; flights = v.flights; freed = v.freed; strayed = v.strayed }
+route_case : (c : Case) (t : Trace) (z : AnyMachine) (b : Bool) (W : ℕ → AnyPlace) → W c.producer ≡ (if b then New else z.written c.producer)
+    → Follows c t z → Follows c (elim b [ true ↦ record t { written = New } | false ↦ t ]) (record z { written = W })
+route_case c t z true W e v = record {
+  old = v.old;
+  new = v.new;
+  hand = v.hand;
+  due = v.due;
+  old_number = v.old_number;
+  new_number = v.new_number;
+  hand_number = v.hand_number;
+  written = e;
+  in_force = v.in_force;
+  flights = v.flights;
+  freed = v.freed;
+  strayed = v.strayed;
+}
+route_case c t z false W e v = record {
+  old = v.old;
+  new = v.new;
+  hand = v.hand;
+  due = v.due;
+  old_number = v.old_number;
+  new_number =
+      v.new_number;
+  hand_number = v.hand_number;
+  written = e
+      ∙ v.written;
+  in_force = v.in_force;
+  flights = v.flights;
+  freed = v.freed;
+  strayed = v.strayed;
+}
 
-switch_case : (c : Case) (t : Trace) (z : Machine) (b : Bool) (W F : ℕ → Place) → W c.producer ≡ (if b then New else z.written c.producer) → F c.producer ≡ (if b then New else z.in_force c.producer) → Follows c t z → Follows c (elim b [ true ↦ record t { written = New; in_force = New } | false ↦ t ]) (record z { written = W; in_force = F })
-switch_case c t z true W F e f v = record { old = v.old; new = v.new; hand = v.hand; due = v.due; old_number = v.old_number; new_number = v.new_number; hand_number = v.hand_number; written = e; in_force = f; flights = v.flights; freed = v.freed; strayed = v.strayed }
-switch_case c t z false W F e f v = record { old = v.old; new = v.new; hand = v.hand; due = v.due; old_number = v.old_number; new_number = v.new_number; hand_number = v.hand_number; written = e ∙ v.written; in_force = f ∙ v.in_force; flights = v.flights; freed = v.freed; strayed = v.strayed }
+switch_case : (c : Case) (t : Trace) (z : AnyMachine) (b : Bool) (W F : ℕ → AnyPlace) → W c.producer ≡ (if b then New else z.written c.producer)
+    → F c.producer ≡ (if b then New else z.in_force c.producer) → Follows c t z
+    → Follows c (elim b [ true ↦ record t { written = New; in_force = New } | false ↦ t ]) (record z { written = W; in_force = F })
+switch_case c t z true W F e f v = record {
+  old = v.old;
+  new = v.new;
+  hand = v.hand;
+  due = v.due;
+  old_number = v.old_number;
+  new_number =
+      v.new_number;
+  hand_number = v.hand_number;
+  written = e;
+  in_force = f;
+  flights = v.flights;
+  freed = v.freed;
+  strayed = v.strayed;
+}
+switch_case c t z false W F e f v = record {
+  old = v.old;
+  new = v.new;
+  hand = v.hand;
+  due = v.due;
+  old_number = v.old_number;
+  new_number =
+      v.new_number;
+  hand_number = v.hand_number;
+  written = e ∙ v.written;
+  in_force = f
+      ∙ v.in_force;
+  flights = v.flights;
+  freed = v.freed;
+  strayed = v.strayed;
+}
 
-pub follows_step : (d : Setting) (c : Case) (x : Step) (t : Trace) (z : Machine) → Follows c t z → Follows c (trace_after c x t) (stepped d x z)
+pub follows_step : (d : Setting) (c : Case) (x : AnyStep) (t : Trace) (z : AnyMachine) → Follows c t z → Follows c (trace_after c x t) (stepped d x z)
 follows_step d c (Route q) t z v = route_case c t z (nat_eq q c.producer) _ refl v
 follows_step d c (Switch q) t z v = switch_case c t z (nat_eq q c.producer) _ _ refl refl v
 follows_step d c (Fence q) t z v = follows_fence d c t z q v
-follows_step d c (Zero Old s w) t z v = record { old = ap (λ b. not (names_bit c s w) && b) v.old; new = v.new; hand = v.hand; due = v.due; old_number = v.old_number; new_number = v.new_number; hand_number = v.hand_number; written = v.written; in_force = v.in_force; flights = v.flights; freed = v.freed; strayed = ap₂ (λ a b. a || b) v.strayed v.freed }
-follows_step d c (Zero New s w) t z v = record { old = v.old; new = ap (λ b. not (names_bit c s w) && b) v.new; hand = v.hand; due = v.due; old_number = v.old_number; new_number = v.new_number; hand_number = v.hand_number; written = v.written; in_force = v.in_force; flights = v.flights; freed = v.freed; strayed = v.strayed }
-follows_step d c (Take s w) t z v = record { old = ap (λ b. not (names_bit c s w) && b) v.old; new = v.new; hand = ap₂ (λ a b. (names_bit c s w && a) || (not (names_bit c s w) && b)) v.old v.hand; due = v.due; old_number = v.old_number; new_number = v.new_number; hand_number = v.hand_number; written = v.written; in_force = v.in_force; flights = v.flights; freed = v.freed; strayed = ap₂ (λ a b. a || b) v.strayed v.freed }
-follows_step d c (Join s w) t z v = record { old = v.old; new = ap₂ (λ a b. (names_bit c s w && a) || b) v.hand v.new; hand = ap (λ b. not (names_bit c s w) && b) v.hand; due = v.due; old_number = v.old_number; new_number = v.new_number; hand_number = v.hand_number; written = v.written; in_force = v.in_force; flights = v.flights; freed = v.freed; strayed = v.strayed }
-follows_step d c (Put s w) t z v = record { old = v.old; new = ap₂ (λ a b. (names_bit c s w && a) || (not (names_bit c s w) && b)) v.hand v.new; hand = ap (λ b. not (names_bit c s w) && b) v.hand; due = v.due; old_number = v.old_number; new_number = v.new_number; hand_number = v.hand_number; written = v.written; in_force = v.in_force; flights = v.flights; freed = v.freed; strayed = v.strayed }
-follows_step d c (ZeroNumber Old n) t z v = record { old = v.old; new = v.new; hand = v.hand; due = v.due; old_number = numbered n c.number z.old_number false t.old_number v.old_number; new_number = v.new_number; hand_number = v.hand_number; written = v.written; in_force = v.in_force; flights = v.flights; freed = v.freed; strayed = ap₂ (λ a b. a || b) v.strayed v.freed }
-follows_step d c (ZeroNumber New n) t z v = record { old = v.old; new = v.new; hand = v.hand; due = v.due; old_number = v.old_number; new_number = numbered n c.number z.new_number false t.new_number v.new_number; hand_number = v.hand_number; written = v.written; in_force = v.in_force; flights = v.flights; freed = v.freed; strayed = v.strayed }
-follows_step d c (TakeNumber n) t z v = record { old = v.old; new = v.new; hand = v.hand; due = v.due; old_number = numbered n c.number z.old_number false t.old_number v.old_number; new_number = v.new_number; hand_number = carried n c.number z.old_number z.hand_number t.old_number t.hand_number v.old_number v.hand_number; written = v.written; in_force = v.in_force; flights = v.flights; freed = v.freed; strayed = ap₂ (λ a b. a || b) v.strayed v.freed }
-follows_step d c (PutNumber n) t z v = record { old = v.old; new = v.new; hand = v.hand; due = v.due; old_number = v.old_number; new_number = carried n c.number z.hand_number z.new_number t.hand_number t.new_number v.hand_number v.new_number; hand_number = v.hand_number; written = v.written; in_force = v.in_force; flights = v.flights; freed = v.freed; strayed = v.strayed }
-follows_step d c Free t z v = record { old = v.old; new = v.new; hand = v.hand; due = v.due; old_number = v.old_number; new_number = v.new_number; hand_number = v.hand_number; written = v.written; in_force = v.in_force; flights = v.flights; freed = refl; strayed = v.strayed }
-follows_step d c x t z v = record { old = v.old; new = v.new; hand = v.hand; due = v.due; old_number = v.old_number; new_number = v.new_number; hand_number = v.hand_number; written = v.written; in_force = v.in_force; flights = v.flights; freed = v.freed; strayed = v.strayed }
+follows_step d c (Zero Old s w) t z v = record {
+  old = ap (λ b. not (names_bit c s w) && b) v.old;
+  new = v.new;
+  hand = v.hand;
+  due = v.due;
+  old_number = v.old_number;
+  new_number =
+      v.new_number;
+  hand_number = v.hand_number;
+  written = v.written;
+  in_force = v.in_force;
+  flights = v.flights;
+  freed = v.freed;
+  strayed =
+      ap₂ (λ a b. a || b) v.strayed v.freed;
+}
+follows_step d c (Zero New s w) t z v = record {
+  old = v.old;
+  new = ap (λ b. not (names_bit c s w) && b) v.new;
+  hand = v.hand;
+  due = v.due;
+  old_number = v.old_number;
+  new_number =
+      v.new_number;
+  hand_number = v.hand_number;
+  written = v.written;
+  in_force = v.in_force;
+  flights = v.flights;
+  freed = v.freed;
+  strayed = v.strayed;
+}
+follows_step d c (Take s w) t z v = record {
+  old = ap (λ b. not (names_bit c s w) && b) v.old;
+  new = v.new;
+  hand =
+      ap₂ (λ a b. (names_bit c s w && a) || (not (names_bit c s w) && b)) v.old v.hand;
+  due = v.due;
+  old_number = v.old_number;
+  new_number =
+      v.new_number;
+  hand_number = v.hand_number;
+  written = v.written;
+  in_force = v.in_force;
+  flights = v.flights;
+  freed = v.freed;
+  strayed =
+      ap₂ (λ a b. a || b) v.strayed v.freed;
+}
+follows_step d c (Join s w) t z v = record {
+  old = v.old;
+  new = ap₂ (λ a b. (names_bit c s w && a) || b) v.hand v.new;
+  hand =
+      ap (λ b. not (names_bit c s w) && b) v.hand;
+  due = v.due;
+  old_number = v.old_number;
+  new_number = v.new_number;
+  hand_number = v.hand_number;
+  written = v.written;
+  in_force = v.in_force;
+  flights = v.flights;
+  freed = v.freed;
+  strayed = v.strayed;
+}
+follows_step d c (Put s w) t z v = record {
+  old = v.old;
+  new = ap₂ (λ a b. (names_bit c s w && a) || (not (names_bit c s w) && b)) v.hand v.new;
+  hand = ap (λ b. not (names_bit c s w) && b) v.hand;
+  due = v.due;
+  old_number = v.old_number;
+  new_number = v.new_number;
+  hand_number =
+      v.hand_number;
+  written = v.written;
+  in_force = v.in_force;
+  flights = v.flights;
+  freed = v.freed;
+  strayed = v.strayed;
+}
+follows_step d c (ZeroNumber Old n) t z v = record {
+  old = v.old;
+  new = v.new;
+  hand = v.hand;
+  due = v.due;
+  old_number = numbered n c.number z.old_number false t.old_number v.old_number;
+  new_number = v.new_number;
+  hand_number = v.hand_number;
+  written = v.written;
+  in_force = v.in_force;
+  flights = v.flights;
+  freed = v.freed;
+  strayed = ap₂ (λ a b. a || b) v.strayed v.freed;
+}
+follows_step d c (ZeroNumber New n) t z v = record {
+  old = v.old;
+  new = v.new;
+  hand = v.hand;
+  due = v.due;
+  old_number = v.old_number;
+  new_number =
+      numbered n c.number z.new_number false t.new_number v.new_number;
+  hand_number = v.hand_number;
+  written = v.written;
+  in_force = v.in_force;
+  flights = v.flights;
+  freed = v.freed;
+  strayed = v.strayed;
+}
+follows_step d c (TakeNumber n) t z v = record {
+  old = v.old;
+  new = v.new;
+  hand = v.hand;
+  due = v.due;
+  old_number = numbered n c.number z.old_number false t.old_number v.old_number;
+  new_number = v.new_number;
+  hand_number = carried n c.number z.old_number z.hand_number t.old_number t.hand_number v.old_number v.hand_number;
+  written = v.written;
+  in_force = v.in_force;
+  flights = v.flights;
+  freed = v.freed;
+  strayed = ap₂ (λ a b. a || b) v.strayed v.freed;
+}
+follows_step d c (PutNumber n) t z v = record {
+  old = v.old;
+  new = v.new;
+  hand = v.hand;
+  due = v.due;
+  old_number = v.old_number;
+  new_number =
+      carried n c.number z.hand_number z.new_number t.hand_number t.new_number v.hand_number v.new_number;
+  hand_number = v.hand_number;
+  written =
+      v.written;
+  in_force = v.in_force;
+  flights = v.flights;
+  freed = v.freed;
+  strayed = v.strayed;
+}
+follows_step d c Free t z v = record {
+  old = v.old;
+  new = v.new;
+  hand = v.hand;
+  due = v.due;
+  old_number = v.old_number;
+  new_number = v.new_number;
+  hand_number = v.hand_number;
+  written = v.written;
+  in_force = v.in_force;
+  flights = v.flights;
+  freed = refl;
+  strayed = v.strayed;
+}
+follows_step d c x t z v = record {
+  old = v.old;
+  new = v.new;
+  hand = v.hand;
+  due = v.due;
+  old_number = v.old_number;
+  new_number = v.new_number;
+  hand_number = v.hand_number;
+  written = v.written;
+  in_force = v.in_force;
+  flights = v.flights;
+  freed = v.freed;
+  strayed = v.strayed;
+}

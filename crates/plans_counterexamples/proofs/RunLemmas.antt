@@ -5,25 +5,25 @@ use Rattle.std.specs.List.{AllByRecursion}
 use Rattle.std.proofs.lemmas.Bool.{eq-eqb, false≢true, ltb-true}
 use Rattle.std.proofs.lemmas.List.{append-nil, take_more, take_all}
 use Rattle.std.proofs.lemmas.Option.{slice_get-get_or, slice_get_within}
-use Rattle.plans_rules.specs.declared.step.Bank.{Bank}
-use Rattle.plans_rules.specs.declared.step.Bank.TheVariants.{Pending, Enabled}
-use Rattle.plans_rules.specs.declared.step.Place.{Place}
-use Rattle.plans_rules.specs.declared.step.Place.TheVariants.{Old, New}
-use Rattle.plans_rules.specs.declared.step.Step.{Step}
-use Rattle.plans_rules.specs.declared.setting.Kind.{Kind}
-use Rattle.plans_rules.specs.declared.setting.Kind.TheVariants.{Routed, Switched}
-use Rattle.plans_rules.specs.declared.setting.Spot.{Spot}
-use Rattle.plans_rules.specs.declared.setting.Spot.TheVariants.{InOld, InHand, InNew}
+use Rattle.plans_rules.specs.declared.step.WhichSet.{WhichSet}
+use Rattle.plans_rules.specs.declared.step.WhichSet.TheVariants.{Pending, Enabled}
+use Rattle.plans_rules.specs.declared.step.AnyPlace.{AnyPlace}
+use Rattle.plans_rules.specs.declared.step.AnyPlace.TheVariants.{Old, New}
+use Rattle.plans_rules.specs.declared.step.AnyStep.{AnyStep}
+use Rattle.plans_rules.specs.declared.setting.RouteKind.{RouteKind}
+use Rattle.plans_rules.specs.declared.setting.RouteKind.TheVariants.{Routed, Switched}
+use Rattle.plans_rules.specs.declared.setting.NumberSpot.{NumberSpot}
+use Rattle.plans_rules.specs.declared.setting.NumberSpot.TheVariants.{InOld, InHand, InNew}
 use Rattle.plans_rules.specs.declared.setting.Terms.{Terms}
 use Rattle.plans_rules.specs.Setting.{Setting, setting_of, is_old, same_spot}
-use Rattle.plans_rules.specs.Machine.{Flight, Machine, Happening, landed, all_happened, happened, one_landed, all_but, steps_in, stepped}
+use Rattle.plans_rules.specs.Machine.{AnyFlight, AnyMachine, AnyHappening, landed, all_happened, happened, one_landed, all_but, steps_in, stepped}
 use Rattle.plans_rules.specs.Machine.By.{InForce as AsInForce}
-use Rattle.plans_rules.specs.Machine.Happening.{Does, Stores, Sends, Lands, Refetches}
-use Rattle.plans_rules.specs.Safe.{IsRouted, CanHappen, IsRun, IsStart, IsMoved, number_in}
+use Rattle.plans_rules.specs.Machine.AnyHappening.{Does, Stores, Sends, Lands, Refetches}
+use Rattle.plans_rules.specs.Safe.{IsRouted, CanHappen, IsRun, IsStartOfAny, IsMovedByAny, number_in}
 use Rattle.plans_rules.proofs.BoolLaws.{not_true, and_left, and_right, or_cases}
 use Rattle.plans_counterexamples.specs.declared.trace.Case.{Case}
-use Rattle.plans_counterexamples.specs.declared.trace.Route.{Route}
-use Rattle.plans_counterexamples.specs.declared.trace.Route.TheVariants.{Written, InForce}
+use Rattle.plans_counterexamples.specs.declared.trace.StoreRoute.{StoreRoute}
+use Rattle.plans_counterexamples.specs.declared.trace.StoreRoute.TheVariants.{Written, InForce}
 use Rattle.plans_counterexamples.specs.declared.trace.Trace.{Trace}
 use Rattle.plans_counterexamples.specs.declared.run.Run.{Run}
 use Rattle.plans_counterexamples.specs.declared.run.Extra.{Extra}
@@ -34,11 +34,11 @@ use Rattle.plans_counterexamples.proofs.FollowLemmas.{follows_landed, follows_st
 
 -- ---- lists of happenings
 
-pub all_happened-append : (d : Setting) (a b : List Happening) (z : Machine) → all_happened d (a ++ b) z ≡ all_happened d b (all_happened d a z)
+pub all_happened-append : (d : Setting) (a b : List AnyHappening) (z : AnyMachine) → all_happened d (a ++ b) z ≡ all_happened d b (all_happened d a z)
 all_happened-append d [] b z = refl
 all_happened-append d (x ∷ a) b z = all_happened-append d a b (happened d x z)
 
-steps_in-append : (a b : List Happening) → steps_in (a ++ b) ≡ steps_in a ++ steps_in b
+steps_in-append : (a b : List AnyHappening) → steps_in (a ++ b) ≡ steps_in a ++ steps_in b
 steps_in-append [] b = refl
 steps_in-append (Does x ∷ a) b = ap (λ xs. x ∷ xs) (steps_in-append a b)
 steps_in-append (Stores p by x ∷ a) b = steps_in-append a b
@@ -46,13 +46,14 @@ steps_in-append (Sends p by x ∷ a) b = steps_in-append a b
 steps_in-append (Lands k ∷ a) b = steps_in-append a b
 steps_in-append (Refetches p ∷ a) b = steps_in-append a b
 
-all-append : (P : Happening → Type 0) (a b : List Happening) → AllByRecursion P a → AllByRecursion P b → AllByRecursion P (a ++ b)
+all-append : (P : AnyHappening → Type 0) (a b : List AnyHappening) → AllByRecursion P a → AllByRecursion P b → AllByRecursion P (a ++ b)
 all-append P [] b all more = more
 all-append P (x ∷ a) b all more = (all.0, all-append P a b all.1 more)
 
 -- ---- the start
 
-pub follows_begun : (producers : List Kind) (terms : Terms) (run : Run) → Follows run.case (trace_begun run terms) (start_of (setting_of producers terms) run)
+pub follows_begun : (producers : List RouteKind) (terms : Terms) (run : Run)
+    → Follows run.case (trace_begun run terms) (start_of (setting_of producers terms) run)
 follows_begun producers terms run = record {
   old = there (begins_old run.begin) run.case.bank run.case.identity;
   new = there (begins_new run.begin) run.case.bank run.case.identity;
@@ -68,33 +69,55 @@ follows_begun producers terms run = record {
   strayed = refl;
 }
   where
-    there : (b : Bool) (s : Bank) (i : ℕ) → one_bit b s i s i ≡ b
+    there : (b : Bool) (s : WhichSet) (i : ℕ) → one_bit b s i s i ≡ b
     there false s i = refl
     there true Pending i = eq-eqb i i refl
     there true Enabled i = eq-eqb i i refl
 
 -- ---- the store
 
-flown : (d : Setting) (c : Case) (t : Trace) (z : Machine) → Follows c t z → Follows c (record (flight_landed c t.flight t) { flight = None }) (happened d (Lands 0) z)
+flown : (d : Setting) (c : Case) (t : Trace) (z : AnyMachine) → Follows c t z
+    → Follows c (record (flight_landed c t.flight t) { flight = None }) (happened d (Lands 0) z)
 flown d c t z v =
-    subst (λ fs. Follows c (record (flight_landed c t.flight t) { flight = None }) (record (one_landed d (slice_get fs 0) z) { flights = all_but 0 fs })) (sym v.flights) (by_flight t.flight refl)
+    subst (λ fs. Follows c (record (flight_landed c t.flight t) { flight = None })
+    (record (one_landed d (slice_get fs 0) z) { flights = all_but 0 fs })) (sym v.flights) (by_flight t.flight refl)
   where
-    bare : (u : Trace) (y : Machine) (fs : List Flight) → fs ≡ [] → Follows c u y → Follows c (record u { flight = None }) (record y { flights = fs })
-    bare u y fs e w = record { old = w.old; new = w.new; hand = w.hand; due = w.due; old_number = w.old_number; new_number = w.new_number; hand_number = w.hand_number; written = w.written; in_force = w.in_force; flights = e; freed = w.freed; strayed = w.strayed }
+    bare : (u : Trace) (y : AnyMachine) (fs : List AnyFlight) → fs ≡ [] → Follows c u y
+        → Follows c (record u { flight = None }) (record y { flights = fs })
+    bare u y fs e w = record {
+      old = w.old;
+      new = w.new;
+      hand = w.hand;
+      due = w.due;
+      old_number = w.old_number;
+      new_number = w.new_number;
+      hand_number = w.hand_number;
+      written = w.written;
+      in_force = w.in_force;
+      flights = e;
+      freed = w.freed;
+      strayed = w.strayed;
+    }
 
-    by_flight : (f : Option Place) → t.flight ≡ f → Follows c (record (flight_landed c f t) { flight = None }) (record (one_landed d (slice_get (flights_by c f) 0) z) { flights = all_but 0 (flights_by c f) })
+    by_flight : (f : Option AnyPlace) → t.flight ≡ f
+        → Follows c (record (flight_landed c f t) { flight = None })
+        (record (one_landed d (slice_get (flights_by c f) 0) z) { flights = all_but 0 (flights_by c f) })
     by_flight None e = bare t z [] refl v
     by_flight (Some place) e = bare (trace_landed c place t) (landed d place c.identity z) [] refl (follows_landed d c place t z v)
 
-stored : (d : Setting) (c : Case) (route : Route) (t : Trace) (z : Machine) → Follows c t z → Follows c (trace_stored c route t) (happened d (Stores c.producer (by_of route) c.identity) z)
-stored d c Written t z v = subst (λ place. Follows c (trace_landed c t.written t) (landed d place c.identity z)) (sym v.written) (follows_landed d c t.written t z v)
-stored d c InForce t z v = subst (λ place. Follows c (trace_landed c t.in_force t) (landed d place c.identity z)) (sym v.in_force) (follows_landed d c t.in_force t z v)
+stored : (d : Setting) (c : Case) (route : StoreRoute) (t : Trace) (z : AnyMachine) → Follows c t z
+    → Follows c (trace_stored c route t) (happened d (Stores c.producer (by_of route) c.identity) z)
+stored d c Written t z v = subst (λ place. Follows c (trace_landed c t.written t) (landed d place c.identity z)) (sym v.written)
+    (follows_landed d c t.written t z v)
+stored d c InForce t z v = subst (λ place. Follows c (trace_landed c t.in_force t) (landed d place c.identity z)) (sym v.in_force)
+    (follows_landed d c t.in_force t z v)
 
 -- Where a store is sent, none is in flight yet.
 abbrev pub IsUnsent : Run → ℕ → Trace → Type 0
 IsUnsent run k t = (before : ℕ) → run.extra ≡ extras.Lingers before → nat_eq before k ≡ true → t.flight ≡ None
 
-sent : (d : Setting) (c : Case) (t : Trace) (z : Machine) → t.flight ≡ None → Follows c t z → Follows c (record t { flight = Some t.in_force }) (happened d (Sends c.producer AsInForce c.identity) z)
+sent : (d : Setting) (c : Case) (t : Trace) (z : AnyMachine) → t.flight ≡ None → Follows c t z
+    → Follows c (record t { flight = Some t.in_force }) (happened d (Sends c.producer AsInForce c.identity) z)
 sent d c t z none v = record {
   old = v.old;
   new = v.new;
@@ -105,27 +128,34 @@ sent d c t z none v = record {
   hand_number = v.hand_number;
   written = v.written;
   in_force = v.in_force;
-  flights = ap₂ (λ place fs. record { producer = c.producer; place = place; identity = c.identity } ∷ fs) v.in_force (v.flights ∙ ap (flights_by c) none);
+  flights = ap₂ (λ place fs. record { producer = c.producer; place = place; identity = c.identity } ∷ fs) v.in_force
+      (v.flights ∙ ap (flights_by c) none);
   freed = v.freed;
   strayed = v.strayed;
 }
 
-pub follows_extra : (d : Setting) (run : Run) (k : ℕ) (t : Trace) (z : Machine) → IsUnsent run k t → Follows run.case t z → Follows run.case (trace_extra run k t) (all_happened d (extra_at run k) z)
+pub follows_extra : (d : Setting) (run : Run) (k : ℕ) (t : Trace) (z : AnyMachine) → IsUnsent run k t → Follows run.case t z
+    → Follows run.case (trace_extra run k t) (all_happened d (extra_at run k) z)
 follows_extra d run k t z unsent v = by_extra run.extra refl
   where
-    stores_at : (b : Bool) (route : Route) → Follows run.case (elim b [ true ↦ trace_stored run.case route t | false ↦ t ]) (all_happened d (if b then Stores run.case.producer (by_of route) run.case.identity ∷ [] else []) z)
+    stores_at : (b : Bool) (route : StoreRoute) → Follows run.case (elim b [ true ↦ trace_stored run.case route t | false ↦ t ])
+        (all_happened d (if b then Stores run.case.producer (by_of route) run.case.identity ∷ [] else []) z)
     stores_at true route = stored d run.case route t z v
     stores_at false route = v
 
-    flies_at : (b : Bool) → Follows run.case (elim b [ true ↦ record (flight_landed run.case t.flight t) { flight = None } | false ↦ t ]) (all_happened d (if b then Lands 0 ∷ [] else []) z)
+    flies_at : (b : Bool) → Follows run.case (elim b [ true ↦ record (flight_landed run.case t.flight t) { flight = None } | false ↦ t ])
+        (all_happened d (if b then Lands 0 ∷ [] else []) z)
     flies_at true = flown d run.case t z v
     flies_at false = v
 
-    lingers_at : (b : Bool) → (b ≡ true → t.flight ≡ None) → Follows run.case (elim b [ true ↦ record t { flight = Some t.in_force } | false ↦ t ]) (all_happened d (if b then Sends run.case.producer AsInForce run.case.identity ∷ [] else []) z)
+    lingers_at : (b : Bool) → (b ≡ true → t.flight ≡ None)
+        → Follows run.case (elim b [ true ↦ record t { flight = Some t.in_force } | false ↦ t ])
+        (all_happened d (if b then Sends run.case.producer AsInForce run.case.identity ∷ [] else []) z)
     lingers_at true none = sent d run.case t z (none refl) v
     lingers_at false none = v
 
-    by_extra : (extra : Extra) → run.extra ≡ extra → Follows run.case (trace_extra (record run { extra = extra }) k t) (all_happened d (extra_at (record run { extra = extra }) k) z)
+    by_extra : (extra : Extra) → run.extra ≡ extra
+        → Follows run.case (trace_extra (record run { extra = extra }) k t) (all_happened d (extra_at (record run { extra = extra }) k) z)
     by_extra extras.Nothing is = v
     by_extra (extras.Stores before route) is = stores_at (nat_eq before k) route
     by_extra (extras.Flies before) is = flies_at (nat_eq before k)
@@ -133,36 +163,43 @@ follows_extra d run k t z unsent v = by_extra run.extra refl
 
 -- ---- the loop over the steps
 
-pub follows_more : (producers : List Kind) (terms : Terms) (plan : List Step) (run : Run) (k : ℕ) (x : Step) (t : Trace) → k < length plan → IsUnsent run k t
+pub follows_more : (producers : List RouteKind) (terms : Terms) (plan : List AnyStep) (run : Run) (k : ℕ) (x : AnyStep) (t : Trace)
+    → k < length plan → IsUnsent run k t
     → Follows run.case t (all_happened (setting_of producers terms) (run_upto plan run k) (start_of (setting_of producers terms) run))
-    → Follows run.case (trace_after run.case (get_or plan k x) (trace_extra run k t)) (all_happened (setting_of producers terms) (run_upto plan run (k + 1)) (start_of (setting_of producers terms) run))
+    → Follows run.case (trace_after run.case (get_or plan k x) (trace_extra run k t))
+    (all_happened (setting_of producers terms) (run_upto plan run (k + 1)) (start_of (setting_of producers terms) run))
 follows_more producers terms plan run k x t low unsent v =
     let d : Setting = setting_of producers terms in
-    let start : Machine = start_of d run in
-    let here : Machine = all_happened d (extra_at run k) (all_happened d (run_upto plan run k) start) in
+    let start : AnyMachine = start_of d run in
+    let here : AnyMachine = all_happened d (extra_at run k) (all_happened d (run_upto plan run k) start) in
     let split : all_happened d (run_upto plan run (suc k)) start ≡ all_happened d (step_at plan k) here =
-    all_happened-append d (run_upto plan run k) (extra_at run k ++ step_at plan k) start ∙ all_happened-append d (extra_at run k) (step_at plan k) (all_happened d (run_upto plan run k) start) in
-    let step : all_happened d (step_at plan k) here ≡ stepped d (get_or plan k x) here = ap (λ o. all_happened d (done_by o) here) (slice_get-get_or plan k x low) in
-    subst (Follows run.case (trace_after run.case (get_or plan k x) (trace_extra run k t))) (sym (ap (λ n. all_happened d (run_upto plan run n) start) (next k) ∙ split ∙ step))
+    all_happened-append d (run_upto plan run k) (extra_at run k ++ step_at plan k) start
+    ∙ all_happened-append d (extra_at run k) (step_at plan k) (all_happened d (run_upto plan run k) start) in
+    let step : all_happened d (step_at plan k) here ≡ stepped d (get_or plan k x) here =
+    ap (λ o. all_happened d (done_by o) here) (slice_get-get_or plan k x low) in
+    subst (Follows run.case (trace_after run.case (get_or plan k x) (trace_extra run k t)))
+    (sym (ap (λ n. all_happened d (run_upto plan run n) start) (next k) ∙ split ∙ step))
     (follows_step d run.case (get_or plan k x) (trace_extra run k t) here (follows_extra d run k t _ unsent v))
   where
-    done_by : Option Step → List Happening
+    done_by : Option AnyStep → List AnyHappening
     done_by o = elim o [ None ↦ [] | Some y ↦ Does y ∷ [] ]
 
     next : (k : ℕ) → k + 1 ≡ suc k
     next k = omega arith
 
-pub follows_end : (producers : List Kind) (terms : Terms) (plan : List Step) (run : Run) (t : Trace) → IsUnsent run (length plan) t
+pub follows_end : (producers : List RouteKind) (terms : Terms) (plan : List AnyStep) (run : Run) (t : Trace) → IsUnsent run (length plan) t
     → Follows run.case t (all_happened (setting_of producers terms) (run_upto plan run (length plan)) (start_of (setting_of producers terms) run))
-    → Follows run.case (trace_extra run (length plan) t) (all_happened (setting_of producers terms) (happenings plan run) (start_of (setting_of producers terms) run))
+    → Follows run.case (trace_extra run (length plan) t)
+    (all_happened (setting_of producers terms) (happenings plan run) (start_of (setting_of producers terms) run))
 follows_end producers terms plan run t unsent v =
     let d : Setting = setting_of producers terms in
-    subst (Follows run.case (trace_extra run (length plan) t)) (sym (all_happened-append d (run_upto plan run (length plan)) (extra_at run (length plan)) (start_of d run)))
+    subst (Follows run.case (trace_extra run (length plan) t))
+    (sym (all_happened-append d (run_upto plan run (length plan)) (extra_at run (length plan)) (start_of d run)))
     (follows_extra d run (length plan) t _ unsent v)
 
 -- ---- it is a run of the plan
 
-routed_is : (o : Option Kind) → is_routed o ≡ true → o ≡ Some Routed
+routed_is : (o : Option RouteKind) → is_routed o ≡ true → o ≡ Some Routed
 routed_is None e = absurd (false≢true e)
 routed_is (Some Routed) e = refl
 routed_is (Some Switched) e = absurd (false≢true e)
@@ -171,7 +208,7 @@ pub below_is : (a b : ℕ) → nat_lt a b ≡ true → a < b
 below_is a b e = ltb-true a b e
 
 -- What can_be says of the store.
-abbrev pub MayStore : List Kind → Run → Extra → Bool
+abbrev pub MayStore : List RouteKind → Run → Extra → Bool
 MayStore producers run extra = elim extra [
   | extras.Nothing ↦ true
   | extras.Stores before route ↦ nat_lt run.case.producer (length producers)
@@ -179,8 +216,9 @@ MayStore producers run extra = elim extra [
   | extras.Lingers before ↦ is_routed (slice_get producers run.case.producer)
 ]
 
-begin_flights : (producers : List Kind) (terms : Terms) (run : Run) (extra : Extra) → MayStore producers run extra ≡ true
-    → AllByRecursion (λ (f : Flight). IsRouted (setting_of producers terms) f.producer × (f.place ≡ Old)) (flights_by run.case (first_flight extra))
+begin_flights : (producers : List RouteKind) (terms : Terms) (run : Run) (extra : Extra) → MayStore producers run extra ≡ true
+    → AllByRecursion (λ (f : AnyFlight). IsRouted (setting_of producers terms) f.producer × (f.place ≡ Old))
+    (flights_by run.case (first_flight extra))
 begin_flights producers terms run extras.Nothing e = tt
 begin_flights producers terms run (extras.Stores before route) e = tt
 begin_flights producers terms run (extras.Lingers before) e = tt
@@ -188,12 +226,13 @@ begin_flights producers terms run (extras.Flies before) e =
     let is = routed_is (slice_get producers run.case.producer) e in
     (((slice_get_within producers run.case.producer Routed is, is), refl), tt)
 
-none_new : (n fresh : Bool) (s : Bank) (i : ℕ) (u : Bank) (j : ℕ) → (not n || not fresh) ≡ true → fresh ≡ true → one_bit n s i u j ≡ false
+none_new : (n fresh : Bool) (s : WhichSet) (i : ℕ) (u : WhichSet) (j : ℕ) → (not n || not fresh) ≡ true → fresh ≡ true → one_bit n s i u j ≡ false
 none_new false fresh s i u j e f = refl
 none_new true true s i u j e f = absurd (false≢true e)
 none_new true false s i u j e f = absurd (false≢true f)
 
-begins_well : (producers : List Kind) (terms : Terms) (run : Run) → (not (begins_new run.begin) || not terms.is_fresh) ≡ true → MayStore producers run run.extra ≡ true → IsStart (setting_of producers terms) (start_of (setting_of producers terms) run)
+begins_well : (producers : List RouteKind) (terms : Terms) (run : Run) → (not (begins_new run.begin) || not terms.is_fresh) ≡ true
+    → MayStore producers run run.extra ≡ true → IsStartOfAny (setting_of producers terms) (start_of (setting_of producers terms) run)
 begins_well producers terms run fresh may = record {
   written = λ p is. refl;
   in_force = λ p is. refl;
@@ -209,7 +248,7 @@ begins_well producers terms run fresh may = record {
 extra_steps : (run : Run) (k : ℕ) → steps_in (extra_at run k) ≡ []
 extra_steps run k = by_extra run.extra
   where
-    one_store : (b : Bool) (x : Happening) → steps_in (x ∷ []) ≡ [] → steps_in (if b then x ∷ [] else []) ≡ []
+    one_store : (b : Bool) (x : AnyHappening) → steps_in (x ∷ []) ≡ [] → steps_in (if b then x ∷ [] else []) ≡ []
     one_store true x e = e
     one_store false x e = refl
 
@@ -219,52 +258,61 @@ extra_steps run k = by_extra run.extra
     by_extra (extras.Flies before) = one_store (nat_eq before k) (Lands 0) refl
     by_extra (extras.Lingers before) = one_store (nat_eq before k) (Sends run.case.producer AsInForce run.case.identity) refl
 
-steps_upto : (plan : List Step) (run : Run) (k : ℕ) → k ≤ length plan → steps_in (run_upto plan run k) ≡ take k plan
+steps_upto : (plan : List AnyStep) (run : Run) (k : ℕ) → k ≤ length plan → steps_in (run_upto plan run k) ≡ take k plan
 steps_upto plan run zero within = refl
 steps_upto [] run (suc k) within = absurd (omega (arith, within))
 steps_upto (y ∷ ys) run (suc k) within =
     steps_in-append (run_upto (y ∷ ys) run k) (extra_at run k ++ step_at (y ∷ ys) k)
     ∙ ap₂ (λ a b. a ++ b) (steps_upto (y ∷ ys) run k (omega (arith, within)))
-    (steps_in-append (extra_at run k) (step_at (y ∷ ys) k) ∙ ap (λ a. a ++ steps_in (step_at (y ∷ ys) k)) (extra_steps run k) ∙ ap (λ o. steps_in (done_by o)) (slice_get-get_or (y ∷ ys) k y (omega (arith, within))))
+    (steps_in-append (extra_at run k) (step_at (y ∷ ys) k) ∙ ap (λ a. a ++ steps_in (step_at (y ∷ ys) k)) (extra_steps run k)
+    ∙ ap (λ o. steps_in (done_by o)) (slice_get-get_or (y ∷ ys) k y (omega (arith, within))))
     ∙ sym (ap (λ n. take n (y ∷ ys)) (next k) ∙ take_more (y ∷ ys) k y (omega (arith, within)))
   where
-    done_by : Option Step → List Happening
+    done_by : Option AnyStep → List AnyHappening
     done_by o = elim o [ None ↦ [] | Some x ↦ Does x ∷ [] ]
 
     next : (k : ℕ) → suc k ≡ k + 1
     next k = omega arith
 
-extra_can : (producers : List Kind) (terms : Terms) (run : Run) (k : ℕ) → MayStore producers run run.extra ≡ true → AllByRecursion (CanHappen (setting_of producers terms)) (extra_at run k)
+extra_can : (producers : List RouteKind) (terms : Terms) (run : Run) (k : ℕ) → MayStore producers run run.extra ≡ true
+    → AllByRecursion (CanHappen (setting_of producers terms)) (extra_at run k)
 extra_can producers terms run k may = by_extra run.extra may
   where
-    one_store : (b : Bool) (x : Happening) → CanHappen (setting_of producers terms) x → AllByRecursion (CanHappen (setting_of producers terms)) (if b then x ∷ [] else [])
+    one_store : (b : Bool) (x : AnyHappening) → CanHappen (setting_of producers terms) x
+        → AllByRecursion (CanHappen (setting_of producers terms)) (if b then x ∷ [] else [])
     one_store true x can = (can, tt)
     one_store false x can = tt
 
-    by_extra : (extra : Extra) → MayStore producers run extra ≡ true → AllByRecursion (CanHappen (setting_of producers terms)) (extra_at (record run { extra = extra }) k)
+    by_extra : (extra : Extra) → MayStore producers run extra ≡ true
+        → AllByRecursion (CanHappen (setting_of producers terms)) (extra_at (record run { extra = extra }) k)
     by_extra extras.Nothing e = tt
-    by_extra (extras.Stores before route) e = one_store (nat_eq before k) (Stores run.case.producer (by_of route) run.case.identity) (below_is run.case.producer (length producers) e)
+    by_extra (extras.Stores before route) e = one_store (nat_eq before k) (Stores run.case.producer (by_of route) run.case.identity)
+        (below_is run.case.producer (length producers) e)
     by_extra (extras.Flies before) e = one_store (nat_eq before k) (Lands 0) tt
     by_extra (extras.Lingers before) e =
         let is = routed_is (slice_get producers run.case.producer) e in
         one_store (nat_eq before k) (Sends run.case.producer AsInForce run.case.identity) (slice_get_within producers run.case.producer Routed is, is)
 
-step_can : (d : Setting) (o : Option Step) → AllByRecursion (CanHappen d) (elim o [ None ↦ [] | Some x ↦ Does x ∷ [] ])
+step_can : (d : Setting) (o : Option AnyStep) → AllByRecursion (CanHappen d) (elim o [ None ↦ [] | Some x ↦ Does x ∷ [] ])
 step_can d None = tt
 step_can d (Some x) = (tt, tt)
 
-upto_can : (producers : List Kind) (terms : Terms) (plan : List Step) (run : Run) (k : ℕ) → MayStore producers run run.extra ≡ true → AllByRecursion (CanHappen (setting_of producers terms)) (run_upto plan run k)
+upto_can : (producers : List RouteKind) (terms : Terms) (plan : List AnyStep) (run : Run) (k : ℕ) → MayStore producers run run.extra ≡ true
+    → AllByRecursion (CanHappen (setting_of producers terms)) (run_upto plan run k)
 upto_can producers terms plan run zero may = tt
 upto_can producers terms plan run (suc k) may =
     let d : Setting = setting_of producers terms in
     all-append (CanHappen d) (run_upto plan run k) (extra_at run k ++ step_at plan k) (upto_can producers terms plan run k may)
     (all-append (CanHappen d) (extra_at run k) (step_at plan k) (extra_can producers terms run k may) (step_can d (slice_get plan k)))
 
-pub happens_well : (producers : List Kind) (terms : Terms) (plan : List Step) (run : Run) → MayStore producers run run.extra ≡ true → IsRun (setting_of producers terms) plan (happenings plan run)
+pub happens_well : (producers : List RouteKind) (terms : Terms) (plan : List AnyStep) (run : Run) → MayStore producers run run.extra ≡ true
+    → IsRun (setting_of producers terms) plan (happenings plan run)
 happens_well producers terms plan run may = record {
   steps = steps_in-append (run_upto plan run (length plan)) (extra_at run (length plan))
-      ∙ ap₂ (λ a b. a ++ b) (steps_upto plan run (length plan) (omega arith)) (extra_steps run (length plan)) ∙ append-nil (take (length plan) plan) ∙ take_all (length plan) plan (omega arith);
-  others = all-append (CanHappen (setting_of producers terms)) (run_upto plan run (length plan)) (extra_at run (length plan)) (upto_can producers terms plan run (length plan) may) (extra_can producers terms run (length plan) may);
+      ∙ ap₂ (λ a b. a ++ b) (steps_upto plan run (length plan) (omega arith)) (extra_steps run (length plan))
+      ∙ append-nil (take (length plan) plan) ∙ take_all (length plan) plan (omega arith);
+  others = all-append (CanHappen (setting_of producers terms)) (run_upto plan run (length plan)) (extra_at run (length plan))
+      (upto_can producers terms plan run (length plan) may) (extra_can producers terms run (length plan) may);
 }
 
 -- ---- it ends as it must not
@@ -275,7 +323,7 @@ not_same false false e f = false≢true e
 not_same true false e f = false≢true (sym f)
 not_same false true e f = false≢true f
 
-old_new : (place : Place) → is_old place ≡ true → place ≡ New → ⊥
+old_new : (place : AnyPlace) → is_old place ≡ true → place ≡ New → ⊥
 old_new Old e f = false≢true (sym (ap is_old f))
 old_new New e f = false≢true e
 
@@ -284,18 +332,21 @@ start_bit false i = refl
 start_bit true i = eq-eqb i i refl
 
 -- the bit that is followed, by its set
-right_bit : (producers : List Kind) (terms : Terms) (run : Run) (s : Bank) (z : Machine) (t : Trace) → s ≡ run.case.bank → run.case.identity / 64 < terms.words → IsMoved (setting_of producers terms) (start_of (setting_of producers terms) run) z
+right_bit : (producers : List RouteKind) (terms : Terms) (run : Run) (s : WhichSet) (z : AnyMachine) (t : Trace) → s ≡ run.case.bank
+    → run.case.identity / 64 < terms.words → IsMovedByAny (setting_of producers terms) (start_of (setting_of producers terms) run) z
     → z.new s run.case.identity ≡ t.new → z.due s run.case.identity ≡ t.due → t.new ≡ elim s [ Pending ↦ t.due | Enabled ↦ begins_old run.begin ]
 right_bit producers terms run Pending z t same inside m new due = sym new ∙ m.pending run.case.identity inside ∙ due
 right_bit producers terms run Enabled z t same inside m new due =
-    sym new ∙ m.enabled run.case.identity inside ∙ ap (λ u. one_bit (begins_old run.begin) u run.case.identity Enabled run.case.identity) (sym same) ∙ start_bit (begins_old run.begin) run.case.identity
+    sym new ∙ m.enabled run.case.identity inside ∙ ap (λ u. one_bit (begins_old run.begin) u run.case.identity Enabled run.case.identity)
+    (sym same) ∙ start_bit (begins_old run.begin) run.case.identity
 
-begun_number : (producers : List Kind) (terms : Terms) (run : Run) (from : Spot) → terms.number_from ≡ from → number_in from run.case.number (start_of (setting_of producers terms) run) ≡ 1
+begun_number : (producers : List RouteKind) (terms : Terms) (run : Run) (from : NumberSpot) → terms.number_from ≡ from
+    → number_in from run.case.number (start_of (setting_of producers terms) run) ≡ 1
 begun_number producers terms run InOld e = ap (λ f. worth (same_spot f InOld)) e
 begun_number producers terms run InHand e = ap (λ f. worth (same_spot f InHand)) e
 begun_number producers terms run InNew e = ap (λ f. worth (same_spot f InNew)) e
 
-ended_number : (c : Case) (t : Trace) (z : Machine) (spot : Spot) → Follows c t z → number_in spot c.number z ≡ worth (trace_number spot t)
+ended_number : (c : Case) (t : Trace) (z : AnyMachine) (spot : NumberSpot) → Follows c t z → number_in spot c.number z ≡ worth (trace_number spot t)
 ended_number c t z InOld v = v.old_number
 ended_number c t z InHand v = v.hand_number
 ended_number c t z InNew v = v.new_number
@@ -303,15 +354,16 @@ ended_number c t z InNew v = v.new_number
 zero_one : ◌≡◌ {A = ℕ} 0 1 → ⊥
 zero_one e = omega (arith, e)
 
-flies_old : (c : Case) (f : Option Place) → is_flying_old f ≡ true → AllByRecursion (λ (g : Flight). g.place ≡ New) (flights_by c f) → ⊥
+flies_old : (c : Case) (f : Option AnyPlace) → is_flying_old f ≡ true → AllByRecursion (λ (g : AnyFlight). g.place ≡ New) (flights_by c f) → ⊥
 flies_old c None e all = false≢true e
 flies_old c (Some place) e all = old_new place e all.0
 
 pub true_false : (b : Bool) → b ≡ true → b ≡ false → ⊥
 true_false b e f = false≢true (sym f ∙ e)
 
-ends_badly : (producers : List Kind) (terms : Terms) (run : Run) (t : Trace) (z : Machine) → run.case.identity / 64 < terms.words → Follows run.case t z → is_bad_end run terms (length producers) t ≡ true
-    → IsMoved (setting_of producers terms) (start_of (setting_of producers terms) run) z → ⊥
+ends_badly : (producers : List RouteKind) (terms : Terms) (run : Run) (t : Trace) (z : AnyMachine) → run.case.identity / 64 < terms.words
+    → Follows run.case t z → is_bad_end run terms (length producers) t ≡ true
+    → IsMovedByAny (setting_of producers terms) (start_of (setting_of producers terms) run) z → ⊥
 ends_badly producers terms run t z inside v bad m = elim (or_cases (is_bad_bit run t) _ bad) [
   | inl bit ↦ elim (or_cases (differ t.new (trace_wanted run t)) t.old bit) [
     | inl wrong ↦ not_same t.new (trace_wanted run t) wrong (right_bit producers terms run run.case.bank z t refl inside m v.new v.due)
@@ -326,17 +378,19 @@ ends_badly producers terms run t z inside v bad m = elim (or_cases (is_bad_bit r
           | inr force ↦ old_new t.in_force force (sym v.in_force ∙ m.in_force run.case.producer p)
         ]
     | inr last ↦ elim (or_cases (not (trace_number terms.number_to t)) _ last) [
-      | inl number ↦ zero_one (sym (ap worth (not_true (trace_number terms.number_to t) number)) ∙ sym (ended_number run.case t z terms.number_to v) ∙ m.numbers run.case.number ∙ begun_number producers terms run terms.number_from refl)
+      | inl number ↦ zero_one (sym (ap worth (not_true (trace_number terms.number_to t) number))
+          ∙ sym (ended_number run.case t z terms.number_to v) ∙ m.numbers run.case.number ∙ begun_number producers terms run terms.number_from refl)
       | inr more ↦ elim (or_cases (is_flying_old t.flight) t.strayed more) [
-        | inl flying ↦ flies_old run.case t.flight flying (subst (AllByRecursion (λ (g : Flight). g.place ≡ New)) v.flights m.flights)
+        | inl flying ↦ flies_old run.case t.flight flying (subst (AllByRecursion (λ (g : AnyFlight). g.place ≡ New)) v.flights m.flights)
         | inr strayed ↦ true_false t.strayed strayed (sym v.strayed ∙ m.strayed)
       ]
     ]
   ]
 ]
 
-pub it_loses : (producers : List Kind) (terms : Terms) (plan : List Step) (run : Run) (t : Trace) → can_be run terms producers ≡ true
-    → Follows run.case t (all_happened (setting_of producers terms) (happenings plan run) (start_of (setting_of producers terms) run)) → is_bad_end run terms (length producers) t ≡ true → Loses (setting_of producers terms) plan run
+pub it_loses : (producers : List RouteKind) (terms : Terms) (plan : List AnyStep) (run : Run) (t : Trace) → can_be run terms producers ≡ true
+    → Follows run.case t (all_happened (setting_of producers terms) (happenings plan run) (start_of (setting_of producers terms) run))
+    → is_bad_end run terms (length producers) t ≡ true → Loses (setting_of producers terms) plan run
 it_loses producers terms plan run t can v bad =
     let inside = below_is (run.case.identity / 64) terms.words (and_left _ _ can) in
     let rest = and_right (nat_lt (run.case.identity / 64) terms.words) _ can in

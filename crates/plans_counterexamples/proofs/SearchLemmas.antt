@@ -2,30 +2,35 @@
 use Rattle.std.proofs.Common.{◌≡◌, ℕ, suc, ◌+◌, ◌-◌, ◌<◌, ◌≤◌, length, List, Option, Some, None, sym, ap, ◌∙◌, arith}
 use Rattle.std.specs.Prelude.{get_or}
 use Rattle.std.proofs.lemmas.Option.{slice_get-get_or}
-use Rattle.plans_rules.specs.declared.step.Step.{Step}
+use Rattle.plans_rules.specs.declared.step.AnyStep.{AnyStep}
 use Rattle.plans_rules.specs.declared.setting.Terms.{Terms}
 use Rattle.plans_counterexamples.specs.declared.run.Run.{Run}
 use Rattle.plans_counterexamples.specs.Trace.{trace_after}
 use Rattle.plans_counterexamples.specs.Run.{trace_extra}
 use Rattle.plans_counterexamples.specs.Search.{first_of, or_else, trace_stepped, trace_upto}
 
-pub traced_more : (run : Run) (terms : Terms) (plan : List Step) (k : ℕ) (x : Step) → k < length plan → trace_after run.case (get_or plan k x) (trace_extra run k (trace_upto run terms plan k)) ≡ trace_upto run terms plan (k + 1)
+pub traced_more : (run : Run) (terms : Terms) (plan : List AnyStep) (k : ℕ) (x : AnyStep) → k < length plan
+    → trace_after run.case (get_or plan k x) (trace_extra run k (trace_upto run terms plan k)) ≡ trace_upto run terms plan (k + 1)
 traced_more run terms plan k x low =
-    sym (ap (λ o. trace_stepped run o (trace_extra run k (trace_upto run terms plan k))) (slice_get-get_or plan k x low)) ∙ ap (trace_upto run terms plan) (next k)
+    sym (ap (λ o. trace_stepped run o (trace_extra run k (trace_upto run terms plan k))) (slice_get-get_or plan k x low))
+    ∙ ap (trace_upto run terms plan) (next k)
   where
     next : (k : ℕ) → suc k ≡ k + 1
     next k = omega arith
 
 -- nothing is found at one more
-pub first_none : {A : Type 0} (found : ℕ → Option A) (k n : ℕ) (all : Option A) → k < n → None ≡ found k → first_of found k (n - k) ≡ all → first_of found (k + 1) (n - (k + 1)) ≡ all
+pub first_none : {A : Type 0} (found : ℕ → Option A) (k n : ℕ) (all : Option A) → k < n → None ≡ found k → first_of found k (n - k) ≡ all
+    → first_of found (k + 1) (n - (k + 1)) ≡ all
 unfolding first_of
 first_none found k n all low none e =
     let one : n - k ≡ suc (n - (k + 1)) = omega (arith, low) in
     let next : k + 1 ≡ suc k = omega arith in
-    ap (λ m. first_of found m (n - (k + 1))) next ∙ ap (λ o. or_else o (first_of found (suc k) (n - (k + 1)))) none ∙ sym (ap (first_of found k) one) ∙ e
+    ap (λ m. first_of found m (n - (k + 1))) next ∙ ap (λ o. or_else o (first_of found (suc k) (n - (k + 1)))) none
+    ∙ sym (ap (first_of found k) one) ∙ e
 
 -- it is found there
-pub first_some : {A : Type 0} (found : ℕ → Option A) (k n : ℕ) (x : A) (all : Option A) → k < n → Some x ≡ found k → first_of found k (n - k) ≡ all → Some x ≡ all
+pub first_some : {A : Type 0} (found : ℕ → Option A) (k n : ℕ) (x : A) (all : Option A) → k < n → Some x ≡ found k
+    → first_of found k (n - k) ≡ all → Some x ≡ all
 unfolding first_of
 first_some found k n x all low some e =
     let one : n - k ≡ suc (n - (k + 1)) = omega (arith, low) in

@@ -1,22 +1,22 @@
 -- A run of a plan with one store at most, and that it loses something. Profile.
 use Rattle.std.specs.Prelude.{ℕ, zero, suc, ◌/◌, Bool, true, false, not, ◌&&◌, ◌||◌, nat_eq, nat_lt, if◌then◌else◌, List, [], ◌∷◌, ◌++◌, length, Option, Some, None, slice_get}
-use Rattle.plans_rules.specs.declared.step.Bank.{Bank}
-use Rattle.plans_rules.specs.declared.step.Bank.TheVariants.{Pending, Enabled}
-use Rattle.plans_rules.specs.declared.step.Place.{Place}
-use Rattle.plans_rules.specs.declared.step.Place.TheVariants.{Old}
-use Rattle.plans_rules.specs.declared.step.Step.{Step}
-use Rattle.plans_rules.specs.declared.setting.Kind.{Kind}
-use Rattle.plans_rules.specs.declared.setting.Kind.TheVariants.{Routed}
-use Rattle.plans_rules.specs.declared.setting.Spot.{Spot}
-use Rattle.plans_rules.specs.declared.setting.Spot.TheVariants.{InOld, InHand, InNew}
+use Rattle.plans_rules.specs.declared.step.WhichSet.{WhichSet}
+use Rattle.plans_rules.specs.declared.step.WhichSet.TheVariants.{Pending, Enabled}
+use Rattle.plans_rules.specs.declared.step.AnyPlace.{AnyPlace}
+use Rattle.plans_rules.specs.declared.step.AnyPlace.TheVariants.{Old}
+use Rattle.plans_rules.specs.declared.step.AnyStep.{AnyStep}
+use Rattle.plans_rules.specs.declared.setting.RouteKind.{RouteKind}
+use Rattle.plans_rules.specs.declared.setting.RouteKind.TheVariants.{Routed}
+use Rattle.plans_rules.specs.declared.setting.NumberSpot.{NumberSpot}
+use Rattle.plans_rules.specs.declared.setting.NumberSpot.TheVariants.{InOld, InHand, InNew}
 use Rattle.plans_rules.specs.declared.setting.Terms.{Terms}
 use Rattle.plans_rules.specs.Setting.{Setting, is_old, same_bank, same_spot}
-use Rattle.plans_rules.specs.Machine.{By, Machine, Sets, Happening, all_happened}
+use Rattle.plans_rules.specs.Machine.{By, AnyMachine, Sets, AnyHappening, all_happened}
 use Rattle.plans_rules.specs.Machine.By.{Written as AsWritten, InForce as AsInForce}
-use Rattle.plans_rules.specs.Machine.Happening.{Does, Stores, Sends, Lands}
-use Rattle.plans_rules.specs.Safe.{IsMoved, IsRun, IsStart}
-use Rattle.plans_counterexamples.specs.declared.trace.Route.{Route}
-use Rattle.plans_counterexamples.specs.declared.trace.Route.TheVariants.{Written, InForce}
+use Rattle.plans_rules.specs.Machine.AnyHappening.{Does, Stores, Sends, Lands}
+use Rattle.plans_rules.specs.Safe.{IsMovedByAny, IsRun, IsStartOfAny}
+use Rattle.plans_counterexamples.specs.declared.trace.StoreRoute.{StoreRoute}
+use Rattle.plans_counterexamples.specs.declared.trace.StoreRoute.TheVariants.{Written, InForce}
 use Rattle.plans_counterexamples.specs.declared.trace.Trace.{Trace}
 use Rattle.plans_counterexamples.specs.declared.run.Run.{Run}
 use Rattle.plans_counterexamples.specs.declared.run.Extra.{Extra}
@@ -26,17 +26,17 @@ use Rattle.plans_counterexamples.specs.Trace.{trace_first, begins_old, begins_ne
 -- ---- how a run begins
 
 -- One identity of a set, if it is there at all.
-abbrev pub one_bit : Bool → Bank → ℕ → Sets
+abbrev pub one_bit : Bool → WhichSet → ℕ → Sets
 one_bit is_there s i t j = is_there && (same_bank s t && nat_eq i j)
 
 -- Where the store leads that is in flight from the start on, if the run has one.
-abbrev pub first_flight : Extra → Option Place
+abbrev pub first_flight : Extra → Option AnyPlace
 first_flight (extras.Flies before) = Some Old
 first_flight extra = None
 
 -- The identity that is followed, and no other one; each number is 1 where the numbers are, and 0
 -- elsewhere; all leads to the old place.
-abbrev pub start_of : Setting → Run → Machine
+abbrev pub start_of : Setting → Run → AnyMachine
 start_of d run = record {
   old = one_bit (begins_old run.begin) run.case.bank run.case.identity;
   new = one_bit (begins_new run.begin) run.case.bank run.case.identity;
@@ -58,12 +58,12 @@ start_of d run = record {
 -- ---- what happens in it
 
 -- A route of a store, as the machine names it.
-abbrev pub by_of : Route → By
+abbrev pub by_of : StoreRoute → By
 by_of Written = AsWritten
 by_of InForce = AsInForce
 
 -- What comes between the steps where so many are before it.
-abbrev pub extra_at : Run → ℕ → List Happening
+abbrev pub extra_at : Run → ℕ → List AnyHappening
 extra_at run k = elim run.extra [
   | extras.Nothing ↦ []
   | extras.Stores before route ↦
@@ -74,25 +74,26 @@ extra_at run k = elim run.extra [
 ]
 
 -- The step after so many, if the plan has one.
-abbrev pub step_at : List Step → ℕ → List Happening
+abbrev pub step_at : List AnyStep → ℕ → List AnyHappening
 step_at plan k = elim (slice_get plan k) [ None ↦ [] | Some x ↦ Does x ∷ [] ]
 
 -- What happens in the first steps of a plan, so many, with what comes before each.
-abbrev pub run_upto : List Step → Run → ℕ → List Happening
+abbrev pub run_upto : List AnyStep → Run → ℕ → List AnyHappening
 run_upto plan run zero = []
 run_upto plan run (suc k) = run_upto plan run k ++ (extra_at run k ++ step_at plan k)
 
 -- All that happens in the run.
-abbrev pub happenings : List Step → Run → List Happening
+abbrev pub happenings : List AnyStep → Run → List AnyHappening
 happenings plan run = run_upto plan run (length plan) ++ extra_at run (length plan)
 
 -- ---- it loses something
 
 -- It is a run of the machine from a start, and does not end as it has to.
-pub record Loses (d : Setting) (plan : List Step) (run : Run) : Type 0 where
-  pub begins : IsStart d (start_of d run)
+pub record Loses (d : Setting) (plan : List AnyStep) (run : Run) : Type 0 where
+  pub begins : IsStartOfAny d (start_of d run)
   pub happens : IsRun d plan (happenings plan run)
-  pub ends : ¬ IsMoved d (start_of d run) (all_happened d (happenings plan run) (start_of d run))
+  pub ends : ¬ IsMovedByAny d (start_of d run)
+      (all_happened d (happenings plan run) (start_of d run))
 
 -- ---- as the trace tells it
 
@@ -120,7 +121,7 @@ trace_extra run k t = elim run.extra [
 ]
 
 -- Whether the number stands in a spot as at the start.
-abbrev pub trace_number : Spot → Trace → Bool
+abbrev pub trace_number : NumberSpot → Trace → Bool
 trace_number spot t = elim spot [
   | InOld ↦ t.old_number
   | InHand ↦ t.hand_number
@@ -137,7 +138,7 @@ differ true b = not b
 differ false b = b
 
 -- Whether a store is in flight to the old place.
-abbrev pub is_flying_old : Option Place → Bool
+abbrev pub is_flying_old : Option AnyPlace → Bool
 is_flying_old None = false
 is_flying_old (Some place) = is_old place
 
@@ -168,13 +169,13 @@ is_bad_end run terms producers t =
     || (not (trace_number terms.number_to t) || (is_flying_old t.flight || t.strayed)))
 
 -- Whether a producer is there, and is routed.
-abbrev pub is_routed : Option Kind → Bool
+abbrev pub is_routed : Option RouteKind → Bool
 is_routed (Some Routed) = true
 is_routed kind = false
 
 -- Whether there can be such a run: the identity is one of the file's, it stands in the new place at
 -- the start only where that is not fresh, and its store, if it has one, is one that can happen.
-abbrev pub can_be : Run → Terms → List Kind → Bool
+abbrev pub can_be : Run → Terms → List RouteKind → Bool
 can_be run terms producers =
     nat_lt (run.case.identity / 64) terms.words
     && ((not (begins_new run.begin) || not terms.is_fresh)

@@ -1,23 +1,23 @@
 -- What a run does to one bit of one set, one number and the routes of one producer. Profile.
 use Rattle.std.specs.Prelude.{◌≡◌, ℕ, ◌/◌, Bool, true, false, not, ◌&&◌, ◌||◌, nat_eq, List, [], ◌∷◌, Option, Some, None}
-use Rattle.plans_rules.specs.declared.step.Bank.{Bank}
-use Rattle.plans_rules.specs.declared.step.Place.{Place}
-use Rattle.plans_rules.specs.declared.step.Place.TheVariants.{Old, New}
-use Rattle.plans_rules.specs.declared.step.Step.{Step}
-use Rattle.plans_rules.specs.declared.step.Step.TheVariants as steps
-use Rattle.plans_rules.specs.declared.setting.Spot.TheVariants.{InOld, InHand, InNew}
+use Rattle.plans_rules.specs.declared.step.WhichSet.{WhichSet}
+use Rattle.plans_rules.specs.declared.step.AnyPlace.{AnyPlace}
+use Rattle.plans_rules.specs.declared.step.AnyPlace.TheVariants.{Old, New}
+use Rattle.plans_rules.specs.declared.step.AnyStep.{AnyStep}
+use Rattle.plans_rules.specs.declared.step.AnyStep.TheVariants as steps
+use Rattle.plans_rules.specs.declared.setting.NumberSpot.TheVariants.{InOld, InHand, InNew}
 use Rattle.plans_rules.specs.declared.setting.Terms.{Terms}
 use Rattle.plans_rules.specs.Setting.{is_old, is_pending, same_bank, same_number, same_spot}
-use Rattle.plans_rules.specs.Machine.{Flight, Machine}
+use Rattle.plans_rules.specs.Machine.{AnyFlight, AnyMachine}
 use Rattle.plans_counterexamples.specs.declared.trace.Begin.{Begin}
 use Rattle.plans_counterexamples.specs.declared.trace.Begin.TheVariants as begins
 use Rattle.plans_counterexamples.specs.declared.trace.Case.{Case}
-use Rattle.plans_counterexamples.specs.declared.trace.Route.{Route}
-use Rattle.plans_counterexamples.specs.declared.trace.Route.TheVariants.{Written, InForce}
+use Rattle.plans_counterexamples.specs.declared.trace.StoreRoute.{StoreRoute}
+use Rattle.plans_counterexamples.specs.declared.trace.StoreRoute.TheVariants.{Written, InForce}
 use Rattle.plans_counterexamples.specs.declared.trace.Trace.{Trace}
 
 -- Whether a word of a set is that of the bit that is followed.
-abbrev pub names_bit : Case → Bank → ℕ → Bool
+abbrev pub names_bit : Case → WhichSet → ℕ → Bool
 names_bit c s w = same_bank s c.bank && nat_eq w (c.identity / 64)
 
 -- Whether the bit stands in the old place at the start.
@@ -48,7 +48,7 @@ trace_first begin terms = record {
 }
 
 -- A store of the producer for the identity lands in a place.
-abbrev pub trace_landed : Case → Place → Trace → Trace
+abbrev pub trace_landed : Case → AnyPlace → Trace → Trace
 trace_landed c place t = record t {
   old = (is_pending c.bank && is_old place) || t.old;
   new = (is_pending c.bank && not (is_old place)) || t.new;
@@ -57,7 +57,7 @@ trace_landed c place t = record t {
 }
 
 -- It lands where a route leads: as it is written, or in force.
-abbrev pub trace_stored : Case → Route → Trace → Trace
+abbrev pub trace_stored : Case → StoreRoute → Trace → Trace
 trace_stored c Written t = trace_landed c t.written t
 trace_stored c InForce t = trace_landed c t.in_force t
 
@@ -68,7 +68,7 @@ abbrev pub trace_turned : Bool → Trace → Trace
 trace_turned is_this t = elim is_this [ true ↦ record t { written = New } | false ↦ t ]
 
 -- The store in flight, if there is one, lands.
-abbrev pub flight_landed : Case → Option Place → Trace → Trace
+abbrev pub flight_landed : Case → Option AnyPlace → Trace → Trace
 flight_landed c None t = t
 flight_landed c (Some place) t = trace_landed c place t
 
@@ -87,7 +87,7 @@ trace_switched is_this t = elim is_this [
 ]
 
 -- The word is zeroed in a place.
-abbrev pub trace_zeroed : Place → Bool → Trace → Trace
+abbrev pub trace_zeroed : AnyPlace → Bool → Trace → Trace
 trace_zeroed Old is_this t = record t {
   old = not is_this && t.old;
   strayed = t.strayed || t.freed;
@@ -117,7 +117,7 @@ trace_put is_this t = record t {
 }
 
 -- The number is zeroed in a place.
-abbrev pub trace_zeroed_number : Place → Bool → Trace → Trace
+abbrev pub trace_zeroed_number : AnyPlace → Bool → Trace → Trace
 trace_zeroed_number Old is_this t = record t {
   old_number = not is_this && t.old_number;
   strayed = t.strayed || t.freed;
@@ -139,7 +139,7 @@ trace_put_number is_this t = record t {
 }
 
 -- What a step makes of all that is followed.
-abbrev pub trace_after : Case → Step → Trace → Trace
+abbrev pub trace_after : Case → AnyStep → Trace → Trace
 trace_after c (steps.Route p) t = trace_turned (nat_eq p c.producer) t
 trace_after c (steps.Fence p) t = trace_fenced c (nat_eq p c.producer) t
 trace_after c (steps.Switch p) t = trace_switched (nat_eq p c.producer) t
@@ -161,13 +161,13 @@ worth true = 1
 worth false = 0
 
 -- The stores in flight: the one of the producer that leads to a place, if there is one.
-abbrev pub flights_by : Case → Option Place → List Flight
+abbrev pub flights_by : Case → Option AnyPlace → List AnyFlight
 flights_by c None = []
 flights_by c (Some place) =
     record { producer = c.producer; place = place; identity = c.identity } ∷ []
 
 -- The machine has of the bit, the number and the producer what is followed.
-pub record Follows (c : Case) (t : Trace) (z : Machine) : Type 0 where
+pub record Follows (c : Case) (t : Trace) (z : AnyMachine) : Type 0 where
   pub old : z.old c.bank c.identity ≡ t.old
   pub new : z.new c.bank c.identity ≡ t.new
   pub hand : z.hand c.bank c.identity ≡ t.hand

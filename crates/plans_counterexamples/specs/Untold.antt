@@ -1,27 +1,27 @@
 -- A run of a plan after which an identity stands out in the new place, and the host was not told.
 -- Profile.
 use Rattle.std.specs.Prelude.{◌≡◌, ℕ, zero, suc, ◌/◌, ◌-◌, ◌^◌, Bool, true, false, not, ◌&&◌, ◌||◌, nat_eq, nat_lt, List, [], length, Option, Some, None, slice_get}
-use Rattle.plans_rules.specs.declared.step.Bank.{Bank}
-use Rattle.plans_rules.specs.declared.step.Bank.TheVariants.{Pending, Enabled}
+use Rattle.plans_rules.specs.declared.step.WhichSet.{WhichSet}
+use Rattle.plans_rules.specs.declared.step.WhichSet.TheVariants.{Pending, Enabled}
 use Rattle.plans_rules.specs.declared.step.Number.{Number}
 use Rattle.plans_rules.specs.declared.step.Number.TheVariants.{Threshold, Delivery}
-use Rattle.plans_rules.specs.declared.step.Place.{Place}
-use Rattle.plans_rules.specs.declared.step.Place.TheVariants.{Old}
-use Rattle.plans_rules.specs.declared.step.Step.{Step}
-use Rattle.plans_rules.specs.declared.step.Step.TheVariants as steps
-use Rattle.plans_rules.specs.declared.setting.Kind.{Kind}
-use Rattle.plans_rules.specs.declared.setting.Spot.{Spot}
-use Rattle.plans_rules.specs.declared.setting.Spot.TheVariants.{InOld, InHand, InNew}
+use Rattle.plans_rules.specs.declared.step.AnyPlace.{AnyPlace}
+use Rattle.plans_rules.specs.declared.step.AnyPlace.TheVariants.{Old}
+use Rattle.plans_rules.specs.declared.step.AnyStep.{AnyStep}
+use Rattle.plans_rules.specs.declared.step.AnyStep.TheVariants as steps
+use Rattle.plans_rules.specs.declared.setting.RouteKind.{RouteKind}
+use Rattle.plans_rules.specs.declared.setting.NumberSpot.{NumberSpot}
+use Rattle.plans_rules.specs.declared.setting.NumberSpot.TheVariants.{InOld, InHand, InNew}
 use Rattle.plans_rules.specs.declared.setting.Terms.{Terms}
 use Rattle.plans_rules.specs.Setting.{Setting, is_old, same_spot}
-use Rattle.plans_rules.specs.Machine.{Machine, Sets, all_happened, stands_out}
+use Rattle.plans_rules.specs.Machine.{AnyMachine, Sets, all_happened, stands_out}
 use Rattle.plans_rules.specs.Rules.{writes_notice}
-use Rattle.plans_rules.specs.Safe.{HostKnows, IsRun, IsStart}
+use Rattle.plans_rules.specs.Safe.{HostKnows, IsRun, IsStartOfAny}
 use Rattle.plans_counterexamples.specs.declared.trace.Begin.{Begin}
 use Rattle.plans_counterexamples.specs.declared.trace.Begin.TheVariants as begins
 use Rattle.plans_counterexamples.specs.declared.trace.Case.{Case}
-use Rattle.plans_counterexamples.specs.declared.trace.Route.{Route}
-use Rattle.plans_counterexamples.specs.declared.trace.Route.TheVariants.{Written, InForce}
+use Rattle.plans_counterexamples.specs.declared.trace.StoreRoute.{StoreRoute}
+use Rattle.plans_counterexamples.specs.declared.trace.StoreRoute.TheVariants.{Written, InForce}
 use Rattle.plans_counterexamples.specs.declared.trace.Trace.{Trace}
 use Rattle.plans_counterexamples.specs.declared.run.Extra.{Extra}
 use Rattle.plans_counterexamples.specs.declared.run.Extra.TheVariants as extras
@@ -83,25 +83,25 @@ run_in u = record {
 -- ---- how it begins
 
 -- Whether a spot, where there is one, is this one.
-abbrev pub is_spot : Option Spot → Spot → Bool
+abbrev pub is_spot : Option NumberSpot → NumberSpot → Bool
 is_spot None spot = false
 is_spot (Some at) spot = same_spot at spot
 
 -- Delivery is 1 in one spot and 0 elsewhere; the threshold is 0 in one spot at most, and 1, which
 -- lets none through but identity 0, elsewhere.
-abbrev pub number_first : UntoldRun → Spot → Number → ℕ
+abbrev pub number_first : UntoldRun → NumberSpot → Number → ℕ
 number_first u spot Threshold = worth (not (is_spot u.threshold spot))
 number_first u spot Delivery = worth (same_spot u.delivery spot)
 
 -- Whether the identity stands in a set of the old place at the start.
-abbrev pub stands_first : UntoldRun → Bank → Bool
+abbrev pub stands_first : UntoldRun → WhichSet → Bool
 stands_first u Pending = is_unstored u.store
 stands_first u Enabled = true
 
 -- The identity is enabled in the old place, and is pending there where no store asks for it; no
 -- other one stands anywhere; all leads to the old place; notices go to the host only where that is
 -- declared.
-abbrev pub untold_start : Setting → UntoldRun → Machine
+abbrev pub untold_start : Setting → UntoldRun → AnyMachine
 untold_start d u = record {
   old = λ s i. stands_first u s && nat_eq u.identity i;
   new = λ s i. false;
@@ -123,13 +123,13 @@ untold_start d u = record {
 -- ---- the host is not told
 
 -- The machine at the end of the run.
-abbrev pub untold_end : Setting → List Step → UntoldRun → Machine
+abbrev pub untold_end : Setting → List AnyStep → UntoldRun → AnyMachine
 untold_end d plan u = all_happened d (happenings plan (run_in u)) (untold_start d u)
 
 -- It is a run of the machine from a start, the identity stands out in the new place at its end, and
 -- the host was not told: so the host does not know.
-pub record LeavesUntold (d : Setting) (plan : List Step) (u : UntoldRun) : Type 0 where
-  pub begins : IsStart d (untold_start d u)
+pub record LeavesUntold (d : Setting) (plan : List AnyStep) (u : UntoldRun) : Type 0 where
+  pub begins : IsStartOfAny d (untold_start d u)
   pub happens : IsRun d plan (happenings plan (run_in u))
   pub stands : stands_out d (untold_end d plan u).new (untold_end d plan u).new_number u.identity
       ≡ true
@@ -180,7 +180,7 @@ watch_out terms identity w = w.pending.new && (w.enabled.new && watch_lets terms
 
 -- A store of a producer for the identity lands in a place: the host is told, where it then stands
 -- out in the new one, and notices go to the host.
-abbrev pub watch_landed : Terms → ℕ → ℕ → Place → Watch → Watch
+abbrev pub watch_landed : Terms → ℕ → ℕ → AnyPlace → Watch → Watch
 watch_landed terms identity producer place w = record {
   pending = trace_landed (pending_bit identity producer) place w.pending;
   enabled = trace_landed (enabled_bit identity producer) place w.enabled;
@@ -191,7 +191,7 @@ watch_landed terms identity producer place w = record {
 }
 
 -- Where a store goes by a route.
-abbrev pub watch_route : Route → Watch → Place
+abbrev pub watch_route : StoreRoute → Watch → AnyPlace
 watch_route Written w = w.pending.written
 watch_route InForce w = w.pending.in_force
 
@@ -210,19 +210,19 @@ watch_extra terms u k w = elim u.store [
 ]
 
 -- Whether a step looks at the word, and sees the identity stand out.
-abbrev pub watch_sees : Terms → ℕ → Step → Watch → Bool
+abbrev pub watch_sees : Terms → ℕ → AnyStep → Watch → Bool
 watch_sees terms identity (steps.Look word) w =
     nat_eq word (identity / 64) && watch_out terms identity w
 watch_sees terms identity step w = false
 
 -- Whether a step tells the host of the identity.
-abbrev pub watch_tells : Terms → ℕ → Step → Watch → Bool
+abbrev pub watch_tells : Terms → ℕ → AnyStep → Watch → Bool
 watch_tells terms identity steps.Post w = w.seen
 watch_tells terms identity steps.Tell w = watch_out terms identity w
 watch_tells terms identity step w = false
 
 -- What a step makes of all that is followed.
-abbrev pub watch_after : Terms → ℕ → ℕ → Step → Watch → Watch
+abbrev pub watch_after : Terms → ℕ → ℕ → AnyStep → Watch → Watch
 watch_after terms identity producer step w = record {
   pending = trace_after (pending_bit identity producer) step w.pending;
   enabled = trace_after (enabled_bit identity producer) step w.enabled;
@@ -232,19 +232,19 @@ watch_after terms identity producer step w = record {
 }
 
 -- What is followed with one step more, where there is one.
-abbrev pub watch_stepped : Terms → UntoldRun → Option Step → Watch → Watch
+abbrev pub watch_stepped : Terms → UntoldRun → Option AnyStep → Watch → Watch
 watch_stepped terms u None w = w
 watch_stepped terms u (Some step) w =
     watch_after terms u.identity (producer_of u.store) step w
 
 -- What is followed with so many steps done.
-abbrev pub watch_upto : Terms → List Step → UntoldRun → ℕ → Watch
+abbrev pub watch_upto : Terms → List AnyStep → UntoldRun → ℕ → Watch
 watch_upto terms plan u zero = watch_begun terms u
 watch_upto terms plan u (suc k) =
     watch_stepped terms u (slice_get plan k) (watch_extra terms u k (watch_upto terms plan u k))
 
 -- What is followed at the end of the run.
-abbrev pub watch_end : Terms → List Step → UntoldRun → Watch
+abbrev pub watch_end : Terms → List AnyStep → UntoldRun → Watch
 watch_end terms plan u =
     watch_extra terms u (length plan) (watch_upto terms plan u (length plan))
 
@@ -256,7 +256,7 @@ can_store None producers = true
 can_store (Some store) producers = nat_lt store.producer producers
 
 -- Whether there can be such a run.
-abbrev pub can_come : UntoldRun → Terms → List Kind → Bool
+abbrev pub can_come : UntoldRun → Terms → List RouteKind → Bool
 can_come u terms producers =
     nat_lt (u.identity / 64) terms.words && can_store u.store (length producers)
 
@@ -271,7 +271,7 @@ abbrev pub IsAlone : ℕ → Sets → Type 0
 IsAlone identity sets = (i : ℕ) → (identity ≡ i → ⊥) → sets Pending i ≡ false
 
 -- The machine has what is followed; nothing else is pending, and nothing is in flight.
-pub record IsWatched (u : UntoldRun) (w : Watch) (z : Machine) : Type 0 where
+pub record IsWatched (u : UntoldRun) (w : Watch) (z : AnyMachine) : Type 0 where
   pub pending : Follows (pending_bit u.identity (producer_of u.store)) w.pending z
   pub enabled : Follows (enabled_bit u.identity (producer_of u.store)) w.enabled z
   pub noticed : z.noticed ≡ w.noticed

@@ -1,26 +1,26 @@
 -- Which run is found after which the host was not told: the first one, among those with one store
 -- at most. Profile.
 use Rattle.std.specs.Prelude.{ℕ, ◌+◌, ◌*◌, ◌&&◌, if◌then◌else◌, List, length, Option, Some, None}
-use Rattle.plans_rules.specs.declared.step.Step.{Step}
-use Rattle.plans_rules.specs.declared.setting.Kind.{Kind}
-use Rattle.plans_rules.specs.declared.setting.Spot.{Spot}
-use Rattle.plans_rules.specs.declared.setting.Spot.TheVariants.{InOld, InHand, InNew}
+use Rattle.plans_rules.specs.declared.step.AnyStep.{AnyStep}
+use Rattle.plans_rules.specs.declared.setting.RouteKind.{RouteKind}
+use Rattle.plans_rules.specs.declared.setting.NumberSpot.{NumberSpot}
+use Rattle.plans_rules.specs.declared.setting.NumberSpot.TheVariants.{InOld, InHand, InNew}
 use Rattle.plans_rules.specs.declared.setting.Terms.{Terms}
-use Rattle.plans_counterexamples.specs.declared.trace.Route.TheVariants.{Written, InForce}
+use Rattle.plans_counterexamples.specs.declared.trace.StoreRoute.TheVariants.{Written, InForce}
 use Rattle.plans_counterexamples.specs.declared.untold.Store.{Store}
 use Rattle.plans_counterexamples.specs.declared.untold.UntoldRun.{UntoldRun}
 use Rattle.plans_counterexamples.specs.Untold.{can_come, is_untold, watch_end}
 use Rattle.plans_counterexamples.specs.Search.{first_of, or_else}
 
 -- A run, if a plan has it and it leaves the host untold.
-unfoldable pub tried_untold : List Kind → Terms → List Step → UntoldRun → Option UntoldRun
+unfoldable pub tried_untold : List RouteKind → Terms → List AnyStep → UntoldRun → Option UntoldRun
 tried_untold producers terms plan u =
     if can_come u terms producers && is_untold terms u (watch_end terms plan u)
     then Some u else None
 
 -- The run of the second identity of a word, with such a store, delivery in this spot and the
 -- threshold that lets it through in that one.
-abbrev pub untold_of : ℕ → Option Store → Spot → Option Spot → UntoldRun
+abbrev pub untold_of : ℕ → Option Store → NumberSpot → Option NumberSpot → UntoldRun
 untold_of word store delivery threshold = record {
   identity = 64 * word + 1;
   store = store;
@@ -30,7 +30,7 @@ untold_of word store delivery threshold = record {
 
 -- The first such run with delivery in a spot: the threshold that lets through is in the old place,
 -- the hand, the new place, or in none.
-unfoldable pub with_delivery : List Kind → Terms → List Step → ℕ → Option Store → Spot
+unfoldable pub with_delivery : List RouteKind → Terms → List AnyStep → ℕ → Option Store → NumberSpot
     → Option UntoldRun
 with_delivery producers terms plan word store delivery =
     or_else (tried_untold producers terms plan (untold_of word store delivery (Some InOld)))
@@ -40,7 +40,7 @@ with_delivery producers terms plan word store delivery =
 
 -- The first such run with delivery in any spot; one start is enough where the numbers are not
 -- heeded.
-unfoldable pub untold_with_numbers : List Kind → Terms → List Step → ℕ → Option Store
+unfoldable pub untold_with_numbers : List RouteKind → Terms → List AnyStep → ℕ → Option Store
     → Option UntoldRun
 untold_with_numbers producers terms plan word store =
     if terms.heeds then or_else (with_delivery producers terms plan word store InOld)
@@ -50,7 +50,7 @@ untold_with_numbers producers terms plan word store =
 
 -- The first such run with a store that comes with so many steps before it, by the route in force or
 -- by the written one.
-unfoldable pub stored_before : List Kind → Terms → List Step → ℕ → ℕ → ℕ → Option UntoldRun
+unfoldable pub stored_before : List RouteKind → Terms → List AnyStep → ℕ → ℕ → ℕ → Option UntoldRun
 stored_before producers terms plan word producer before =
     or_else (untold_with_numbers producers terms plan word (Some (record {
       producer = producer;
@@ -64,17 +64,17 @@ stored_before producers terms plan word producer before =
 
 -- The first such run with a store of a producer that comes before one of the steps, or behind the
 -- last one.
-unfoldable pub stored_by : List Kind → Terms → List Step → ℕ → ℕ → Option UntoldRun
+unfoldable pub stored_by : List RouteKind → Terms → List AnyStep → ℕ → ℕ → Option UntoldRun
 stored_by producers terms plan word producer =
     first_of (stored_before producers terms plan word producer) 0 (length plan + 1)
 
 -- The first such run of a word, without a store or with one.
-unfoldable pub untold_word : List Kind → Terms → List Step → ℕ → Option UntoldRun
+unfoldable pub untold_word : List RouteKind → Terms → List AnyStep → ℕ → Option UntoldRun
 untold_word producers terms plan word =
     or_else (untold_with_numbers producers terms plan word None)
     (first_of (stored_by producers terms plan word) 0 (length producers))
 
 -- The first run of any word after which the host was not told.
-unfoldable pub untold_run_of : List Kind → Terms → List Step → Option UntoldRun
+unfoldable pub untold_run_of : List RouteKind → Terms → List AnyStep → Option UntoldRun
 untold_run_of producers terms plan =
     first_of (untold_word producers terms plan) 0 terms.words

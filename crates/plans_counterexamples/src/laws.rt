@@ -10,12 +10,12 @@ ghost use Rattle.plans_counterexamples.specs.UntoldSearch.{untold_run_of};
 
 use crate::run::Run;
 use crate::untold::UntoldRun;
-use plans_rules::{Kind, Step, Terms};
+use plans_rules::{AnyStep, RouteKind, Terms};
 
 /// A run that the definition of the search finds is a run of the machine, from a start, that does
 /// not end as it has to.
 pub fn what_is_found_loses()
-    ensures { (producers : List Kind) (terms : Terms) (plan : List Step) (run : Run)
+    ensures { (producers : List RouteKind) (terms : Terms) (plan : List AnyStep) (run : Run)
         → losing_run_of producers terms plan ≡ Some run
         → Loses (setting_of producers terms) plan run }
 {}
@@ -23,7 +23,7 @@ pub fn what_is_found_loses()
 /// One that the definition of the other search finds is a run of the machine, from a start, after
 /// which an identity stands out in the new place, and the host was not told.
 pub fn what_is_found_leaves_the_host_untold()
-    ensures { (producers : List Kind) (terms : Terms) (plan : List Step) (run : UntoldRun)
+    ensures { (producers : List RouteKind) (terms : Terms) (plan : List AnyStep) (run : UntoldRun)
         → untold_run_of producers terms plan ≡ Some run
         → LeavesUntold (setting_of producers terms) plan run }
 {}

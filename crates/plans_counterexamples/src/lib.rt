@@ -12,6 +12,6 @@ mod watch;
 
 pub use run::{Extra, Run};
 pub use search::losing_run;
-pub use trace::{Begin, Case, Route};
+pub use trace::{Begin, Case, StoreRoute};
 pub use untold::{Store, UntoldRun};
 pub use untold_search::untold_run;

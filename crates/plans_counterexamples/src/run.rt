@@ -8,8 +8,8 @@ ghost use Rattle.plans_counterexamples.specs.Trace.{Follows};
 ghost use Rattle.plans_counterexamples.specs.Run.{Loses, can_be, differ, happenings, is_bad_bit, is_bad_end, is_bad_route, is_flying_old, is_routed, shows_route, start_of, trace_begun, trace_extra, trace_number, trace_wanted};
 ghost use Rattle.plans_counterexamples.specs.Search.{tried, trace_end};
 
-use crate::trace::{Begin, Case, Route, Trace};
-use plans_rules::{Bank, Kind, Place, Step, Terms};
+use crate::trace::{Begin, Case, StoreRoute, Trace};
+use plans_rules::{AnyPlace, AnyStep, RouteKind, Terms, WhichSet};
 
 /// The one store that comes between the steps of a run.
 #[derive(Clone, Copy, Debug, PartialEq, Eq)]
@@ -19,7 +19,7 @@ pub enum Extra {
 
     /// It is made with so many steps before it, by the written route or the one in force, and lands
     /// at once.
-    Stores { before: usize, route: Route },
+    Stores { before: usize, route: StoreRoute },
 
     /// It is in flight to the old place from the start on, and lands with so many steps before it,
     /// or sooner, at its producer's fence.
@@ -51,7 +51,7 @@ impl Run {
         ensures { result ≡ trace_begun self terms }
     {
         let flight = match self.extra {
-            Extra::Flies { .. } => Some(Place::Old),
+            Extra::Flies { .. } => Some(AnyPlace::Old),
             _ => None,
         };
         Trace {
@@ -95,8 +95,8 @@ impl Run {
         ensures { result ≡ trace_wanted self trace }
     {
         match self.case.bank {
-            Bank::Pending => trace.due,
-            Bank::Enabled => self.begin == Begin::InOld,
+            WhichSet::Pending => trace.due,
+            WhichSet::Enabled => self.begin == Begin::InOld,
         }
     }
 
@@ -130,7 +130,7 @@ impl Run {
     }
 
     /// Tells whether there can be such a run.
-    fn can_be(self, terms: Terms, producers: &[Kind]) -> bool
+    fn can_be(self, terms: Terms, producers: &[RouteKind]) -> bool
         ensures { result ≡ can_be self terms producers.now }
     {
         self.case.identity / 64 < terms.words as u64
@@ -144,9 +144,9 @@ impl Run {
     }
 
     /// Gives what is followed at the end of the run of a plan.
-    fn end(self, terms: Terms, plan: &[Step]) -> Trace
+    fn end(self, terms: Terms, plan: &[AnyStep]) -> Trace
         ensures exact { result ≡ trace_end self terms plan.now }
-        ensures follows { (producers : List Kind) → Follows self.case result
+        ensures follows { (producers : List RouteKind) → Follows self.case result
             (all_happened (setting_of producers terms) (happenings plan.now self)
             (start_of (setting_of producers terms) self)) }
     {
@@ -159,7 +159,7 @@ impl Run {
     }
 
     /// Tells whether a plan has this run, and it loses something.
-    fn loses(self, producers: &[Kind], terms: Terms, plan: &[Step]) -> bool
+    fn loses(self, producers: &[RouteKind], terms: Terms, plan: &[AnyStep]) -> bool
         ensures exact { result ≡ (can_be self terms producers.now
             && is_bad_end self terms (length producers.now) (trace_end self terms plan.now)) }
         ensures loses { result ≡ true → Loses (setting_of producers.now terms) plan.now self }
@@ -171,7 +171,12 @@ impl Run {
     /// Gives this run, if a plan has it and it loses something. `None`: it has it not, or the run
     /// ends as it has to.
     #[tactic(auto, unfolding(crate::specs::Search::tried))]
-    pub(crate) fn tried(self, producers: &[Kind], terms: Terms, plan: &[Step]) -> Option<Run>
+    pub(crate) fn tried(
+        self,
+        producers: &[RouteKind],
+        terms: Terms,
+        plan: &[AnyStep],
+    ) -> Option<Run>
         ensures exact { result ≡ tried producers.now terms plan.now self }
         ensures loses { IfSome result (λ run. Loses (setting_of producers.now terms) plan.now run) }
     {
@@ -184,11 +189,11 @@ impl Run {
 }
 
 /// Tells whether a producer has a route that is written.
-fn is_routed(kind: Option<&Kind>) -> bool
+fn is_routed(kind: Option<&RouteKind>) -> bool
     ensures { result ≡ is_routed (option_map (λ k. k.now) kind.entry) }
 {
     match kind {
-        Some(Kind::Routed) => true,
+        Some(RouteKind::Routed) => true,
         _ => false,
     }
 }
@@ -197,15 +202,15 @@ fn is_routed(kind: Option<&Kind>) -> bool
 fn is_bad_route(trace: Trace) -> bool
     ensures { result ≡ is_bad_route trace }
 {
-    trace.written == Place::Old || trace.in_force == Place::Old
+    trace.written == AnyPlace::Old || trace.in_force == AnyPlace::Old
 }
 
 /// Tells whether a store is in flight to the old place.
-fn is_flying_old(flight: Option<Place>) -> bool
+fn is_flying_old(flight: Option<AnyPlace>) -> bool
     ensures { result ≡ is_flying_old flight }
 {
     match flight {
         None => false,
-        Some(place) => place == Place::Old,
+        Some(place) => place == AnyPlace::Old,
     }
 }

@@ -8,15 +8,15 @@ ghost use Rattle.plans_counterexamples.specs.Search as search_;
 ghost use Rattle.plans_counterexamples.specs.Search.{by_producer, enabled_case, first_of, losing_run_of, pending_case, quiet_word, stored_word, with_flight, with_store, without_store};
 
 use crate::run::{Extra, Run};
-use crate::trace::{Begin, Case, Route};
-use plans_rules::{Bank, Kind, Number, Step, Terms};
+use crate::trace::{Begin, Case, StoreRoute};
+use plans_rules::{AnyStep, Number, RouteKind, Terms, WhichSet};
 
 /// Names the second identity of a word of the pending set, and a producer.
 fn pending_case(word: u32, producer: usize) -> Case
     ensures { result ≡ pending_case word producer }
 {
     Case {
-        bank: Bank::Pending,
+        bank: WhichSet::Pending,
         identity: 64 * word as u64 + 1,
         number: Number::Threshold,
         producer,
@@ -28,7 +28,7 @@ fn enabled_case(word: u32) -> Case
     ensures { result ≡ enabled_case word }
 {
     Case {
-        bank: Bank::Enabled,
+        bank: WhichSet::Enabled,
         identity: 64 * word as u64 + 1,
         number: Number::Delivery,
         producer: usize::MAX,
@@ -44,7 +44,7 @@ fn run_of(case: Case, begin: Begin, extra: Extra) -> Run
 
 /// Looks for a losing run without a store, from each begin. `None`: there is none.
 #[tactic(auto, unfolding(crate::specs::Search::without_store))]
-fn without_store(producers: &[Kind], terms: Terms, plan: &[Step], case: Case) -> Option<Run>
+fn without_store(producers: &[RouteKind], terms: Terms, plan: &[AnyStep], case: Case) -> Option<Run>
     ensures exact { result ≡ without_store producers.now terms plan.now case }
     ensures loses { IfSome result (λ run. Loses (setting_of producers.now terms) plan.now run) }
 {
@@ -59,7 +59,7 @@ fn without_store(producers: &[Kind], terms: Terms, plan: &[Step], case: Case) ->
 
 /// Looks for one that shows what becomes of a word, or of a number. `None`: there is none.
 #[tactic(auto, unfolding(crate::specs::Search::quiet_word))]
-fn quiet_word(producers: &[Kind], terms: Terms, plan: &[Step], word: u32) -> Option<Run>
+fn quiet_word(producers: &[RouteKind], terms: Terms, plan: &[AnyStep], word: u32) -> Option<Run>
     ensures exact { result ≡ quiet_word producers.now terms plan.now word }
     ensures loses { IfSome result (λ run. Loses (setting_of producers.now terms) plan.now run) }
 {
@@ -73,20 +73,20 @@ fn quiet_word(producers: &[Kind], terms: Terms, plan: &[Step], word: u32) -> Opt
 /// none.
 #[tactic(auto, unfolding(crate::specs::Search::with_store))]
 fn with_store(
-    producers: &[Kind],
+    producers: &[RouteKind],
     terms: Terms,
-    plan: &[Step],
+    plan: &[AnyStep],
     case: Case,
     before: usize,
 ) -> Option<Run>
     ensures exact { result ≡ with_store producers.now terms plan.now case before }
     ensures loses { IfSome result (λ run. Loses (setting_of producers.now terms) plan.now run) }
 {
-    let by_force = run_of(case, Begin::Nowhere, stores(before, Route::InForce));
+    let by_force = run_of(case, Begin::Nowhere, stores(before, StoreRoute::InForce));
     if let Some(run) = by_force.tried(producers, terms, plan) {
         return Some(run);
     }
-    let by_written = run_of(case, Begin::Nowhere, stores(before, Route::Written));
+    let by_written = run_of(case, Begin::Nowhere, stores(before, StoreRoute::Written));
     if let Some(run) = by_written.tried(producers, terms, plan) {
         return Some(run);
     }
@@ -94,7 +94,7 @@ fn with_store(
 }
 
 /// Makes a store that lands at once.
-fn stores(before: usize, route: Route) -> Extra
+fn stores(before: usize, route: StoreRoute) -> Extra
     ensures { result ≡ extras.Stores before route }
 {
     Extra::Stores { before, route }
@@ -108,7 +108,7 @@ fn lingers(before: usize) -> Extra
 }
 
 /// Looks for a losing run with a store between any two steps. `None`: there is none.
-fn between_steps(producers: &[Kind], terms: Terms, plan: &[Step], case: Case) -> Option<Run>
+fn between_steps(producers: &[RouteKind], terms: Terms, plan: &[AnyStep], case: Case) -> Option<Run>
     ensures exact { result
         ≡ first_of (with_store producers.now terms plan.now case) 0 (length plan.now) }
     ensures loses { IfSome result (λ run. Loses (setting_of producers.now terms) plan.now run) }
@@ -126,9 +126,9 @@ fn between_steps(producers: &[Kind], terms: Terms, plan: &[Step], case: Case) ->
 /// none.
 #[tactic(auto, unfolding(crate::specs::Search::with_flight))]
 fn with_flight(
-    producers: &[Kind],
+    producers: &[RouteKind],
     terms: Terms,
-    plan: &[Step],
+    plan: &[AnyStep],
     case: Case,
     before: usize,
 ) -> Option<Run>
@@ -140,7 +140,7 @@ fn with_flight(
 
 /// Looks for a losing run with a store that is sent between any two steps, and stays in flight.
 /// `None`: there is none.
-fn in_flight(producers: &[Kind], terms: Terms, plan: &[Step], case: Case) -> Option<Run>
+fn in_flight(producers: &[RouteKind], terms: Terms, plan: &[AnyStep], case: Case) -> Option<Run>
     ensures exact { result
         ≡ first_of (with_flight producers.now terms plan.now case) 0 (length plan.now) }
     ensures loses { IfSome result (λ run. Loses (setting_of producers.now terms) plan.now run) }
@@ -157,9 +157,9 @@ fn in_flight(producers: &[Kind], terms: Terms, plan: &[Step], case: Case) -> Opt
 /// Looks for a losing run with a store of a producer. `None`: there is none.
 #[tactic(auto, unfolding(crate::specs::Search::by_producer))]
 fn by_producer(
-    producers: &[Kind],
+    producers: &[RouteKind],
     terms: Terms,
-    plan: &[Step],
+    plan: &[AnyStep],
     word: u32,
     producer: usize,
 ) -> Option<Run>
@@ -184,7 +184,7 @@ fn by_producer(
 
 /// Looks for a losing run with a store into a word. `None`: there is none.
 #[tactic(auto, unfolding(crate::specs::Search::stored_word))]
-fn stored_word(producers: &[Kind], terms: Terms, plan: &[Step], word: u32) -> Option<Run>
+fn stored_word(producers: &[RouteKind], terms: Terms, plan: &[AnyStep], word: u32) -> Option<Run>
     ensures exact { result ≡ stored_word producers.now terms plan.now word }
     ensures loses { IfSome result (λ run. Loses (setting_of producers.now terms) plan.now run) }
 {
@@ -198,7 +198,7 @@ fn stored_word(producers: &[Kind], terms: Terms, plan: &[Step], word: u32) -> Op
 }
 
 /// Looks for a losing run without a store. `None`: there is none.
-fn quiet_words(producers: &[Kind], terms: Terms, plan: &[Step]) -> Option<Run>
+fn quiet_words(producers: &[RouteKind], terms: Terms, plan: &[AnyStep]) -> Option<Run>
     ensures exact { result ≡ first_of (quiet_word producers.now terms plan.now) 0 terms.words }
     ensures loses { IfSome result (λ run. Loses (setting_of producers.now terms) plan.now run) }
 {
@@ -212,7 +212,7 @@ fn quiet_words(producers: &[Kind], terms: Terms, plan: &[Step]) -> Option<Run>
 }
 
 /// Looks for a losing run with a store. `None`: there is none.
-fn stored_words(producers: &[Kind], terms: Terms, plan: &[Step]) -> Option<Run>
+fn stored_words(producers: &[RouteKind], terms: Terms, plan: &[AnyStep]) -> Option<Run>
     ensures exact { result ≡ first_of (stored_word producers.now terms plan.now) 0 terms.words }
     ensures loses { IfSome result (λ run. Loses (setting_of producers.now terms) plan.now run) }
 {
@@ -232,7 +232,7 @@ fn stored_words(producers: &[Kind], terms: Terms, plan: &[Step]) -> Option<Run>
 /// allocated. It takes time of the order of four times the words, the producers and the square of
 /// the steps.
 #[tactic(auto, unfolding(crate::specs::Search::losing_run_of))]
-pub fn losing_run(producers: &[Kind], terms: Terms, plan: &[Step]) -> Option<Run>
+pub fn losing_run(producers: &[RouteKind], terms: Terms, plan: &[AnyStep]) -> Option<Run>
     ensures exact { result ≡ losing_run_of producers.now terms plan.now }
     ensures loses { IfSome result (λ run. Loses (setting_of producers.now terms) plan.now run) }
 {

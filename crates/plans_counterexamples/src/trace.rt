@@ -4,12 +4,12 @@ ghost use Rattle.std.specs.Prelude.{◌≡◌, Some, None};
 ghost use Rattle.plans_counterexamples.specs.Run.{trace_number};
 ghost use Rattle.plans_counterexamples.specs.Trace.{flight_landed, names_bit, trace_after, trace_fenced, trace_first, trace_joined, trace_landed, trace_put, trace_put_number, trace_stored, trace_switched, trace_taken, trace_taken_number, trace_turned, trace_zeroed, trace_zeroed_number};
 
-use plans_rules::{Bank, Number, Place, Spot, Step, Terms};
+use plans_rules::{AnyPlace, AnyStep, Number, NumberSpot, Terms, WhichSet};
 
 /// Which bit, which number and which producer are followed.
 #[derive(Clone, Copy, Debug, PartialEq, Eq)]
 pub struct Case {
-    pub bank: Bank,
+    pub bank: WhichSet,
     pub identity: u64,
     pub number: Number,
     pub producer: usize,
@@ -30,7 +30,7 @@ pub enum Begin {
 
 /// By which of its producer's two routes a store goes.
 #[derive(Clone, Copy, Debug, PartialEq, Eq)]
-pub enum Route {
+pub enum StoreRoute {
     Written,
     InForce,
 }
@@ -46,11 +46,11 @@ pub(crate) struct Trace {
     pub(crate) old_number: bool,
     pub(crate) new_number: bool,
     pub(crate) hand_number: bool,
-    pub(crate) written: Place,
-    pub(crate) in_force: Place,
+    pub(crate) written: AnyPlace,
+    pub(crate) in_force: AnyPlace,
 
     /// Where a store of the producer that is in flight will land.
-    pub(crate) flight: Option<Place>,
+    pub(crate) flight: Option<AnyPlace>,
 
     pub(crate) freed: bool,
     pub(crate) strayed: bool,
@@ -58,7 +58,7 @@ pub(crate) struct Trace {
 
 impl Case {
     /// Tells whether a word of a set is that of the bit.
-    fn names_bit(self, bank: Bank, word: u32) -> bool
+    fn names_bit(self, bank: WhichSet, word: u32) -> bool
         ensures { result ≡ names_bit self bank word }
     {
         bank == self.bank && word as u64 == self.identity / 64
@@ -76,11 +76,11 @@ impl Trace {
             new: begin == Begin::InNew,
             hand: false,
             due: in_old,
-            old_number: terms.number_from == Spot::InOld,
-            new_number: terms.number_from == Spot::InNew,
-            hand_number: terms.number_from == Spot::InHand,
-            written: Place::Old,
-            in_force: Place::Old,
+            old_number: terms.number_from == NumberSpot::InOld,
+            new_number: terms.number_from == NumberSpot::InNew,
+            hand_number: terms.number_from == NumberSpot::InHand,
+            written: AnyPlace::Old,
+            in_force: AnyPlace::Old,
             flight: None,
             freed: false,
             strayed: false,
@@ -88,11 +88,11 @@ impl Trace {
     }
 
     /// Gives what a store for the identity makes of it, as it lands in a place.
-    pub(crate) fn landed(self, case: Case, place: Place) -> Trace
+    pub(crate) fn landed(self, case: Case, place: AnyPlace) -> Trace
         ensures { result ≡ trace_landed case place self }
     {
-        let is_pending = case.bank == Bank::Pending;
-        let is_old = place == Place::Old;
+        let is_pending = case.bank == WhichSet::Pending;
+        let is_old = place == AnyPlace::Old;
         Trace {
             old: is_pending && is_old || self.old,
             new: is_pending && !is_old || self.new,
@@ -103,12 +103,12 @@ impl Trace {
     }
 
     /// Gives what a store of the producer that lands at once makes of it.
-    pub(crate) fn stored(self, case: Case, route: Route) -> Trace
+    pub(crate) fn stored(self, case: Case, route: StoreRoute) -> Trace
         ensures { result ≡ trace_stored case route self }
     {
         match route {
-            Route::Written => self.landed(case, self.written),
-            Route::InForce => self.landed(case, self.in_force),
+            StoreRoute::Written => self.landed(case, self.written),
+            StoreRoute::InForce => self.landed(case, self.in_force),
         }
     }
 
@@ -137,32 +137,32 @@ impl Trace {
     }
 
     /// Tells whether the number stands in a spot as it was at the start.
-    pub(crate) fn number(self, spot: Spot) -> bool
+    pub(crate) fn number(self, spot: NumberSpot) -> bool
         ensures { result ≡ trace_number spot self }
     {
         match spot {
-            Spot::InOld => self.old_number,
-            Spot::InHand => self.hand_number,
-            Spot::InNew => self.new_number,
+            NumberSpot::InOld => self.old_number,
+            NumberSpot::InHand => self.hand_number,
+            NumberSpot::InNew => self.new_number,
         }
     }
 
     /// Gives what a step makes of it.
-    pub(crate) fn after(self, case: Case, step: Step) -> Trace
+    pub(crate) fn after(self, case: Case, step: AnyStep) -> Trace
         ensures { result ≡ trace_after case step self }
     {
         match step {
-            Step::Route(p) => self.turned(p as usize == case.producer),
-            Step::Fence(p) => self.fenced(case, p as usize == case.producer),
-            Step::Switch(p) => self.switched(p as usize == case.producer),
-            Step::Zero(place, s, w) => self.zeroed(place, case.names_bit(s, w)),
-            Step::Take(s, w) => self.taken(case.names_bit(s, w)),
-            Step::Join(s, w) => self.joined(case.names_bit(s, w)),
-            Step::Put(s, w) => self.put(case.names_bit(s, w)),
-            Step::ZeroNumber(place, n) => self.zeroed_number(place, n == case.number),
-            Step::TakeNumber(n) => self.taken_number(n == case.number),
-            Step::PutNumber(n) => self.put_number(n == case.number),
-            Step::Free => Trace {
+            AnyStep::Route(p) => self.turned(p as usize == case.producer),
+            AnyStep::Fence(p) => self.fenced(case, p as usize == case.producer),
+            AnyStep::Switch(p) => self.switched(p as usize == case.producer),
+            AnyStep::Zero(place, s, w) => self.zeroed(place, case.names_bit(s, w)),
+            AnyStep::Take(s, w) => self.taken(case.names_bit(s, w)),
+            AnyStep::Join(s, w) => self.joined(case.names_bit(s, w)),
+            AnyStep::Put(s, w) => self.put(case.names_bit(s, w)),
+            AnyStep::ZeroNumber(place, n) => self.zeroed_number(place, n == case.number),
+            AnyStep::TakeNumber(n) => self.taken_number(n == case.number),
+            AnyStep::PutNumber(n) => self.put_number(n == case.number),
+            AnyStep::Free => Trace {
                 freed: true,
                 ..self
             },
@@ -176,7 +176,7 @@ impl Trace {
     {
         if is_this {
             Trace {
-                written: Place::New,
+                written: AnyPlace::New,
                 ..self
             }
         } else {
@@ -209,8 +209,8 @@ impl Trace {
     {
         if is_this {
             Trace {
-                written: Place::New,
-                in_force: Place::New,
+                written: AnyPlace::New,
+                in_force: AnyPlace::New,
                 ..self
             }
         } else {
@@ -219,16 +219,16 @@ impl Trace {
     }
 
     /// Gives what a step makes of it that zeroes the word of the bit in a place, or another one.
-    fn zeroed(self, place: Place, is_this: bool) -> Trace
+    fn zeroed(self, place: AnyPlace, is_this: bool) -> Trace
         ensures { result ≡ trace_zeroed place is_this self }
     {
         match place {
-            Place::Old => Trace {
+            AnyPlace::Old => Trace {
                 old: !is_this && self.old,
                 strayed: self.strayed || self.freed,
                 ..self
             },
-            Place::New => Trace {
+            AnyPlace::New => Trace {
                 new: !is_this && self.new,
                 ..self
             },
@@ -270,16 +270,16 @@ impl Trace {
     }
 
     /// Gives what a step makes of it that zeroes the number in a place, or the other one.
-    fn zeroed_number(self, place: Place, is_this: bool) -> Trace
+    fn zeroed_number(self, place: AnyPlace, is_this: bool) -> Trace
         ensures { result ≡ trace_zeroed_number place is_this self }
     {
         match place {
-            Place::Old => Trace {
+            AnyPlace::Old => Trace {
                 old_number: !is_this && self.old_number,
                 strayed: self.strayed || self.freed,
                 ..self
             },
-            Place::New => Trace {
+            AnyPlace::New => Trace {
                 new_number: !is_this && self.new_number,
                 ..self
             },

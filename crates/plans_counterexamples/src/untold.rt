@@ -5,9 +5,9 @@ ghost use Rattle.plans_rules.specs.Setting.{setting_of};
 ghost use Rattle.plans_counterexamples.specs.Untold.{IsWatched, LeavesUntold, can_come, can_store, is_spot, is_unstored, is_untold, producer_of, trace_from, untold_end, watch_begun, watch_end, watch_extra, watch_stored};
 ghost use Rattle.plans_counterexamples.specs.UntoldSearch.{tried_untold};
 
-use crate::trace::{Route, Trace};
+use crate::trace::{StoreRoute, Trace};
 use crate::watch::Watch;
-use plans_rules::{Kind, Place, Spot, Step, Terms};
+use plans_rules::{AnyPlace, AnyStep, NumberSpot, RouteKind, Terms};
 
 /// The one store that comes between the steps of a run: whose it is, how many steps are before it,
 /// and its route. It lands at once.
@@ -15,7 +15,7 @@ use plans_rules::{Kind, Place, Spot, Step, Terms};
 pub struct Store {
     pub producer: usize,
     pub before: usize,
-    pub route: Route,
+    pub route: StoreRoute,
 }
 
 /// A run of a plan after which an identity stands out in the new place, and the host was not told.
@@ -29,15 +29,15 @@ pub struct UntoldRun {
     pub store: Option<Store>,
 
     /// Where delivery is 1 at the start; it is 0 elsewhere.
-    pub delivery: Spot,
+    pub delivery: NumberSpot,
 
     /// Where the threshold is 0 at the start; it is 1 elsewhere, which lets none through but
     /// identity 0. `None`: it is 1 everywhere.
-    pub threshold: Option<Spot>,
+    pub threshold: Option<NumberSpot>,
 }
 
 /// Tells whether a spot is this one.
-fn is_spot(at: Option<Spot>, spot: Spot) -> bool
+fn is_spot(at: Option<NumberSpot>, spot: NumberSpot) -> bool
     ensures { result ≡ is_spot at spot }
 {
     match at {
@@ -58,8 +58,8 @@ fn trace_from(is_there: bool, old_number: bool, hand_number: bool, new_number: b
         old_number,
         new_number,
         hand_number,
-        written: Place::Old,
-        in_force: Place::Old,
+        written: AnyPlace::Old,
+        in_force: AnyPlace::Old,
         flight: None,
         freed: false,
         strayed: false,
@@ -98,15 +98,15 @@ impl UntoldRun {
         Watch {
             pending: trace_from(
                 is_there,
-                !is_spot(self.threshold, Spot::InOld),
-                !is_spot(self.threshold, Spot::InHand),
-                !is_spot(self.threshold, Spot::InNew),
+                !is_spot(self.threshold, NumberSpot::InOld),
+                !is_spot(self.threshold, NumberSpot::InHand),
+                !is_spot(self.threshold, NumberSpot::InNew),
             ),
             enabled: trace_from(
                 true,
-                self.delivery == Spot::InOld,
-                self.delivery == Spot::InHand,
-                self.delivery == Spot::InNew,
+                self.delivery == NumberSpot::InOld,
+                self.delivery == NumberSpot::InHand,
+                self.delivery == NumberSpot::InNew,
             ),
             noticed: terms.notices_go,
             seen: false,
@@ -132,16 +132,16 @@ impl UntoldRun {
     }
 
     /// Tells whether there can be such a run.
-    fn can_come(self, terms: Terms, producers: &[Kind]) -> bool
+    fn can_come(self, terms: Terms, producers: &[RouteKind]) -> bool
         ensures { result ≡ can_come self terms producers.now }
     {
         self.identity / 64 < terms.words as u64 && can_store(self.store, producers.len())
     }
 
     /// Gives what is followed at the end of the run of a plan.
-    fn end(self, terms: Terms, plan: &[Step]) -> Watch
+    fn end(self, terms: Terms, plan: &[AnyStep]) -> Watch
         ensures exact { result ≡ watch_end terms plan.now self }
-        ensures follows { (producers : List Kind) → self.identity / 64 < terms.words
+        ensures follows { (producers : List RouteKind) → self.identity / 64 < terms.words
             → IsWatched self result (untold_end (setting_of producers terms) plan.now self) }
     {
         let producer = producer_of(self.store);
@@ -161,7 +161,7 @@ impl UntoldRun {
     }
 
     /// Tells whether a plan has this run, and it leaves the host untold.
-    fn leaves_untold(self, producers: &[Kind], terms: Terms, plan: &[Step]) -> bool
+    fn leaves_untold(self, producers: &[RouteKind], terms: Terms, plan: &[AnyStep]) -> bool
         ensures exact { result ≡ (can_come self terms producers.now
             && is_untold terms self (watch_end terms plan.now self)) }
         ensures untold { result ≡ true
@@ -173,7 +173,12 @@ impl UntoldRun {
     /// Gives this run, if a plan has it and it leaves the host untold. `None`: it has it not, or
     /// nothing stands out, or the host was told.
     #[tactic(auto, unfolding(crate::specs::UntoldSearch::tried_untold))]
-    pub(crate) fn tried(self, producers: &[Kind], terms: Terms, plan: &[Step]) -> Option<UntoldRun>
+    pub(crate) fn tried(
+        self,
+        producers: &[RouteKind],
+        terms: Terms,
+        plan: &[AnyStep],
+    ) -> Option<UntoldRun>
         ensures exact { result ≡ tried_untold producers.now terms plan.now self }
         ensures untold { IfSome result
             (λ run. LeavesUntold (setting_of producers.now terms) plan.now run) }

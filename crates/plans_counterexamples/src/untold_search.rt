@@ -6,12 +6,17 @@ ghost use Rattle.plans_counterexamples.specs.Search.{first_of};
 ghost use Rattle.plans_counterexamples.specs.Untold.{LeavesUntold};
 ghost use Rattle.plans_counterexamples.specs.UntoldSearch.{stored_before, stored_by, untold_of, untold_run_of, untold_word, with_delivery, untold_with_numbers};
 
-use crate::trace::Route;
+use crate::trace::StoreRoute;
 use crate::untold::{Store, UntoldRun};
-use plans_rules::{Kind, Spot, Step, Terms};
+use plans_rules::{AnyStep, NumberSpot, RouteKind, Terms};
 
 /// Makes a run of the second identity of a word.
-fn untold_of(word: u32, store: Option<Store>, delivery: Spot, threshold: Option<Spot>) -> UntoldRun
+fn untold_of(
+    word: u32,
+    store: Option<Store>,
+    delivery: NumberSpot,
+    threshold: Option<NumberSpot>,
+) -> UntoldRun
     ensures { result ≡ untold_of word store delivery threshold }
 {
     UntoldRun {
@@ -26,26 +31,26 @@ fn untold_of(word: u32, store: Option<Store>, delivery: Spot, threshold: Option<
 /// in none. `None`: there is none.
 #[tactic(auto, unfolding(crate::specs::UntoldSearch::with_delivery))]
 fn with_delivery(
-    producers: &[Kind],
+    producers: &[RouteKind],
     terms: Terms,
-    plan: &[Step],
+    plan: &[AnyStep],
     word: u32,
     store: Option<Store>,
-    delivery: Spot,
+    delivery: NumberSpot,
 ) -> Option<UntoldRun>
     ensures exact { result ≡ with_delivery producers.now terms plan.now word store delivery }
     ensures untold { IfSome result
         (λ run. LeavesUntold (setting_of producers.now terms) plan.now run) }
 {
-    let in_old = untold_of(word, store, delivery, Some(Spot::InOld));
+    let in_old = untold_of(word, store, delivery, Some(NumberSpot::InOld));
     if let Some(run) = in_old.tried(producers, terms, plan) {
         return Some(run);
     }
-    let in_hand = untold_of(word, store, delivery, Some(Spot::InHand));
+    let in_hand = untold_of(word, store, delivery, Some(NumberSpot::InHand));
     if let Some(run) = in_hand.tried(producers, terms, plan) {
         return Some(run);
     }
-    let in_new = untold_of(word, store, delivery, Some(Spot::InNew));
+    let in_new = untold_of(word, store, delivery, Some(NumberSpot::InNew));
     if let Some(run) = in_new.tried(producers, terms, plan) {
         return Some(run);
     }
@@ -56,9 +61,9 @@ fn with_delivery(
 /// one. `None`: there is none.
 #[tactic(auto, unfolding(crate::specs::UntoldSearch::untold_with_numbers))]
 fn untold_with_numbers(
-    producers: &[Kind],
+    producers: &[RouteKind],
     terms: Terms,
-    plan: &[Step],
+    plan: &[AnyStep],
     word: u32,
     store: Option<Store>,
 ) -> Option<UntoldRun>
@@ -67,25 +72,25 @@ fn untold_with_numbers(
         (λ run. LeavesUntold (setting_of producers.now terms) plan.now run) }
 {
     if !terms.heeds {
-        let run = untold_of(word, store, Spot::InOld, Some(Spot::InOld));
+        let run = untold_of(word, store, NumberSpot::InOld, Some(NumberSpot::InOld));
         return run.tried(producers, terms, plan);
     }
-    if let Some(run) = with_delivery(producers, terms, plan, word, store, Spot::InOld) {
+    if let Some(run) = with_delivery(producers, terms, plan, word, store, NumberSpot::InOld) {
         return Some(run);
     }
-    if let Some(run) = with_delivery(producers, terms, plan, word, store, Spot::InHand) {
+    if let Some(run) = with_delivery(producers, terms, plan, word, store, NumberSpot::InHand) {
         return Some(run);
     }
-    with_delivery(producers, terms, plan, word, store, Spot::InNew)
+    with_delivery(producers, terms, plan, word, store, NumberSpot::InNew)
 }
 
 /// Looks for an untold run with a store that comes with so many steps before it. `None`: there is
 /// none.
 #[tactic(auto, unfolding(crate::specs::UntoldSearch::stored_before))]
 fn stored_before(
-    producers: &[Kind],
+    producers: &[RouteKind],
     terms: Terms,
-    plan: &[Step],
+    plan: &[AnyStep],
     word: u32,
     producer: usize,
     before: usize,
@@ -97,7 +102,7 @@ fn stored_before(
     let by_force = Store {
         producer,
         before,
-        route: Route::InForce,
+        route: StoreRoute::InForce,
     };
     if let Some(run) = untold_with_numbers(producers, terms, plan, word, Some(by_force)) {
         return Some(run);
@@ -105,7 +110,7 @@ fn stored_before(
     let by_written = Store {
         producer,
         before,
-        route: Route::Written,
+        route: StoreRoute::Written,
     };
     untold_with_numbers(producers, terms, plan, word, Some(by_written))
 }
@@ -114,9 +119,9 @@ fn stored_before(
 /// one. `None`: there is none.
 #[tactic(auto, unfolding(crate::specs::UntoldSearch::stored_by))]
 fn stored_by(
-    producers: &[Kind],
+    producers: &[RouteKind],
     terms: Terms,
-    plan: &[Step],
+    plan: &[AnyStep],
     word: u32,
     producer: usize,
 ) -> Option<UntoldRun>
@@ -134,7 +139,12 @@ fn stored_by(
 }
 
 /// Looks for an untold run with a store into a word. `None`: there is none.
-fn stored_any(producers: &[Kind], terms: Terms, plan: &[Step], word: u32) -> Option<UntoldRun>
+fn stored_any(
+    producers: &[RouteKind],
+    terms: Terms,
+    plan: &[AnyStep],
+    word: u32,
+) -> Option<UntoldRun>
     ensures exact { result
         ≡ first_of (stored_by producers.now terms plan.now word) 0 (length producers.now) }
     ensures untold { IfSome result
@@ -151,7 +161,12 @@ fn stored_any(producers: &[Kind], terms: Terms, plan: &[Step], word: u32) -> Opt
 
 /// Looks for an untold run of a word. `None`: there is none.
 #[tactic(auto, unfolding(crate::specs::UntoldSearch::untold_word))]
-fn untold_word(producers: &[Kind], terms: Terms, plan: &[Step], word: u32) -> Option<UntoldRun>
+fn untold_word(
+    producers: &[RouteKind],
+    terms: Terms,
+    plan: &[AnyStep],
+    word: u32,
+) -> Option<UntoldRun>
     ensures exact { result ≡ untold_word producers.now terms plan.now word }
     ensures untold { IfSome result
         (λ run. LeavesUntold (setting_of producers.now terms) plan.now run) }
@@ -170,7 +185,7 @@ fn untold_word(producers: &[Kind], terms: Terms, plan: &[Step], word: u32) -> Op
 /// of two times the words, the producers and the square of the steps; where the numbers are heeded,
 /// twelve times that.
 #[tactic(auto, unfolding(crate::specs::UntoldSearch::untold_run_of))]
-pub fn untold_run(producers: &[Kind], terms: Terms, plan: &[Step]) -> Option<UntoldRun>
+pub fn untold_run(producers: &[RouteKind], terms: Terms, plan: &[AnyStep]) -> Option<UntoldRun>
     ensures exact { result ≡ untold_run_of producers.now terms plan.now }
     ensures untold { IfSome result
         (λ run. LeavesUntold (setting_of producers.now terms) plan.now run) }

@@ -5,8 +5,8 @@ ghost use Rattle.plans_rules.specs.Rules as rules;
 ghost use Rattle.plans_counterexamples.specs.Untold.{enabled_bit, pending_bit, watch_sees, watch_tells, watch_after, watch_landed, watch_lets, watch_out, watch_route};
 ghost use Rattle.plans_counterexamples.specs.Trace.{trace_after};
 
-use crate::trace::{Case, Route, Trace};
-use plans_rules::{Bank, Number, Place, Step, Terms};
+use crate::trace::{Case, StoreRoute, Trace};
+use plans_rules::{AnyPlace, AnyStep, Number, Terms, WhichSet};
 
 /// What is followed of an identity: its pending bit and the threshold, its enable and delivery,
 /// whether notices go to the host, whether a look saw it, and whether the host was told.
@@ -24,7 +24,7 @@ pub(crate) fn pending_bit(identity: u64, producer: usize) -> Case
     ensures { result ≡ pending_bit identity producer }
 {
     Case {
-        bank: Bank::Pending,
+        bank: WhichSet::Pending,
         identity,
         number: Number::Threshold,
         producer,
@@ -36,7 +36,7 @@ pub(crate) fn enabled_bit(identity: u64, producer: usize) -> Case
     ensures { result ≡ enabled_bit identity producer }
 {
     Case {
-        bank: Bank::Enabled,
+        bank: WhichSet::Enabled,
         identity,
         number: Number::Delivery,
         producer,
@@ -44,11 +44,11 @@ pub(crate) fn enabled_bit(identity: u64, producer: usize) -> Case
 }
 
 /// Tells whether a step writes where notices go.
-fn writes_notice(step: Step) -> bool
+fn writes_notice(step: AnyStep) -> bool
     ensures { result ≡ rules.writes_notice step }
 {
     match step {
-        Step::WriteNotice => true,
+        AnyStep::WriteNotice => true,
         _ => false,
     }
 }
@@ -69,21 +69,27 @@ impl Watch {
     }
 
     /// Tells where a store by one of the two routes lands.
-    pub(crate) fn route(self, route: Route) -> Place
+    pub(crate) fn route(self, route: StoreRoute) -> AnyPlace
         ensures { result ≡ watch_route route self }
     {
         match route {
-            Route::Written => self.pending.written,
-            Route::InForce => self.pending.in_force,
+            StoreRoute::Written => self.pending.written,
+            StoreRoute::InForce => self.pending.in_force,
         }
     }
 
     /// Gives what a store makes of it, as it lands in a place.
-    pub(crate) fn landed(self, terms: Terms, identity: u64, producer: usize, place: Place) -> Watch
+    pub(crate) fn landed(
+        self,
+        terms: Terms,
+        identity: u64,
+        producer: usize,
+        place: AnyPlace,
+    ) -> Watch
         ensures { result ≡ watch_landed terms identity producer place self }
     {
         let is_out = self.enabled.new && self.lets(terms, identity);
-        let is_told = place != Place::Old && self.noticed && is_out;
+        let is_told = place != AnyPlace::Old && self.noticed && is_out;
         Watch {
             pending: self.pending.landed(pending_bit(identity, producer), place),
             enabled: self.enabled.landed(enabled_bit(identity, producer), place),
@@ -94,28 +100,28 @@ impl Watch {
     }
 
     /// Tells whether a step looks at an identity, and it stands out.
-    fn sees(self, terms: Terms, identity: u64, step: Step) -> bool
+    fn sees(self, terms: Terms, identity: u64, step: AnyStep) -> bool
         ensures { result ≡ watch_sees terms identity step self }
     {
         match step {
-            Step::Look(word) => word as u64 == identity / 64 && self.is_out(terms, identity),
+            AnyStep::Look(word) => word as u64 == identity / 64 && self.is_out(terms, identity),
             _ => false,
         }
     }
 
     /// Tells whether a step tells the host.
-    fn tells(self, terms: Terms, identity: u64, step: Step) -> bool
+    fn tells(self, terms: Terms, identity: u64, step: AnyStep) -> bool
         ensures { result ≡ watch_tells terms identity step self }
     {
         match step {
-            Step::Post => self.seen,
-            Step::Tell => self.is_out(terms, identity),
+            AnyStep::Post => self.seen,
+            AnyStep::Tell => self.is_out(terms, identity),
             _ => false,
         }
     }
 
     /// Gives what a step makes of it.
-    pub(crate) fn after(self, terms: Terms, identity: u64, producer: usize, step: Step) -> Watch
+    pub(crate) fn after(self, terms: Terms, identity: u64, producer: usize, step: AnyStep) -> Watch
         ensures { result ≡ watch_after terms identity producer step self }
     {
         Watch {

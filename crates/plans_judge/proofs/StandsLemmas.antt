@@ -3,10 +3,10 @@ use Rattle.std.proofs.Common.{◌≡◌, ℕ, zero, suc, ◌<◌, Bool, true, fa
 use Rattle.std.specs.Prelude.{slice_get, option_map, replicate}
 use Rattle.std.proofs.lemmas.List.{length-replicate, get_or-replicate, length-map}
 use Rattle.std.proofs.lemmas.Option.{slice_get-get_or, slice_get-map}
-use Rattle.plans_rules.specs.declared.step.Step.{Step}
-use Rattle.plans_rules.specs.declared.setting.Kind.{Kind}
-use Rattle.plans_rules.specs.declared.setting.Kind.TheVariants.{Routed}
-use Rattle.plans_rules.specs.declared.step.Bank.TheVariants.{Pending, Enabled}
+use Rattle.plans_rules.specs.declared.step.AnyStep.{AnyStep}
+use Rattle.plans_rules.specs.declared.setting.RouteKind.{RouteKind}
+use Rattle.plans_rules.specs.declared.setting.RouteKind.TheVariants.{Routed}
+use Rattle.plans_rules.specs.declared.step.WhichSet.TheVariants.{Pending, Enabled}
 use Rattle.plans_rules.specs.Setting.{Setting, setting_of, all_below, any_below}
 use Rattle.plans_rules.specs.Rules.{Done, frees, writes_notice, is_noticed, is_turned, is_reached, old_holds, hand_holds, is_moved, is_reported}
 use Rattle.plans_judge.specs.declared.table.Table.{Table}
@@ -14,49 +14,63 @@ use Rattle.plans_judge.specs.declared.lead.Lead.{Lead}
 use Rattle.plans_judge.specs.declared.word.Word.{Word}
 use Rattle.plans_rules.specs.declared.step.Number.{Number}
 use Rattle.plans_rules.specs.declared.step.Number.TheVariants.{Threshold, Delivery}
-use Rattle.plans_rules.specs.declared.step.Place.TheVariants.{Old, New}
-use Rattle.plans_rules.specs.declared.step.Step.TheVariants.{Zero, ZeroNumber, TakeNumber, PutNumber}
+use Rattle.plans_rules.specs.declared.step.AnyPlace.TheVariants.{Old, New}
+use Rattle.plans_rules.specs.declared.step.AnyStep.TheVariants.{Zero, ZeroNumber, TakeNumber, PutNumber}
 use Rattle.plans_rules.specs.declared.setting.Terms.{Terms}
 use Rattle.plans_judge.specs.declared.word.World.{World}
 use Rattle.plans_judge.specs.Table.{AllAfter, Stands, lead_first, lead_after, lead_at, is_turned_at, is_taken_at, is_kept_at, is_reported_at, word_first, word_after, word_at, standing_first, standing_after, standing_at, world_at}
 
 pub all_below_same : (f g : ℕ → Bool) (n : ℕ) → ((k : ℕ) → k < n → f k ≡ g k) → all_below f n ≡ all_below g n
 all_below_same f g zero same = refl
-all_below_same f g (suc n) same = ap (λ b. b && all_below f n) (same n (omega arith)) ∙ ap (λ b. g n && b) (all_below_same f g n (λ k low. same k (omega (arith, low))))
+all_below_same f g (suc n) same = ap (λ b. b && all_below f n) (same n (omega arith))
+    ∙ ap (λ b. g n && b) (all_below_same f g n (λ k low. same k (omega (arith, low))))
 
 pub any_below_same : (f g : ℕ → Bool) (n : ℕ) → ((k : ℕ) → k < n → f k ≡ g k) → any_below f n ≡ any_below g n
 any_below_same f g zero same = refl
 any_below_same f g (suc n) same =
-    ap (λ b. either_of b (any_below f n)) (same n (omega arith)) ∙ ap (λ b. either_of (g n) b) (any_below_same f g n (λ k low. same k (omega (arith, low))))
+    ap (λ b. either_of b (any_below f n)) (same n (omega arith))
+    ∙ ap (λ b. either_of (g n) b) (any_below_same f g n (λ k low. same k (omega (arith, low))))
   where
     either_of : Bool → Bool → Bool
     either_of a b = elim a [ true ↦ true | false ↦ b ]
 
 -- the elements that stand for what is done
-turned_is : (t : Table) (producers : List Kind) (done : Done) (p : ℕ) → Stands t producers done → p < length producers → is_turned_at t.leads.items p ≡ is_turned p done
+turned_is : (t : Table) (producers : List RouteKind) (done : Done) (p : ℕ) → Stands t producers done → p < length producers
+    → is_turned_at t.leads.items p ≡ is_turned p done
 turned_is t producers done p v low =
-    ap (λ (o : Option Lead). elim o [ None ↦ false | Some lead ↦ lead.turned ]) (v.leads p ∙ ap (option_map (lead_at done p)) (slice_get-get_or producers p Routed low))
+    ap (λ (o : Option Lead). elim o [ None ↦ false | Some lead ↦ lead.turned ])
+    (v.leads p ∙ ap (option_map (lead_at done p)) (slice_get-get_or producers p Routed low))
 
-pub all_turned_is : (t : Table) (producers : List Kind) (done : Done) → Stands t producers done
+pub all_turned_is : (t : Table) (producers : List RouteKind) (done : Done) → Stands t producers done
     → any_below (is_turned_at t.leads.items) (length t.leads.items) ≡ is_reached (setting_of producers t.terms) Pending done
 all_turned_is t producers done v =
-    ap (any_below (is_turned_at t.leads.items)) v.count ∙ any_below_same (is_turned_at t.leads.items) (λ p. is_turned p done) (length producers) (λ p low. turned_is t producers done p v low)
+    ap (any_below (is_turned_at t.leads.items)) v.count
+    ∙ any_below_same (is_turned_at t.leads.items) (λ p. is_turned p done) (length producers) (λ p low. turned_is t producers done p v low)
 
-pub taken_is : (t : Table) (producers : List Kind) (done : Done) → Stands t producers done
-    → all_below (is_taken_at t.words.items) (length t.words.items) ≡ all_below (λ w. not (old_holds (setting_of producers t.terms) Pending w done)) t.terms.words
+pub taken_is : (t : Table) (producers : List RouteKind) (done : Done) → Stands t producers done
+    → all_below (is_taken_at t.words.items) (length t.words.items) ≡ all_below
+    (λ w. not (old_holds (setting_of producers t.terms) Pending w done)) t.terms.words
 taken_is t producers done v =
     ap (all_below (is_taken_at t.words.items)) v.width
-    ∙ all_below_same _ _ t.terms.words (λ w low. ap (λ (o : Option Word). elim o [ None ↦ false | Some word ↦ not word.pending.old_holds ]) (v.words w low))
+    ∙ all_below_same _ _ t.terms.words (λ w low. ap (λ (o : Option Word). elim o [ None ↦ false | Some word ↦ not word.pending.old_holds ])
+    (v.words w low))
 
-pub kept_is : (t : Table) (producers : List Kind) (done : Done) → Stands t producers done
+pub kept_is : (t : Table) (producers : List RouteKind) (done : Done) → Stands t producers done
     → all_below (is_kept_at t.words.items) (length t.words.items)
-    ≡ all_below (λ w. not (hand_holds (setting_of producers t.terms) Pending w done) && is_moved (setting_of producers t.terms) Enabled w done) t.terms.words
+    ≡ all_below (λ w. not (hand_holds (setting_of producers t.terms) Pending w done) && is_moved (setting_of producers t.terms) Enabled w done)
+    t.terms.words
 kept_is t producers done v =
     ap (all_below (is_kept_at t.words.items)) v.width
-    ∙ all_below_same _ _ t.terms.words (λ w low. ap (λ (o : Option Word). elim o [ None ↦ false | Some word ↦ not word.pending.hand_holds && (not word.enabled.old_holds && not word.enabled.hand_holds) ]) (v.words w low))
+    ∙ all_below_same _ _ t.terms.words (λ w low. ap
+    (λ (o : Option Word). elim o [
+      | None ↦ false
+      | Some word ↦
+          not word.pending.hand_holds && (not word.enabled.old_holds && not word.enabled.hand_holds)
+    ]) (v.words w low))
 
-pub reported_is : (t : Table) (producers : List Kind) (done : Done) → Stands t producers done
-    → all_below (is_reported_at t.words.items) (length t.words.items) ≡ all_below (λ w. is_reported (setting_of producers t.terms) w done) t.terms.words
+pub reported_is : (t : Table) (producers : List RouteKind) (done : Done) → Stands t producers done
+    → all_below (is_reported_at t.words.items) (length t.words.items) ≡ all_below (λ w. is_reported (setting_of producers t.terms) w done)
+    t.terms.words
 reported_is t producers done v =
     ap (all_below (is_reported_at t.words.items)) v.width
     ∙ all_below_same _ _ t.terms.words (λ w low. ap (λ (o : Option Word). elim o [ None ↦ false | Some word ↦ word.reported ]) (v.words w low))
@@ -71,14 +85,15 @@ where_asked false b x e f = absurd (cc)
 
 -- ---- a step
 
-lead_step : (done : Done) (x : Step) (p : ℕ) (o : Option Kind) → option_map (lead_after x p) (option_map (lead_at done p) o) ≡ option_map (lead_at (x ∷ done) p) o
+lead_step : (done : Done) (x : AnyStep) (p : ℕ) (o : Option RouteKind)
+    → option_map (lead_after x p) (option_map (lead_at done p) o) ≡ option_map (lead_at (x ∷ done) p) o
 lead_step done x p None = refl
 lead_step done x p (Some kind) = refl
 
-word_step : (d : Setting) (done : Done) (x : Step) (w : ℕ) → word_after (world_at d done) x w (word_at d done w) ≡ word_at d (x ∷ done) w
+word_step : (d : Setting) (done : Done) (x : AnyStep) (w : ℕ) → word_after (world_at d done) x w (word_at d done w) ≡ word_at d (x ∷ done) w
 word_step d done x w = refl
 
-pub standing_step : (d : Setting) (x : Step) (n : Number) (done : Done) → standing_after x n (standing_at d n done) ≡ standing_at d n (x ∷ done)
+pub standing_step : (d : Setting) (x : AnyStep) (n : Number) (done : Done) → standing_after x n (standing_at d n done) ≡ standing_at d n (x ∷ done)
 standing_step d (TakeNumber Threshold) Threshold done = refl
 standing_step d (TakeNumber Threshold) Delivery done = refl
 standing_step d (TakeNumber Delivery) Threshold done = refl
@@ -100,34 +115,43 @@ standing_step d (Zero New s w) n done = refl
 standing_step d x n done = refl
 
 -- the table is that of one step more
-pub stands_more : (old new : Table) (x : Step) (world : World) (producers : List Kind) (done : Done)
-    → ((producers : List Kind) (done : Done) → Stands old producers done → world ≡ world_at (setting_of producers old.terms) done)
+pub stands_more : (old new : Table) (x : AnyStep) (world : World) (producers : List RouteKind) (done : Done)
+    → ((producers : List RouteKind) (done : Done) → Stands old producers done → world ≡ world_at (setting_of producers old.terms) done)
     → new.terms ≡ old.terms → AllAfter (lead_after x) old.leads.items new.leads.items → AllAfter (word_after world x) old.words.items new.words.items
-    → new.threshold ≡ standing_after x Threshold old.threshold → new.delivery ≡ standing_after x Delivery old.delivery → new.freed ≡ (frees x || old.freed) → new.noticed ≡ (writes_notice x || old.noticed)
+    → new.threshold ≡ standing_after x Threshold old.threshold → new.delivery ≡ standing_after x Delivery old.delivery
+    → new.freed ≡ (frees x || old.freed) → new.noticed ≡ (writes_notice x || old.noticed)
     → Stands old producers done → Stands new producers (x ∷ done)
 stands_more old new x world producers done knows terms leads words threshold delivery freed noticed v =
     let d : Setting = setting_of producers old.terms in
     let is : world ≡ world_at d done = knows producers done v in
     let inside : (w : ℕ) → w < old.terms.words → slice_get new.words.items w ≡ Some (word_at d (x ∷ done) w) =
-    λ w low. words.1 w ∙ ap (option_map (word_after world x w)) (v.words w low) ∙ ap (λ k. Some (word_after k x w (word_at d done w))) is ∙ ap Some (word_step d done x w) in
+    λ w low. words.1 w ∙ ap (option_map (word_after world x w)) (v.words w low) ∙ ap (λ k. Some (word_after k x w (word_at d done w))) is
+    ∙ ap Some (word_step d done x w) in
     record {
       count = leads.0 ∙ v.count;
       leads = λ p. leads.1 p ∙ ap (option_map (lead_after x p)) (v.leads p) ∙ lead_step done x p (slice_get producers p);
       width = words.0 ∙ v.width ∙ ap (λ (t : Terms). t.words) (sym terms);
-      words = λ w low. subst (λ (t : Terms). slice_get new.words.items w ≡ Some (word_at (setting_of producers t) (x ∷ done) w)) (sym terms) (inside w (subst (λ (t : Terms). w < t.words) terms low));
-      threshold = subst (λ (t : Terms). new.threshold ≡ standing_at (setting_of producers t) Threshold (x ∷ done)) (sym terms) (threshold ∙ ap (standing_after x Threshold) v.threshold ∙ standing_step d x Threshold done);
-      delivery = subst (λ (t : Terms). new.delivery ≡ standing_at (setting_of producers t) Delivery (x ∷ done)) (sym terms) (delivery ∙ ap (standing_after x Delivery) v.delivery ∙ standing_step d x Delivery done);
+      words = λ w low. subst (λ (t : Terms). slice_get new.words.items w ≡ Some (word_at (setting_of producers t) (x ∷ done) w)) (sym terms)
+          (inside w (subst (λ (t : Terms). w < t.words) terms low));
+      threshold = subst (λ (t : Terms). new.threshold ≡ standing_at (setting_of producers t) Threshold (x ∷ done)) (sym terms)
+          (threshold ∙ ap (standing_after x Threshold) v.threshold ∙ standing_step d x Threshold done);
+      delivery = subst (λ (t : Terms). new.delivery ≡ standing_at (setting_of producers t) Delivery (x ∷ done)) (sym terms)
+          (delivery ∙ ap (standing_after x Delivery) v.delivery ∙ standing_step d x Delivery done);
       freed = freed ∙ ap (λ b. frees x || b) v.freed;
-      noticed = subst (λ (t : Terms). new.noticed ≡ is_noticed (setting_of producers t) (x ∷ done)) (sym terms) (noticed ∙ ap (λ b. writes_notice x || b) v.noticed);
+      noticed = subst (λ (t : Terms). new.noticed ≡ is_noticed (setting_of producers t) (x ∷ done)) (sym terms)
+          (noticed ∙ ap (λ b. writes_notice x || b) v.noticed);
     }
 
 -- ---- no step
 
 replicated : {A : Type 0} (n w : ℕ) (y : A) → w < n → slice_get (replicate n y) w ≡ Some y
-replicated n w y low = slice_get-get_or (replicate n y) w y (let e = length-replicate n y in omega (arith, low, e)) ∙ ap Some (get_or-replicate n w y y low)
+replicated n w y low = slice_get-get_or (replicate n y) w y (let e = length-replicate n y in omega (arith, low, e))
+    ∙ ap Some (get_or-replicate n w y y low)
 
-pub begins : (t : Table) (producers : List Kind) → t.leads.items ≡ map lead_first producers → t.words.items ≡ replicate t.terms.words (word_first t.terms.is_fresh)
-    → t.threshold ≡ standing_first t.terms.number_from → t.delivery ≡ standing_first t.terms.number_from → t.freed ≡ false → t.noticed ≡ t.terms.notices_go → Stands t producers []
+pub begins : (t : Table) (producers : List RouteKind) → t.leads.items ≡ map lead_first producers
+    → t.words.items ≡ replicate t.terms.words (word_first t.terms.is_fresh)
+    → t.threshold ≡ standing_first t.terms.number_from → t.delivery ≡ standing_first t.terms.number_from → t.freed ≡ false
+    → t.noticed ≡ t.terms.notices_go → Stands t producers []
 begins t producers leads words threshold delivery freed noticed = record {
   count = ap (λ (l : List Lead). length l) leads ∙ length-map producers lead_first;
   leads = λ p. ap (λ l. slice_get l p) leads ∙ slice_get-map lead_first producers p;

@@ -2,17 +2,17 @@
 -- as the rules do. Profile.
 use Rattle.std.specs.Prelude.{◌≡◌, ℕ, ◌<◌, length, Bool, true, false, not, ◌&&◌, ◌||◌, List, Some, None, slice_get, option_map}
 use Rattle.std.specs.List.{list_any}
-use Rattle.plans_rules.specs.declared.step.Bank.{Bank}
-use Rattle.plans_rules.specs.declared.step.Bank.TheVariants.{Pending, Enabled}
+use Rattle.plans_rules.specs.declared.step.WhichSet.{WhichSet}
+use Rattle.plans_rules.specs.declared.step.WhichSet.TheVariants.{Pending, Enabled}
 use Rattle.plans_rules.specs.declared.step.Number.{Number}
 use Rattle.plans_rules.specs.declared.step.Number.TheVariants.{Threshold, Delivery}
-use Rattle.plans_rules.specs.declared.step.Place.TheVariants.{Old, New}
-use Rattle.plans_rules.specs.declared.step.Step.{Step}
-use Rattle.plans_rules.specs.declared.step.Step.TheVariants.{ZeroNumber, TakeNumber, PutNumber}
-use Rattle.plans_rules.specs.declared.setting.Kind.{Kind}
-use Rattle.plans_rules.specs.declared.setting.Kind.TheVariants.{Routed, Switched}
-use Rattle.plans_rules.specs.declared.setting.Spot.{Spot}
-use Rattle.plans_rules.specs.declared.setting.Spot.TheVariants.{InOld, InHand, InNew}
+use Rattle.plans_rules.specs.declared.step.AnyPlace.TheVariants.{Old, New}
+use Rattle.plans_rules.specs.declared.step.AnyStep.{AnyStep}
+use Rattle.plans_rules.specs.declared.step.AnyStep.TheVariants.{ZeroNumber, TakeNumber, PutNumber}
+use Rattle.plans_rules.specs.declared.setting.RouteKind.{RouteKind}
+use Rattle.plans_rules.specs.declared.setting.RouteKind.TheVariants.{Routed, Switched}
+use Rattle.plans_rules.specs.declared.setting.NumberSpot.{NumberSpot}
+use Rattle.plans_rules.specs.declared.setting.NumberSpot.TheVariants.{InOld, InHand, InNew}
 use Rattle.plans_rules.specs.Setting.{Setting, setting_of, same_number, same_spot}
 use Rattle.plans_rules.specs.Rules.{turns, fences, switches, takes, fills, blanks, frees, looks, posts, tells, Done, is_turned, is_fenced, old_holds, hand_holds, is_filled, is_blank, has_number, are_heeded, is_noticed, all_led, is_looked, is_reported}
 use Rattle.plans_judge.specs.declared.lead.Lead.{Lead}
@@ -31,7 +31,7 @@ AllAfter after old new =
 -- ---- a producer
 
 -- What a step makes of what is kept of producer p.
-abbrev pub lead_after : Step → ℕ → Lead → Lead
+abbrev pub lead_after : AnyStep → ℕ → Lead → Lead
 lead_after x p lead = record {
   kind = lead.kind;
   turned = turns p x || lead.turned;
@@ -40,7 +40,7 @@ lead_after x p lead = record {
 }
 
 -- What is kept of a producer of a kind before the first step.
-abbrev pub lead_first : Kind → Lead
+abbrev pub lead_first : RouteKind → Lead
 lead_first kind = record { kind = kind; turned = false; fenced = false; switched = false }
 
 -- Whether all that the producer stores from now on goes to the new place, by what is kept of it.
@@ -60,7 +60,7 @@ abbrev pub is_turned_at : List Lead → ℕ → Bool
 is_turned_at leads p = elim (slice_get leads p) [ None ↦ false | Some lead ↦ lead.turned ]
 
 -- What the rules say of producer p after the steps that are done.
-abbrev pub lead_at : Done → ℕ → Kind → Lead
+abbrev pub lead_at : Done → ℕ → RouteKind → Lead
 lead_at done p kind = record {
   kind = kind;
   turned = is_turned p done;
@@ -77,7 +77,7 @@ flags_moved flags = not flags.old_holds && not flags.hand_holds
 
 -- What a step makes of the flags of word w of set s, given whether nobody stores into that set of
 -- the old place.
-abbrev pub flags_after : Bank → Bool → Step → ℕ → Flags → Flags
+abbrev pub flags_after : WhichSet → Bool → AnyStep → ℕ → Flags → Flags
 flags_after s still x w flags = record {
   old_holds = elim (takes s w x) [
     | true ↦ flags.old_holds && not still
@@ -117,14 +117,14 @@ abbrev pub word_settled : Bool → Word → Bool
 word_settled ready word = flags_moved word.pending && (flags_moved word.enabled && ready)
 
 -- Whether a word was looked at once it was settled, with one step more.
-abbrev pub looked_after : Bool → Step → ℕ → Word → Bool
+abbrev pub looked_after : Bool → AnyStep → ℕ → Word → Bool
 looked_after ready x w word = elim (looks w x) [
   | true ↦ word_settled ready word || word.looked
   | false ↦ word.looked
 ]
 
 -- Whether it was told of once it was settled, or posted after such a look, with one step more.
-abbrev pub reported_after : Bool → Step → Word → Bool
+abbrev pub reported_after : Bool → AnyStep → Word → Bool
 reported_after ready x word = elim (posts x) [
   | true ↦ word.looked || word.reported
   | false ↦ elim (tells x) [
@@ -134,7 +134,7 @@ reported_after ready x word = elim (posts x) [
 ]
 
 -- What a step makes of all that is kept of word w.
-abbrev pub word_after : World → Step → ℕ → Word → Word
+abbrev pub word_after : World → AnyStep → ℕ → Word → Word
 word_after world x w word = record {
   pending = flags_after Pending world.still x w word.pending;
   enabled = flags_after Enabled true x w word.enabled;
@@ -166,7 +166,7 @@ is_reported_at words w = elim (slice_get words w) [
 ]
 
 -- What the rules say of word w of set s after the steps that are done.
-abbrev pub flags_at : Setting → Done → Bank → ℕ → Flags
+abbrev pub flags_at : Setting → Done → WhichSet → ℕ → Flags
 flags_at d done s w = record {
   old_holds = old_holds d s w done;
   hand_holds = hand_holds d s w done;
@@ -186,7 +186,7 @@ word_at d done w = record {
 -- ---- a number
 
 -- In which spots a number stands as it was at the start; before the first step in `from` alone.
-abbrev pub standing_first : Spot → Standing
+abbrev pub standing_first : NumberSpot → Standing
 standing_first from = record {
   old = same_spot from InOld;
   hand = same_spot from InHand;
@@ -194,11 +194,11 @@ standing_first from = record {
 }
 
 -- Whether it stands so in a spot.
-abbrev pub standing_in : Spot → Standing → Bool
+abbrev pub standing_in : NumberSpot → Standing → Bool
 standing_in spot s = elim spot [ InOld ↦ s.old | InHand ↦ s.hand | InNew ↦ s.new ]
 
 -- What a step makes of that, for number n.
-abbrev pub standing_after : Step → Number → Standing → Standing
+abbrev pub standing_after : AnyStep → Number → Standing → Standing
 standing_after (TakeNumber m) n s = elim (same_number m n) [
   | true ↦ record { old = false; hand = s.old; new = s.new }
   | false ↦ s
@@ -238,7 +238,7 @@ world_at d done = record {
 -- ---- the table
 
 -- A table stands for the steps that are done, with these producers.
-pub record Stands (t : Table) (producers : List Kind) (done : Done) : Type 0 where
+pub record Stands (t : Table) (producers : List RouteKind) (done : Done) : Type 0 where
   pub count : length t.leads.items ≡ length producers
   pub leads : (p : ℕ) → slice_get t.leads.items p
       ≡ option_map (lead_at done p) (slice_get producers p)

@@ -9,8 +9,8 @@ ghost use Rattle.plans_judge.specs.Table.{Stands};
 ghost use Rattle.plans_judge.specs.Verdicts.{break_in, first_break, refused_by, rules_of, verdict_on};
 
 use crate::table::Table;
-use crate::verdict::Verdict;
-use plans_rules::{Kind, Rule, Step, Terms};
+use crate::verdict::Judgement;
+use plans_rules::{AnyStep, RouteKind, Rule, Terms};
 use std::alloc::{AllocError, Global};
 
 /// A part of the rules.
@@ -39,19 +39,20 @@ pub(crate) struct Break {
 /// producer and a word.
 pub fn judge(
     alloc: Global,
-    producers: &[Kind],
+    producers: &[RouteKind],
     terms: Terms,
-    plan: &[Step],
-) -> Result<Verdict, AllocError>
+    plan: &[AnyStep],
+) -> Result<Judgement, AllocError>
     requires inside { All (IsInFile terms.words) plan.now }
     ensures verdict { IfOk result (λ verdict.
         verdict ≡ verdict_on (setting_of producers.now terms) plan.now) }
-    ensures safe { result ≡ Ok Verdict.Accepted → IsSafe (setting_of producers.now terms) plan.now }
-    ensures told { result ≡ Ok Verdict.Accepted → terms.in_memory ≡ true
+    ensures safe { result ≡ Ok Judgement.Accepted
+        → IsSafe (setting_of producers.now terms) plan.now }
+    ensures told { result ≡ Ok Judgement.Accepted → terms.in_memory ≡ true
         → IsTold (setting_of producers.now terms) plan.now }
-    ensures refused { (rule : Rule) (before : ℕ) → result ≡ Ok (Verdict.Refused rule before)
+    ensures refused { (rule : Rule) (before : ℕ) → result ≡ Ok (Judgement.Refused rule before)
         → rule ≢ Rule.Notice → ¬ IsSafe (setting_of producers.now terms) plan.now }
-    ensures notice { (before : ℕ) → result ≡ Ok (Verdict.Refused Rule.Notice before)
+    ensures notice { (before : ℕ) → result ≡ Ok (Judgement.Refused Rule.Notice before)
         → IsSafe (setting_of producers.now terms) plan.now }
 {
     let verdict = first_verdict(alloc, producers, terms, plan)?;
@@ -61,10 +62,10 @@ pub fn judge(
 /// Gives the verdict on a plan. `Err`: there is no memory for the table.
 fn first_verdict(
     alloc: Global,
-    producers: &[Kind],
+    producers: &[RouteKind],
     terms: Terms,
-    plan: &[Step],
-) -> Result<Verdict, AllocError>
+    plan: &[AnyStep],
+) -> Result<Judgement, AllocError>
     requires inside { All (IsInFile terms.words) plan.now }
     ensures { IfOk result (λ verdict.
         verdict ≡ verdict_on (setting_of producers.now terms) plan.now) }
@@ -75,14 +76,14 @@ fn first_verdict(
     if let Some(broken) = break_in(alloc, producers, terms, plan, Part::Telling)? {
         return Ok(refused_by(broken));
     }
-    Ok(Verdict::Accepted)
+    Ok(Judgement::Accepted)
 }
 
 /// Gives the verdict that a break leads to.
-fn refused_by(broken: Break) -> Verdict
+fn refused_by(broken: Break) -> Judgement
     ensures { result ≡ refused_by broken }
 {
-    Verdict::Refused {
+    Judgement::Refused {
         rule: broken.rule,
         before: broken.before,
     }
@@ -92,9 +93,9 @@ fn refused_by(broken: Break) -> Verdict
 /// memory for the table.
 fn break_in(
     alloc: Global,
-    producers: &[Kind],
+    producers: &[RouteKind],
     terms: Terms,
-    plan: &[Step],
+    plan: &[AnyStep],
     part: Part,
 ) -> Result<Option<Break>, AllocError>
     requires inside { All (IsInFile terms.words) plan.now }
@@ -114,7 +115,7 @@ fn break_in(
 
 /// Gives the break in the end of a plan of so many steps. `None`: there is none.
 fn break_at_end(table: &Table, part: Part, before: usize) -> Option<Break>
-    ensures { (producers : List Kind) (done : Done) → Stands table.now producers done
+    ensures { (producers : List RouteKind) (done : Done) → Stands table.now producers done
         → result ≡ first_break (rules_of part) (setting_of producers table.now.terms) done
         before [] }
 {

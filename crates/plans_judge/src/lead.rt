@@ -5,12 +5,12 @@ ghost use Rattle.plans_rules.specs.Rules as rules;
 ghost use Rattle.plans_rules.specs.Setting.{all_below, any_below};
 ghost use Rattle.plans_judge.specs.Table.{AllAfter, lead_after, lead_first, is_led_at, is_turned_at, led_by};
 
-use plans_rules::{Kind, Step};
+use plans_rules::{AnyStep, RouteKind};
 
 /// What the steps so far have made of a producer's route.
 #[derive(Clone, Copy)]
 pub(crate) struct Lead {
-    pub(crate) kind: Kind,
+    pub(crate) kind: RouteKind,
 
     /// It leads to the new place, as it is written.
     pub(crate) turned: bool,
@@ -24,7 +24,7 @@ pub(crate) struct Lead {
 
 impl Lead {
     /// Gives what is known of a producer's route before the first step.
-    pub(crate) fn first(kind: Kind) -> Lead
+    pub(crate) fn first(kind: RouteKind) -> Lead
         ensures { result ≡ lead_first kind }
     {
         Lead {
@@ -40,13 +40,13 @@ impl Lead {
         ensures { result ≡ led_by self }
     {
         match self.kind {
-            Kind::Routed => self.fenced,
-            Kind::Switched => self.fenced || self.switched,
+            RouteKind::Routed => self.fenced,
+            RouteKind::Switched => self.fenced || self.switched,
         }
     }
 
     /// Gives what a step makes of the route of producer `place`.
-    fn after(self, step: Step, place: usize) -> Lead
+    fn after(self, step: AnyStep, place: usize) -> Lead
         ensures { result ≡ lead_after step place self }
     {
         Lead {
@@ -63,37 +63,37 @@ impl Lead {
 }
 
 /// Tells whether a step writes the route of producer `place`.
-fn turns(step: Step, place: usize) -> bool
+fn turns(step: AnyStep, place: usize) -> bool
     ensures { result ≡ rules.turns place step }
 {
     match step {
-        Step::Route(p) | Step::Switch(p) => p as usize == place,
+        AnyStep::Route(p) | AnyStep::Switch(p) => p as usize == place,
         _ => false,
     }
 }
 
 /// Tells whether a step puts the route of producer `place` in force.
-fn fences(step: Step, place: usize) -> bool
+fn fences(step: AnyStep, place: usize) -> bool
     ensures { result ≡ rules.fences place step }
 {
     match step {
-        Step::Fence(p) => p as usize == place,
+        AnyStep::Fence(p) => p as usize == place,
         _ => false,
     }
 }
 
 /// Tells whether a step does both at once.
-fn switches(step: Step, place: usize) -> bool
+fn switches(step: AnyStep, place: usize) -> bool
     ensures { result ≡ rules.switches place step }
 {
     match step {
-        Step::Switch(p) => p as usize == place,
+        AnyStep::Switch(p) => p as usize == place,
         _ => false,
     }
 }
 
 /// Makes of all routes what a step makes of them.
-pub(crate) fn lead_all(leads: &mut [Lead], step: Step)
+pub(crate) fn lead_all(leads: &mut [Lead], step: AnyStep)
     ensures { AllAfter (lead_after step) leads.old leads.new }
 {
     for place in 0..leads.len() {

@@ -10,5 +10,5 @@ mod verdict;
 mod word;
 
 pub use judging::judge;
-pub use plans_rules::{Bank, Kind, Number, Place, Rule, Spot, Step, Terms};
-pub use verdict::Verdict;
+pub use plans_rules::{AnyPlace, AnyStep, Number, NumberSpot, RouteKind, Rule, Terms, WhichSet};
+pub use verdict::Judgement;

@@ -8,13 +8,13 @@ ghost use Rattle.plans_rules.specs.Setting.{setting_of};
 ghost use Rattle.plans_judge.specs.Table.{Stands, flags_at, lead_first, word_first, world_at};
 ghost use Rattle.plans_judge.specs.Verdicts.{refusing, refusing_end, rules_of};
 ghost use Rattle.plans_rules.specs.declared.rule.Rule.TheVariants as rule_;
-ghost use Rattle.plans_rules.specs.declared.setting.Spot.TheVariants as spot;
+ghost use Rattle.plans_rules.specs.declared.setting.NumberSpot.TheVariants as spot;
 
 use crate::judging::Part;
 use crate::lead::{Lead, all_led, any_turned, lead_all};
 use crate::standing::Standing;
 use crate::word::{Flags, Word, World, all_kept, all_reported, all_taken, step_all};
-use plans_rules::{Bank, Kind, Number, Place, Rule, Spot, Step, Terms};
+use plans_rules::{AnyPlace, AnyStep, Number, NumberSpot, RouteKind, Rule, Terms, WhichSet};
 use std::alloc::{AllocError, Global};
 
 /// What the steps so far have reached.
@@ -35,7 +35,7 @@ pub(crate) struct Table {
 }
 
 /// Makes the leads of producers before the first step. `Err`: there is no memory for them.
-fn first_leads(alloc: Global, producers: &[Kind]) -> Result<Vec<Lead>, AllocError>
+fn first_leads(alloc: Global, producers: &[RouteKind]) -> Result<Vec<Lead>, AllocError>
     ensures { IfOk result (λ leads. leads.items ≡ map lead_first producers.now) }
 {
     let mut leads = Vec::new(alloc);
@@ -60,7 +60,11 @@ fn first_words(alloc: Global, terms: Terms) -> Result<Vec<Word>, AllocError>
 impl Table {
     /// Makes the table of no step. `Err`: there is no memory for it.
     #[tactic(auto, using(crate::proofs::StandsLemmas::begins))]
-    pub(crate) fn new(alloc: Global, producers: &[Kind], terms: Terms) -> Result<Table, AllocError>
+    pub(crate) fn new(
+        alloc: Global,
+        producers: &[RouteKind],
+        terms: Terms,
+    ) -> Result<Table, AllocError>
         ensures stands { IfOk result (λ table. Stands table producers.now []) }
         ensures terms { IfOk result (λ table. table.terms ≡ terms) }
     {
@@ -78,22 +82,22 @@ impl Table {
     }
 
     /// Gives what is known of a word of a set.
-    fn flags(&self, bank: Bank, word: u32) -> Flags
+    fn flags(&self, bank: WhichSet, word: u32) -> Flags
         requires word { word < self.now.terms.words }
         requires width { length self.now.words.items ≡ self.now.terms.words }
-        ensures { (producers : List Kind) (done : Done) → Stands self.now producers done
+        ensures { (producers : List RouteKind) (done : Done) → Stands self.now producers done
             → result ≡ flags_at (setting_of producers self.now.terms) done bank word }
     {
         let known = self.words[word as usize];
         match bank {
-            Bank::Pending => known.pending,
-            Bank::Enabled => known.enabled,
+            WhichSet::Pending => known.pending,
+            WhichSet::Enabled => known.enabled,
         }
     }
 
     /// Tells whether all producers are led to the new place.
     fn all_led(&self) -> bool
-        ensures { (producers : List Kind) (done : Done) → Stands self.now producers done
+        ensures { (producers : List RouteKind) (done : Done) → Stands self.now producers done
             → result ≡ rules.all_led (setting_of producers self.now.terms) done }
     {
         all_led(&self.leads)
@@ -101,19 +105,19 @@ impl Table {
 
     /// Tells whether somebody may store into a set of the new place.
     #[tactic(auto, using(crate::proofs::StandsLemmas::all_turned_is))]
-    fn is_reached(&self, bank: Bank) -> bool
-        ensures { (producers : List Kind) (done : Done) → Stands self.now producers done
+    fn is_reached(&self, bank: WhichSet) -> bool
+        ensures { (producers : List RouteKind) (done : Done) → Stands self.now producers done
             → result ≡ rules.is_reached (setting_of producers self.now.terms) bank done }
     {
         match bank {
-            Bank::Pending => any_turned(&self.leads),
-            Bank::Enabled => false,
+            WhichSet::Pending => any_turned(&self.leads),
+            WhichSet::Enabled => false,
         }
     }
 
     /// Tells whether a number stands in a spot as it was at the start.
-    fn has_number(&self, number: Number, spot: Spot) -> bool
-        ensures { (producers : List Kind) (done : Done) → Stands self.now producers done
+    fn has_number(&self, number: Number, spot: NumberSpot) -> bool
+        ensures { (producers : List RouteKind) (done : Done) → Stands self.now producers done
             → result ≡ rules.has_number (setting_of producers self.now.terms) number spot done }
     {
         match number {
@@ -124,51 +128,51 @@ impl Table {
 
     /// Tells whether both numbers are in the new place, if they are heeded there.
     fn are_heeded(&self) -> bool
-        ensures { (producers : List Kind) (done : Done) → Stands self.now producers done
+        ensures { (producers : List RouteKind) (done : Done) → Stands self.now producers done
             → result ≡ rules.are_heeded (setting_of producers self.now.terms) done }
     {
         if self.terms.heeds {
-            self.has_number(Number::Threshold, Spot::InNew)
-                && self.has_number(Number::Delivery, Spot::InNew)
+            self.has_number(Number::Threshold, NumberSpot::InNew)
+                && self.has_number(Number::Delivery, NumberSpot::InNew)
         } else {
             true
         }
     }
 
     /// Tells whether a word of the new place may hold something that is due there.
-    fn new_holds(&self, bank: Bank, word: u32) -> bool
+    fn new_holds(&self, bank: WhichSet, word: u32) -> bool
         requires word { word < self.now.terms.words }
         requires width { length self.now.words.items ≡ self.now.terms.words }
-        ensures { (producers : List Kind) (done : Done) → Stands self.now producers done
+        ensures { (producers : List RouteKind) (done : Done) → Stands self.now producers done
             → result ≡ rules.new_holds (setting_of producers self.now.terms) bank word done }
     {
         self.is_reached(bank) || self.flags(bank, word).filled
     }
 
     /// Tells whether the rule on words lets a step stand.
-    fn lets_words(&self, step: Step) -> bool
+    fn lets_words(&self, step: AnyStep) -> bool
         requires word { IsInFile self.now.terms.words step }
         requires width { length self.now.words.items ≡ self.now.terms.words }
-        ensures { (producers : List Kind) (done : Done) → Stands self.now producers done
+        ensures { (producers : List RouteKind) (done : Done) → Stands self.now producers done
             → result ≡ rules.lets rule_.Words (setting_of producers self.now.terms) step done }
     {
         match step {
-            Step::Take(s, w) => !self.flags(s, w).hand_holds,
-            Step::Put(s, w) | Step::Zero(Place::New, s, w) => !self.new_holds(s, w),
-            Step::Zero(Place::Old, s, w) => !self.flags(s, w).old_holds,
+            AnyStep::Take(s, w) => !self.flags(s, w).hand_holds,
+            AnyStep::Put(s, w) | AnyStep::Zero(AnyPlace::New, s, w) => !self.new_holds(s, w),
+            AnyStep::Zero(AnyPlace::Old, s, w) => !self.flags(s, w).old_holds,
             _ => true,
         }
     }
 
     /// Tells whether the rule on what is left over does.
-    fn lets_blank(&self, step: Step) -> bool
+    fn lets_blank(&self, step: AnyStep) -> bool
         requires word { IsInFile self.now.terms.words step }
         requires width { length self.now.words.items ≡ self.now.terms.words }
-        ensures { (producers : List Kind) (done : Done) → Stands self.now producers done
+        ensures { (producers : List RouteKind) (done : Done) → Stands self.now producers done
             → result ≡ rules.lets rule_.Blank (setting_of producers self.now.terms) step done }
     {
         match step {
-            Step::Join(s, w) => {
+            AnyStep::Join(s, w) => {
                 let flags = self.flags(s, w);
                 !flags.hand_holds || flags.blank
             }
@@ -177,46 +181,47 @@ impl Table {
     }
 
     /// Tells whether the rule on giving the old place back does.
-    fn lets_freeing(&self, step: Step) -> bool
-        ensures { (producers : List Kind) (done : Done) → Stands self.now producers done
+    fn lets_freeing(&self, step: AnyStep) -> bool
+        ensures { (producers : List RouteKind) (done : Done) → Stands self.now producers done
             → result ≡ rules.lets rule_.Freeing (setting_of producers self.now.terms) step done }
     {
         match step {
-            Step::Free => self.all_led(),
-            Step::Take(..)
-            | Step::Zero(Place::Old, ..)
-            | Step::TakeNumber(_)
-            | Step::ZeroNumber(Place::Old, _) => !self.freed,
+            AnyStep::Free => self.all_led(),
+            AnyStep::Take(..)
+            | AnyStep::Zero(AnyPlace::Old, ..)
+            | AnyStep::TakeNumber(_)
+            | AnyStep::ZeroNumber(AnyPlace::Old, _) => !self.freed,
             _ => true,
         }
     }
 
     /// Tells whether a number has come to the new place, and a notice heeds it there.
     fn has_heeded_number(&self, number: Number) -> bool
-        ensures { (producers : List Kind) (done : Done) → Stands self.now producers done
+        ensures { (producers : List RouteKind) (done : Done) → Stands self.now producers done
             → result ≡ (rules.heeds_there (setting_of producers self.now.terms)
             && rules.has_number (setting_of producers self.now.terms) number spot.InNew done) }
     {
-        self.terms.in_memory && self.terms.heeds && self.has_number(number, Spot::InNew)
+        self.terms.in_memory && self.terms.heeds && self.has_number(number, NumberSpot::InNew)
     }
 
     /// Tells whether the rule on notices does.
-    fn lets_notice(&self, step: Step) -> bool
-        ensures { (producers : List Kind) (done : Done) → Stands self.now producers done
+    fn lets_notice(&self, step: AnyStep) -> bool
+        ensures { (producers : List RouteKind) (done : Done) → Stands self.now producers done
             → result ≡ rules.lets rule_.Notice (setting_of producers self.now.terms) step done }
     {
         match step {
-            Step::ZeroNumber(Place::New, n) => !self.has_heeded_number(n),
-            Step::PutNumber(n) => !self.has_heeded_number(n) || self.has_number(n, Spot::InHand),
+            AnyStep::ZeroNumber(AnyPlace::New, n) => !self.has_heeded_number(n),
+            AnyStep::PutNumber(n) => !self.has_heeded_number(n)
+                || self.has_number(n, NumberSpot::InHand),
             _ => true,
         }
     }
 
     /// Gives the first rule of a part that does not let a step stand. `None`: all do.
-    pub(crate) fn refusing(&self, part: Part, step: Step) -> Option<Rule>
+    pub(crate) fn refusing(&self, part: Part, step: AnyStep) -> Option<Rule>
         requires word { IsInFile self.now.terms.words step }
         requires width { length self.now.words.items ≡ self.now.terms.words }
-        ensures { (producers : List Kind) (done : Done) → Stands self.now producers done
+        ensures { (producers : List RouteKind) (done : Done) → Stands self.now producers done
             → result ≡ refusing (rules_of part) (setting_of producers self.now.terms) step done }
     {
         match part {
@@ -244,7 +249,7 @@ impl Table {
     /// Tells whether the rule on routes lets a plan end.
     #[tactic(auto, using(crate::proofs::StandsLemmas::taken_is))]
     fn ends_routes(&self) -> bool
-        ensures { (producers : List Kind) (done : Done) → Stands self.now producers done
+        ensures { (producers : List RouteKind) (done : Done) → Stands self.now producers done
             → result ≡ rules.lets_end rule_.Routes (setting_of producers self.now.terms) done }
     {
         self.all_led() && all_taken(&self.words)
@@ -253,7 +258,7 @@ impl Table {
     /// Tells whether the rule on words does.
     #[tactic(auto, using(crate::proofs::StandsLemmas::kept_is))]
     fn ends_words(&self) -> bool
-        ensures { (producers : List Kind) (done : Done) → Stands self.now producers done
+        ensures { (producers : List RouteKind) (done : Done) → Stands self.now producers done
             → result ≡ rules.lets_end rule_.Words (setting_of producers self.now.terms) done }
     {
         all_kept(&self.words)
@@ -261,7 +266,7 @@ impl Table {
 
     /// Tells whether the rule on numbers does.
     fn ends_numbers(&self) -> bool
-        ensures { (producers : List Kind) (done : Done) → Stands self.now producers done
+        ensures { (producers : List RouteKind) (done : Done) → Stands self.now producers done
             → result ≡ rules.lets_end rule_.Numbers (setting_of producers self.now.terms) done }
     {
         let to = self.terms.number_to;
@@ -271,7 +276,7 @@ impl Table {
     /// Tells whether the rule on notices does.
     #[tactic(auto, using(crate::proofs::StandsLemmas::reported_is))]
     fn ends_notice(&self) -> bool
-        ensures { (producers : List Kind) (done : Done) → Stands self.now producers done
+        ensures { (producers : List RouteKind) (done : Done) → Stands self.now producers done
             → result ≡ rules.lets_end rule_.Notice (setting_of producers self.now.terms) done }
     {
         if self.terms.in_memory {
@@ -283,7 +288,7 @@ impl Table {
 
     /// Gives the first rule of a part that does not let a plan end. `None`: all do.
     pub(crate) fn refusing_end(&self, part: Part) -> Option<Rule>
-        ensures { (producers : List Kind) (done : Done) → Stands self.now producers done
+        ensures { (producers : List RouteKind) (done : Done) → Stands self.now producers done
             → result ≡ refusing_end (rules_of part) (setting_of producers self.now.terms) done }
     {
         match part {
@@ -310,7 +315,7 @@ impl Table {
 
     /// Gives what is known of the whole move.
     fn world(&self) -> World
-        ensures { (producers : List Kind) (done : Done) → Stands self.now producers done
+        ensures { (producers : List RouteKind) (done : Done) → Stands self.now producers done
             → result ≡ world_at (setting_of producers self.now.terms) done }
     {
         World {
@@ -321,8 +326,8 @@ impl Table {
 
     /// Goes on by a step.
     #[tactic(auto, using(crate::proofs::StandsLemmas::stands_more))]
-    pub(crate) fn step(&mut self, step: Step)
-        ensures stands { (producers : List Kind) (done : Done) → Stands self.old producers done
+    pub(crate) fn step(&mut self, step: AnyStep)
+        ensures stands { (producers : List RouteKind) (done : Done) → Stands self.old producers done
             → Stands self.new producers (step ∷ done) }
         ensures terms { self.new.terms ≡ self.old.terms }
         ensures width { length self.new.words.items ≡ length self.old.words.items }
@@ -338,21 +343,21 @@ impl Table {
 }
 
 /// Tells whether a step writes where notices go.
-fn writes_notice(step: Step) -> bool
+fn writes_notice(step: AnyStep) -> bool
     ensures { result ≡ rules.writes_notice step }
 {
     match step {
-        Step::WriteNotice => true,
+        AnyStep::WriteNotice => true,
         _ => false,
     }
 }
 
 /// Tells whether a step gives the old place back.
-fn frees(step: Step) -> bool
+fn frees(step: AnyStep) -> bool
     ensures { result ≡ rules.frees step }
 {
     match step {
-        Step::Free => true,
+        AnyStep::Free => true,
         _ => false,
     }
 }

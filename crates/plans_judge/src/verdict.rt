@@ -2,7 +2,7 @@ use plans_rules::Rule;
 
 /// What is found of a plan.
 #[derive(Clone, Copy, Debug, PartialEq, Eq)]
-pub enum Verdict {
+pub enum Judgement {
     /// The plan keeps all rules, so it is safe, and into memory it tells its host.
     Accepted,
 

@@ -5,7 +5,7 @@ ghost use Rattle.plans_rules.specs.Rules as rules;
 ghost use Rattle.plans_rules.specs.Setting.{all_below};
 ghost use Rattle.plans_judge.specs.Table.{AllAfter, flags_after, flags_moved, is_kept_at, is_reported_at, is_taken_at, looked_after, reported_after, word_after, word_first, word_settled};
 
-use plans_rules::{Bank, Place, Step};
+use plans_rules::{AnyPlace, AnyStep, WhichSet};
 
 /// What the steps so far have made of a word of one set.
 #[derive(Clone, Copy)]
@@ -47,41 +47,41 @@ pub(crate) struct World {
 }
 
 /// Tells whether a step takes a word.
-fn takes(step: Step, bank: Bank, word: usize) -> bool
+fn takes(step: AnyStep, bank: WhichSet, word: usize) -> bool
     ensures { result ≡ rules.takes bank word step }
 {
     match step {
-        Step::Take(s, w) => s == bank && w as usize == word,
+        AnyStep::Take(s, w) => s == bank && w as usize == word,
         _ => false,
     }
 }
 
 /// Tells whether it moves a word from the hand to the new place.
-fn fills(step: Step, bank: Bank, word: usize) -> bool
+fn fills(step: AnyStep, bank: WhichSet, word: usize) -> bool
     ensures { result ≡ rules.fills bank word step }
 {
     match step {
-        Step::Join(s, w) | Step::Put(s, w) => s == bank && w as usize == word,
+        AnyStep::Join(s, w) | AnyStep::Put(s, w) => s == bank && w as usize == word,
         _ => false,
     }
 }
 
 /// Tells whether it leaves nothing of what stood in a word of the new place.
-fn blanks(step: Step, bank: Bank, word: usize) -> bool
+fn blanks(step: AnyStep, bank: WhichSet, word: usize) -> bool
     ensures { result ≡ rules.blanks bank word step }
 {
     match step {
-        Step::Zero(Place::New, s, w) | Step::Put(s, w) => s == bank && w as usize == word,
+        AnyStep::Zero(AnyPlace::New, s, w) | AnyStep::Put(s, w) => s == bank && w as usize == word,
         _ => false,
     }
 }
 
 /// Tells whether it looks at a word.
-fn looks(step: Step, word: usize) -> bool
+fn looks(step: AnyStep, word: usize) -> bool
     ensures { result ≡ rules.looks word step }
 {
     match step {
-        Step::Look(w) => w as usize == word,
+        AnyStep::Look(w) => w as usize == word,
         _ => false,
     }
 }
@@ -96,7 +96,7 @@ impl Flags {
 
     /// Gives what a step makes of word `word` of a set, where nobody stores into that set of the
     /// old place, or somebody may.
-    fn after(self, step: Step, bank: Bank, word: usize, still: bool) -> Flags
+    fn after(self, step: AnyStep, bank: WhichSet, word: usize, still: bool) -> Flags
         ensures { result ≡ flags_after bank still step word self }
     {
         Flags {
@@ -149,7 +149,7 @@ impl Word {
     }
 
     /// Tells whether word `word` was looked at after a step, once it was settled.
-    fn is_looked_after(self, step: Step, word: usize, ready: bool) -> bool
+    fn is_looked_after(self, step: AnyStep, word: usize, ready: bool) -> bool
         ensures { result ≡ looked_after ready step word self }
     {
         if looks(step, word) {
@@ -160,23 +160,25 @@ impl Word {
     }
 
     /// Tells whether the host was told of the word after a step, if there is reason to.
-    fn is_reported_after(self, step: Step, ready: bool) -> bool
+    fn is_reported_after(self, step: AnyStep, ready: bool) -> bool
         ensures { result ≡ reported_after ready step self }
     {
         match step {
-            Step::Post => self.looked || self.reported,
-            Step::Tell => self.is_settled(ready) || self.reported,
+            AnyStep::Post => self.looked || self.reported,
+            AnyStep::Tell => self.is_settled(ready) || self.reported,
             _ => self.reported,
         }
     }
 
     /// Gives what a step makes of word `word`.
-    fn after(self, step: Step, word: usize, world: World) -> Word
+    fn after(self, step: AnyStep, word: usize, world: World) -> Word
         ensures { result ≡ word_after world step word self }
     {
         Word {
-            pending: self.pending.after(step, Bank::Pending, word, world.still),
-            enabled: self.enabled.after(step, Bank::Enabled, word, true),
+            pending: self
+                .pending
+                .after(step, WhichSet::Pending, word, world.still),
+            enabled: self.enabled.after(step, WhichSet::Enabled, word, true),
             looked: self.is_looked_after(step, word, world.ready),
             reported: self.is_reported_after(step, world.ready),
         }
@@ -184,7 +186,7 @@ impl Word {
 }
 
 /// Makes of all words what a step makes of them.
-pub(crate) fn step_all(words: &mut [Word], step: Step, world: World)
+pub(crate) fn step_all(words: &mut [Word], step: AnyStep, world: World)
     ensures { AllAfter (word_after world step) words.old words.new }
 {
     for word in 0..words.len() {

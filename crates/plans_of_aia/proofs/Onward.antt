@@ -1,9 +1,9 @@
 -- What a step more leaves as it was, of the tests by which the rules on anybody's plan are told.
 use Rattle.std.proofs.Common.{◌≡◌, ℕ, Bool, true, false, not, ◌&&◌, ◌||◌, nat_eq, [], ◌∷◌, Option, Some, None, refl, sym, arith}
 use Rattle.std.proofs.lemmas.Bool.{false≢true, eqb-true}
-use Rattle.plans_rules.specs.declared.step.Bank.{Bank}
-use Rattle.plans_rules.specs.declared.step.Step.{Step}
-use Rattle.plans_rules.specs.declared.step.Step.TheVariants.{Take, Join, Put}
+use Rattle.plans_rules.specs.declared.step.WhichSet.{WhichSet}
+use Rattle.plans_rules.specs.declared.step.AnyStep.{AnyStep}
+use Rattle.plans_rules.specs.declared.step.AnyStep.TheVariants.{Take, Join, Put}
 use Rattle.plans_rules.specs.Setting.{Setting, names}
 use Rattle.plans_rules.specs.Rules.{Done, turns, fences, takes, is_turned, is_fenced, is_still, old_holds, hand_holds, is_filled, is_blank}
 use Rattle.plans_rules.proofs.BoolLaws.{or_right}
@@ -20,7 +20,7 @@ no_number e = absurd (cc)
 
 -- ---- routes
 
-pub turned_on : (p : ℕ) (step : Option Step) (done : Done) → is_turned p done ≡ true → is_turned p (onto step done) ≡ true
+pub turned_on : (p : ℕ) (step : Option AnyStep) (done : Done) → is_turned p done ≡ true → is_turned p (onto step done) ≡ true
 turned_on p None done e = e
 turned_on p (Some x) done e = or_right (turns p x) (is_turned p done) e
 
@@ -28,7 +28,7 @@ fenced_by : (here turned fenced : Bool) → fenced ≡ true → elim here [ true
 fenced_by true turned fenced e = or_right turned fenced e
 fenced_by false turned fenced e = e
 
-pub fenced_on : (p : ℕ) (step : Option Step) (done : Done) → is_fenced p done ≡ true → is_fenced p (onto step done) ≡ true
+pub fenced_on : (p : ℕ) (step : Option AnyStep) (done : Done) → is_fenced p done ≡ true → is_fenced p (onto step done) ≡ true
 fenced_on p None done e = e
 fenced_on p (Some x) done e = fenced_by (fences p x) (is_turned p done) (is_fenced p done) e
 
@@ -39,7 +39,8 @@ emptied_by true true still e = absurd (false≢true (sym e))
 emptied_by true false still e = refl
 emptied_by false old still e = e
 
-pub emptied_on : (d : Setting) (s : Bank) (w : ℕ) (step : Option Step) (done : Done) → old_holds d s w done ≡ false → old_holds d s w (onto step done) ≡ false
+pub emptied_on : (d : Setting) (s : WhichSet) (w : ℕ) (step : Option AnyStep) (done : Done) → old_holds d s w done ≡ false
+    → old_holds d s w (onto step done) ≡ false
 emptied_on d s w None done e = e
 emptied_on d s w (Some x) done e = emptied_by (takes s w x) (old_holds d s w done) (is_still d s done) e
 
@@ -50,7 +51,8 @@ emptied_late true true false e f = absurd (false≢true f)
 emptied_late false old still e f = absurd (false≢true e)
 
 -- a word that is taken while nobody stores is empty
-pub emptied_now : (d : Setting) (s : Bank) (w v : ℕ) (done : Done) → names s w s v ≡ true → is_still d s done ≡ true → old_holds d s v (Take s w ∷ done) ≡ false
+pub emptied_now : (d : Setting) (s : WhichSet) (w v : ℕ) (done : Done) → names s w s v ≡ true → is_still d s done ≡ true
+    → old_holds d s v (Take s w ∷ done) ≡ false
 emptied_now d s w v done e still = emptied_late (names s w s v) (old_holds d s v done) (is_still d s done) e still
 
 other_of : {A : Type 0} (b : Bool) (x y : A) → b ≡ false → elim b [ true ↦ x | false ↦ y ] ≡ y
@@ -62,7 +64,8 @@ one_of true x y e = refl
 one_of false x y e = absurd (false≢true e)
 
 -- the hand after a take of another word
-pub hand_beside : (d : Setting) (s : Bank) (w v : ℕ) (done : Done) → names s w s v ≡ false → hand_holds d s v (Take s w ∷ done) ≡ hand_holds d s v done
+pub hand_beside : (d : Setting) (s : WhichSet) (w v : ℕ) (done : Done) → names s w s v ≡ false
+    → hand_holds d s v (Take s w ∷ done) ≡ hand_holds d s v done
 hand_beside d s w v done e = other_of (names s w s v) _ _ e
 
 -- what is in the hand after a word went out of it was there, and is of another word
@@ -70,16 +73,19 @@ let_go : (here held : Bool) → elim here [ true ↦ false | false ↦ held ] �
 let_go true held e = absurd (false≢true e)
 let_go false held e = (refl, e)
 
-pub hand_joined : (d : Setting) (s : Bank) (w v : ℕ) (done : Done) → hand_holds d s v (Join s w ∷ done) ≡ true → (names s w s v ≡ false) × (hand_holds d s v done ≡ true)
+pub hand_joined : (d : Setting) (s : WhichSet) (w v : ℕ) (done : Done) → hand_holds d s v (Join s w ∷ done) ≡ true → (names s w s v ≡ false)
+    × (hand_holds d s v done ≡ true)
 hand_joined d s w v done e = let_go (names s w s v) (hand_holds d s v done) e
 
-pub hand_put : (d : Setting) (s : Bank) (w v : ℕ) (done : Done) → hand_holds d s v (Put s w ∷ done) ≡ true → (names s w s v ≡ false) × (hand_holds d s v done ≡ true)
+pub hand_put : (d : Setting) (s : WhichSet) (w v : ℕ) (done : Done) → hand_holds d s v (Put s w ∷ done) ≡ true → (names s w s v ≡ false)
+    × (hand_holds d s v done ≡ true)
 hand_put d s w v done e = let_go (names s w s v) (hand_holds d s v done) e
 
-pub filled_beside : (d : Setting) (s : Bank) (w v : ℕ) (done : Done) → names s w s v ≡ false → is_filled d s v (Put s w ∷ done) ≡ is_filled d s v done
+pub filled_beside : (d : Setting) (s : WhichSet) (w v : ℕ) (done : Done) → names s w s v ≡ false
+    → is_filled d s v (Put s w ∷ done) ≡ is_filled d s v done
 filled_beside d s w v done e = other_of (names s w s v) _ _ e
 
 -- a place that is fresh is blank
-pub fresh_is_blank : (d : Setting) (s : Bank) (w : ℕ) (done : Done) → d.is_fresh ≡ true → is_blank d s w done ≡ true
+pub fresh_is_blank : (d : Setting) (s : WhichSet) (w : ℕ) (done : Done) → d.is_fresh ≡ true → is_blank d s w done ≡ true
 fresh_is_blank d s w [] e = e
 fresh_is_blank d s w (x ∷ done) e = or_right _ (is_blank d s w done) (fresh_is_blank d s w done e)

@@ -7,9 +7,9 @@ use Rattle.aia_plan.specs.declared.step.Kind.{Kind}
 use Rattle.aia_plan.specs.declared.step.Kind.TheVariants as kinds
 use Rattle.aia_plan.specs.declared.step.Step.{Step as OurStep}
 use Rattle.aia_plan.specs.declared.step.Step.TheVariants.{Word0, Fence, Map, Unmap, Remap, GFence, TakeP}
-use Rattle.plans_rules.specs.declared.step.Bank.TheVariants.{Pending}
+use Rattle.plans_rules.specs.declared.step.WhichSet.TheVariants.{Pending}
 use Rattle.plans_rules.specs.declared.rule.Rule.TheVariants.{Routes}
-use Rattle.plans_rules.specs.declared.step.Step.TheVariants as steps
+use Rattle.plans_rules.specs.declared.step.AnyStep.TheVariants as steps
 use Rattle.plans_rules.specs.Rules.{Done, is_turned, is_fenced, all_led, old_holds, lets_rest}
 use Rattle.plans_rules.proofs.BoolLaws.{by_case, all_of, and_left, and_right, and_of, or_left, or_false, not_true}
 use Rattle.plans_of_aia.specs.Translated.{access_of, onto, translated, shape_setting}
@@ -41,7 +41,8 @@ no_record kinds.Shift Remap e = absurd (false≢true (sym e))
 no_record kinds.Shift x e = refl
 
 -- the second of two steps stands here, so the first does not later
-none_later : (first second : OurStep) (x : OurStep) (later : Plan) → comes_before first second (x ∷ later) ≡ true → is_step second x ≡ true → stands first later ≡ false
+none_later : (first second : OurStep) (x : OurStep) (later : Plan) → comes_before first second (x ∷ later) ≡ true → is_step second x ≡ true
+    → stands first later ≡ false
 none_later first second x later e here = by_and (is_step second x) (stands first later) here (and_left _ (comes_before first second later) e)
   where
     by_and : (a b : Bool) → a ≡ true → not (a && b) ≡ true → b ≡ false
@@ -52,31 +53,38 @@ later_order : (first second x : OurStep) (later : Plan) → comes_before first s
 later_order first second x later e = and_right _ (comes_before first second later) e
 
 -- of a word, after a step that is not its take
-late_on : (words w : ℕ) (x : OurStep) (later : Plan) (done : Done) → is_step (TakeP w) x ≡ false → Late words w (x ∷ later) done → Late words w later (onto (access_of x) done)
+late_on : (words w : ℕ) (x : OurStep) (later : Plan) (done : Done) → is_step (TakeP w) x ≡ false → Late words w (x ∷ later) done
+    → Late words w later (onto (access_of x) done)
 late_on words w x later done other late = record {
-  emptied = λ none. emptied_on (shape_setting words) Pending w (access_of x) done (late.emptied (or_false (is_step (TakeP w) x) (stands (TakeP w) later) other none));
+  emptied = λ none. emptied_on (shape_setting words) Pending w (access_of x) done
+      (late.emptied (or_false (is_step (TakeP w) x) (stands (TakeP w) later) other none));
   fence = later_order Fence (TakeP w) x later late.fence;
   gfence = later_order GFence (TakeP w) x later late.gfence;
 }
 
 -- a step that is about no route
-led_on : (kind : Kind) (words : ℕ) (x : OurStep) (later : Plan) (done : Done) → is_step Word0 x ≡ false → is_step Fence x ≡ false → is_record x ≡ false → is_step GFence x ≡ false
-    → ((w : ℕ) → w < words → Late words w later (onto (access_of x) done)) → Led kind words (x ∷ later) done → Led kind words later (onto (access_of x) done)
+led_on : (kind : Kind) (words : ℕ) (x : OurStep) (later : Plan) (done : Done) → is_step Word0 x ≡ false → is_step Fence x ≡ false
+    → is_record x ≡ false → is_step GFence x ≡ false
+    → ((w : ℕ) → w < words → Late words w later (onto (access_of x) done)) → Led kind words (x ∷ later) done
+    → Led kind words later (onto (access_of x) done)
 led_on kind words x later done no_entry no_fence no_map no_gfence late led = record {
   entry = λ none. turned_on 0 (access_of x) done (led.entry (or_false (is_step Word0 x) (stands Word0 later) no_entry none));
   fence = λ none. fenced_on 0 (access_of x) done (led.fence (or_false (is_step Fence x) (stands Fence later) no_fence none));
-  map = λ none. turned_on 1 (access_of x) done (led.map (or_false (is_step (own_record kind) x) (stands (own_record kind) later) (no_record kind x no_map) none));
+  map = λ none. turned_on 1 (access_of x) done (led.map
+      (or_false (is_step (own_record kind) x) (stands (own_record kind) later) (no_record kind x no_map) none));
   gfence = λ none. fenced_on 1 (access_of x) done (led.gfence (or_false (is_step GFence x) (stands GFence later) no_gfence none));
   entry_first = later_order Word0 Fence x later led.entry_first;
   map_first = later_order (own_record kind) GFence x later led.map_first;
   late = late;
 }
 
-all_late_on : (kind : Kind) (words : ℕ) (x : OurStep) (later : Plan) (done : Done) → ((w : ℕ) → is_step (TakeP w) x ≡ false) → Led kind words (x ∷ later) done → (w : ℕ) → w < words → Late words w later (onto (access_of x) done)
+all_late_on : (kind : Kind) (words : ℕ) (x : OurStep) (later : Plan) (done : Done) → ((w : ℕ) → is_step (TakeP w) x ≡ false)
+    → Led kind words (x ∷ later) done → (w : ℕ) → w < words → Late words w later (onto (access_of x) done)
 all_late_on kind words x later done other led = λ w low. late_on words w x later done (other w) (led.late w low)
 
 -- the record is written
-map_led : (kind : Kind) (words : ℕ) (x : OurStep) (later : Plan) (done : Done) → is_step Word0 x ≡ false → is_step Fence x ≡ false → is_step GFence x ≡ false → is_turned 1 (onto (access_of x) done) ≡ true
+map_led : (kind : Kind) (words : ℕ) (x : OurStep) (later : Plan) (done : Done) → is_step Word0 x ≡ false → is_step Fence x ≡ false
+    → is_step GFence x ≡ false → is_turned 1 (onto (access_of x) done) ≡ true
     → ((w : ℕ) → is_step (TakeP w) x ≡ false) → Led kind words (x ∷ later) done → Led kind words later (onto (access_of x) done)
 map_led kind words x later done no_entry no_fence no_gfence turned other led = record {
   entry = λ none. turned_on 0 (access_of x) done (led.entry (or_false (is_step Word0 x) (stands Word0 later) no_entry none));
@@ -93,7 +101,8 @@ both_led : (words : ℕ) (done : Done) → is_fenced 0 done ≡ true → is_fenc
 both_led words done e f = rw (e, f) refl
 
 -- a pending word is taken
-take_led : (kind : Kind) (words v : ℕ) (later : Plan) (done : Done) → Led kind words (TakeP v ∷ later) done → (w : ℕ) → w < words → Late words w later (steps.Take Pending v ∷ done)
+take_led : (kind : Kind) (words v : ℕ) (later : Plan) (done : Done) → Led kind words (TakeP v ∷ later) done → (w : ℕ) → w < words
+    → Late words w later (steps.Take Pending v ∷ done)
 take_led kind words v later done led w low =
     let late = led.late w low in
     by_case (nat_eq v w)
@@ -107,14 +116,16 @@ take_led kind words v later done led w low =
     })
     (λ other. late_on words w (TakeP v) later done other late)
 
-pub routes_kept : (kind : Kind) (words : ℕ) (rest : Plan) (done : Done) → Led kind words rest done → lets_rest Routes (shape_setting words) done (translated rest) ≡ true
+pub routes_kept : (kind : Kind) (words : ℕ) (rest : Plan) (done : Done) → Led kind words rest done
+    → lets_rest Routes (shape_setting words) done (translated rest) ≡ true
 routes_kept kind words [] done led =
     and_of (all_led (shape_setting words) done) _ (both_led words done (led.fence refl) (led.gfence refl))
     (all_of (λ w. not (old_holds (shape_setting words) Pending w done)) words (λ w low. ap not ((led.late w low).emptied refl)))
 routes_kept kind words (Word0 ∷ later) done led = routes_kept kind words later (steps.Route 0 ∷ done) (record {
   entry = λ none. refl;
   fence = λ none. fenced_on 0 (access_of Word0) done (led.fence none);
-  map = λ none. turned_on 1 (access_of Word0) done (led.map (or_false (is_step (own_record kind) Word0) (stands (own_record kind) later) (no_record kind Word0 refl) none));
+  map = λ none. turned_on 1 (access_of Word0) done
+      (led.map (or_false (is_step (own_record kind) Word0) (stands (own_record kind) later) (no_record kind Word0 refl) none));
   gfence = λ none. fenced_on 1 (access_of Word0) done (led.gfence none);
   entry_first = later_order Word0 Fence Word0 later led.entry_first;
   map_first = later_order (own_record kind) GFence Word0 later led.map_first;
@@ -125,7 +136,8 @@ routes_kept kind words (Fence ∷ later) done led =
     routes_kept kind words later (steps.Fence 0 ∷ done) (record {
       entry = λ none. turned_on 0 (access_of Fence) done turned;
       fence = λ none. or_left (is_turned 0 done) (is_fenced 0 done) turned;
-      map = λ none. turned_on 1 (access_of Fence) done (led.map (or_false (is_step (own_record kind) Fence) (stands (own_record kind) later) (no_record kind Fence refl) none));
+      map = λ none. turned_on 1 (access_of Fence) done
+          (led.map (or_false (is_step (own_record kind) Fence) (stands (own_record kind) later) (no_record kind Fence refl) none));
       gfence = λ none. fenced_on 1 (access_of Fence) done (led.gfence none);
       entry_first = later_order Word0 Fence Fence later led.entry_first;
       map_first = later_order (own_record kind) GFence Fence later led.map_first;
@@ -143,10 +155,15 @@ routes_kept kind words (GFence ∷ later) done led =
       map_first = later_order (own_record kind) GFence GFence later led.map_first;
       late = all_late_on kind words GFence later done (λ w. refl) led;
     })
-routes_kept kind words (Map ∷ later) done led = routes_kept kind words later (steps.Route 1 ∷ done) (map_led kind words Map later done refl refl refl refl (λ w. refl) led)
-routes_kept kind words (Unmap ∷ later) done led = routes_kept kind words later (steps.Route 1 ∷ done) (map_led kind words Unmap later done refl refl refl refl (λ w. refl) led)
-routes_kept kind words (Remap ∷ later) done led = routes_kept kind words later (steps.Route 1 ∷ done) (map_led kind words Remap later done refl refl refl refl (λ w. refl) led)
+routes_kept kind words (Map ∷ later) done led =
+    routes_kept kind words later (steps.Route 1 ∷ done) (map_led kind words Map later done refl refl refl refl (λ w. refl) led)
+routes_kept kind words (Unmap ∷ later) done led =
+    routes_kept kind words later (steps.Route 1 ∷ done) (map_led kind words Unmap later done refl refl refl refl (λ w. refl) led)
+routes_kept kind words (Remap ∷ later) done led =
+    routes_kept kind words later (steps.Route 1 ∷ done) (map_led kind words Remap later done refl refl refl refl (λ w. refl) led)
 routes_kept kind words (TakeP v ∷ later) done led =
-    routes_kept kind words later (steps.Take Pending v ∷ done) (led_on kind words (TakeP v) later done refl refl refl refl (take_led kind words v later done led) led)
+    routes_kept kind words later (steps.Take Pending v ∷ done)
+    (led_on kind words (TakeP v) later done refl refl refl refl (take_led kind words v later done led) led)
 routes_kept kind words (x ∷ later) done led =
-    routes_kept kind words later (onto (access_of x) done) (led_on kind words x later done refl refl refl refl (all_late_on kind words x later done (λ w. refl) led) led)
+    routes_kept kind words later (onto (access_of x) done)
+    (led_on kind words x later done refl refl refl refl (all_late_on kind words x later done (λ w. refl) led) led)

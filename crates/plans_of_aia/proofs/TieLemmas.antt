@@ -9,11 +9,11 @@ use Rattle.aia_plan.specs.declared.step.Step.{Step as OurStep}
 use Rattle.aia_plan.specs.declared.step.Step.TheVariants.{Word0, Fence, GFence, TakeP, PutP, TakeE, Post}
 use Rattle.aia_plan.proofs.Throughout.{by_recursion}
 use Rattle.aia_plan.proofs.RuleIsSafe.{once_stands, below_passes, all_turns, all_late, keeps_all}
-use Rattle.plans_rules.specs.declared.step.Bank.TheVariants.{Pending, Enabled}
+use Rattle.plans_rules.specs.declared.step.WhichSet.TheVariants.{Pending, Enabled}
 use Rattle.plans_rules.specs.declared.step.Number.TheVariants.{Threshold, Delivery}
-use Rattle.plans_rules.specs.declared.setting.Spot.TheVariants.{InOld}
+use Rattle.plans_rules.specs.declared.setting.NumberSpot.TheVariants.{InOld}
 use Rattle.plans_rules.specs.declared.rule.Rule.TheVariants.{Routes, Words, Blank, Numbers, Freeing}
-use Rattle.plans_rules.specs.declared.step.Step.TheVariants as steps
+use Rattle.plans_rules.specs.declared.step.AnyStep.TheVariants as steps
 use Rattle.plans_rules.specs.Rules.{Done, hand_holds, is_blank, has_number, frees, lets_rest, moves}
 use Rattle.plans_rules.specs.Safe.{IsSafe}
 use Rattle.plans_rules.proofs.BoolLaws.{and_of, or_right, clash}
@@ -36,14 +36,18 @@ blank_kept words (PutP v ∷ later) done =
 blank_kept words (x ∷ later) done = blank_kept words later (onto (access_of x) done)
 
 -- nothing is given back
-freeing_kept : (words : ℕ) (rest : Plan) (done : Done) → list_any frees done ≡ false → lets_rest Freeing (shape_setting words) done (translated rest) ≡ true
+freeing_kept : (words : ℕ) (rest : Plan) (done : Done) → list_any frees done ≡ false
+    → lets_rest Freeing (shape_setting words) done (translated rest) ≡ true
 freeing_kept words [] done kept = refl
-freeing_kept words (TakeP v ∷ later) done kept = and_of (not (list_any frees done)) _ (ap not kept) (freeing_kept words later (steps.Take Pending v ∷ done) kept)
-freeing_kept words (TakeE v ∷ later) done kept = and_of (not (list_any frees done)) _ (ap not kept) (freeing_kept words later (steps.Take Enabled v ∷ done) kept)
+freeing_kept words (TakeP v ∷ later) done kept =
+    and_of (not (list_any frees done)) _ (ap not kept) (freeing_kept words later (steps.Take Pending v ∷ done) kept)
+freeing_kept words (TakeE v ∷ later) done kept =
+    and_of (not (list_any frees done)) _ (ap not kept) (freeing_kept words later (steps.Take Enabled v ∷ done) kept)
 freeing_kept words (x ∷ later) done kept = freeing_kept words later (onto (access_of x) done) kept
 
 -- no number is touched
-numbers_kept : (words : ℕ) (rest : Plan) (done : Done) → has_number (shape_setting words) Threshold InOld done ≡ true → has_number (shape_setting words) Delivery InOld done ≡ true → lets_rest Numbers (shape_setting words) done (translated rest) ≡ true
+numbers_kept : (words : ℕ) (rest : Plan) (done : Done) → has_number (shape_setting words) Threshold InOld done ≡ true
+    → has_number (shape_setting words) Delivery InOld done ≡ true → lets_rest Numbers (shape_setting words) done (translated rest) ≡ true
 numbers_kept words [] done threshold delivery = and_of (has_number (shape_setting words) Threshold InOld done) _ threshold delivery
 numbers_kept words (Post ∷ later) done threshold delivery = numbers_kept words later (steps.Post ∷ done) threshold delivery
 numbers_kept words (x ∷ later) done threshold delivery = numbers_kept words later (onto (access_of x) done) threshold delivery
@@ -66,7 +70,8 @@ led_at_start kind words plan e =
 
 held_at_start : (kind : Kind) (words : ℕ) (plan : Plan) → failing kind words plan ≡ None → Held words None None plan []
 held_at_start kind words plan e =
-    let enables = and_parts (all_below (λ w. is_once (TakeE w) plan) words) (are_paired takes_enables puts_enables None plan) (keeps_all kind words plan e).enables in
+    let enables = and_parts (all_below (λ w. is_once (TakeE w) plan) words) (are_paired takes_enables puts_enables None plan)
+    (keeps_all kind words plan e).enables in
     record {
       pending_held = λ w h. absurd (false≢true h);
       enables_held = λ w h. absurd (false≢true h);
@@ -75,16 +80,20 @@ held_at_start kind words plan e =
       once = λ w low. inl (below_passes (λ w. is_once (TakeE w) plan) words w enables.0 low);
     }
 
-pub kept_there : (kind : Kind) (words : ℕ) (plan : Plan) → All (IsInside words) plan → failing kind words plan ≡ None → moves (shape_setting words) (translated plan) ≡ true
+pub kept_there : (kind : Kind) (words : ℕ) (plan : Plan) → All (IsInside words) plan → failing kind words plan ≡ None
+    → moves (shape_setting words) (translated plan) ≡ true
 kept_there kind words plan inside e =
     let keeps = keeps_all kind words plan e in
     let enables = and_parts (all_below (λ w. is_once (TakeE w) plan) words) (are_paired takes_enables puts_enables None plan) keeps.enables in
     let d = shape_setting words in
     let named = by_recursion (IsInside words) plan inside in
     and_of (lets_rest Routes d [] (translated plan)) _ (routes_kept kind words plan [] (led_at_start kind words plan e))
-    (and_of (lets_rest Words d [] (translated plan)) _ (words_kept words plan None None [] named keeps.pending enables.1 (held_at_start kind words plan e))
+    (and_of (lets_rest Words d [] (translated plan)) _
+    (words_kept words plan None None [] named keeps.pending enables.1 (held_at_start kind words plan e))
     (and_of (lets_rest Blank d [] (translated plan)) _ (blank_kept words plan [])
-    (and_of (lets_rest Numbers d [] (translated plan)) (lets_rest Freeing d [] (translated plan)) (numbers_kept words plan [] refl refl) (freeing_kept words plan [] refl))))
+    (and_of (lets_rest Numbers d [] (translated plan)) (lets_rest Freeing d [] (translated plan)) (numbers_kept words plan [] refl refl)
+    (freeing_kept words plan [] refl))))
 
-pub safe_there : (kind : Kind) (words : ℕ) (plan : Plan) → All (IsInside words) plan → failing kind words plan ≡ None → IsSafe (shape_setting words) (translated plan)
+pub safe_there : (kind : Kind) (words : ℕ) (plan : Plan) → All (IsInside words) plan → failing kind words plan ≡ None
+    → IsSafe (shape_setting words) (translated plan)
 safe_there kind words plan inside e = rules_are_safe (shape_setting words) (translated plan) (kept_there kind words plan inside e)

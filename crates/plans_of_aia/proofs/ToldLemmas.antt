@@ -12,7 +12,7 @@ use Rattle.aia_plan.specs.declared.step.Kind.{Kind}
 use Rattle.aia_plan.specs.declared.step.Kind.TheVariants as kinds
 use Rattle.aia_plan.specs.declared.step.Step.TheVariants as ours
 use Rattle.aia_plan.proofs.Throughout.{by_place}
-use Rattle.plans_rules.specs.declared.step.Step.{Step}
+use Rattle.plans_rules.specs.declared.step.AnyStep.{AnyStep}
 use Rattle.plans_rules.specs.Setting.{Setting}
 use Rattle.plans_rules.specs.Rows.{widths, AreAccepted}
 use Rattle.plans_rules.specs.Rules.{moves}
@@ -44,17 +44,22 @@ shift_joins = (refl, (refl, (refl, (refl, (refl, (refl, tt))))))
 
 -- ---- so they are safe, and tell
 
-accepted_safe : (sizes : List ℕ) (settings : ℕ → Setting) (plans : ℕ → List Step) → AreAccepted sizes settings plans → AllByRecursion (λ words. IsSafe (settings words) (plans words)) sizes
+accepted_safe : (sizes : List ℕ) (settings : ℕ → Setting) (plans : ℕ → List AnyStep) → AreAccepted sizes settings plans
+    → AllByRecursion (λ words. IsSafe (settings words) (plans words)) sizes
 accepted_safe [] settings plans kept = tt
-accepted_safe (words ∷ others) settings plans kept =
-    (rules_are_safe (settings words) (plans words) (and_left (moves (settings words) (plans words)) _ kept.0), accepted_safe others settings plans kept.1)
+accepted_safe (words ∷ others) settings plans kept = (
+  rules_are_safe (settings words) (plans words) (and_left (moves (settings words) (plans words)) _ kept.0),
+  accepted_safe others settings plans kept.1,
+)
 
-accepted_told : (sizes : List ℕ) (settings : ℕ → Setting) (plans : ℕ → List Step) → ((words : ℕ) → (settings words).in_memory ≡ true) → AreAccepted sizes settings plans → AllByRecursion (λ words. IsTold (settings words) (plans words)) sizes
+accepted_told : (sizes : List ℕ) (settings : ℕ → Setting) (plans : ℕ → List AnyStep) → ((words : ℕ) → (settings words).in_memory ≡ true)
+    → AreAccepted sizes settings plans → AllByRecursion (λ words. IsTold (settings words) (plans words)) sizes
 accepted_told [] settings plans memory kept = tt
 accepted_told (words ∷ others) settings plans memory kept =
     (rules_are_told (settings words) (plans words) (memory words) kept.0, accepted_told others settings plans memory kept.1)
 
-all_safe : (settings : ℕ → Setting) (plans : ℕ → List Step) → AreAccepted widths settings plans → All (λ words. IsSafe (settings words) (plans words)) widths
+all_safe : (settings : ℕ → Setting) (plans : ℕ → List AnyStep) → AreAccepted widths settings plans
+    → All (λ words. IsSafe (settings words) (plans words)) widths
 all_safe settings plans kept = by_place (λ words. IsSafe (settings words) (plans words)) widths (accepted_safe widths settings plans kept)
 
 pub leave_safe : All (λ words. IsSafe (told_setting File Memory words) (told_plan File Memory words)) widths
@@ -74,7 +79,8 @@ leave_tells =
 -- ---- the plans of our shape
 
 module _ (kind : Kind) where
-  each_shaped : (of_word : ℕ → List Access) (w count : ℕ) → map (shaped kind) (home.each_word of_word w count) ≡ each_word (λ w. map (shaped kind) (of_word w)) w count
+  each_shaped : (of_word : ℕ → List Access) (w count : ℕ)
+      → map (shaped kind) (home.each_word of_word w count) ≡ each_word (λ w. map (shaped kind) (of_word w)) w count
   each_shaped of_word w zero = refl
   each_shaped of_word w (suc count) =
       map-append (shaped kind) (of_word w) (home.each_word of_word (suc w) count)
@@ -91,7 +97,9 @@ module _ (kind : Kind) where
       ∙ ap (λ xs. xs ++ map (shaped kind) (home.each_word enables 0 words)) (each_shaped pending 0 words)
       ∙ ap (λ xs. each_word (λ w. ours.TakeP w ∷ ours.PutP w ∷ []) 0 words ++ xs) (each_shaped enables 0 words))
 
-  looks_shaped : (words : ℕ) (later : List Access) → map (shaped kind) (home.each_word (λ w. accesses.Look w ∷ []) 0 words ++ later) ≡ each_word (λ w. ours.Look w ∷ []) 0 words ++ map (shaped kind) later
+  looks_shaped : (words : ℕ) (later : List Access)
+      → map (shaped kind) (home.each_word (λ w. accesses.Look w ∷ []) 0 words ++ later) ≡ each_word (λ w. ours.Look w ∷ []) 0 words ++ map
+      (shaped kind) later
   looks_shaped words later =
       map-append (shaped kind) (home.each_word (λ w. accesses.Look w ∷ []) 0 words) later
       ∙ ap (λ xs. xs ++ map (shaped kind) later) (each_shaped (λ w. accesses.Look w ∷ []) 0 words)

@@ -7,9 +7,9 @@ use Rattle.aia_plan.specs.Plan.{Plan, IsInside}
 use Rattle.aia_plan.specs.Rule.{stands, is_never, is_once, is_same, are_paired, takes_pending, puts_pending, takes_enables, puts_enables}
 use Rattle.aia_plan.specs.declared.step.Step.{Step as OurStep}
 use Rattle.aia_plan.specs.declared.step.Step.TheVariants.{TakeP, PutP, TakeE, PutE}
-use Rattle.plans_rules.specs.declared.step.Bank.TheVariants.{Pending, Enabled}
+use Rattle.plans_rules.specs.declared.step.WhichSet.TheVariants.{Pending, Enabled}
 use Rattle.plans_rules.specs.declared.rule.Rule.TheVariants.{Words}
-use Rattle.plans_rules.specs.declared.step.Step.TheVariants as steps
+use Rattle.plans_rules.specs.declared.step.AnyStep.TheVariants as steps
 use Rattle.plans_rules.specs.Rules.{Done, old_holds, hand_holds, is_filled, is_moved, lets_rest}
 use Rattle.plans_rules.proofs.BoolLaws.{by_case, all_of, false_of, and_left, and_right, and_of, not_true, or_false_left, or_false_right, clash}
 use Rattle.plans_of_aia.specs.Translated.{access_of, onto, translated, shape_setting}
@@ -22,7 +22,8 @@ pub record Held (words : ℕ) (pending enables : Option ℕ) (rest : Plan) (done
   pub enables_held : (w : ℕ) → hand_holds (shape_setting words) Enabled w done ≡ true → enables ≡ Some w
   pub filled : (w : ℕ) → is_filled (shape_setting words) Enabled w done ≡ true → (is_never (TakeE w) rest ≡ true) × (enables ≡ Some w → ⊥)
   pub taken : (w : ℕ) → enables ≡ Some w → is_never (TakeE w) rest ≡ true
-  pub once : (w : ℕ) → w < words → (is_once (TakeE w) rest ≡ true) ⊎ ((is_never (TakeE w) rest ≡ true) × (old_holds (shape_setting words) Enabled w done ≡ false))
+  pub once : (w : ℕ) → w < words → (is_once (TakeE w) rest ≡ true)
+      ⊎ ((is_never (TakeE w) rest ≡ true) × (old_holds (shape_setting words) Enabled w done ≡ false))
 
 none_same : (t : Option ℕ) → is_same t None ≡ true → t ≡ None
 none_same None e = refl
@@ -58,7 +59,8 @@ not_here : (v w : ℕ) (later : Plan) → is_never (TakeE w) (TakeE v ∷ later)
 not_here v w later e = or_false_left (nat_eq v w) (stands (TakeE w) later) (not_true _ e)
 
 -- the end
-words_end : (words : ℕ) (pending enables : Option ℕ) (done : Done) → pending ≡ None → enables ≡ None → Held words pending enables [] done → lets_rest Words (shape_setting words) done [] ≡ true
+words_end : (words : ℕ) (pending enables : Option ℕ) (done : Done) → pending ≡ None → enables ≡ None → Held words pending enables [] done
+    → lets_rest Words (shape_setting words) done [] ≡ true
 words_end words pending enables done p e held =
     let d = shape_setting words in
     all_of (λ w. not (hand_holds d Pending w done) && is_moved d Enabled w done) words (λ w low.
@@ -69,7 +71,8 @@ words_end words pending enables done p e held =
     (and_of (not (old_holds d Enabled w done)) (not (hand_holds d Enabled w done)) (ap not emptied) (ap not no_enables)))
 
 -- a pending word is taken
-pending_taken : (words v : ℕ) (pending enables : Option ℕ) (later : Plan) (done : Done) → pending ≡ None → enables ≡ None → Held words pending enables (TakeP v ∷ later) done → Held words (Some v) None later (steps.Take Pending v ∷ done)
+pending_taken : (words v : ℕ) (pending enables : Option ℕ) (later : Plan) (done : Done) → pending ≡ None → enables ≡ None
+    → Held words pending enables (TakeP v ∷ later) done → Held words (Some v) None later (steps.Take Pending v ∷ done)
 pending_taken words v pending enables later done p e held = record {
   pending_held = λ w h. by_case (nat_eq v w) (λ same. ap Some (numbers_are_one v w same))
       (λ other. empty_hand pending w p (held.pending_held w (sym (hand_beside (shape_setting words) Pending v w done other) ∙ h)));
@@ -79,7 +82,8 @@ pending_taken words v pending enables later done p e held = record {
   once = held.once;
 }
 
-pending_joined : (words v : ℕ) (pending enables : Option ℕ) (later : Plan) (done : Done) → pending ≡ Some v → enables ≡ None → Held words pending enables (PutP v ∷ later) done → Held words None None later (steps.Join Pending v ∷ done)
+pending_joined : (words v : ℕ) (pending enables : Option ℕ) (later : Plan) (done : Done) → pending ≡ Some v → enables ≡ None
+    → Held words pending enables (PutP v ∷ later) done → Held words None None later (steps.Join Pending v ∷ done)
 pending_joined words v pending enables later done p e held = record {
   pending_held = λ w h.
       let was = hand_joined (shape_setting words) Pending v w done h in
@@ -90,7 +94,8 @@ pending_joined words v pending enables later done p e held = record {
   once = held.once;
 }
 
-enables_taken : (words v : ℕ) (pending enables : Option ℕ) (later : Plan) (done : Done) → v < words → pending ≡ None → enables ≡ None → Held words pending enables (TakeE v ∷ later) done
+enables_taken : (words v : ℕ) (pending enables : Option ℕ) (later : Plan) (done : Done) → v < words → pending ≡ None → enables ≡ None
+    → Held words pending enables (TakeE v ∷ later) done
     → Held words None (Some v) later (steps.Take Enabled v ∷ done)
 enables_taken words v pending enables later done inside p e held =
     let d = shape_setting words in
@@ -115,7 +120,8 @@ enables_taken words v pending enables later done inside p e held =
           ]);
     }
 
-enables_put : (words v : ℕ) (pending enables : Option ℕ) (later : Plan) (done : Done) → pending ≡ None → enables ≡ Some v → Held words pending enables (PutE v ∷ later) done → Held words None None later (steps.Put Enabled v ∷ done)
+enables_put : (words v : ℕ) (pending enables : Option ℕ) (later : Plan) (done : Done) → pending ≡ None → enables ≡ Some v
+    → Held words pending enables (PutE v ∷ later) done → Held words None None later (steps.Put Enabled v ∷ done)
 enables_put words v pending enables later done p e held =
     let d = shape_setting words in
     record {
@@ -133,18 +139,22 @@ enables_put words v pending enables later done p e held =
       once = held.once;
     }
 
-not_filled : (words v : ℕ) (pending enables : Option ℕ) (rest : Plan) (done : Done) → enables ≡ Some v → Held words pending enables rest done → is_filled (shape_setting words) Enabled v done ≡ false
+not_filled : (words v : ℕ) (pending enables : Option ℕ) (rest : Plan) (done : Done) → enables ≡ Some v → Held words pending enables rest done
+    → is_filled (shape_setting words) Enabled v done ≡ false
 not_filled words v pending enables rest done e held = false_of (is_filled (shape_setting words) Enabled v done) (λ h. (held.filled v h).1 e)
 
-pub words_kept : (words : ℕ) (rest : Plan) (pending enables : Option ℕ) (done : Done) → AllByRecursion (IsInside words) rest → are_paired takes_pending puts_pending pending rest ≡ true
-    → are_paired takes_enables puts_enables enables rest ≡ true → Held words pending enables rest done → lets_rest Words (shape_setting words) done (translated rest) ≡ true
+pub words_kept : (words : ℕ) (rest : Plan) (pending enables : Option ℕ) (done : Done) → AllByRecursion (IsInside words) rest
+    → are_paired takes_pending puts_pending pending rest ≡ true
+    → are_paired takes_enables puts_enables enables rest ≡ true → Held words pending enables rest done
+    → lets_rest Words (shape_setting words) done (translated rest) ≡ true
 words_kept words [] pending enables done inside p e held = words_end words pending enables done (none_same pending p) (none_same enables e) held
 words_kept words (TakeP v ∷ later) pending enables done inside p e held =
     let no_pending = none_same pending (and_left _ _ p) in
     let no_enables = none_same enables (and_left _ _ e) in
     let free = false_of (hand_holds (shape_setting words) Pending v done) (λ h. empty_hand pending v no_pending (held.pending_held v h)) in
     and_of (not (hand_holds (shape_setting words) Pending v done)) _ (ap not free)
-    (words_kept words later (Some v) None (steps.Take Pending v ∷ done) inside.1 (and_right _ _ p) (and_right _ _ e) (pending_taken words v pending enables later done no_pending no_enables held))
+    (words_kept words later (Some v) None (steps.Take Pending v ∷ done) inside.1 (and_right _ _ p) (and_right _ _ e)
+    (pending_taken words v pending enables later done no_pending no_enables held))
 words_kept words (PutP v ∷ later) pending enables done inside p e held =
     words_kept words later None None (steps.Join Pending v ∷ done) inside.1 (and_right _ _ p) (and_right _ _ e)
     (pending_joined words v pending enables later done (some_same pending v (and_left _ _ p)) (none_same enables (and_left _ _ e)) held)
@@ -153,12 +163,14 @@ words_kept words (TakeE v ∷ later) pending enables done inside p e held =
     let no_enables = none_same enables (and_left _ _ e) in
     let free = false_of (hand_holds (shape_setting words) Enabled v done) (λ h. empty_hand enables v no_enables (held.enables_held v h)) in
     and_of (not (hand_holds (shape_setting words) Enabled v done)) _ (ap not free)
-    (words_kept words later None (Some v) (steps.Take Enabled v ∷ done) inside.1 (and_right _ _ p) (and_right _ _ e) (enables_taken words v pending enables later done inside.0 no_pending no_enables held))
+    (words_kept words later None (Some v) (steps.Take Enabled v ∷ done) inside.1 (and_right _ _ p) (and_right _ _ e)
+    (enables_taken words v pending enables later done inside.0 no_pending no_enables held))
 words_kept words (PutE v ∷ later) pending enables done inside p e held =
     let in_hand = some_same enables v (and_left _ _ e) in
     let no_pending = none_same pending (and_left _ _ p) in
     and_of (not (is_filled (shape_setting words) Enabled v done)) _ (ap not (not_filled words v pending enables (PutE v ∷ later) done in_hand held))
-    (words_kept words later None None (steps.Put Enabled v ∷ done) inside.1 (and_right _ _ p) (and_right _ _ e) (enables_put words v pending enables later done no_pending in_hand held))
+    (words_kept words later None None (steps.Put Enabled v ∷ done) inside.1 (and_right _ _ p) (and_right _ _ e)
+    (enables_put words v pending enables later done no_pending in_hand held))
 words_kept words (x ∷ later) pending enables done inside p e held =
     let no_pending = none_same pending (and_left _ _ p) in
     let no_enables = none_same enables (and_left _ _ e) in

@@ -13,17 +13,17 @@ use Rattle.aia_plan.specs.declared.step.Step.{Step as OurStep}
 use Rattle.aia_plan.specs.declared.step.Step.TheVariants as ours
 use Rattle.aia_plan.specs.Plan.{Plan}
 use Rattle.aia_plan.specs.Rule.{own_record}
-use Rattle.plans_rules.specs.declared.step.Bank.TheVariants.{Pending, Enabled}
+use Rattle.plans_rules.specs.declared.step.WhichSet.TheVariants.{Pending, Enabled}
 use Rattle.plans_rules.specs.declared.step.Number.TheVariants.{Threshold, Delivery}
-use Rattle.plans_rules.specs.declared.setting.Spot.{Spot}
-use Rattle.plans_rules.specs.declared.setting.Spot.TheVariants.{InOld, InHand, InNew}
-use Rattle.plans_rules.specs.declared.step.Step.{Step}
-use Rattle.plans_rules.specs.declared.step.Step.TheVariants.{Route, Fence, Take, Join, Put, TakeNumber, PutNumber, Look, Post, WriteNotice, Free}
+use Rattle.plans_rules.specs.declared.setting.NumberSpot.{NumberSpot}
+use Rattle.plans_rules.specs.declared.setting.NumberSpot.TheVariants.{InOld, InHand, InNew}
+use Rattle.plans_rules.specs.declared.step.AnyStep.{AnyStep}
+use Rattle.plans_rules.specs.declared.step.AnyStep.TheVariants.{Route, Fence, Take, Join, Put, TakeNumber, PutNumber, Look, Post, WriteNotice, Free}
 use Rattle.plans_rules.specs.Setting.{Setting}
 use Rattle.plans_of_aia.specs.Translated.{our_producers}
 
 -- The step that an access is, of the producers of ours.
-abbrev pub told : Access → Step
+abbrev pub told : Access → AnyStep
 told accesses.TakeDelivery = TakeNumber Delivery
 told accesses.PutDelivery = PutNumber Delivery
 told accesses.WriteNotice = WriteNotice
@@ -41,25 +41,25 @@ told accesses.PutThreshold = PutNumber Threshold
 told accesses.Post = Post
 
 -- At its end a move gives back the guest file that it left, which is no access.
-abbrev pub given_back : End → List Step
+abbrev pub given_back : End → List AnyStep
 given_back File = Free ∷ []
 given_back Memory = []
 
 -- The plan of a move from one end to another, of files of so many words: its accesses, each as that
 -- step, in their order.
-abbrev pub told_plan : End → End → ℕ → List Step
+abbrev pub told_plan : End → End → ℕ → List AnyStep
 told_plan from to words = map told (plan from to words) ++ given_back from
 
 -- The same plan, where enables are joined to those of the new place and not put over them.
-abbrev pub joined : Step → Step
+abbrev pub joined : AnyStep → AnyStep
 joined (Put s w) = Join s w
 joined step = step
 
-abbrev pub joined_plan : End → End → ℕ → List Step
+abbrev pub joined_plan : End → End → ℕ → List AnyStep
 joined_plan from to words = map joined (told_plan from to words)
 
 -- Where the numbers are at an end: in the file there, or kept by the hypervisor.
-abbrev pub number_at : Spot → End → Spot
+abbrev pub number_at : NumberSpot → End → NumberSpot
 number_at in_file File = in_file
 number_at in_file Memory = InHand
 

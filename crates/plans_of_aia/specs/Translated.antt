@@ -3,22 +3,22 @@ use Rattle.std.specs.Prelude.{ℕ, true, false, List, [], ◌∷◌, Option, Som
 use Rattle.aia_plan.specs.Plan.{Plan}
 use Rattle.aia_plan.specs.declared.step.Step.{Step as OurStep}
 use Rattle.aia_plan.specs.declared.step.Step.TheVariants as ours
-use Rattle.plans_rules.specs.declared.step.Bank.TheVariants.{Pending, Enabled}
-use Rattle.plans_rules.specs.declared.step.Step.{Step}
-use Rattle.plans_rules.specs.declared.step.Step.TheVariants.{Route, Fence, Take, Join, Put, Look, Post, WriteNotice}
-use Rattle.plans_rules.specs.declared.setting.Kind.{Kind}
-use Rattle.plans_rules.specs.declared.setting.Kind.TheVariants.{Routed}
-use Rattle.plans_rules.specs.declared.setting.Spot.TheVariants.{InOld}
+use Rattle.plans_rules.specs.declared.step.WhichSet.TheVariants.{Pending, Enabled}
+use Rattle.plans_rules.specs.declared.step.AnyStep.{AnyStep}
+use Rattle.plans_rules.specs.declared.step.AnyStep.TheVariants.{Route, Fence, Take, Join, Put, Look, Post, WriteNotice}
+use Rattle.plans_rules.specs.declared.setting.RouteKind.{RouteKind}
+use Rattle.plans_rules.specs.declared.setting.RouteKind.TheVariants.{Routed}
+use Rattle.plans_rules.specs.declared.setting.NumberSpot.TheVariants.{InOld}
 use Rattle.plans_rules.specs.Setting.{Setting}
 
 -- Producer 0 is the devices, whose route is the entry; producer 1 the other virtual harts, whose
 -- route is the G-stage record.
-abbrev pub our_producers : List Kind
+abbrev pub our_producers : List RouteKind
 our_producers = Routed ∷ Routed ∷ []
 
 -- The access that a step makes. There is none where the step is about delivery or the threshold, of
 -- which the rule on plans of our shape says nothing.
-abbrev pub access_of : OurStep → Option Step
+abbrev pub access_of : OurStep → Option AnyStep
 access_of ours.Word0 = Some (Route 0)
 access_of ours.Word1 = Some WriteNotice
 access_of ours.Fence = Some (Fence 0)
@@ -35,12 +35,12 @@ access_of ours.Post = Some Post
 access_of step = None
 
 -- Steps with one more before them, where there is one.
-abbrev pub onto : Option Step → List Step → List Step
+abbrev pub onto : Option AnyStep → List AnyStep → List AnyStep
 onto None steps = steps
 onto (Some step) steps = step ∷ steps
 
 -- A plan of our shape, as those accesses in their order; none gives the old place back.
-abbrev pub translated : Plan → List Step
+abbrev pub translated : Plan → List AnyStep
 translated [] = []
 translated (x ∷ later) = onto (access_of x) (translated later)
 

@@ -67,7 +67,8 @@ pub all_more : (f g : ℕ → Bool) (count : ℕ) → ((p : ℕ) → f p ≡ tru
 all_more f g zero h e = refl
 all_more f g (suc n) h e = and_of (g n) _ (h n (and_left (f n) _ e)) (all_more f g n h (and_right (f n) _ e))
 
-more_law : (a b s t : Bool) → (a ≡ true → b ≡ true) → (s ≡ true → t ≡ true) → (elim a [ true ↦ true | false ↦ s ]) ≡ true → (elim b [ true ↦ true | false ↦ t ]) ≡ true
+more_law : (a b s t : Bool) → (a ≡ true → b ≡ true) → (s ≡ true → t ≡ true) → (elim a [ true ↦ true | false ↦ s ]) ≡ true
+    → (elim b [ true ↦ true | false ↦ t ]) ≡ true
 more_law true b s t h k e = any_here b t (h refl)
 more_law false b s t h k e = any_law b t (k e)
 

@@ -1,453 +1,53 @@
 -- A plan that is safe keeps the rules of safety: so they refuse only what can lose something.
-use Rattle.std.proofs.Common.{◌≡◌, ℕ, zero, suc, ◌/◌, ◌*◌, ◌<◌, Bool, true, false, not, ◌&&◌, ◌||◌, if◌then◌else◌, nat_eq, length, List, [], ◌∷◌, Some, ◌⊎◌, inl, inr, refl, sym, ap, subst, ◌∙◌, arith}
+use Rattle.std.proofs.Common.{◌≡◌, ℕ, ◌/◌, ◌*◌, ◌<◌, Bool, true, false, not, ◌&&◌, ◌||◌, length, List, [], ◌∷◌, inl, inr, refl, sym, ap, subst, ◌∙◌, arith}
 use Rattle.std.specs.List.{list_any, AllByRecursion}
 use Rattle.plans_rules.specs.declared.rule.Rule.{Rule}
 use Rattle.plans_rules.specs.declared.rule.Rule.TheVariants.{Routes, Blank, Words, Numbers, Freeing, Notice}
-use Rattle.std.specs.Prelude.{slice_get, get_or}
-use Rattle.std.proofs.lemmas.Option.{slice_get-get_or}
-use Rattle.std.proofs.lemmas.Bool.{eq-eqb, eqb-true, false≢true}
-use Rattle.plans_rules.specs.declared.step.Place.{Place}
-use Rattle.plans_rules.specs.declared.step.Place.TheVariants.{Old, New}
-use Rattle.plans_rules.specs.declared.step.Bank.{Bank}
-use Rattle.plans_rules.specs.declared.step.Bank.TheVariants.{Pending, Enabled}
+use Rattle.std.specs.Prelude.{slice_get}
+use Rattle.std.proofs.lemmas.Bool.{eq-eqb, false≢true}
+use Rattle.plans_rules.specs.declared.step.AnyPlace.TheVariants.{Old, New}
+use Rattle.plans_rules.specs.declared.step.WhichSet.{WhichSet}
+use Rattle.plans_rules.specs.declared.step.WhichSet.TheVariants.{Pending, Enabled}
 use Rattle.plans_rules.specs.declared.step.Number.{Number}
 use Rattle.plans_rules.specs.declared.step.Number.TheVariants.{Threshold, Delivery}
-use Rattle.plans_rules.specs.declared.setting.Spot.{Spot}
-use Rattle.plans_rules.specs.declared.setting.Spot.TheVariants.{InOld, InHand, InNew}
-use Rattle.plans_rules.specs.declared.setting.Kind.{Kind}
-use Rattle.plans_rules.specs.declared.setting.Kind.TheVariants.{Routed, Switched}
-use Rattle.plans_rules.specs.declared.step.Step.{Step}
-use Rattle.plans_rules.specs.declared.step.Step.TheVariants.{Route, Fence, Switch, Zero, Take, Join, Put, ZeroNumber, TakeNumber, PutNumber, Free}
-use Rattle.plans_rules.specs.Setting.{Setting, is_old, is_pending, same_spot, names, all_below, any_below}
-use Rattle.plans_rules.specs.Machine.{Flight, Machine, landed, flight_landed, all_landed, flights_of, flights_beside, stepped, By, route_of, one_landed, all_but, Happening, happened, all_happened, steps_in}
+use Rattle.plans_rules.specs.declared.setting.NumberSpot.{NumberSpot}
+use Rattle.plans_rules.specs.declared.setting.NumberSpot.TheVariants.{InOld, InHand, InNew}
+use Rattle.plans_rules.specs.declared.step.AnyStep.{AnyStep}
+use Rattle.plans_rules.specs.declared.step.AnyStep.TheVariants.{Fence, Zero, Take, Join, Put, ZeroNumber, TakeNumber, Free}
+use Rattle.plans_rules.specs.Setting.{Setting, is_old, same_spot, names}
+use Rattle.plans_rules.specs.Machine.{AnyFlight, AnyMachine, flight_landed, all_landed, flights_of, stepped, one_landed}
 use Rattle.plans_rules.specs.Machine.By.{Written, InForce}
-use Rattle.plans_rules.specs.Machine.Happening.{Does, Stores, Sends, Lands}
-use Rattle.plans_rules.specs.Safe.{IsProducer, IsRouted, CanHappen, IsStart, number_in, IsMoved, IsSafe, IsInFile}
-use Rattle.plans_rules.specs.Rules.{fences, switches, takes, fills, blanks, frees, Done, is_turned, is_fenced, is_led_as, is_led, all_led, is_reached, is_still, old_holds, hand_holds, is_filled, new_holds, is_blank, has_number, lets, lets_end, lets_rest}
+use Rattle.plans_rules.specs.Safe.{IsRouted, IsStartOfAny, number_in, IsSafe, IsInFile}
+use Rattle.plans_rules.specs.Rules.{fences, takes, fills, blanks, frees, Done, is_turned, is_fenced, is_led, all_led, is_reached, is_still, old_holds, hand_holds, is_filled, new_holds, is_blank, has_number, lets, lets_end, lets_rest}
 use Rattle.plans_rules.proofs.BoolLaws.{by_case, false_of, true_of, clash, not_true, and_right, and_of, or_left, or_right, or_false_left, or_false_right, or_cases, added_cases, all_of}
 use Rattle.plans_rules.proofs.Safety.{named, IsOfSafety}
-
--- ---- all runs of what is left of a plan end well
-
-abbrev pub Live : Setting → Machine → List Step → Machine → Type 0
-Live d start rest z = (run : List Happening) → AllByRecursion (CanHappen d) run → steps_in run ≡ rest → IsMoved d start (all_happened d run z)
-
-live_step : (d : Setting) (start : Machine) (x : Step) (rest : List Step) (z : Machine) → Live d start (x ∷ rest) z → Live d start rest (stepped d x z)
-live_step d start x rest z live run can e = live (Does x ∷ run) (tt, can) (ap (λ r. x ∷ r) e)
-
-live_store : (d : Setting) (start : Machine) (rest : List Step) (z : Machine) (p : ℕ) (by : By) (x : ℕ) → IsProducer d p → Live d start rest z → Live d start rest (happened d (Stores p by x) z)
-live_store d start rest z p by x declared live run can e = live (Stores p by x ∷ run) (declared, can) e
-
-live_send : (d : Setting) (start : Machine) (rest : List Step) (z : Machine) (p : ℕ) (by : By) (x : ℕ) → IsRouted d p → Live d start rest z → Live d start rest (happened d (Sends p by x) z)
-live_send d start rest z p by x routed live run can e = live (Sends p by x ∷ run) (routed, can) e
-
-live_land : (d : Setting) (start : Machine) (rest : List Step) (z : Machine) (k : ℕ) → Live d start rest z → Live d start rest (happened d (Lands k) z)
-live_land d start rest z k live run can e = live (Lands k ∷ run) (tt, can) e
-
--- ---- a bit in a state that can be reached
-
-pub record At (d : Setting) (rest : List Step) (s : Bank) (i : ℕ) (q a b k : Bool) : Type 0 where
-  pub start : Machine
-  pub z : Machine
-  pub live : Live d start rest z
-  pub flights : z.flights ≡ []
-  pub base : is_pending s ≡ false → start.old s i ≡ q
-  pub due : is_pending s ≡ true → z.due s i ≡ q
-  pub old : z.old s i ≡ a
-  pub new : z.new s i ≡ b
-  pub hand : z.hand s i ≡ k
-
-abbrev wipes : Bank → ℕ → Step → Bool
-wipes t v (Zero Old s w) = names s w t v
-wipes t v x = false
-
--- a step lands nothing
-abbrev LandsNone : Step → Machine → Type 0
-LandsNone (Fence p) z = flights_of p z.flights ≡ []
-LandsNone x z = Unit {0}
-
-lands_none : (x : Step) (z : Machine) → z.flights ≡ [] → LandsNone x z
-lands_none (Fence p) z e = ap (flights_of p) e
-lands_none x z e = tt
-
-fence_same : (d : Setting) (p : ℕ) (z : Machine) → flights_of p z.flights ≡ [] → all_landed d (flights_of p z.flights) z ≡ z
-fence_same d p z e = subst (λ fs. all_landed d fs z ≡ z) (sym e) refl
-
-old_bit : (d : Setting) (x : Step) (z : Machine) (s : Bank) (i : ℕ) → LandsNone x z → (stepped d x z).old s i ≡ (not (takes s (i / 64) x) && (not (wipes s (i / 64) x) && z.old s i))
-old_bit d (Fence p) z s i e = ap (λ (y : Machine). y.old s i) (fence_same d p z e)
-old_bit d (Zero Old t w) z s i e = refl
-old_bit d (Zero New t w) z s i e = refl
-old_bit d (ZeroNumber Old n) z s i e = refl
-old_bit d (ZeroNumber New n) z s i e = refl
-old_bit d x z s i e = refl
-
-new_bit : (d : Setting) (x : Step) (z : Machine) (s : Bank) (i : ℕ) → LandsNone x z → (stepped d x z).new s i ≡ ((fills s (i / 64) x && z.hand s i) || (not (blanks s (i / 64) x) && z.new s i))
-new_bit d (Fence p) z s i e = ap (λ (y : Machine). y.new s i) (fence_same d p z e)
-new_bit d (Zero Old t w) z s i e = refl
-new_bit d (Zero New t w) z s i e = refl
-new_bit d (ZeroNumber Old n) z s i e = refl
-new_bit d (ZeroNumber New n) z s i e = refl
-new_bit d x z s i e = refl
-
-hand_bit : (d : Setting) (x : Step) (z : Machine) (s : Bank) (i : ℕ) → LandsNone x z → (stepped d x z).hand s i ≡ ((takes s (i / 64) x && z.old s i) || (not (takes s (i / 64) x) && (not (fills s (i / 64) x) && z.hand s i)))
-hand_bit d (Fence p) z s i e = ap (λ (y : Machine). y.hand s i) (fence_same d p z e)
-hand_bit d (Zero Old t w) z s i e = refl
-hand_bit d (Zero New t w) z s i e = refl
-hand_bit d (ZeroNumber Old n) z s i e = refl
-hand_bit d (ZeroNumber New n) z s i e = refl
-hand_bit d x z s i e = refl
-
-due_bit : (d : Setting) (x : Step) (z : Machine) (s : Bank) (i : ℕ) → LandsNone x z → (stepped d x z).due s i ≡ z.due s i
-due_bit d (Fence p) z s i e = ap (λ (y : Machine). y.due s i) (fence_same d p z e)
-due_bit d (Zero Old t w) z s i e = refl
-due_bit d (Zero New t w) z s i e = refl
-due_bit d (ZeroNumber Old n) z s i e = refl
-due_bit d (ZeroNumber New n) z s i e = refl
-due_bit d x z s i e = refl
-
-pub still_none : (d : Setting) (x : Step) (z : Machine) → z.flights ≡ [] → (stepped d x z).flights ≡ []
-still_none d (Fence p) z e = ap (flights_beside p) e
-still_none d (Zero Old t w) z e = e
-still_none d (Zero New t w) z e = e
-still_none d (ZeroNumber Old n) z e = e
-still_none d (ZeroNumber New n) z e = e
-still_none d x z e = e
-
--- after a step
-at_step : (d : Setting) (x : Step) (rest : List Step) (s : Bank) (i : ℕ) (q a b k : Bool) → At d (x ∷ rest) s i q a b k
-    → At d rest s i q (not (takes s (i / 64) x) && (not (wipes s (i / 64) x) && a)) ((fills s (i / 64) x && k) || (not (blanks s (i / 64) x) && b))
-    ((takes s (i / 64) x && a) || (not (takes s (i / 64) x) && (not (fills s (i / 64) x) && k)))
-at_step d x rest s i q a b k v =
-    let z : Machine = v.z in
-    record {
-      start = v.start;
-      z = stepped d x v.z;
-      live = live_step d v.start x rest v.z v.live;
-      flights = still_none d x v.z v.flights;
-      base = v.base;
-      due = λ e. due_bit d x v.z s i (lands_none x v.z v.flights) ∙ v.due e;
-      old = old_bit d x v.z s i (lands_none x v.z v.flights) ∙ ap (λ y. not (takes s (i / 64) x) && (not (wipes s (i / 64) x) && y)) v.old;
-      new = new_bit d x v.z s i (lands_none x v.z v.flights) ∙ ap (λ y. (fills s (i / 64) x && y) || (not (blanks s (i / 64) x) && v.z.new s i)) v.hand ∙ ap (λ y. (fills s (i / 64) x && k) || (not (blanks s (i / 64) x) && y)) v.new;
-      hand = hand_bit d x v.z s i (lands_none x v.z v.flights) ∙ ap (λ y. (takes s (i / 64) x && y) || (not (takes s (i / 64) x) && (not (fills s (i / 64) x) && v.z.hand s i))) v.old
-          ∙ ap (λ y. (takes s (i / 64) x && a) || (not (takes s (i / 64) x) && (not (fills s (i / 64) x) && y))) v.hand;
-    }
-
--- the same state, with the bits said otherwise
-at_is : (d : Setting) (rest : List Step) (s : Bank) (i : ℕ) (q a b k a' b' k' : Bool) → a ≡ a' → b ≡ b' → k ≡ k' → At d rest s i q a b k → At d rest s i q a' b' k'
-at_is d rest s i q a b k a' b' k' e f g v = record { start = v.start; z = v.z; live = v.live; flights = v.flights; base = v.base; due = v.due; old = v.old ∙ e; new = v.new ∙ f; hand = v.hand ∙ g }
-
--- bits that are nowhere stay so
-no_old : (t w : Bool) → (not t && (not w && false)) ≡ false
-no_old true w = refl
-no_old false true = refl
-no_old false false = refl
-
-no_new : (f l : Bool) → ((f && false) || (not l && false)) ≡ false
-no_new true true = refl
-no_new true false = refl
-no_new false true = refl
-no_new false false = refl
-
-no_hand : (t f : Bool) → ((t && false) || (not t && (not f && false))) ≡ false
-no_hand true f = refl
-no_hand false true = refl
-no_hand false false = refl
-
-step_nowhere : (d : Setting) (x : Step) (rest : List Step) (s : Bank) (i : ℕ) (q : Bool) → At d (x ∷ rest) s i q false false false → At d rest s i q false false false
-step_nowhere d x rest s i q v = at_is d rest s i q _ _ _ _ _ _ (no_old (takes s (i / 64) x) (wipes s (i / 64) x)) (no_new (fills s (i / 64) x) (blanks s (i / 64) x)) (no_hand (takes s (i / 64) x) (fills s (i / 64) x)) (at_step d x rest s i q false false false v)
-
--- at the end the bit stands where it has to
-end_new : (d : Setting) (s : Bank) (i : ℕ) (q a b k : Bool) → i / 64 < d.words → At d [] s i q a b k → b ≡ q
-end_new d Pending i q a b k inside v = sym v.new ∙ (v.live [] tt refl).pending i inside ∙ v.due refl
-end_new d Enabled i q a b k inside v = sym v.new ∙ (v.live [] tt refl).enabled i inside ∙ v.base refl
-
-end_old : (d : Setting) (s : Bank) (i : ℕ) (q a b k : Bool) → i / 64 < d.words → At d [] s i q a b k → a ≡ false
-end_old d s i q a b k inside v = sym v.old ∙ (v.live [] tt refl).none_left s i inside
-
--- **What is due can't be nowhere.**
-lost : (d : Setting) (rest : List Step) (s : Bank) (i : ℕ) → i / 64 < d.words → At d rest s i true false false false → ⊥
-lost d [] s i inside v = false≢true (end_new d s i true false false false inside v)
-lost d (x ∷ rest) s i inside v = lost d rest s i inside (step_nowhere d x rest s i true v)
-
--- ---- routes, numbers, and stores in flight in such states
-
-abbrev worth : Bool → ℕ
-worth true = 1
-worth false = 0
-
-pub record Ways (t c s : Bool) (written in_force : Place) : Type 0 where
-  pub calm : t ≡ false → written ≡ Old
-  pub ahead : t ≡ true → written ≡ New
-  pub behind : c ≡ false → s ≡ false → in_force ≡ Old
-
-pub record Plain (d : Setting) (done : Done) (rest : List Step) (i : ℕ) : Type 0 where
-  pub at : At d rest Pending i false false false false
-  pub ways : (p : ℕ) → Ways (is_turned p done) (is_fenced p done) (list_any (switches p) done) (at.z.written p) (at.z.in_force p)
-  pub numbers : (n : Number) (spot : Spot) → number_in spot n at.z ≡ worth (has_number d n spot done)
-  pub begun : (n : Number) → number_in d.number_from n at.start ≡ 1
-  pub freed : at.z.freed ≡ list_any frees done
-
--- a store of p is in flight to the old place
-pub record Flying (d : Setting) (done : Done) (rest : List Step) (p i : ℕ) : Type 0 where
-  pub start : Machine
-  pub z : Machine
-  pub live : Live d start rest z
-  pub flights : z.flights ≡ record { producer = p; place = Old; identity = i } ∷ []
-  pub due : z.due Pending i ≡ false
-  pub old : z.old Pending i ≡ false
-  pub new : z.new Pending i ≡ false
-  pub hand : z.hand Pending i ≡ false
-  pub freed : z.freed ≡ list_any frees done
-
-ways_route : (m t c s : Bool) (w f : Place) → Ways t c s w f → Ways (m || t) c s (if m then New else w) f
-ways_route true t c s w f v = record { calm = λ e. absurd (false≢true (sym e)); ahead = λ e. refl; behind = v.behind }
-ways_route false t c s w f v = v
-
-ways_switch : (m t c s : Bool) (w f : Place) → Ways t c s w f → Ways (m || t) c (m || s) (if m then New else w) (if m then New else f)
-ways_switch true t c s w f v = record { calm = λ e. absurd (false≢true (sym e)); ahead = λ e. refl; behind = λ e g. absurd (false≢true (sym g)) }
-ways_switch false t c s w f v = v
-
-ways_fence : (m t c s : Bool) (there w f : Place) → (m ≡ true → there ≡ w) → Ways t c s w f → Ways t (elim m [ true ↦ t || c | false ↦ c ]) s w (if m then there else f)
-ways_fence true t c s there w f same v = record { calm = v.calm; ahead = v.ahead; behind = λ e g. same refl ∙ v.calm (or_false_left t c e) }
-ways_fence false t c s there w f same v = v
-
-ways_step : (d : Setting) (x : Step) (done : Done) (z : Machine) (p : ℕ) → LandsNone x z → Ways (is_turned p done) (is_fenced p done) (list_any (switches p) done) (z.written p) (z.in_force p)
-    → Ways (is_turned p (x ∷ done)) (is_fenced p (x ∷ done)) (list_any (switches p) (x ∷ done)) ((stepped d x z).written p) ((stepped d x z).in_force p)
-ways_step d (Route q) done z p e v = ways_route (nat_eq q p) _ _ _ (z.written p) (z.in_force p) v
-ways_step d (Switch q) done z p e v = ways_switch (nat_eq q p) _ _ _ (z.written p) (z.in_force p) v
-ways_step d (Fence q) done z p e v =
-    subst (λ w. Ways (is_turned p done) (is_fenced p (Fence q ∷ done)) (list_any (switches p) done) w (if nat_eq q p then z.written q else z.in_force p)) (sym (ap (λ (y : Machine). y.written p) (fence_same d q z e)))
-    (ways_fence (nat_eq q p) _ _ _ (z.written q) (z.written p) (z.in_force p) (λ m. ap z.written (eqb-true q p m)) v)
-ways_step d (Zero Old s w) done z p e v = v
-ways_step d (Zero New s w) done z p e v = v
-ways_step d (ZeroNumber Old n) done z p e v = v
-ways_step d (ZeroNumber New n) done z p e v = v
-ways_step d x done z p e v = v
-
-abbrev Worths : Setting → Done → Machine → Number → Type 0
-Worths d done z n = (spot : Spot) → number_in spot n z ≡ worth (has_number d n spot done)
-
-worth_step : (d : Setting) (x : Step) (done : Done) (z : Machine) (n : Number) → LandsNone x z → Worths d done z n → Worths d (x ∷ done) (stepped d x z) n
-worth_step d (TakeNumber Threshold) done z Threshold e v InOld = refl
-worth_step d (TakeNumber Threshold) done z Threshold e v InHand = v InOld
-worth_step d (TakeNumber Threshold) done z Threshold e v InNew = v InNew
-worth_step d (TakeNumber Delivery) done z Delivery e v InOld = refl
-worth_step d (TakeNumber Delivery) done z Delivery e v InHand = v InOld
-worth_step d (TakeNumber Delivery) done z Delivery e v InNew = v InNew
-worth_step d (TakeNumber Threshold) done z Delivery e v spot = v spot
-worth_step d (TakeNumber Delivery) done z Threshold e v spot = v spot
-worth_step d (PutNumber Threshold) done z Threshold e v InOld = v InOld
-worth_step d (PutNumber Threshold) done z Threshold e v InHand = v InHand
-worth_step d (PutNumber Threshold) done z Threshold e v InNew = v InHand
-worth_step d (PutNumber Delivery) done z Delivery e v InOld = v InOld
-worth_step d (PutNumber Delivery) done z Delivery e v InHand = v InHand
-worth_step d (PutNumber Delivery) done z Delivery e v InNew = v InHand
-worth_step d (PutNumber Threshold) done z Delivery e v spot = v spot
-worth_step d (PutNumber Delivery) done z Threshold e v spot = v spot
-worth_step d (ZeroNumber Old Threshold) done z Threshold e v InOld = refl
-worth_step d (ZeroNumber Old Threshold) done z Threshold e v InHand = v InHand
-worth_step d (ZeroNumber Old Threshold) done z Threshold e v InNew = v InNew
-worth_step d (ZeroNumber Old Delivery) done z Delivery e v InOld = refl
-worth_step d (ZeroNumber Old Delivery) done z Delivery e v InHand = v InHand
-worth_step d (ZeroNumber Old Delivery) done z Delivery e v InNew = v InNew
-worth_step d (ZeroNumber Old Threshold) done z Delivery e v spot = v spot
-worth_step d (ZeroNumber Old Delivery) done z Threshold e v spot = v spot
-worth_step d (ZeroNumber New Threshold) done z Threshold e v InOld = v InOld
-worth_step d (ZeroNumber New Threshold) done z Threshold e v InHand = v InHand
-worth_step d (ZeroNumber New Threshold) done z Threshold e v InNew = refl
-worth_step d (ZeroNumber New Delivery) done z Delivery e v InOld = v InOld
-worth_step d (ZeroNumber New Delivery) done z Delivery e v InHand = v InHand
-worth_step d (ZeroNumber New Delivery) done z Delivery e v InNew = refl
-worth_step d (ZeroNumber New Threshold) done z Delivery e v spot = v spot
-worth_step d (ZeroNumber New Delivery) done z Threshold e v spot = v spot
-worth_step d (Zero Old s w) done z n e v spot = v spot
-worth_step d (Zero New s w) done z n e v spot = v spot
-worth_step d (Fence p) done z n e v spot = ap (number_in spot n) (fence_same d p z e) ∙ v spot
-worth_step d x done z n e v spot = v spot
-
-freed_step : (d : Setting) (x : Step) (done : Done) (z : Machine) → LandsNone x z → z.freed ≡ list_any frees done → (stepped d x z).freed ≡ list_any frees (x ∷ done)
-freed_step d (Fence p) done z e v = ap (λ (y : Machine). y.freed) (fence_same d p z e) ∙ v
-freed_step d Free done z e v = refl
-freed_step d (Zero Old s w) done z e v = v
-freed_step d (Zero New s w) done z e v = v
-freed_step d (ZeroNumber Old n) done z e v = v
-freed_step d (ZeroNumber New n) done z e v = v
-freed_step d x done z e v = v
-
-plain_step : (d : Setting) (x : Step) (done : Done) (rest : List Step) (i : ℕ) → Plain d done (x ∷ rest) i → Plain d (x ∷ done) rest i
-unfolding step_nowhere at_is at_step
-plain_step d x done rest i v =
-    let none = lands_none x v.at.z v.at.flights in
-    record {
-      at = step_nowhere d x rest Pending i false v.at;
-      ways = λ p. ways_step d x done v.at.z p none (v.ways p);
-      numbers = λ n. worth_step d x done v.at.z n none (v.numbers n);
-      begun = v.begun;
-      freed = freed_step d x done v.at.z none v.freed;
-    }
-
--- a store is sent, to the old place
-sent : (d : Setting) (done : Done) (rest : List Step) (p i : ℕ) → IsRouted d p → is_turned p done ≡ false → Plain d done rest i → Flying d done rest p i
-sent d done rest p i routed calm v = record {
-  start = v.at.start;
-  z = happened d (Sends p Written i) v.at.z;
-  live = live_send d v.at.start rest v.at.z p Written i routed v.at.live;
-  flights = ap (λ w. record { producer = p; place = w; identity = i } ∷ v.at.z.flights) ((v.ways p).calm calm) ∙ ap (λ fs. record { producer = p; place = Old; identity = i } ∷ fs) v.at.flights;
-  due = v.at.due refl;
-  old = v.at.old;
-  new = v.at.new;
-  hand = v.at.hand;
-  freed = v.freed;
-}
-
-other_none : (d : Setting) (q p i : ℕ) → nat_eq q p ≡ false → flights_of q (record { producer = p; place = Old; identity = i } ∷ []) ≡ []
-other_none d q p i e = ap (λ m. if m then record { producer = p; place = Old; identity = i } ∷ [] else []) e
-
-other_beside : (d : Setting) (q p i : ℕ) → nat_eq q p ≡ false → flights_beside q (record { producer = p; place = Old; identity = i } ∷ []) ≡ record { producer = p; place = Old; identity = i } ∷ []
-other_beside d q p i e = ap (λ m. if m then [] else record { producer = p; place = Old; identity = i } ∷ []) e
-
-lands_other : (d : Setting) (x : Step) (z : Machine) (p i : ℕ) → fences p x ≡ false → z.flights ≡ record { producer = p; place = Old; identity = i } ∷ [] → LandsNone x z
-lands_other d (Fence q) z p i e f = ap (flights_of q) f ∙ other_none d q p i e
-lands_other d x z p i e f = tt
-
-still_other : (d : Setting) (x : Step) (z : Machine) (p i : ℕ) → fences p x ≡ false → z.flights ≡ record { producer = p; place = Old; identity = i } ∷ [] → (stepped d x z).flights ≡ record { producer = p; place = Old; identity = i } ∷ []
-still_other d (Fence q) z p i e f = ap (flights_beside q) f ∙ other_beside d q p i e
-still_other d (Zero Old s w) z p i e f = f
-still_other d (Zero New s w) z p i e f = f
-still_other d (ZeroNumber Old n) z p i e f = f
-still_other d (ZeroNumber New n) z p i e f = f
-still_other d x z p i e f = f
-
-flying_on : (d : Setting) (x : Step) (done : Done) (rest : List Step) (p i : ℕ) → fences p x ≡ false → Flying d done (x ∷ rest) p i → Flying d (x ∷ done) rest p i
-flying_on d x done rest p i other v =
-    let z : Machine = v.z in
-    let none = lands_other d x v.z p i other v.flights in
-    let t = takes Pending (i / 64) x in
-    let f = fills Pending (i / 64) x in
-    let l = blanks Pending (i / 64) x in
-    let w = wipes Pending (i / 64) x in
-    record {
-      start = v.start;
-      z = stepped d x v.z;
-      live = live_step d v.start x rest v.z v.live;
-      flights = still_other d x v.z p i other v.flights;
-      due = due_bit d x v.z Pending i none ∙ v.due;
-      old = old_bit d x v.z Pending i none ∙ ap (λ y. not t && (not w && y)) v.old ∙ no_old t w;
-      new = new_bit d x v.z Pending i none ∙ ap (λ y. (f && y) || (not l && v.z.new Pending i)) v.hand ∙ ap (λ y. (f && false) || (not l && y)) v.new ∙ no_new f l;
-      hand = hand_bit d x v.z Pending i none ∙ ap (λ y. (t && y) || (not t && (not f && v.z.hand Pending i))) v.old ∙ ap (λ y. (t && false) || (not t && (not f && y))) v.hand ∙ no_hand t f;
-      freed = freed_step d x done v.z none v.freed;
-    }
-
--- ---- what was reached can be shown by a state
-
-pub record Witness (d : Setting) (done : Done) (rest : List Step) : Type 0 where
-  pub plain : (i : ℕ) → Plain d done rest i
-  pub flying : (p i : ℕ) → IsRouted d p → is_fenced p done ≡ false → Flying d done rest p i
-  pub old : (s : Bank) (i : ℕ) → old_holds d s (i / 64) done ≡ true → At d rest s i true true false false
-  pub hand : (s : Bank) (i : ℕ) → hand_holds d s (i / 64) done ≡ true → At d rest s i true false false true
-  pub filled : (s : Bank) (i : ℕ) → is_filled d s (i / 64) done ≡ true → At d rest s i true false true false
-  pub dirty : (s : Bank) (i : ℕ) → is_blank d s (i / 64) done ≡ false → At d rest s i false false true false
-
--- whoever is not led can store into the old place
-bits_at : (m o a : Bool) → m ≡ true → ((true && m) && o) ≡ o
-bits_at true o a e = refl
-bits_at false o a e = absurd (false≢true e)
-
-set_bit : (m o a b : Bool) → m ≡ true → o ≡ b → a ≡ false → (((true && m) && o) || a) ≡ b
-set_bit true true a true e f g = refl
-set_bit true true a false e f g = absurd (false≢true (sym f))
-set_bit true false a true e f g = absurd (false≢true f)
-set_bit true false a false e f g = g
-set_bit false o a b e f g = absurd (false≢true e)
-
-stored : (d : Setting) (done : Done) (rest : List Step) (p i : ℕ) (by : By) (place : Place) → IsProducer d p → (v : Plain d done rest i) → route_of by p v.at.z ≡ place
-    → At d rest Pending i true (is_old place) (not (is_old place)) false
-stored d done rest p i by place declared v e = record {
-  start = v.at.start;
-  z = happened d (Stores p by i) v.at.z;
-  live = live_store d v.at.start rest v.at.z p by i declared v.at.live;
-  flights = v.at.flights;
-  base = λ f. absurd (false≢true (sym f));
-  due = λ f. set_bit (nat_eq i i) true (v.at.z.due Pending i) true (eq-eqb i i refl) refl (v.at.due refl);
-  old = set_bit (nat_eq i i) (is_old (route_of by p v.at.z)) (v.at.z.old Pending i) (is_old place) (eq-eqb i i refl) (ap is_old e) v.at.old;
-  new = set_bit (nat_eq i i) (not (is_old (route_of by p v.at.z))) (v.at.z.new Pending i) (not (is_old place)) (eq-eqb i i refl) (ap (λ y. not (is_old y)) e) v.at.new;
-  hand = v.at.hand;
-}
-
-arrived : (d : Setting) (done : Done) (rest : List Step) (p i : ℕ) → Flying d done rest p i → At d rest Pending i true true false false
-arrived d done rest p i v = record {
-  start = v.start;
-  z = record (landed d Old i v.z) { flights = [] };
-  live = subst (λ (y : Machine). Live d v.start rest y) same (live_land d v.start rest v.z 0 v.live);
-  flights = refl;
-  base = λ f. absurd (false≢true (sym f));
-  due = λ f. set_bit (nat_eq i i) true (v.z.due Pending i) true (eq-eqb i i refl) refl v.due;
-  old = set_bit (nat_eq i i) true (v.z.old Pending i) true (eq-eqb i i refl) refl v.old;
-  new = set_bit (nat_eq i i) false (v.z.new Pending i) false (eq-eqb i i refl) refl v.new;
-  hand = v.hand;
-}
-  where
-    same : happened d (Lands 0) v.z ≡ record (landed d Old i v.z) { flights = [] }
-    same = ap (λ fs. record (one_landed d (slice_get fs 0) v.z) { flights = all_but 0 fs }) v.flights
-
-kind_of : (d : Setting) (p : ℕ) → IsProducer d p → (slice_get d.producers p ≡ Some Routed) ⊎ (slice_get d.producers p ≡ Some Switched)
-kind_of d p declared = by_kind (get_or d.producers p Routed) (slice_get-get_or d.producers p Routed declared)
-  where
-    by_kind : (k : Kind) → slice_get d.producers p ≡ Some k → (slice_get d.producers p ≡ Some Routed) ⊎ (slice_get d.producers p ≡ Some Switched)
-    by_kind Routed e = inl e
-    by_kind Switched e = inr e
-
-unled_routed : (d : Setting) (p : ℕ) (done : Done) → slice_get d.producers p ≡ Some Routed → is_led d p done ≡ false → is_fenced p done ≡ false
-unled_routed d p done k e = subst (λ k. is_led_as k p done ≡ false) k e
-
-unled_switched : (d : Setting) (p : ℕ) (done : Done) → slice_get d.producers p ≡ Some Switched → is_led d p done ≡ false → (is_fenced p done || list_any (switches p) done) ≡ false
-unled_switched d p done k e = subst (λ k. is_led_as k p done ≡ false) k e
-
-unled_old : (d : Setting) (done : Done) (rest : List Step) (p i : ℕ) → IsProducer d p → is_led d p done ≡ false → Plain d done rest i → (IsRouted d p → is_fenced p done ≡ false → Flying d done rest p i)
-    → At d rest Pending i true true false false
-unled_old d done rest p i declared e plain flying = elim (kind_of d p declared) [
-  | inl routed ↦ arrived d done rest p i (flying (declared, routed) (unled_routed d p done routed e))
-  | inr switched ↦ (let none = unled_switched d p done switched e in stored d done rest p i InForce Old declared plain ((plain.ways p).behind (or_false_left _ _ none) (or_false_right (is_fenced p done) _ none)))
-]
-
--- who is not led, where not all are; who is turned, where someone is
-all_find : (is : ℕ → Bool) (count : ℕ) → all_below is count ≡ false → (p : ℕ) × (p < count) × (is p ≡ false)
-all_find is zero e = absurd (false≢true (sym e))
-all_find is (suc n) e = find (is n) refl (all_find is n) e
-  where
-    find : (b : Bool) → b ≡ is n → (all_below is n ≡ false → (p : ℕ) × (p < n) × (is p ≡ false)) → (b && all_below is n) ≡ false → (p : ℕ) × (p < suc n) × (is p ≡ false)
-    find true same again e = (let found = again e in (found.0, omega (arith, found.1), found.2))
-    find false same again e = (n, omega arith, sym same)
-
-any_find : (is : ℕ → Bool) (count : ℕ) → any_below is count ≡ true → (p : ℕ) × (p < count) × (is p ≡ true)
-any_find is zero e = absurd (false≢true e)
-any_find is (suc n) e = find (is n) refl (any_find is n) e
-  where
-    find : (b : Bool) → b ≡ is n → (any_below is n ≡ true → (p : ℕ) × (p < n) × (is p ≡ true)) → (elim b [ true ↦ true | false ↦ any_below is n ]) ≡ true → (p : ℕ) × (p < suc n) × (is p ≡ true)
-    find true same again e = (n, omega arith, sym same)
-    find false same again e = (let found = again e in (found.0, omega (arith, found.1), found.2))
+use Rattle.plans_rules.proofs.States.{Live, live_step, live_store, live_land, At, wipes, at_step, at_is, no_old, no_new, no_hand, end_new, end_old, lost, worth, Plain, Flying, plain_step, sent, flying_on, Witness, stored, kind_of, unled_routed, unled_switched, unled_old, all_find, any_find}
 
 -- ---- a step
 
 -- a step that takes a word does nothing else to it
-takes_only : (s : Bank) (w : ℕ) (x : Step) → takes s w x ≡ true → (fills s w x ≡ false) × (blanks s w x ≡ false) × (wipes s w x ≡ false)
+takes_only : (s : WhichSet) (w : ℕ) (x : AnyStep) → takes s w x ≡ true → (fills s w x ≡ false) × (blanks s w x ≡ false) × (wipes s w x ≡ false)
 takes_only s w (Take t u) e = (refl, refl, refl)
 takes_only s w x e = absurd (false≢true e)
 
-fills_only : (s : Bank) (w : ℕ) (x : Step) → fills s w x ≡ true → (takes s w x ≡ false) × (wipes s w x ≡ false)
+fills_only : (s : WhichSet) (w : ℕ) (x : AnyStep) → fills s w x ≡ true → (takes s w x ≡ false) × (wipes s w x ≡ false)
 fills_only s w (Join t u) e = (refl, refl)
 fills_only s w (Put t u) e = (refl, refl)
 fills_only s w x e = absurd (false≢true e)
 
-wipes_guard : (d : Setting) (s : Bank) (w : ℕ) (x : Step) (done : Done) → lets Words d x done ≡ true → wipes s w x ≡ true → old_holds d s w done ≡ false
+wipes_guard : (d : Setting) (s : WhichSet) (w : ℕ) (x : AnyStep) (done : Done) → lets Words d x done ≡ true → wipes s w x ≡ true
+    → old_holds d s w done ≡ false
 wipes_guard d s w (Zero Old t u) done guard m = named (λ t v. old_holds d t v done ≡ false) t u s w (not_true _ guard) m
 wipes_guard d s w (Zero New t u) done guard m = absurd (false≢true m)
 wipes_guard d s w x done guard m = absurd (false≢true m)
 
-blanks_guard : (d : Setting) (s : Bank) (w : ℕ) (x : Step) (done : Done) → lets Words d x done ≡ true → blanks s w x ≡ true → is_filled d s w done ≡ false
-blanks_guard d s w (Zero New t u) done guard m = named (λ t v. is_filled d t v done ≡ false) t u s w (or_false_right (is_reached d t done) _ (not_true _ guard)) m
+blanks_guard : (d : Setting) (s : WhichSet) (w : ℕ) (x : AnyStep) (done : Done) → lets Words d x done ≡ true → blanks s w x ≡ true
+    → is_filled d s w done ≡ false
+blanks_guard d s w (Zero New t u) done guard m =
+    named (λ t v. is_filled d t v done ≡ false) t u s w (or_false_right (is_reached d t done) _ (not_true _ guard)) m
 blanks_guard d s w (Zero Old t u) done guard m = absurd (false≢true m)
-blanks_guard d s w (Put t u) done guard m = named (λ t v. is_filled d t v done ≡ false) t u s w (or_false_right (is_reached d t done) _ (not_true _ guard)) m
+blanks_guard d s w (Put t u) done guard m = named (λ t v. is_filled d t v done ≡ false) t u s w
+    (or_false_right (is_reached d t done) _ (not_true _ guard)) m
 blanks_guard d s w x done guard m = absurd (false≢true m)
 
 -- the bits after it
@@ -530,7 +130,8 @@ taken_false false o true h e f = absurd (false≢true f)
 taken_false false o false h e f = (refl, f)
 
 -- a word that is taken while someone still stores there: he stores again
-again : (d : Setting) (x : Step) (done : Done) (rest : List Step) (s : Bank) (i : ℕ) → takes s (i / 64) x ≡ true → is_still d s done ≡ false → ((j : ℕ) → Plain d (x ∷ done) rest j)
+again : (d : Setting) (x : AnyStep) (done : Done) (rest : List AnyStep) (s : WhichSet) (i : ℕ) → takes s (i / 64) x ≡ true
+    → is_still d s done ≡ false → ((j : ℕ) → Plain d (x ∷ done) rest j)
     → ((p j : ℕ) → IsRouted d p → is_fenced p (x ∷ done) ≡ false → Flying d (x ∷ done) rest p j) → At d rest s i true true false false
 again d (Take t u) done rest Enabled i m busy plain flying = absurd (false≢true (sym busy))
 again d (Take t u) done rest Pending i m busy plain flying =
@@ -538,7 +139,8 @@ again d (Take t u) done rest Pending i m busy plain flying =
     unled_old d (Take t u ∷ done) rest found.0 i found.1 found.2 (plain i) (flying found.0 i)
 again d x done rest s i m busy plain flying = absurd (false≢true m)
 
-witness_step : (d : Setting) (x : Step) (done : Done) (rest : List Step) → lets Words d x done ≡ true → Witness d done (x ∷ rest) → Witness d (x ∷ done) rest
+witness_step : (d : Setting) (x : AnyStep) (done : Done) (rest : List AnyStep) → lets Words d x done ≡ true → Witness d done (x ∷ rest)
+    → Witness d (x ∷ done) rest
 witness_step d x done rest guard v =
     let plain : ((j : ℕ) → Plain d (x ∷ done) rest j) = λ j. plain_step d x done rest j (v.plain j) in
     let flying : ((p j : ℕ) → IsRouted d p → is_fenced p (x ∷ done) ≡ false → Flying d (x ∷ done) rest p j) = λ p j routed e. by_case (fences p x)
@@ -555,16 +157,21 @@ witness_step d x done rest guard v =
           (no_new (fills s (i / 64) x) (blanks s (i / 64) x)) (not_taken (takes s (i / 64) x) (fills s (i / 64) x) m)
           (at_step d x rest s i true true false false (v.old s i holds)));
       hand = λ s i e. by_case (takes s (i / 64) x)
-          (λ m. at_is d rest s i true _ _ _ _ _ _ (gone_old (takes s (i / 64) x) (wipes s (i / 64) x) m) (no_new (fills s (i / 64) x) (blanks s (i / 64) x)) (now_hand (takes s (i / 64) x) (fills s (i / 64) x) m)
-          (at_step d x rest s i true true false false (v.old s i (taken_true (takes s (i / 64) x) _ (fills s (i / 64) x) (hand_holds d s (i / 64) done) m e))))
+          (λ m. at_is d rest s i true _ _ _ _ _ _ (gone_old (takes s (i / 64) x) (wipes s (i / 64) x) m)
+          (no_new (fills s (i / 64) x) (blanks s (i / 64) x)) (now_hand (takes s (i / 64) x) (fills s (i / 64) x) m)
+          (at_step d x rest s i true true false false (v.old s i
+          (taken_true (takes s (i / 64) x) _ (fills s (i / 64) x) (hand_holds d s (i / 64) done) m e))))
           (λ m. let cases = taken_false (takes s (i / 64) x) (old_holds d s (i / 64) done) (fills s (i / 64) x) _ m e in
-          at_is d rest s i true _ _ _ _ _ _ (no_old (takes s (i / 64) x) (wipes s (i / 64) x)) (not_filled (fills s (i / 64) x) (blanks s (i / 64) x) cases.0) (keep_hand (takes s (i / 64) x) (fills s (i / 64) x) m cases.0)
+          at_is d rest s i true _ _ _ _ _ _ (no_old (takes s (i / 64) x) (wipes s (i / 64) x))
+          (not_filled (fills s (i / 64) x) (blanks s (i / 64) x) cases.0) (keep_hand (takes s (i / 64) x) (fills s (i / 64) x) m cases.0)
           (at_step d x rest s i true false false true (v.hand s i cases.1)));
       filled = λ s i e. elim (added_cases (fills s (i / 64) x) _ _ e) [
-        | inl now ↦ at_is d rest s i true _ _ _ _ _ _ (no_old (takes s (i / 64) x) (wipes s (i / 64) x)) (now_new (fills s (i / 64) x) (blanks s (i / 64) x) now.0) (from_hand (takes s (i / 64) x) (fills s (i / 64) x) now.0)
+        | inl now ↦ at_is d rest s i true _ _ _ _ _ _ (no_old (takes s (i / 64) x) (wipes s (i / 64) x))
+            (now_new (fills s (i / 64) x) (blanks s (i / 64) x) now.0) (from_hand (takes s (i / 64) x) (fills s (i / 64) x) now.0)
             (at_step d x rest s i true false false true (v.hand s i now.1))
         | inr before ↦ at_is d rest s i true _ _ _ _ _ _ (no_old (takes s (i / 64) x) (wipes s (i / 64) x))
-            (keep_new (fills s (i / 64) x) (blanks s (i / 64) x) (false_of _ (λ l. clash _ before (blanks_guard d s (i / 64) x done guard l)))) (no_hand (takes s (i / 64) x) (fills s (i / 64) x))
+            (keep_new (fills s (i / 64) x) (blanks s (i / 64) x) (false_of _ (λ l. clash _ before (blanks_guard d s (i / 64) x done guard l))))
+            (no_hand (takes s (i / 64) x) (fills s (i / 64) x))
             (at_step d x rest s i true false true false (v.filled s i before))
       ];
       dirty = λ s i e. at_is d rest s i false _ _ _ _ _ _ (no_old (takes s (i / 64) x) (wipes s (i / 64) x))
@@ -572,7 +179,7 @@ witness_step d x done rest guard v =
           (at_step d x rest s i false false true false (v.dirty s i (or_false_right (blanks s (i / 64) x) _ e)));
     }
   where
-    fence_calm : (x : Step) (p : ℕ) → fences p x ≡ true → is_fenced p (x ∷ done) ≡ false → is_turned p (x ∷ done) ≡ false
+    fence_calm : (x : AnyStep) (p : ℕ) → fences p x ≡ true → is_fenced p (x ∷ done) ≡ false → is_turned p (x ∷ done) ≡ false
     fence_calm (Fence q) p m e = calm_law (fences p (Fence q)) _ _ m e
       where
         calm_law : (m t c : Bool) → m ≡ true → (elim m [ true ↦ t || c | false ↦ c ]) ≡ false → t ≡ false
@@ -592,7 +199,7 @@ first_of_word w = omega arith
 below_words : (d : Setting) (w : ℕ) → w < d.words → (64 * w) / 64 < d.words
 below_words d w e = subst (λ u. u < d.words) (sym (first_of_word w)) e
 
-named_itself : (s : Bank) (w : ℕ) → names s w s ((64 * w) / 64) ≡ true
+named_itself : (s : WhichSet) (w : ℕ) → names s w s ((64 * w) / 64) ≡ true
 named_itself Pending w = eq-eqb w ((64 * w) / 64) (sym (first_of_word w))
 named_itself Enabled w = eq-eqb w ((64 * w) / 64) (sym (first_of_word w))
 
@@ -600,35 +207,43 @@ named_itself Enabled w = eq-eqb w ((64 * w) / 64) (sym (first_of_word w))
 at_first : (P : ℕ → Type 0) (w : ℕ) → P w → P ((64 * w) / 64)
 at_first P w h = subst P (sym (first_of_word w)) h
 
-take_loses : (d : Setting) (s : Bank) (w : ℕ) (done : Done) (rest : List Step) → w < d.words → Witness d done (Take s w ∷ rest) → hand_holds d s w done ≡ true → ⊥
+take_loses : (d : Setting) (s : WhichSet) (w : ℕ) (done : Done) (rest : List AnyStep) → w < d.words → Witness d done (Take s w ∷ rest)
+    → hand_holds d s w done ≡ true → ⊥
 take_loses d s w done rest inside v e =
     lost d rest s (64 * w) (below_words d w inside)
-    (at_is d rest s (64 * w) true _ _ _ _ _ _ (no_old (names s w s ((64 * w) / 64)) false) refl (over_hand (names s w s ((64 * w) / 64)) false (named_itself s w))
+    (at_is d rest s (64 * w) true _ _ _ _ _ _ (no_old (names s w s ((64 * w) / 64)) false) refl
+    (over_hand (names s w s ((64 * w) / 64)) false (named_itself s w))
     (at_step d (Take s w) rest s (64 * w) true false false true (v.hand s (64 * w) (at_first (λ u. hand_holds d s u done ≡ true) w e))))
 
 -- a word of the new place, with something that is due in it
-in_new : (d : Setting) (x : Step) (s : Bank) (w : ℕ) (done : Done) (rest : List Step) → Witness d done (x ∷ rest) → new_holds d s w done ≡ true → At d (x ∷ rest) s (64 * w) true false true false
+in_new : (d : Setting) (x : AnyStep) (s : WhichSet) (w : ℕ) (done : Done) (rest : List AnyStep) → Witness d done (x ∷ rest)
+    → new_holds d s w done ≡ true → At d (x ∷ rest) s (64 * w) true false true false
 in_new d x Enabled w done rest v e = v.filled Enabled (64 * w) (at_first (λ u. is_filled d Enabled u done ≡ true) w e)
 in_new d x Pending w done rest v e = elim (or_cases (is_reached d Pending done) _ e) [
-  | inl reached ↦ (let found = any_find (λ p. is_turned p done) (length d.producers) reached in stored d done (x ∷ rest) found.0 (64 * w) Written New found.1 (v.plain (64 * w)) (((v.plain (64 * w)).ways found.0).ahead found.2))
+  | inl reached ↦ (let found = any_find (λ p. is_turned p done) (length d.producers) reached in
+      stored d done (x ∷ rest) found.0 (64 * w) Written New found.1 (v.plain (64 * w)) (((v.plain (64 * w)).ways found.0).ahead found.2))
   | inr filled ↦ v.filled Pending (64 * w) (at_first (λ u. is_filled d Pending u done ≡ true) w filled)
 ]
 
-over_loses : (d : Setting) (x : Step) (s : Bank) (w : ℕ) (done : Done) (rest : List Step) → w < d.words → blanks s ((64 * w) / 64) x ≡ true → Witness d done (x ∷ rest) → new_holds d s w done ≡ true → ⊥
+over_loses : (d : Setting) (x : AnyStep) (s : WhichSet) (w : ℕ) (done : Done) (rest : List AnyStep) → w < d.words
+    → blanks s ((64 * w) / 64) x ≡ true → Witness d done (x ∷ rest) → new_holds d s w done ≡ true → ⊥
 over_loses d x s w done rest inside m v e =
     let i = 64 * w in
     let t = takes s ((64 * w) / 64) x in
     lost d rest s (64 * w) (below_words d w inside)
-    (at_is d rest s (64 * w) true _ _ _ _ _ _ (no_old (takes s ((64 * w) / 64) x) (wipes s ((64 * w) / 64) x)) (over_new (fills s ((64 * w) / 64) x) (blanks s ((64 * w) / 64) x) m) (no_hand (takes s ((64 * w) / 64) x) (fills s ((64 * w) / 64) x))
+    (at_is d rest s (64 * w) true _ _ _ _ _ _ (no_old (takes s ((64 * w) / 64) x) (wipes s ((64 * w) / 64) x))
+    (over_new (fills s ((64 * w) / 64) x) (blanks s ((64 * w) / 64) x) m) (no_hand (takes s ((64 * w) / 64) x) (fills s ((64 * w) / 64) x))
     (at_step d x rest s (64 * w) true false true false (in_new d x s w done rest v e)))
 
-wipe_loses : (d : Setting) (s : Bank) (w : ℕ) (done : Done) (rest : List Step) → w < d.words → Witness d done (Zero Old s w ∷ rest) → old_holds d s w done ≡ true → ⊥
+wipe_loses : (d : Setting) (s : WhichSet) (w : ℕ) (done : Done) (rest : List AnyStep) → w < d.words → Witness d done (Zero Old s w ∷ rest)
+    → old_holds d s w done ≡ true → ⊥
 wipe_loses d s w done rest inside v e =
     lost d rest s (64 * w) (below_words d w inside)
     (at_is d rest s (64 * w) true _ _ _ _ _ _ (wiped_old false (names s w s ((64 * w) / 64)) (named_itself s w)) refl refl
     (at_step d (Zero Old s w) rest s (64 * w) true true false false (v.old s (64 * w) (at_first (λ u. old_holds d s u done ≡ true) w e))))
 
-words_kept : (d : Setting) (x : Step) (done : Done) (rest : List Step) → IsInFile d.words x → Witness d done (x ∷ rest) → lets Words d x done ≡ true
+words_kept : (d : Setting) (x : AnyStep) (done : Done) (rest : List AnyStep) → IsInFile d.words x → Witness d done (x ∷ rest)
+    → lets Words d x done ≡ true
 words_kept d (Take s w) done rest inside v = not_of _ (λ e. take_loses d s w done rest inside v e)
 words_kept d (Put s w) done rest inside v = not_of _ (λ e. over_loses d (Put s w) s w done rest inside (named_itself s w) v e)
 words_kept d (Zero Old s w) done rest inside v = not_of _ (λ e. wipe_loses d s w done rest inside v e)
@@ -638,25 +253,33 @@ words_kept d (ZeroNumber New n) done rest inside v = refl
 words_kept d x done rest inside v = refl
 
 -- what is joined to a word that is not blank: it stays there with what is left over, or both are overwritten
-mixed : (d : Setting) (rest : List Step) (s : Bank) (i : ℕ) → i / 64 < d.words → At d rest s i true false true false → At d rest s i false false true false → ⊥
+mixed : (d : Setting) (rest : List AnyStep) (s : WhichSet) (i : ℕ) → i / 64 < d.words → At d rest s i true false true false
+    → At d rest s i false false true false → ⊥
 mixed d [] s i inside new dirty = false≢true (sym (end_new d s i false false true false inside dirty))
 mixed d (x ∷ rest) s i inside new dirty = by_case (blanks s (i / 64) x)
-    (λ m. lost d rest s i inside (at_is d rest s i true _ _ _ _ _ _ (no_old (takes s (i / 64) x) (wipes s (i / 64) x)) (over_new (fills s (i / 64) x) (blanks s (i / 64) x) m) (no_hand (takes s (i / 64) x) (fills s (i / 64) x)) (at_step d x rest s i true false true false new)))
+    (λ m. lost d rest s i inside (at_is d rest s i true _ _ _ _ _ _ (no_old (takes s (i / 64) x) (wipes s (i / 64) x))
+    (over_new (fills s (i / 64) x) (blanks s (i / 64) x) m) (no_hand (takes s (i / 64) x) (fills s (i / 64) x))
+    (at_step d x rest s i true false true false new)))
     (λ m. mixed d rest s i inside (on true m new) (on false m dirty))
   where
     on : (q : Bool) → blanks s (i / 64) x ≡ false → At d (x ∷ rest) s i q false true false → At d rest s i q false true false
-    on q m v = at_is d rest s i q _ _ _ _ _ _ (no_old (takes s (i / 64) x) (wipes s (i / 64) x)) (keep_new (fills s (i / 64) x) (blanks s (i / 64) x) m) (no_hand (takes s (i / 64) x) (fills s (i / 64) x)) (at_step d x rest s i q false true false v)
+    on q m v = at_is d rest s i q _ _ _ _ _ _ (no_old (takes s (i / 64) x) (wipes s (i / 64) x))
+        (keep_new (fills s (i / 64) x) (blanks s (i / 64) x) m) (no_hand (takes s (i / 64) x) (fills s (i / 64) x))
+        (at_step d x rest s i q false true false v)
 
-join_loses : (d : Setting) (s : Bank) (w : ℕ) (done : Done) (rest : List Step) → w < d.words → Witness d done (Join s w ∷ rest) → hand_holds d s w done ≡ true → is_blank d s w done ≡ false → ⊥
+join_loses : (d : Setting) (s : WhichSet) (w : ℕ) (done : Done) (rest : List AnyStep) → w < d.words → Witness d done (Join s w ∷ rest)
+    → hand_holds d s w done ≡ true → is_blank d s w done ≡ false → ⊥
 join_loses d s w done rest inside v held e =
     let m = names s w s ((64 * w) / 64) in
     mixed d rest s (64 * w) (below_words d w inside)
-    (at_is d rest s (64 * w) true _ _ _ _ _ _ refl (now_new (names s w s ((64 * w) / 64)) false (named_itself s w)) (from_hand false (names s w s ((64 * w) / 64)) (named_itself s w))
+    (at_is d rest s (64 * w) true _ _ _ _ _ _ refl (now_new (names s w s ((64 * w) / 64)) false (named_itself s w))
+    (from_hand false (names s w s ((64 * w) / 64)) (named_itself s w))
     (at_step d (Join s w) rest s (64 * w) true false false true (v.hand s (64 * w) (at_first (λ u. hand_holds d s u done ≡ true) w held))))
     (at_is d rest s (64 * w) false _ _ _ _ _ _ refl (keep_new (names s w s ((64 * w) / 64)) false refl) (no_hand false (names s w s ((64 * w) / 64)))
     (at_step d (Join s w) rest s (64 * w) false false true false (v.dirty s (64 * w) (at_first (λ u. is_blank d s u done ≡ false) w e))))
 
-blank_kept : (d : Setting) (x : Step) (done : Done) (rest : List Step) → IsInFile d.words x → Witness d done (x ∷ rest) → lets Blank d x done ≡ true
+blank_kept : (d : Setting) (x : AnyStep) (done : Done) (rest : List AnyStep) → IsInFile d.words x → Witness d done (x ∷ rest)
+    → lets Blank d x done ≡ true
 blank_kept d (Join s w) done rest inside v = join_law (hand_holds d s w done) (is_blank d s w done) (join_loses d s w done rest inside v)
   where
     join_law : (h c : Bool) → (h ≡ true → c ≡ false → ⊥) → (not h || c) ≡ true
@@ -670,11 +293,11 @@ blank_kept d (ZeroNumber New n) done rest inside v = refl
 blank_kept d x done rest inside v = refl
 
 -- the old place is reached after it was freed
-landed_strayed : (d : Setting) (fs : List Flight) (z : Machine) → z.strayed ≡ true → (all_landed d fs z).strayed ≡ true
+landed_strayed : (d : Setting) (fs : List AnyFlight) (z : AnyMachine) → z.strayed ≡ true → (all_landed d fs z).strayed ≡ true
 landed_strayed d [] z e = e
 landed_strayed d (f ∷ later) z e = landed_strayed d later (flight_landed d f z) (or_left z.strayed _ e)
 
-strayed_on : (d : Setting) (x : Step) (z : Machine) → z.strayed ≡ true → (stepped d x z).strayed ≡ true
+strayed_on : (d : Setting) (x : AnyStep) (z : AnyMachine) → z.strayed ≡ true → (stepped d x z).strayed ≡ true
 strayed_on d (Fence p) z e = landed_strayed d (flights_of p z.flights) z e
 strayed_on d (Take s w) z e = or_left z.strayed _ e
 strayed_on d (Zero Old s w) z e = or_left z.strayed _ e
@@ -684,7 +307,7 @@ strayed_on d (ZeroNumber New n) z e = e
 strayed_on d (TakeNumber n) z e = or_left z.strayed _ e
 strayed_on d x z e = e
 
-stray_loses : (d : Setting) (start : Machine) (rest : List Step) (z : Machine) → Live d start rest z → z.strayed ≡ true → ⊥
+stray_loses : (d : Setting) (start : AnyMachine) (rest : List AnyStep) (z : AnyMachine) → Live d start rest z → z.strayed ≡ true → ⊥
 stray_loses d start [] z live e = clash z.strayed e (live [] tt refl).strayed
 stray_loses d start (x ∷ rest) z live e = stray_loses d start rest (stepped d x z) (live_step d start x rest z live) (strayed_on d x z e)
 
@@ -693,25 +316,31 @@ stray_bit s true f e g = or_right s f g
 stray_bit s false f e g = absurd (false≢true e)
 
 -- who is not led reaches it
-free_loses : (d : Setting) (done : Done) (rest : List Step) → Witness d done (Free ∷ rest) → all_led d done ≡ false → ⊥
+free_loses : (d : Setting) (done : Done) (rest : List AnyStep) → Witness d done (Free ∷ rest) → all_led d done ≡ false → ⊥
 free_loses d done rest v e =
     let found = all_find (λ p. is_led d p done) (length d.producers) e in
     elim (kind_of d found.0 found.1) [
-      | inl routed ↦ (let fly : Flying d done (Free ∷ rest) found.0 0 = v.flying found.0 0 (found.1, routed) (unled_routed d found.0 done routed found.2) in
+      | inl routed ↦ (let fly : Flying d done (Free ∷ rest) found.0 0 =
+          v.flying found.0 0 (found.1, routed) (unled_routed d found.0 done routed found.2) in
           stray_loses d fly.start rest _ (live_land d fly.start rest (stepped d Free fly.z) 0 (live_step d fly.start Free rest fly.z fly.live))
-          (subst (λ fs. (one_landed d (slice_get fs 0) (stepped d Free fly.z)).strayed ≡ true) (sym fly.flights) (stray_bit fly.z.strayed true true refl refl)))
+          (subst (λ fs. (one_landed d (slice_get fs 0) (stepped d Free fly.z)).strayed ≡ true) (sym fly.flights)
+          (stray_bit fly.z.strayed true true refl refl)))
       | inr switched ↦ (let plain : Plain d done (Free ∷ rest) 0 = v.plain 0 in
           let none = unled_switched d found.0 done switched found.2 in
-          stray_loses d plain.at.start rest _ (live_store d plain.at.start rest (stepped d Free plain.at.z) found.0 InForce 0 found.1 (live_step d plain.at.start Free rest plain.at.z plain.at.live))
-          (stray_bit plain.at.z.strayed (is_old (plain.at.z.in_force found.0)) true (ap is_old ((plain.ways found.0).behind (or_false_left _ _ none) (or_false_right (is_fenced found.0 done) _ none))) refl))
+          stray_loses d plain.at.start rest _ (live_store d plain.at.start rest (stepped d Free plain.at.z) found.0 InForce 0 found.1
+          (live_step d plain.at.start Free rest plain.at.z plain.at.live))
+          (stray_bit plain.at.z.strayed (is_old (plain.at.z.in_force found.0)) true
+          (ap is_old ((plain.ways found.0).behind (or_false_left _ _ none) (or_false_right (is_fenced found.0 done) _ none))) refl))
     ]
 
-reach_loses : (d : Setting) (x : Step) (done : Done) (rest : List Step) → ((z : Machine) → (stepped d x z).strayed ≡ (z.strayed || z.freed)) → Witness d done (x ∷ rest) → list_any frees done ≡ true → ⊥
+reach_loses : (d : Setting) (x : AnyStep) (done : Done) (rest : List AnyStep)
+    → ((z : AnyMachine) → (stepped d x z).strayed ≡ (z.strayed || z.freed)) → Witness d done (x ∷ rest) → list_any frees done ≡ true → ⊥
 reach_loses d x done rest reaches v e =
     let plain : Plain d done (x ∷ rest) 0 = v.plain 0 in
-    stray_loses d plain.at.start rest (stepped d x plain.at.z) (live_step d plain.at.start x rest plain.at.z plain.at.live) (reaches plain.at.z ∙ or_right plain.at.z.strayed _ (plain.freed ∙ e))
+    stray_loses d plain.at.start rest (stepped d x plain.at.z) (live_step d plain.at.start x rest plain.at.z plain.at.live)
+    (reaches plain.at.z ∙ or_right plain.at.z.strayed _ (plain.freed ∙ e))
 
-freeing_kept : (d : Setting) (x : Step) (done : Done) (rest : List Step) → Witness d done (x ∷ rest) → lets Freeing d x done ≡ true
+freeing_kept : (d : Setting) (x : AnyStep) (done : Done) (rest : List AnyStep) → Witness d done (x ∷ rest) → lets Freeing d x done ≡ true
 freeing_kept d Free done rest v = true_of _ (free_loses d done rest v)
 freeing_kept d (Take s w) done rest v = not_of _ (reach_loses d (Take s w) done rest (λ z. refl) v)
 freeing_kept d (Zero Old s w) done rest v = not_of _ (reach_loses d (Zero Old s w) done rest (λ z. refl) v)
@@ -723,21 +352,24 @@ freeing_kept d x done rest v = refl
 
 -- ---- an end that the rules don't let stand
 
-old_loses : (d : Setting) (s : Bank) (w : ℕ) (done : Done) → w < d.words → Witness d done [] → old_holds d s w done ≡ true → ⊥
-old_loses d s w done inside v e = false≢true (sym (end_old d s (64 * w) true true false false (below_words d w inside) (v.old s (64 * w) (at_first (λ u. old_holds d s u done ≡ true) w e))))
+old_loses : (d : Setting) (s : WhichSet) (w : ℕ) (done : Done) → w < d.words → Witness d done [] → old_holds d s w done ≡ true → ⊥
+old_loses d s w done inside v e = false≢true (sym
+    (end_old d s (64 * w) true true false false (below_words d w inside) (v.old s (64 * w) (at_first (λ u. old_holds d s u done ≡ true) w e))))
 
-hand_loses : (d : Setting) (s : Bank) (w : ℕ) (done : Done) → w < d.words → Witness d done [] → hand_holds d s w done ≡ true → ⊥
-hand_loses d s w done inside v e = false≢true (end_new d s (64 * w) true false false true (below_words d w inside) (v.hand s (64 * w) (at_first (λ u. hand_holds d s u done ≡ true) w e)))
+hand_loses : (d : Setting) (s : WhichSet) (w : ℕ) (done : Done) → w < d.words → Witness d done [] → hand_holds d s w done ≡ true → ⊥
+hand_loses d s w done inside v e = false≢true (end_new d s (64 * w) true false false true (below_words d w inside)
+    (v.hand s (64 * w) (at_first (λ u. hand_holds d s u done ≡ true) w e)))
 
 unled_loses : (d : Setting) (done : Done) → Witness d done [] → all_led d done ≡ false → ⊥
 unled_loses d done v e =
     let found = all_find (λ p. is_led d p done) (length d.producers) e in
     elim (kind_of d found.0 found.1) [
       | inl routed ↦ (let fly : Flying d done [] found.0 0 = v.flying found.0 0 (found.1, routed) (unled_routed d found.0 done routed found.2) in
-          false≢true (sym (ap is_old (subst (AllByRecursion (λ (f : Flight). f.place ≡ New)) fly.flights (fly.live [] tt refl).flights).0)))
+          false≢true (sym (ap is_old (subst (AllByRecursion (λ (f : AnyFlight). f.place ≡ New)) fly.flights (fly.live [] tt refl).flights).0)))
       | inr switched ↦ (let plain : Plain d done [] 0 = v.plain 0 in
           let none = unled_switched d found.0 done switched found.2 in
-          false≢true (ap is_old (sym ((plain.at.live [] tt refl).in_force found.0 found.1) ∙ (plain.ways found.0).behind (or_false_left _ _ none) (or_false_right (is_fenced found.0 done) _ none))))
+          false≢true (ap is_old (sym ((plain.at.live [] tt refl).in_force found.0 found.1)
+          ∙ (plain.ways found.0).behind (or_false_left _ _ none) (or_false_right (is_fenced found.0 done) _ none))))
     ]
 
 number_loses : (d : Setting) (done : Done) (n : Number) → Witness d done [] → has_number d n d.number_to done ≡ false → ⊥
@@ -748,7 +380,8 @@ number_loses d done n v e =
     zero_one : ◌≡◌ {A = ℕ} 0 1 → ⊥
     zero_one e = omega (arith, e)
 
-step_kept : (rule : Rule) (d : Setting) (x : Step) (done : Done) (rest : List Step) → IsOfSafety rule → IsInFile d.words x → Witness d done (x ∷ rest) → lets rule d x done ≡ true
+step_kept : (rule : Rule) (d : Setting) (x : AnyStep) (done : Done) (rest : List AnyStep) → IsOfSafety rule → IsInFile d.words x
+    → Witness d done (x ∷ rest) → lets rule d x done ≡ true
 step_kept Notice d x done rest of inside v = absurd of
 step_kept Words d x done rest of inside v = words_kept d x done rest inside v
 step_kept Blank d x done rest of inside v = blank_kept d x done rest inside v
@@ -760,18 +393,22 @@ end_kept : (rule : Rule) (d : Setting) (done : Done) → IsOfSafety rule → Wit
 end_kept Notice d done of v = absurd of
 end_kept Blank d done of v = refl
 end_kept Freeing d done of v = refl
-end_kept Routes d done of v = and_of _ _ (true_of _ (unled_loses d done v)) (all_of _ d.words (λ w inside. not_of _ (old_loses d Pending w done inside v)))
-end_kept Words d done of v = all_of _ d.words (λ w inside. and_of _ _ (not_of _ (hand_loses d Pending w done inside v)) (and_of _ _ (not_of _ (old_loses d Enabled w done inside v)) (not_of _ (hand_loses d Enabled w done inside v))))
+end_kept Routes d done of v = and_of _ _ (true_of _ (unled_loses d done v))
+    (all_of _ d.words (λ w inside. not_of _ (old_loses d Pending w done inside v)))
+end_kept Words d done of v = all_of _ d.words (λ w inside. and_of _ _ (not_of _ (hand_loses d Pending w done inside v))
+    (and_of _ _ (not_of _ (old_loses d Enabled w done inside v)) (not_of _ (hand_loses d Enabled w done inside v))))
 end_kept Numbers d done of v = and_of _ _ (true_of _ (number_loses d done Threshold v)) (true_of _ (number_loses d done Delivery v))
 
-rest_kept : (rule : Rule) (d : Setting) (done : Done) (rest : List Step) → IsOfSafety rule → AllByRecursion (IsInFile d.words) rest → Witness d done rest → lets_rest rule d done rest ≡ true
+rest_kept : (rule : Rule) (d : Setting) (done : Done) (rest : List AnyStep) → IsOfSafety rule → AllByRecursion (IsInFile d.words) rest
+    → Witness d done rest → lets_rest rule d done rest ≡ true
 rest_kept rule d done [] of inside v = end_kept rule d done of v
 rest_kept rule d done (x ∷ rest) of (here, later) v =
-    and_of _ _ (step_kept rule d x done rest of here v) (rest_kept rule d (x ∷ done) rest of later (witness_step d x done rest (words_kept d x done rest here v) v))
+    and_of _ _ (step_kept rule d x done rest of here v)
+    (rest_kept rule d (x ∷ done) rest of later (witness_step d x done rest (words_kept d x done rest here v) v))
 
 -- ---- its beginning
 
-abbrev beginning : Setting → (Bank → ℕ → Bool) → (Bank → ℕ → Bool) → Machine
+abbrev beginning : Setting → (WhichSet → ℕ → Bool) → (WhichSet → ℕ → Bool) → AnyMachine
 beginning d before rest = record {
   old = before;
   new = rest;
@@ -790,21 +427,32 @@ beginning d before rest = record {
   told = false;
 }
 
-it_begins : (d : Setting) (before rest : Bank → ℕ → Bool) → (d.is_fresh ≡ true → (s : Bank) (i : ℕ) → rest s i ≡ false) → IsStart d (beginning d before rest)
-it_begins d before rest fresh = record { written = λ p e. refl; in_force = λ p e. refl; flights = tt; due = λ s i. refl; hand = λ s i. refl; fresh = fresh; freed = refl; strayed = refl; noticed = λ e. refl }
+it_begins : (d : Setting) (before rest : WhichSet → ℕ → Bool) → (d.is_fresh ≡ true → (s : WhichSet) (i : ℕ) → rest s i ≡ false)
+    → IsStartOfAny d (beginning d before rest)
+it_begins d before rest fresh = record {
+  written = λ p e. refl;
+  in_force = λ p e. refl;
+  flights = tt;
+  due = λ s i. refl;
+  hand = λ s i. refl;
+  fresh = fresh;
+  freed = refl;
+  strayed = refl;
+  noticed = λ e. refl;
+}
 
 -- A set of one bit is `names` of its number, as it is for a word.
-abbrev nothing : Bank → ℕ → Bool
+abbrev nothing : WhichSet → ℕ → Bool
 nothing s i = false
 
-one_there : (s : Bank) (i : ℕ) → names s i s i ≡ true
+one_there : (s : WhichSet) (i : ℕ) → names s i s i ≡ true
 one_there Pending i = eq-eqb i i refl
 one_there Enabled i = eq-eqb i i refl
 
-from_start : (d : Setting) (plan : List Step) (start : Machine) → IsSafe d plan → IsStart d start → Live d start plan start
+from_start : (d : Setting) (plan : List AnyStep) (start : AnyMachine) → IsSafe d plan → IsStartOfAny d start → Live d start plan start
 from_start d plan start safe is run can e = safe start run is (record { steps = e; others = can })
 
-begin_plain : (d : Setting) (plan : List Step) (i : ℕ) → IsSafe d plan → Plain d [] plan i
+begin_plain : (d : Setting) (plan : List AnyStep) (i : ℕ) → IsSafe d plan → Plain d [] plan i
 begin_plain d plan i safe = record {
   at = record {
     start = beginning d nothing nothing;
@@ -823,17 +471,17 @@ begin_plain d plan i safe = record {
   freed = refl;
 }
   where
-    started : (spot : Spot) → number_in spot Threshold (beginning d nothing nothing) ≡ worth (same_spot d.number_from spot)
+    started : (spot : NumberSpot) → number_in spot Threshold (beginning d nothing nothing) ≡ worth (same_spot d.number_from spot)
     started InOld = refl
     started InHand = refl
     started InNew = refl
 
-    begun : (spot : Spot) → number_in spot Threshold (beginning (record d { number_from = spot }) nothing nothing) ≡ 1
+    begun : (spot : NumberSpot) → number_in spot Threshold (beginning (record d { number_from = spot }) nothing nothing) ≡ 1
     begun InOld = refl
     begun InHand = refl
     begun InNew = refl
 
-begin : (d : Setting) (plan : List Step) → IsSafe d plan → Witness d [] plan
+begin : (d : Setting) (plan : List AnyStep) → IsSafe d plan → Witness d [] plan
 begin d plan safe = record {
   plain = λ i. begin_plain d plan i safe;
   flying = λ p i routed e. sent d [] plan p i routed refl (begin_plain d plan i safe);
@@ -864,5 +512,6 @@ begin d plan safe = record {
 }
 
 -- **A safe plan keeps each rule of safety.**
-pub safe_keeps : (rule : Rule) (d : Setting) (plan : List Step) → IsOfSafety rule → AllByRecursion (IsInFile d.words) plan → IsSafe d plan → lets_rest rule d [] plan ≡ true
+pub safe_keeps : (rule : Rule) (d : Setting) (plan : List AnyStep) → IsOfSafety rule → AllByRecursion (IsInFile d.words) plan → IsSafe d plan
+    → lets_rest rule d [] plan ≡ true
 safe_keeps rule d plan of inside safe = rest_kept rule d [] plan of inside (begin d plan safe)

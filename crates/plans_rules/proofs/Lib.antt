@@ -3,6 +3,7 @@ pub mod BoolLaws
 pub mod Reached
 pub mod Safety
 pub mod Telling
+pub mod States
 pub mod Exact
 pub mod RulesAreSafe
 pub mod Untold

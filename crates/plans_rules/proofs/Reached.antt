@@ -2,11 +2,11 @@
 use Rattle.std.proofs.Common.{◌≡◌, ℕ, Bool, true, false, not, ◌&&◌, ◌||◌, length, ◌∷◌, Option, Some, None, refl, sym}
 use Rattle.std.specs.Prelude.{slice_get}
 use Rattle.std.proofs.lemmas.Bool.{false≢true}
-use Rattle.plans_rules.specs.declared.step.Bank.{Bank}
-use Rattle.plans_rules.specs.declared.step.Bank.TheVariants.{Pending, Enabled}
-use Rattle.plans_rules.specs.declared.setting.Kind.{Kind}
-use Rattle.plans_rules.specs.declared.setting.Kind.TheVariants.{Routed, Switched}
-use Rattle.plans_rules.specs.declared.step.Step.{Step}
+use Rattle.plans_rules.specs.declared.step.WhichSet.{WhichSet}
+use Rattle.plans_rules.specs.declared.step.WhichSet.TheVariants.{Pending, Enabled}
+use Rattle.plans_rules.specs.declared.setting.RouteKind.{RouteKind}
+use Rattle.plans_rules.specs.declared.setting.RouteKind.TheVariants.{Routed, Switched}
+use Rattle.plans_rules.specs.declared.step.AnyStep.{AnyStep}
 use Rattle.plans_rules.specs.Setting.{Setting}
 use Rattle.plans_rules.specs.Rules.{turns, fences, switches, takes, Done, is_fenced, is_led_as, all_led, is_reached, old_holds}
 use Rattle.plans_rules.proofs.BoolLaws.{or_right, or_left, added_stays, all_more, any_more}
@@ -15,24 +15,25 @@ either_more : (a b c e : Bool) → (a ≡ true → c ≡ true) → (b ≡ true �
 either_more true b c e f g is = or_left c e (f refl)
 either_more false b c e f g is = or_right c e (g is)
 
-pub led_as_more : (k : Option Kind) (p : ℕ) (x : Step) (done : Done) → is_led_as k p done ≡ true → is_led_as k p (x ∷ done) ≡ true
+pub led_as_more : (k : Option RouteKind) (p : ℕ) (x : AnyStep) (done : Done) → is_led_as k p done ≡ true → is_led_as k p (x ∷ done) ≡ true
 led_as_more None p x done e = e
 led_as_more (Some Routed) p x done e = added_stays (fences p x) _ _ e
 led_as_more (Some Switched) p x done e = either_more (is_fenced p done) _ _ _ (added_stays (fences p x) _ _) (or_right (switches p x) _) e
 
-pub all_led_more : (d : Setting) (x : Step) (done : Done) → all_led d done ≡ true → all_led d (x ∷ done) ≡ true
+pub all_led_more : (d : Setting) (x : AnyStep) (done : Done) → all_led d done ≡ true → all_led d (x ∷ done) ≡ true
 all_led_more d x done e = all_more _ _ (length d.producers) (λ p. led_as_more (slice_get d.producers p) p x done) e
 
-pub reached_more : (d : Setting) (s : Bank) (x : Step) (done : Done) → is_reached d s done ≡ true → is_reached d s (x ∷ done) ≡ true
+pub reached_more : (d : Setting) (s : WhichSet) (x : AnyStep) (done : Done) → is_reached d s done ≡ true → is_reached d s (x ∷ done) ≡ true
 reached_more d Pending x done e = any_more _ _ (length d.producers) (λ p. or_right (turns p x) _) e
 reached_more d Enabled x done e = e
 
-late_law : (m o still now : Bool) → (still ≡ true → now ≡ true) → (o ≡ false → still ≡ true) → (elim m [ true ↦ o && not still | false ↦ o ]) ≡ false → now ≡ true
+late_law : (m o still now : Bool) → (still ≡ true → now ≡ true) → (o ≡ false → still ≡ true)
+    → (elim m [ true ↦ o && not still | false ↦ o ]) ≡ false → now ≡ true
 late_law true true true now h k e = h refl
 late_law true true false now h k e = absurd (false≢true (sym e))
 late_law true false still now h k e = h (k refl)
 late_law false o still now h k e = h (k e)
 
-pub late_more : (d : Setting) (x : Step) (done : Done) → ((w : ℕ) → old_holds d Pending w done ≡ false → all_led d done ≡ true)
+pub late_more : (d : Setting) (x : AnyStep) (done : Done) → ((w : ℕ) → old_holds d Pending w done ≡ false → all_led d done ≡ true)
     → (w : ℕ) → old_holds d Pending w (x ∷ done) ≡ false → all_led d (x ∷ done) ≡ true
 late_more d x done h w e = late_law (takes Pending w x) _ _ _ (all_led_more d x done) (h w) e

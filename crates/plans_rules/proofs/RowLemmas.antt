@@ -1,6 +1,6 @@
 -- The rows of plans, computed on the rules.
 use Rattle.std.proofs.Common.{true, false, [], ◌∷◌, refl}
-use Rattle.plans_rules.specs.declared.setting.Spot.TheVariants.{InNew}
+use Rattle.plans_rules.specs.declared.setting.NumberSpot.TheVariants.{InNew}
 use Rattle.plans_rules.specs.declared.rule.Rule.TheVariants.{Routes, Words, Blank, Numbers, Freeing}
 use Rattle.plans_rules.specs.Plans.{kvm_leave, kvm_arrive, kvm_shift, kvm_leave_with, kvm_arrive_with, kvm_shift_with, entry_led, kvm_producers, with_devices, kvm_moves, kvm_leaves}
 use Rattle.plans_rules.specs.Rows.{widths, AreAccepted, BreakAlone, LeaveUntold, plainly, with_numbers, to_memory, unset, heeded, all_moved, break_routes, break_words, break_blank, break_numbers, break_freeing, break_freeing_with_numbers, looked_early, looked_first, posted_first, told_early, looked_last, written_late, written_last, told_shut, shut_again}
@@ -43,7 +43,11 @@ pub freeing_number_rows : BreakAlone Freeing with_numbers break_freeing_with_num
 freeing_number_rows = (refl, (refl, tt))
 
 pub notice_rows : LeaveUntold to_memory (looked_early ∷ looked_first ∷ posted_first ∷ told_early ∷ all_moved ∷ [])
-notice_rows = (refl, looked_early_leaves_untold, (refl, looked_first_leaves_untold, (refl, posted_first_leaves_untold, (refl, told_early_leaves_untold, (refl, untold_leaves_untold, tt)))))
+notice_rows = (
+  refl,
+  looked_early_leaves_untold,
+  (refl, looked_first_leaves_untold, (refl, posted_first_leaves_untold, (refl, told_early_leaves_untold, (refl, untold_leaves_untold, tt)))),
+)
 
 pub unset_rows : LeaveUntold unset (looked_last ∷ written_late ∷ written_last ∷ [])
 unset_rows = (refl, looked_last_leaves_untold, (refl, written_late_leaves_untold, (refl, written_last_leaves_untold, tt)))

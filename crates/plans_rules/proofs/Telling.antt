@@ -5,19 +5,19 @@ use Rattle.plans_rules.specs.declared.rule.Rule.{Rule}
 use Rattle.plans_rules.specs.declared.rule.Rule.TheVariants.{Words, Notice}
 use Rattle.std.specs.Prelude.{slice_get}
 use Rattle.std.proofs.lemmas.Bool.{eqb-true, false≢true}
-use Rattle.plans_rules.specs.declared.step.Place.{Place}
-use Rattle.plans_rules.specs.declared.step.Place.TheVariants.{Old, New}
-use Rattle.plans_rules.specs.declared.step.Bank.{Bank}
-use Rattle.plans_rules.specs.declared.step.Bank.TheVariants.{Pending, Enabled}
+use Rattle.plans_rules.specs.declared.step.AnyPlace.{AnyPlace}
+use Rattle.plans_rules.specs.declared.step.AnyPlace.TheVariants.{Old, New}
+use Rattle.plans_rules.specs.declared.step.WhichSet.{WhichSet}
+use Rattle.plans_rules.specs.declared.step.WhichSet.TheVariants.{Pending, Enabled}
 use Rattle.plans_rules.specs.declared.step.Number.{Number}
 use Rattle.plans_rules.specs.declared.step.Number.TheVariants.{Threshold, Delivery}
-use Rattle.plans_rules.specs.declared.setting.Spot.TheVariants.{InHand, InNew}
-use Rattle.plans_rules.specs.declared.step.Step.{Step}
-use Rattle.plans_rules.specs.declared.step.Step.TheVariants.{Route, Fence, Switch, Zero, Take, Join, Put, ZeroNumber, TakeNumber, PutNumber, Look, Post, Tell, WriteNotice, Free}
+use Rattle.plans_rules.specs.declared.setting.NumberSpot.TheVariants.{InHand, InNew}
+use Rattle.plans_rules.specs.declared.step.AnyStep.{AnyStep}
+use Rattle.plans_rules.specs.declared.step.AnyStep.TheVariants.{Fence, Zero, Take, Join, Put, ZeroNumber, TakeNumber, PutNumber, Look, Post, Tell, WriteNotice}
 use Rattle.plans_rules.specs.Setting.{Setting, is_old, names}
-use Rattle.plans_rules.specs.Machine.{lets_out, stands_out, word_stands_out, Flight, Machine, landed, flight_landed, all_landed, flights_of, stepped, route_of, Happening, one_landed, happened, all_happened, steps_in}
-use Rattle.plans_rules.specs.Machine.Happening.{Does, Stores, Sends, Lands, Refetches}
-use Rattle.plans_rules.specs.Safe.{CanHappen, IsStart, IsTold}
+use Rattle.plans_rules.specs.Machine.{lets_out, stands_out, word_stands_out, AnyFlight, AnyMachine, landed, flight_landed, all_landed, flights_of, stepped, route_of, AnyHappening, one_landed, happened, all_happened, steps_in}
+use Rattle.plans_rules.specs.Machine.AnyHappening.{Does, Stores, Sends, Lands, Refetches}
+use Rattle.plans_rules.specs.Safe.{CanHappen, IsStartOfAny, IsTold}
 use Rattle.plans_rules.specs.Rules.{takes, fills, looks, posts, tells, Done, old_holds, hand_holds, is_filled, is_blank, is_moved, is_reached, has_number, heeds_there, is_noticed, is_settled, is_looked, is_reported, writes_notice, lets, lets_end, lets_rest}
 use Rattle.plans_rules.proofs.BoolLaws.{or_false_right, clash, not_true, and_left, and_right, and_of, or_left, or_right, or_false, or_cases, added_cases, added_stays, all_at, any_at}
 use Rattle.plans_rules.proofs.Safety.{Kept, IsBetween, Invariant, does, between, begins, named}
@@ -25,7 +25,7 @@ use Rattle.plans_rules.proofs.Safety.{Kept, IsBetween, Invariant, does, between,
 -- ---- what is moved for good stays so
 
 -- It was once.
-abbrev pub was_moved : Setting → Bank → ℕ → Done → Bool
+abbrev pub was_moved : Setting → WhichSet → ℕ → Done → Bool
 was_moved d s w [] = false
 was_moved d s w (x ∷ done) = is_moved d s w (x ∷ done) || was_moved d s w done
 
@@ -34,24 +34,24 @@ drained_law true true still e = absurd (false≢true (sym e))
 drained_law true false still e = refl
 drained_law false o still e = e
 
-was_drained : (d : Setting) (s : Bank) (w : ℕ) (done : Done) → was_moved d s w done ≡ true → old_holds d s w done ≡ false
+was_drained : (d : Setting) (s : WhichSet) (w : ℕ) (done : Done) → was_moved d s w done ≡ true → old_holds d s w done ≡ false
 was_drained d s w [] e = absurd (false≢true e)
 was_drained d s w (x ∷ done) e = elim (or_cases (is_moved d s w (x ∷ done)) _ e) [
   | inl now ↦ not_true _ (and_left (not (old_holds d s w (x ∷ done))) _ now)
   | inr before ↦ drained_law (takes s w x) _ _ (was_drained d s w done before)
 ]
 
-moved_once : (d : Setting) (s : Bank) (w : ℕ) (done : Done) → is_moved d s w done ≡ true → was_moved d s w done ≡ true
+moved_once : (d : Setting) (s : WhichSet) (w : ℕ) (done : Done) → is_moved d s w done ≡ true → was_moved d s w done ≡ true
 moved_once d s w [] e = absurd (false≢true e)
 moved_once d s w (x ∷ done) e = or_left _ _ e
 
 -- ---- the invariant
 
 -- What all rules say of a step, of the steps that are left, and of the end.
-abbrev pub Guard : Setting → Step → Done → Type 0
+abbrev pub Guard : Setting → AnyStep → Done → Type 0
 Guard d x done = (rule : Rule) → lets rule d x done ≡ true
 
-abbrev pub GuardRest : Setting → Done → List Step → Type 0
+abbrev pub GuardRest : Setting → Done → List AnyStep → Type 0
 GuardRest d done rest = (rule : Rule) → lets_rest rule d done rest ≡ true
 
 abbrev pub GuardEnd : Setting → Done → Type 0
@@ -67,10 +67,12 @@ pub record Settled (d : Setting) (w : ℕ) (done : Done) : Type 0 where
   pub numbers : numbers_settled d done ≡ true
   pub notices : is_noticed d done ≡ true
 
-pub record Noted (d : Setting) (done : Done) (z : Machine) : Type 0 where
-  pub emptied : (s : Bank) (i : ℕ) → was_moved d s (i / 64) done ≡ true → (z.hand s i ≡ false) × (is_filled d s (i / 64) done ≡ true)
-  pub looked : (i : ℕ) → is_looked d (i / 64) done ≡ true → Settled d (i / 64) done × (stands_out d z.new z.new_number i ≡ true → (z.told || z.seen) ≡ true)
-  pub reported : (i : ℕ) → i / 64 < d.words → is_reported d (i / 64) done ≡ true → Settled d (i / 64) done × (stands_out d z.new z.new_number i ≡ true → z.told ≡ true)
+pub record Noted (d : Setting) (done : Done) (z : AnyMachine) : Type 0 where
+  pub emptied : (s : WhichSet) (i : ℕ) → was_moved d s (i / 64) done ≡ true → (z.hand s i ≡ false) × (is_filled d s (i / 64) done ≡ true)
+  pub looked : (i : ℕ) → is_looked d (i / 64) done ≡ true → Settled d (i / 64) done
+      × (stands_out d z.new z.new_number i ≡ true → (z.told || z.seen) ≡ true)
+  pub reported : (i : ℕ) → i / 64 < d.words → is_reported d (i / 64) done ≡ true → Settled d (i / 64) done
+      × (stands_out d z.new z.new_number i ≡ true → z.told ≡ true)
   pub noticed : is_noticed d done ≡ true → z.noticed ≡ true
 
 settled_now : (d : Setting) (w : ℕ) (done : Done) → is_settled d w done ≡ true → Settled d w done
@@ -100,26 +102,35 @@ past_seen true x seen e = refl
 past_seen false x true e = or_right x true refl
 past_seen false x false e = or_left x false e
 
-noted_land : (d : Setting) (done : Done) (place : Place) (x : ℕ) (z : Machine) → Noted d done z → Noted d done (landed d place x z)
+noted_land : (d : Setting) (done : Done) (place : AnyPlace) (x : ℕ) (z : AnyMachine) → Noted d done z → Noted d done (landed d place x z)
 noted_land d done place x z v = record {
   emptied = v.emptied;
-  looked = λ i e. ((v.looked i e).0, λ out. past_seen z.told _ z.seen (land_out (is_old place) (nat_eq x i) (z.new Pending i) (z.new Enabled i) (lets_out d z.new_number i) z.noticed (z.new Enabled x) (lets_out d z.new_number x) (z.told || z.seen) (v.noticed (v.looked i e).0.notices) (same i) (v.looked i e).1 out));
-  reported = λ i inside e. ((v.reported i inside e).0, land_out (is_old place) (nat_eq x i) (z.new Pending i) (z.new Enabled i) (lets_out d z.new_number i) z.noticed (z.new Enabled x) (lets_out d z.new_number x) z.told (v.noticed (v.reported i inside e).0.notices) (same i) (v.reported i inside e).1);
+  looked = λ i e. (
+    (v.looked i e).0,
+    λ out. past_seen z.told _ z.seen
+        (land_out (is_old place) (nat_eq x i) (z.new Pending i) (z.new Enabled i) (lets_out d z.new_number i) z.noticed (z.new Enabled x)
+        (lets_out d z.new_number x) (z.told || z.seen) (v.noticed (v.looked i e).0.notices) (same i) (v.looked i e).1 out),
+  );
+  reported = λ i inside e. (
+    (v.reported i inside e).0,
+    land_out (is_old place) (nat_eq x i) (z.new Pending i) (z.new Enabled i) (lets_out d z.new_number i) z.noticed (z.new Enabled x)
+        (lets_out d z.new_number x) z.told (v.noticed (v.reported i inside e).0.notices) (same i) (v.reported i inside e).1,
+  );
   noticed = v.noticed;
 }
   where
     same : (i : ℕ) → nat_eq x i ≡ true → (z.new Enabled x && lets_out d z.new_number x) ≡ (z.new Enabled i && lets_out d z.new_number i)
     same i m = ap (λ j. z.new Enabled j && lets_out d z.new_number j) (eqb-true x i m)
 
-noted_all : (d : Setting) (done : Done) (fs : List Flight) (z : Machine) → Noted d done z → Noted d done (all_landed d fs z)
+noted_all : (d : Setting) (done : Done) (fs : List AnyFlight) (z : AnyMachine) → Noted d done z → Noted d done (all_landed d fs z)
 noted_all d done [] z v = v
 noted_all d done (f ∷ later) z v = noted_all d done later (flight_landed d f z) (noted_land d done f.place f.identity z v)
 
-noted_one : (d : Setting) (done : Done) (f : Option Flight) (z : Machine) → Noted d done z → Noted d done (one_landed d f z)
+noted_one : (d : Setting) (done : Done) (f : Option AnyFlight) (z : AnyMachine) → Noted d done z → Noted d done (one_landed d f z)
 noted_one d done None z v = v
 noted_one d done (Some f) z v = noted_land d done f.place f.identity z v
 
-noted_between : (d : Setting) (done : Done) (x : Happening) (z : Machine) → IsBetween x → Noted d done z → Noted d done (happened d x z)
+noted_between : (d : Setting) (done : Done) (x : AnyHappening) (z : AnyMachine) → IsBetween x → Noted d done z → Noted d done (happened d x z)
 noted_between d done (Does step) z is v = absurd is
 noted_between d done (Stores p by x) z is v = noted_land d done (route_of by p z) x z v
 noted_between d done (Sends p by x) z is v = record { emptied = v.emptied; looked = v.looked; reported = v.reported; noticed = v.noticed }
@@ -130,7 +141,7 @@ noted_between d done (Refetches p) z is v = record { emptied = v.emptied; looked
 
 -- ---- a step that is no fence
 
-abbrev pub IsNoFence : Step → Type 0
+abbrev pub IsNoFence : AnyStep → Type 0
 IsNoFence (Fence p) = ⊥
 IsNoFence x = Unit {0}
 
@@ -142,7 +153,8 @@ out_empty : (m k : Bool) → k ≡ false → (not m && k) ≡ false
 out_empty true k e = refl
 out_empty false k e = e
 
-still_empty : (d : Setting) (x : Step) (z : Machine) (s : Bank) (i : ℕ) → IsNoFence x → z.old s i ≡ false → z.hand s i ≡ false → (stepped d x z).hand s i ≡ false
+still_empty : (d : Setting) (x : AnyStep) (z : AnyMachine) (s : WhichSet) (i : ℕ) → IsNoFence x → z.old s i ≡ false → z.hand s i ≡ false
+    → (stepped d x z).hand s i ≡ false
 still_empty d (Fence p) z s i is e f = absurd is
 still_empty d (Take t w) z s i is e f = take_empty (names t w s (i / 64)) _ _ e f
 still_empty d (Join t w) z s i is e f = out_empty (names t w s (i / 64)) _ f
@@ -166,11 +178,16 @@ zero_same true b h = absurd (h refl)
 zero_same false b h = refl
 
 -- the bits of a word that was moved
-steady : (d : Setting) (done : Done) (x : Step) (z : Machine) (s : Bank) (i : ℕ) → IsNoFence x → Guard d x done → is_filled d s (i / 64) done ≡ true → z.hand s i ≡ false → (stepped d x z).new s i ≡ z.new s i
+steady : (d : Setting) (done : Done) (x : AnyStep) (z : AnyMachine) (s : WhichSet) (i : ℕ) → IsNoFence x → Guard d x done
+    → is_filled d s (i / 64) done ≡ true → z.hand s i ≡ false → (stepped d x z).new s i ≡ z.new s i
 steady d done (Fence p) z s i is guard filled e = absurd is
 steady d done (Join t w) z s i is guard filled e = join_same (names t w s (i / 64)) _ _ e
-steady d done (Put t w) z s i is guard filled e = put_same (names t w s (i / 64)) _ _ (λ m. clash _ filled (named (λ t v. is_filled d t v done ≡ false) t w s (i / 64) (or_false_right (is_reached d t done) _ (not_true _ (guard Words))) m))
-steady d done (Zero New t w) z s i is guard filled e = zero_same (names t w s (i / 64)) _ (λ m. clash _ filled (named (λ t v. is_filled d t v done ≡ false) t w s (i / 64) (or_false_right (is_reached d t done) _ (not_true _ (guard Words))) m))
+steady d done (Put t w) z s i is guard filled e =
+    put_same (names t w s (i / 64)) _ _ (λ m. clash _ filled
+    (named (λ t v. is_filled d t v done ≡ false) t w s (i / 64) (or_false_right (is_reached d t done) _ (not_true _ (guard Words))) m))
+steady d done (Zero New t w) z s i is guard filled e =
+    zero_same (names t w s (i / 64)) _ (λ m. clash _ filled
+    (named (λ t v. is_filled d t v done ≡ false) t w s (i / 64) (or_false_right (is_reached d t done) _ (not_true _ (guard Words))) m))
 steady d done (Zero Old t w) z s i is guard filled e = refl
 steady d done (ZeroNumber Old n) z s i is guard filled e = refl
 steady d done (ZeroNumber New n) z s i is guard filled e = refl
@@ -187,7 +204,8 @@ not_zeroed true true e f let_ = absurd (false≢true let_)
 not_zeroed true false e f let_ = absurd (false≢true f)
 not_zeroed false a e f let_ = absurd (false≢true e)
 
-number_there : (d : Setting) (done : Done) (x : Step) (n : Number) → heeds_there d ≡ true → Guard d x done → has_number d n InNew done ≡ true → has_number d n InNew (x ∷ done) ≡ true
+number_there : (d : Setting) (done : Done) (x : AnyStep) (n : Number) → heeds_there d ≡ true → Guard d x done → has_number d n InNew done ≡ true
+    → has_number d n InNew (x ∷ done) ≡ true
 number_there d done (TakeNumber Threshold) Threshold heeds guard e = e
 number_there d done (TakeNumber Delivery) Delivery heeds guard e = e
 number_there d done (TakeNumber Threshold) Delivery heeds guard e = e
@@ -208,10 +226,13 @@ number_there d done (Zero Old s w) n heeds guard e = e
 number_there d done (Zero New s w) n heeds guard e = e
 number_there d done x n heeds guard e = e
 
-number_stays : (d : Setting) (start : Machine) (done : Done) (x : Step) (z : Machine) (n : Number) → heeds_there d ≡ true → IsNoFence x → Guard d x done → Invariant d start done z → has_number d n InNew done ≡ true → (stepped d x z).new_number n ≡ z.new_number n
+number_stays : (d : Setting) (start : AnyMachine) (done : Done) (x : AnyStep) (z : AnyMachine) (n : Number) → heeds_there d ≡ true → IsNoFence x
+    → Guard d x done → Invariant d start done z → has_number d n InNew done ≡ true → (stepped d x z).new_number n ≡ z.new_number n
 number_stays d start done (Fence p) z n heeds is guard v e = absurd is
-number_stays d start done (PutNumber Threshold) z Threshold heeds is guard v e = v.numbers Threshold InHand (put_itself _ _ _ heeds e (guard Notice)) ∙ sym (v.numbers Threshold InNew e)
-number_stays d start done (PutNumber Delivery) z Delivery heeds is guard v e = v.numbers Delivery InHand (put_itself _ _ _ heeds e (guard Notice)) ∙ sym (v.numbers Delivery InNew e)
+number_stays d start done (PutNumber Threshold) z Threshold heeds is guard v e =
+    v.numbers Threshold InHand (put_itself _ _ _ heeds e (guard Notice)) ∙ sym (v.numbers Threshold InNew e)
+number_stays d start done (PutNumber Delivery) z Delivery heeds is guard v e = v.numbers Delivery InHand (put_itself _ _ _ heeds e (guard Notice))
+    ∙ sym (v.numbers Delivery InNew e)
 number_stays d start done (PutNumber Threshold) z Delivery heeds is guard v e = refl
 number_stays d start done (PutNumber Delivery) z Threshold heeds is guard v e = refl
 number_stays d start done (ZeroNumber New Threshold) z Threshold heeds is guard v e = not_zeroed _ _ heeds e (guard Notice)
@@ -224,15 +245,17 @@ number_stays d start done (Zero New s w) z n heeds is guard v e = refl
 number_stays d start done x z n heeds is guard v e = refl
 
 -- of both numbers, where they are heeded
-heeded_stays : (h a b c e : Bool) → (h ≡ true → a ≡ true → c ≡ true) → (h ≡ true → b ≡ true → e ≡ true) → (elim h [ true ↦ a && b | false ↦ true ]) ≡ true → (elim h [ true ↦ c && e | false ↦ true ]) ≡ true
+heeded_stays : (h a b c e : Bool) → (h ≡ true → a ≡ true → c ≡ true) → (h ≡ true → b ≡ true → e ≡ true)
+    → (elim h [ true ↦ a && b | false ↦ true ]) ≡ true → (elim h [ true ↦ c && e | false ↦ true ]) ≡ true
 heeded_stays true a b c e f g both = and_of c e (f refl (and_left a b both)) (g refl (and_right a b both))
 heeded_stays false a b c e f g both = refl
 
-settled_stays : (d : Setting) (w : ℕ) (done : Done) (x : Step) → d.in_memory ≡ true → Guard d x done → Settled d w done → Settled d w (x ∷ done)
+settled_stays : (d : Setting) (w : ℕ) (done : Done) (x : AnyStep) → d.in_memory ≡ true → Guard d x done → Settled d w done → Settled d w (x ∷ done)
 settled_stays d w done x memory guard v = record {
   pending = or_right (is_moved d Pending w (x ∷ done)) _ v.pending;
   enabled = or_right (is_moved d Enabled w (x ∷ done)) _ v.enabled;
-  numbers = heeded_stays d.heeds _ _ _ _ (λ h. number_there d done x Threshold (and_of _ _ memory h) guard) (λ h. number_there d done x Delivery (and_of _ _ memory h) guard) v.numbers;
+  numbers = heeded_stays d.heeds _ _ _ _ (λ h. number_there d done x Threshold (and_of _ _ memory h) guard)
+      (λ h. number_there d done x Delivery (and_of _ _ memory h) guard) v.numbers;
   notices = or_right (writes_notice x) _ v.notices;
 }
 
@@ -241,26 +264,34 @@ lets_same true a b e = e refl
 lets_same false a b e = refl
 
 lets_by : (f g : Number → ℕ) (i : ℕ) → f Threshold ≡ g Threshold → f Delivery ≡ g Delivery
-    → (nat_eq (f Delivery) 1 && (nat_eq (f Threshold) 0 || nat_lt i (f Threshold))) ≡ (nat_eq (g Delivery) 1 && (nat_eq (g Threshold) 0 || nat_lt i (g Threshold)))
-lets_by f g i e k = ap (λ t. nat_eq (f Delivery) 1 && (nat_eq t 0 || nat_lt i t)) e ∙ ap (λ v. nat_eq v 1 && (nat_eq (g Threshold) 0 || nat_lt i (g Threshold))) k
+    → (nat_eq (f Delivery) 1 && (nat_eq (f Threshold) 0 || nat_lt i (f Threshold)))
+    ≡ (nat_eq (g Delivery) 1 && (nat_eq (g Threshold) 0 || nat_lt i (g Threshold)))
+lets_by f g i e k = ap (λ t. nat_eq (f Delivery) 1 && (nat_eq t 0 || nat_lt i t)) e
+    ∙ ap (λ v. nat_eq v 1 && (nat_eq (g Threshold) 0 || nat_lt i (g Threshold))) k
 
 heeded : (h a b : Bool) → h ≡ true → (elim h [ true ↦ a && b | false ↦ true ]) ≡ true → (a ≡ true) × (b ≡ true)
 heeded true a b e both = (and_left a b both, and_right a b both)
 heeded false a b e both = absurd (false≢true e)
 
-same_lets : (d : Setting) (start : Machine) (done : Done) (x : Step) (z : Machine) (i : ℕ) → d.in_memory ≡ true → IsNoFence x → Guard d x done → Invariant d start done z → numbers_settled d done ≡ true → lets_out d (stepped d x z).new_number i ≡ lets_out d z.new_number i
+same_lets : (d : Setting) (start : AnyMachine) (done : Done) (x : AnyStep) (z : AnyMachine) (i : ℕ) → d.in_memory ≡ true → IsNoFence x
+    → Guard d x done → Invariant d start done z → numbers_settled d done ≡ true → lets_out d (stepped d x z).new_number i ≡ lets_out d z.new_number i
 same_lets d start done x z i memory is guard v e =
-    lets_same d.heeds _ _ (λ h. let both = heeded d.heeds _ _ h e in lets_by (stepped d x z).new_number z.new_number i (number_stays d start done x z Threshold (and_of _ _ memory h) is guard v both.0) (number_stays d start done x z Delivery (and_of _ _ memory h) is guard v both.1))
+    lets_same d.heeds _ _ (λ h. let both = heeded d.heeds _ _ h e in
+    lets_by (stepped d x z).new_number z.new_number i (number_stays d start done x z Threshold (and_of _ _ memory h) is guard v both.0)
+    (number_stays d start done x z Delivery (and_of _ _ memory h) is guard v both.1))
 
-same_out : (d : Setting) (start : Machine) (done : Done) (x : Step) (z : Machine) (i : ℕ) → d.in_memory ≡ true → IsNoFence x → Guard d x done → Invariant d start done z → Noted d done z → Settled d (i / 64) done
+same_out : (d : Setting) (start : AnyMachine) (done : Done) (x : AnyStep) (z : AnyMachine) (i : ℕ) → d.in_memory ≡ true → IsNoFence x
+    → Guard d x done → Invariant d start done z → Noted d done z → Settled d (i / 64) done
     → stands_out d (stepped d x z).new (stepped d x z).new_number i ≡ stands_out d z.new z.new_number i
 same_out d start done x z i memory is guard w v settled =
-    ap (λ p. p && ((stepped d x z).new Enabled i && lets_out d (stepped d x z).new_number i)) (steady d done x z Pending i is guard (v.emptied Pending i settled.pending).1 (v.emptied Pending i settled.pending).0)
-    ∙ ap (λ e. z.new Pending i && (e && lets_out d (stepped d x z).new_number i)) (steady d done x z Enabled i is guard (v.emptied Enabled i settled.enabled).1 (v.emptied Enabled i settled.enabled).0)
+    ap (λ p. p && ((stepped d x z).new Enabled i && lets_out d (stepped d x z).new_number i))
+    (steady d done x z Pending i is guard (v.emptied Pending i settled.pending).1 (v.emptied Pending i settled.pending).0)
+    ∙ ap (λ e. z.new Pending i && (e && lets_out d (stepped d x z).new_number i))
+    (steady d done x z Enabled i is guard (v.emptied Enabled i settled.enabled).1 (v.emptied Enabled i settled.enabled).0)
     ∙ ap (λ n. z.new Pending i && (z.new Enabled i && n)) (same_lets d start done x z i memory is guard w settled.numbers)
 
 -- what was told, or seen, stays so
-told_stays : (d : Setting) (x : Step) (z : Machine) → IsNoFence x → z.told ≡ true → (stepped d x z).told ≡ true
+told_stays : (d : Setting) (x : AnyStep) (z : AnyMachine) → IsNoFence x → z.told ≡ true → (stepped d x z).told ≡ true
 told_stays d (Fence p) z is e = absurd is
 told_stays d Post z is e = or_left z.told _ e
 told_stays d Tell z is e = or_left z.told _ e
@@ -277,7 +308,8 @@ seen_more false s x e = or_left s x e
 told_more : (t s x : Bool) → (t || s) ≡ true → ((t || x) || s) ≡ true
 told_more t s x e = past_seen t x s (or_left (t || s) x e)
 
-seen_stays : (d : Setting) (x : Step) (z : Machine) → IsNoFence x → (z.told || z.seen) ≡ true → ((stepped d x z).told || (stepped d x z).seen) ≡ true
+seen_stays : (d : Setting) (x : AnyStep) (z : AnyMachine) → IsNoFence x → (z.told || z.seen) ≡ true
+    → ((stepped d x z).told || (stepped d x z).seen) ≡ true
 seen_stays d (Fence p) z is e = absurd is
 seen_stays d Post z is e = told_more z.told z.seen z.seen e
 seen_stays d Tell z is e = told_more z.told z.seen _ e
@@ -289,7 +321,8 @@ seen_stays d (ZeroNumber New n) z is e = e
 seen_stays d x z is e = e
 
 -- where notices go is written once and for all
-noticed_stays : (d : Setting) (done : Done) (x : Step) (z : Machine) → IsNoFence x → (is_noticed d done ≡ true → z.noticed ≡ true) → is_noticed d (x ∷ done) ≡ true → (stepped d x z).noticed ≡ true
+noticed_stays : (d : Setting) (done : Done) (x : AnyStep) (z : AnyMachine) → IsNoFence x → (is_noticed d done ≡ true → z.noticed ≡ true)
+    → is_noticed d (x ∷ done) ≡ true → (stepped d x z).noticed ≡ true
 noticed_stays d done (Fence p) z is h e = absurd is
 noticed_stays d done WriteNotice z is h e = refl
 noticed_stays d done (Zero Old s w) z is h e = h e
@@ -302,47 +335,73 @@ noticed_stays d done x z is h e = h e
 place_of : (w i : ℕ) → w ≡ i / 64 → 64 * w + i % 64 ≡ i
 place_of w i e = omega arith
 
-word_out : (d : Setting) (z : Machine) (w i : ℕ) → w ≡ i / 64 → stands_out d z.new z.new_number i ≡ true → word_stands_out d z.new z.new_number w ≡ true
-word_out d z w i e out = any_at (λ b. stands_out d z.new z.new_number (64 * w + b)) 64 (i % 64) (omega arith) (ap (stands_out d z.new z.new_number) (place_of w i e) ∙ out)
+word_out : (d : Setting) (z : AnyMachine) (w i : ℕ) → w ≡ i / 64 → stands_out d z.new z.new_number i ≡ true
+    → word_stands_out d z.new z.new_number w ≡ true
+word_out d z w i e out = any_at (λ b. stands_out d z.new z.new_number (64 * w + b)) 64 (i % 64) (omega arith)
+    (ap (stands_out d z.new z.new_number) (place_of w i e) ∙ out)
 
-looked_now : (d : Setting) (x : Step) (z : Machine) (i : ℕ) → looks (i / 64) x ≡ true → stands_out d z.new z.new_number i ≡ true → ((stepped d x z).told || (stepped d x z).seen) ≡ true
+looked_now : (d : Setting) (x : AnyStep) (z : AnyMachine) (i : ℕ) → looks (i / 64) x ≡ true → stands_out d z.new z.new_number i ≡ true
+    → ((stepped d x z).told || (stepped d x z).seen) ≡ true
 looked_now d (Look w) z i m out = or_right z.told _ (or_right z.seen _ (word_out d z w i (eqb-true w (i / 64) m) out))
 looked_now d x z i m out = absurd (false≢true m)
 
-posted_now : (d : Setting) (x : Step) (z : Machine) → posts x ≡ true → (z.told || z.seen) ≡ true → (stepped d x z).told ≡ true
+posted_now : (d : Setting) (x : AnyStep) (z : AnyMachine) → posts x ≡ true → (z.told || z.seen) ≡ true → (stepped d x z).told ≡ true
 posted_now d Post z m e = e
 posted_now d x z m e = absurd (false≢true m)
 
-told_now : (d : Setting) (x : Step) (z : Machine) (i : ℕ) → i / 64 < d.words → tells x ≡ true → stands_out d z.new z.new_number i ≡ true → (stepped d x z).told ≡ true
-told_now d Tell z i inside m out = or_right z.told _ (any_at (word_stands_out d z.new z.new_number) d.words (i / 64) inside (word_out d z (i / 64) i refl out))
+told_now : (d : Setting) (x : AnyStep) (z : AnyMachine) (i : ℕ) → i / 64 < d.words → tells x ≡ true → stands_out d z.new z.new_number i ≡ true
+    → (stepped d x z).told ≡ true
+told_now d Tell z i inside m out = or_right z.told _
+    (any_at (word_stands_out d z.new z.new_number) d.words (i / 64) inside (word_out d z (i / 64) i refl out))
 told_now d x z i inside m out = absurd (false≢true m)
 
-report_cases : (m n s l r : Bool) → (elim m [ true ↦ l || r | false ↦ elim n [ true ↦ s || r | false ↦ r ] ]) ≡ true → ((m ≡ true) × (l ≡ true)) ⊎ (((n ≡ true) × (s ≡ true)) ⊎ (r ≡ true))
+report_cases : (m n s l r : Bool) → (elim m [ true ↦ l || r | false ↦ elim n [ true ↦ s || r | false ↦ r ] ]) ≡ true → ((m ≡ true) × (l ≡ true))
+    ⊎ (((n ≡ true) × (s ≡ true)) ⊎ (r ≡ true))
 report_cases true n s true r e = inl (refl, refl)
 report_cases true n s false r e = inr (inr e)
 report_cases false n s l r e = inr (added_cases n s r e)
 
-emptied_now : (d : Setting) (s : Bank) (w : ℕ) (done : Done) (q a b k : Bool) → is_moved d s w done ≡ true → Kept (is_blank d s w done) (is_reached d s done) (hand_holds d s w done) (old_holds d s w done) (is_filled d s w done) q a b k
+emptied_now : (d : Setting) (s : WhichSet) (w : ℕ) (done : Done) (q a b k : Bool) → is_moved d s w done ≡ true
+    → Kept (is_blank d s w done) (is_reached d s done) (hand_holds d s w done) (old_holds d s w done) (is_filled d s w done) q a b k
     → (k ≡ false) × (is_filled d s w done ≡ true)
 emptied_now d s w done q a b k is v =
     let free = not_true _ (and_right (not (old_holds d s w done)) _ is) in
     (v.unheld free, v.moved (not_true _ (and_left (not (old_holds d s w done)) _ is)) free)
 
 -- **A step that the rules let stand keeps what was noted.**
-pub notes : (d : Setting) (start : Machine) (done : Done) (x : Step) (z : Machine) → d.in_memory ≡ true → IsNoFence x → Guard d x done → Invariant d start done z → Noted d done z → Noted d (x ∷ done) (stepped d x z)
+pub notes : (d : Setting) (start : AnyMachine) (done : Done) (x : AnyStep) (z : AnyMachine) → d.in_memory ≡ true → IsNoFence x → Guard d x done
+    → Invariant d start done z → Noted d done z → Noted d (x ∷ done) (stepped d x z)
 notes d start done x z memory is guard w v = record {
   emptied = λ s i e. elim (or_cases (is_moved d s (i / 64) (x ∷ done)) _ e) [
     | inl now ↦ emptied_now d s (i / 64) (x ∷ done) _ _ _ _ now ((does d start done x z (λ rule of. guard rule) w).kept s i)
-    | inr before ↦ (still_empty d x z s i is ((w.kept s i).drained (was_drained d s (i / 64) done before)) (v.emptied s i before).0, added_stays (fills s (i / 64) x) _ _ (v.emptied s i before).1)
+    | inr before ↦ (
+      still_empty d x z s i is ((w.kept s i).drained (was_drained d s (i / 64) done before)) (v.emptied s i before).0,
+      added_stays (fills s (i / 64) x) _ _ (v.emptied s i before).1,
+    )
   ];
   looked = λ i e. elim (added_cases (looks (i / 64) x) _ _ e) [
-    | inl now ↦ (let settled = settled_now d (i / 64) done now.1 in (settled_stays d (i / 64) done x memory guard settled, λ out. looked_now d x z i now.0 (sym (same_out d start done x z i memory is guard w v settled) ∙ out)))
-    | inr before ↦ (let was = v.looked i before in (settled_stays d (i / 64) done x memory guard was.0, λ out. seen_stays d x z is (was.1 (sym (same_out d start done x z i memory is guard w v was.0) ∙ out))))
+    | inl now ↦ (let settled = settled_now d (i / 64) done now.1 in (
+      settled_stays d (i / 64) done x memory guard settled,
+      λ out. looked_now d x z i now.0 (sym (same_out d start done x z i memory is guard w v settled) ∙ out),
+    ))
+    | inr before ↦ (let was = v.looked i before in (
+      settled_stays d (i / 64) done x memory guard was.0,
+      λ out. seen_stays d x z is (was.1 (sym (same_out d start done x z i memory is guard w v was.0) ∙ out)),
+    ))
   ];
   reported = λ i inside e. elim (report_cases (posts x) (tells x) _ _ _ e) [
-    | inl now ↦ (let was = v.looked i now.1 in (settled_stays d (i / 64) done x memory guard was.0, λ out. posted_now d x z now.0 (was.1 (sym (same_out d start done x z i memory is guard w v was.0) ∙ out))))
-    | inr (inl now) ↦ (let settled = settled_now d (i / 64) done now.1 in (settled_stays d (i / 64) done x memory guard settled, λ out. told_now d x z i inside now.0 (sym (same_out d start done x z i memory is guard w v settled) ∙ out)))
-    | inr (inr before) ↦ (let was = v.reported i inside before in (settled_stays d (i / 64) done x memory guard was.0, λ out. told_stays d x z is (was.1 (sym (same_out d start done x z i memory is guard w v was.0) ∙ out))))
+    | inl now ↦ (let was = v.looked i now.1 in (
+      settled_stays d (i / 64) done x memory guard was.0,
+      λ out. posted_now d x z now.0 (was.1 (sym (same_out d start done x z i memory is guard w v was.0) ∙ out)),
+    ))
+    | inr (inl now) ↦ (let settled = settled_now d (i / 64) done now.1 in (
+      settled_stays d (i / 64) done x memory guard settled,
+      λ out. told_now d x z i inside now.0 (sym (same_out d start done x z i memory is guard w v settled) ∙ out),
+    ))
+    | inr (inr before) ↦ (let was = v.reported i inside before in (
+      settled_stays d (i / 64) done x memory guard was.0,
+      λ out. told_stays d x z is (was.1 (sym (same_out d start done x z i memory is guard w v was.0) ∙ out)),
+    ))
   ];
   noticed = noticed_stays d done x z is v.noticed;
 }
@@ -352,7 +411,8 @@ fence_moved : (a b : Bool) → (a ≡ true → b ≡ true) → (a || b) ≡ true
 fence_moved true b h e = h refl
 fence_moved false b h e = e
 
-notes_fence : (d : Setting) (done : Done) (p : ℕ) (z : Machine) → d.in_memory ≡ true → Guard d (Fence p) done → Noted d done z → Noted d (Fence p ∷ done) (stepped d (Fence p) z)
+notes_fence : (d : Setting) (done : Done) (p : ℕ) (z : AnyMachine) → d.in_memory ≡ true → Guard d (Fence p) done → Noted d done z
+    → Noted d (Fence p ∷ done) (stepped d (Fence p) z)
 notes_fence d done p z memory guard v =
     let u = noted_all d done (flights_of p z.flights) z v in
     record {
@@ -362,36 +422,51 @@ notes_fence d done p z memory guard v =
       noticed = u.noticed;
     }
 
-notes_any : (d : Setting) (start : Machine) (done : Done) (x : Step) (z : Machine) → d.in_memory ≡ true → Guard d x done → Invariant d start done z → Noted d done z → Noted d (x ∷ done) (stepped d x z)
+notes_any : (d : Setting) (start : AnyMachine) (done : Done) (x : AnyStep) (z : AnyMachine) → d.in_memory ≡ true → Guard d x done
+    → Invariant d start done z → Noted d done z → Noted d (x ∷ done) (stepped d x z)
 notes_any d start done (Fence p) z memory guard w v = notes_fence d done p z memory guard v
 notes_any d start done x z memory guard w v = notes d start done x z memory tt guard w v
 
 -- ---- a whole run
 
-pub record Heard (d : Setting) (z : Machine) : Type 0 where
+pub record Heard (d : Setting) (z : AnyMachine) : Type 0 where
   pub done : Done
   pub guard : GuardEnd d done
   pub noted : Noted d done z
 
-hears : (d : Setting) (start : Machine) (done : Done) (run : List Happening) (z : Machine) → d.in_memory ≡ true → AllByRecursion (CanHappen d) run → GuardRest d done (steps_in run) → Invariant d start done z → Noted d done z → Heard d (all_happened d run z)
+hears : (d : Setting) (start : AnyMachine) (done : Done) (run : List AnyHappening) (z : AnyMachine) → d.in_memory ≡ true
+    → AllByRecursion (CanHappen d) run → GuardRest d done (steps_in run) → Invariant d start done z → Noted d done z → Heard d (all_happened d run z)
 hears d start done [] z memory can guards w v = record { done = done; guard = guards; noted = v }
 hears d start done (Does x ∷ later) z memory can guards w v =
     hears d start (x ∷ done) later (stepped d x z) memory can.1 (λ rule. and_right (lets rule d x done) _ (guards rule))
-    (does d start done x z (λ rule of. and_left (lets rule d x done) _ (guards rule)) w) (notes_any d start done x z memory (λ rule. and_left (lets rule d x done) _ (guards rule)) w v)
-hears d start done (Stores p by x ∷ later) z memory can guards w v = hears d start done later _ memory can.1 guards (between d start done (Stores p by x) z tt can.0 w) (noted_between d done (Stores p by x) z tt v)
-hears d start done (Sends p by x ∷ later) z memory can guards w v = hears d start done later _ memory can.1 guards (between d start done (Sends p by x) z tt can.0 w) (noted_between d done (Sends p by x) z tt v)
-hears d start done (Lands k ∷ later) z memory can guards w v = hears d start done later _ memory can.1 guards (between d start done (Lands k) z tt can.0 w) (noted_between d done (Lands k) z tt v)
-hears d start done (Refetches p ∷ later) z memory can guards w v = hears d start done later _ memory can.1 guards (between d start done (Refetches p) z tt can.0 w) (noted_between d done (Refetches p) z tt v)
+    (does d start done x z (λ rule of. and_left (lets rule d x done) _ (guards rule)) w)
+    (notes_any d start done x z memory (λ rule. and_left (lets rule d x done) _ (guards rule)) w v)
+hears d start done (Stores p by x ∷ later) z memory can guards w v =
+    hears d start done later _ memory can.1 guards (between d start done (Stores p by x) z tt can.0 w) (noted_between d done (Stores p by x) z tt v)
+hears d start done (Sends p by x ∷ later) z memory can guards w v =
+    hears d start done later _ memory can.1 guards (between d start done (Sends p by x) z tt can.0 w) (noted_between d done (Sends p by x) z tt v)
+hears d start done (Lands k ∷ later) z memory can guards w v =
+    hears d start done later _ memory can.1 guards (between d start done (Lands k) z tt can.0 w) (noted_between d done (Lands k) z tt v)
+hears d start done (Refetches p ∷ later) z memory can guards w v =
+    hears d start done later _ memory can.1 guards (between d start done (Refetches p) z tt can.0 w) (noted_between d done (Refetches p) z tt v)
 
-noted_start : (d : Setting) (z : Machine) → IsStart d z → Noted d [] z
-noted_start d z is = record { emptied = λ s i e. absurd (false≢true e); looked = λ i e. absurd (false≢true e); reported = λ i inside e. absurd (false≢true e); noticed = is.noticed }
+noted_start : (d : Setting) (z : AnyMachine) → IsStartOfAny d z → Noted d [] z
+noted_start d z is = record {
+  emptied = λ s i e. absurd (false≢true e);
+  looked = λ i e. absurd (false≢true e);
+  reported =
+      λ i inside e. absurd (false≢true e);
+  noticed = is.noticed;
+}
 
 in_memory_law : (m all : Bool) → m ≡ true → (elim m [ true ↦ all | false ↦ true ]) ≡ true → all ≡ true
 in_memory_law true all e f = f
 in_memory_law false all e f = absurd (false≢true e)
 
 -- **A plan into memory that keeps all rules tells the host.**
-pub guarded_is_told : (d : Setting) (plan : List Step) → d.in_memory ≡ true → GuardRest d [] plan → IsTold d plan
+pub guarded_is_told : (d : Setting) (plan : List AnyStep) → d.in_memory ≡ true → GuardRest d [] plan → IsTold d plan
 guarded_is_told d plan memory guards start run at_start is i inside out =
-    let heard = hears d start [] run start memory is.others (subst (GuardRest d []) (sym is.steps) guards) (begins d start at_start) (noted_start d start at_start) in
-    (heard.noted.reported i inside (all_at (λ w. is_reported d w heard.done) d.words (i / 64) (in_memory_law d.in_memory _ memory (heard.guard Notice)) inside)).1 out
+    let heard = hears d start [] run start memory is.others (subst (GuardRest d []) (sym is.steps) guards) (begins d start at_start)
+    (noted_start d start at_start) in
+    (heard.noted.reported i inside (all_at (λ w. is_reported d w heard.done) d.words (i / 64)
+    (in_memory_law d.in_memory _ memory (heard.guard Notice)) inside)).1 out

@@ -3,23 +3,23 @@ use Rattle.std.proofs.Common.{◌≡◌, ℕ, ◌/◌, ◌<◌, Bool, true, fals
 use Rattle.std.specs.Prelude.{slice_get}
 use Rattle.std.specs.List.{AllByRecursion}
 use Rattle.std.proofs.lemmas.Bool.{false≢true}
-use Rattle.plans_rules.specs.declared.step.Place.TheVariants.{Old, New}
-use Rattle.plans_rules.specs.declared.step.Bank.{Bank}
-use Rattle.plans_rules.specs.declared.step.Bank.TheVariants.{Pending, Enabled}
+use Rattle.plans_rules.specs.declared.step.AnyPlace.TheVariants.{Old, New}
+use Rattle.plans_rules.specs.declared.step.WhichSet.{WhichSet}
+use Rattle.plans_rules.specs.declared.step.WhichSet.TheVariants.{Pending, Enabled}
 use Rattle.plans_rules.specs.declared.step.Number.{Number}
 use Rattle.plans_rules.specs.declared.step.Number.TheVariants.{Threshold, Delivery}
-use Rattle.plans_rules.specs.declared.setting.Spot.TheVariants.{InHand, InNew}
-use Rattle.plans_rules.specs.declared.step.Step.{Step}
-use Rattle.plans_rules.specs.declared.step.Step.TheVariants.{Route, Fence, Switch, Take, Join, ZeroNumber, TakeNumber, PutNumber, Look, Post, Tell, WriteNotice, Free}
+use Rattle.plans_rules.specs.declared.setting.NumberSpot.TheVariants.{InHand, InNew}
+use Rattle.plans_rules.specs.declared.step.AnyStep.{AnyStep}
+use Rattle.plans_rules.specs.declared.step.AnyStep.TheVariants.{Route, Fence, Switch, Take, Join, ZeroNumber, TakeNumber, PutNumber, Look, Post, Tell, WriteNotice, Free}
 use Rattle.plans_rules.specs.Setting.{Setting}
-use Rattle.plans_rules.specs.Machine.{Flight, Machine, stands_out, one_landed, Happening, happened, all_happened, steps_in}
+use Rattle.plans_rules.specs.Machine.{AnyFlight, AnyMachine, stands_out, one_landed, AnyHappening, happened, all_happened, steps_in}
 use Rattle.plans_rules.specs.Machine.By.{Written, InForce}
-use Rattle.plans_rules.specs.Machine.Happening.{Does, Stores, Sends, Lands, Refetches}
-use Rattle.plans_rules.specs.Safe.{CanHappen, IsStart, IsTold}
+use Rattle.plans_rules.specs.Machine.AnyHappening.{Does, Stores, Sends, Lands, Refetches}
+use Rattle.plans_rules.specs.Safe.{CanHappen, IsStartOfAny, IsTold}
 use Rattle.plans_rules.specs.Plans.{kvm_producers, kvm_leaves, put_numbers}
 use Rattle.plans_rules.specs.Rows.{to_memory, unset, heeded, all_moved, numbers_taken, looked_early, looked_first, posted_first, told_early, looked_last, written_late, written_last, told_shut, shut_again, shut_in_the_end, kvm_told_early}
 
-abbrev if_pending : Bank → Bool → Bool → Bool
+abbrev if_pending : WhichSet → Bool → Bool → Bool
 if_pending Pending a b = a
 if_pending Enabled a b = b
 
@@ -28,7 +28,7 @@ nine_or_one Threshold = 9
 nine_or_one Delivery = 1
 
 -- In the old place 3 is pending, 1 and 2 are enabled; in the new one is what `rest` says; threshold is 9 and delivery 1 in the old place, both are 7 in the hand; notices go to the host, or not.
-abbrev pub start : Bool → (Bank → ℕ → Bool) → Machine
+abbrev pub start : Bool → (WhichSet → ℕ → Bool) → AnyMachine
 start goes rest = record {
   old = λ s i. if_pending s (nat_eq i 3) (nat_eq i 1 || nat_eq i 2);
   new = rest;
@@ -47,59 +47,99 @@ start goes rest = record {
   told = false;
 }
 
-abbrev pub nothing : Bank → ℕ → Bool
+abbrev pub nothing : WhichSet → ℕ → Bool
 nothing s i = false
 
-pub starts : (d : Setting) (rest : Bank → ℕ → Bool) → (d.is_fresh ≡ true → (s : Bank) (i : ℕ) → rest s i ≡ false) → IsStart d (start d.notices_go rest)
-starts d rest fresh = record { written = λ p declared. refl; in_force = λ p declared. refl; flights = tt; due = λ s i. refl; hand = λ s i. refl; fresh = fresh; freed = refl; strayed = refl; noticed = λ e. e }
+pub starts : (d : Setting) (rest : WhichSet → ℕ → Bool) → (d.is_fresh ≡ true → (s : WhichSet) (i : ℕ) → rest s i ≡ false)
+    → IsStartOfAny d (start d.notices_go rest)
+starts d rest fresh = record {
+  written = λ p declared. refl;
+  in_force = λ p declared. refl;
+  flights = tt;
+  due = λ s i. refl;
+  hand = λ s i. refl;
+  fresh = fresh;
+  freed = refl;
+  strayed = refl;
+  noticed = λ e. e;
+}
 
 -- a run, all of whose happenings may happen, that leaves 1 untold
-untold_by : (d : Setting) (plan : List Step) (run : List Happening) → d.words ≡ 1 → steps_in run ≡ plan → AllByRecursion (CanHappen d) run
-    → stands_out d (all_happened d run (start d.notices_go nothing)).new (all_happened d run (start d.notices_go nothing)).new_number 1 ≡ true → (all_happened d run (start d.notices_go nothing)).told ≡ false → IsTold d plan → ⊥
+untold_by : (d : Setting) (plan : List AnyStep) (run : List AnyHappening) → d.words ≡ 1 → steps_in run ≡ plan → AllByRecursion (CanHappen d) run
+    → stands_out d (all_happened d run (start d.notices_go nothing)).new (all_happened d run (start d.notices_go nothing)).new_number 1 ≡ true
+    → (all_happened d run (start d.notices_go nothing)).told ≡ false → IsTold d plan → ⊥
 untold_by d plan run one steps can out untold told =
-    false≢true (sym untold ∙ told (start d.notices_go nothing) run (starts d nothing (λ e s i. refl)) (record { steps = steps; others = can }) 1 (subst (λ w. 1 / 64 < w) (sym one) (omega arith)) out)
+    false≢true (sym untold ∙ told (start d.notices_go nothing) run (starts d nothing (λ e s i. refl)) (record { steps = steps; others = can }) 1
+    (subst (λ w. 1 / 64 < w) (sym one) (omega arith)) out)
 
 pub looked_early_leaves_untold : IsTold (to_memory) looked_early → ⊥
-looked_early_leaves_untold = untold_by (to_memory) looked_early (Does (Route 0) ∷ Does (Fence 0) ∷ Stores 0 Written 1 ∷ Does (Take Pending 0) ∷ Does (Join Pending 0) ∷ Does (Look 0) ∷ Does (Take Enabled 0) ∷ Does (Join Enabled 0) ∷ Does Post ∷ []) refl refl (tt, (tt, (omega arith, (tt, (tt, (tt, (tt, (tt, (tt, tt))))))))) refl refl
+looked_early_leaves_untold = untold_by (to_memory) looked_early
+    (Does (Route 0) ∷ Does (Fence 0) ∷ Stores 0 Written 1 ∷ Does (Take Pending 0) ∷ Does (Join Pending 0) ∷ Does (Look 0) ∷ Does
+    (Take Enabled 0) ∷ Does (Join Enabled 0) ∷ Does Post ∷ []) refl refl (tt, (tt, (omega arith, (tt, (tt, (tt, (tt, (tt, (tt, tt))))))))) refl refl
 
 pub looked_first_leaves_untold : IsTold (to_memory) looked_first → ⊥
-looked_first_leaves_untold = untold_by (to_memory) looked_first (Stores 0 InForce 1 ∷ Does (Route 0) ∷ Does (Fence 0) ∷ Does (Take Enabled 0) ∷ Does (Join Enabled 0) ∷ Does (Look 0) ∷ Does (Take Pending 0) ∷ Does (Join Pending 0) ∷ Does Post ∷ []) refl refl (omega arith, (tt, (tt, (tt, (tt, (tt, (tt, (tt, (tt, tt))))))))) refl refl
+looked_first_leaves_untold = untold_by (to_memory) looked_first
+    (Stores 0 InForce 1 ∷ Does (Route 0) ∷ Does (Fence 0) ∷ Does (Take Enabled 0) ∷ Does (Join Enabled 0) ∷ Does (Look 0) ∷ Does
+    (Take Pending 0) ∷ Does (Join Pending 0) ∷ Does Post ∷ []) refl refl (omega arith, (tt, (tt, (tt, (tt, (tt, (tt, (tt, (tt, tt))))))))) refl refl
 
 pub posted_first_leaves_untold : IsTold (to_memory) posted_first → ⊥
-posted_first_leaves_untold = untold_by (to_memory) posted_first (Stores 0 InForce 1 ∷ Does (Route 0) ∷ Does (Fence 0) ∷ Does (Take Pending 0) ∷ Does (Join Pending 0) ∷ Does (Take Enabled 0) ∷ Does (Join Enabled 0) ∷ Does Post ∷ Does (Look 0) ∷ []) refl refl (omega arith, (tt, (tt, (tt, (tt, (tt, (tt, (tt, (tt, tt))))))))) refl refl
+posted_first_leaves_untold = untold_by (to_memory) posted_first
+    (Stores 0 InForce 1 ∷ Does (Route 0) ∷ Does (Fence 0) ∷ Does (Take Pending 0) ∷ Does (Join Pending 0) ∷ Does (Take Enabled 0) ∷ Does
+    (Join Enabled 0) ∷ Does Post ∷ Does (Look 0) ∷ []) refl refl (omega arith, (tt, (tt, (tt, (tt, (tt, (tt, (tt, (tt, tt))))))))) refl refl
 
 pub told_early_leaves_untold : IsTold (to_memory) told_early → ⊥
-told_early_leaves_untold = untold_by (to_memory) told_early (Stores 0 InForce 1 ∷ Does (Route 0) ∷ Does (Fence 0) ∷ Does (Take Pending 0) ∷ Does (Join Pending 0) ∷ Does Tell ∷ Does (Take Enabled 0) ∷ Does (Join Enabled 0) ∷ []) refl refl (omega arith, (tt, (tt, (tt, (tt, (tt, (tt, (tt, tt)))))))) refl refl
+told_early_leaves_untold = untold_by (to_memory) told_early
+    (Stores 0 InForce 1 ∷ Does (Route 0) ∷ Does (Fence 0) ∷ Does (Take Pending 0) ∷ Does (Join Pending 0) ∷ Does Tell ∷ Does
+    (Take Enabled 0) ∷ Does (Join Enabled 0) ∷ []) refl refl (omega arith, (tt, (tt, (tt, (tt, (tt, (tt, (tt, tt)))))))) refl refl
 
 pub untold_leaves_untold : IsTold (to_memory) all_moved → ⊥
-untold_leaves_untold = untold_by (to_memory) all_moved (Stores 0 InForce 1 ∷ Does (Route 0) ∷ Does (Fence 0) ∷ Does (Take Pending 0) ∷ Does (Join Pending 0) ∷ Does (Take Enabled 0) ∷ Does (Join Enabled 0) ∷ []) refl refl (omega arith, (tt, (tt, (tt, (tt, (tt, (tt, tt))))))) refl refl
+untold_leaves_untold = untold_by (to_memory) all_moved
+    (Stores 0 InForce 1 ∷ Does (Route 0) ∷ Does (Fence 0) ∷ Does (Take Pending 0) ∷ Does (Join Pending 0) ∷ Does (Take Enabled 0) ∷ Does
+    (Join Enabled 0) ∷ []) refl refl (omega arith, (tt, (tt, (tt, (tt, (tt, (tt, tt))))))) refl refl
 
 pub looked_last_leaves_untold : IsTold unset looked_last → ⊥
-looked_last_leaves_untold = untold_by unset looked_last (Does (Route 0) ∷ Does (Fence 0) ∷ Does (Take Pending 0) ∷ Does (Join Pending 0) ∷ Does (Take Enabled 0) ∷ Does (Join Enabled 0) ∷ Does (Look 0) ∷ Stores 0 InForce 1 ∷ Does Post ∷ []) refl refl (tt, (tt, (tt, (tt, (tt, (tt, (tt, (omega arith, (tt, tt))))))))) refl refl
+looked_last_leaves_untold = untold_by unset looked_last
+    (Does (Route 0) ∷ Does (Fence 0) ∷ Does (Take Pending 0) ∷ Does (Join Pending 0) ∷ Does (Take Enabled 0) ∷ Does (Join Enabled 0) ∷ Does
+    (Look 0) ∷ Stores 0 InForce 1 ∷ Does Post ∷ []) refl refl (tt, (tt, (tt, (tt, (tt, (tt, (tt, (omega arith, (tt, tt))))))))) refl refl
 
 pub written_late_leaves_untold : IsTold unset written_late → ⊥
-written_late_leaves_untold = untold_by unset written_late (Does (Route 0) ∷ Does (Fence 0) ∷ Does (Take Pending 0) ∷ Does (Join Pending 0) ∷ Does (Take Enabled 0) ∷ Does (Join Enabled 0) ∷ Does (Look 0) ∷ Stores 0 InForce 1 ∷ Does WriteNotice ∷ Does Post ∷ []) refl refl (tt, (tt, (tt, (tt, (tt, (tt, (tt, (omega arith, (tt, (tt, tt)))))))))) refl refl
+written_late_leaves_untold = untold_by unset written_late
+    (Does (Route 0) ∷ Does (Fence 0) ∷ Does (Take Pending 0) ∷ Does (Join Pending 0) ∷ Does (Take Enabled 0) ∷ Does (Join Enabled 0) ∷ Does
+    (Look 0) ∷ Stores 0 InForce 1 ∷ Does WriteNotice ∷ Does Post ∷ []) refl refl
+    (tt, (tt, (tt, (tt, (tt, (tt, (tt, (omega arith, (tt, (tt, tt)))))))))) refl refl
 
 pub written_last_leaves_untold : IsTold unset written_last → ⊥
-written_last_leaves_untold = untold_by unset written_last (Does (Route 0) ∷ Does (Fence 0) ∷ Does (Take Pending 0) ∷ Does (Join Pending 0) ∷ Does (Take Enabled 0) ∷ Does (Join Enabled 0) ∷ Does Tell ∷ Stores 0 InForce 1 ∷ Does WriteNotice ∷ []) refl refl (tt, (tt, (tt, (tt, (tt, (tt, (tt, (omega arith, (tt, tt))))))))) refl refl
+written_last_leaves_untold = untold_by unset written_last
+    (Does (Route 0) ∷ Does (Fence 0) ∷ Does (Take Pending 0) ∷ Does (Join Pending 0) ∷ Does (Take Enabled 0) ∷ Does (Join Enabled 0) ∷ Does
+    Tell ∷ Stores 0 InForce 1 ∷ Does WriteNotice ∷ []) refl refl (tt, (tt, (tt, (tt, (tt, (tt, (tt, (omega arith, (tt, tt))))))))) refl refl
 
 pub shut_again_leaves_untold : IsTold (heeded InNew) shut_again → ⊥
-shut_again_leaves_untold = untold_by (heeded InNew) shut_again (Does (Route 0) ∷ Does (Fence 0) ∷ Does (Take Pending 0) ∷ Does (Join Pending 0) ∷ Does (Take Enabled 0) ∷ Does (Join Enabled 0) ∷ Does (TakeNumber Threshold) ∷ Does (TakeNumber Delivery) ∷ Does (PutNumber Threshold) ∷ Does (PutNumber Delivery) ∷ Does Tell ∷ Does (ZeroNumber New Delivery) ∷ Stores 0 InForce 1 ∷ Does (PutNumber Delivery) ∷ []) refl refl (tt, (tt, (tt, (tt, (tt, (tt, (tt, (tt, (tt, (tt, (tt, (tt, (omega arith, (tt, tt)))))))))))))) refl refl
+shut_again_leaves_untold = untold_by (heeded InNew) shut_again
+    (Does (Route 0) ∷ Does (Fence 0) ∷ Does (Take Pending 0) ∷ Does (Join Pending 0) ∷ Does (Take Enabled 0) ∷ Does (Join Enabled 0) ∷ Does
+    (TakeNumber Threshold) ∷ Does (TakeNumber Delivery) ∷ Does (PutNumber Threshold) ∷ Does (PutNumber Delivery) ∷ Does Tell ∷ Does
+    (ZeroNumber New Delivery) ∷ Stores 0 InForce 1 ∷ Does (PutNumber Delivery) ∷ []) refl refl
+    (tt, (tt, (tt, (tt, (tt, (tt, (tt, (tt, (tt, (tt, (tt, (tt, (omega arith, (tt, tt)))))))))))))) refl refl
 
 pub told_shut_leaves_untold : IsTold (heeded InNew) told_shut → ⊥
-told_shut_leaves_untold = untold_by (heeded InNew) told_shut (Stores 0 InForce 1 ∷ Does (Route 0) ∷ Does (Fence 0) ∷ Does (Take Pending 0) ∷ Does (Join Pending 0) ∷ Does (Take Enabled 0) ∷ Does (Join Enabled 0) ∷ Does (TakeNumber Threshold) ∷ Does (TakeNumber Delivery) ∷ Does (PutNumber Threshold) ∷ Does Tell ∷ Does (PutNumber Delivery) ∷ []) refl refl (omega arith, (tt, (tt, (tt, (tt, (tt, (tt, (tt, (tt, (tt, (tt, (tt, tt)))))))))))) refl refl
+told_shut_leaves_untold = untold_by (heeded InNew) told_shut
+    (Stores 0 InForce 1 ∷ Does (Route 0) ∷ Does (Fence 0) ∷ Does (Take Pending 0) ∷ Does (Join Pending 0) ∷ Does (Take Enabled 0) ∷ Does
+    (Join Enabled 0) ∷ Does (TakeNumber Threshold) ∷ Does (TakeNumber Delivery) ∷ Does (PutNumber Threshold) ∷ Does Tell ∷ Does
+    (PutNumber Delivery) ∷ []) refl refl (omega arith, (tt, (tt, (tt, (tt, (tt, (tt, (tt, (tt, (tt, (tt, (tt, tt)))))))))))) refl refl
 
 pub kvm_told_early_leaves_untold : IsTold (kvm_leaves kvm_producers 1) kvm_told_early → ⊥
-kvm_told_early_leaves_untold = untold_by (kvm_leaves kvm_producers 1) kvm_told_early (Does (Switch 0) ∷ Does (Route 1) ∷ Does (Fence 1) ∷ Stores 1 InForce 1 ∷ Does (TakeNumber Delivery) ∷ Does (TakeNumber Threshold) ∷ Does (Take Pending 0) ∷ Does (Take Enabled 0) ∷ Does (PutNumber Delivery) ∷ Does (PutNumber Threshold) ∷ Does (Join Pending 0) ∷ Does Tell ∷ Does (Join Enabled 0) ∷ Does Free ∷ []) refl refl
+kvm_told_early_leaves_untold = untold_by (kvm_leaves kvm_producers 1) kvm_told_early
+    (Does (Switch 0) ∷ Does (Route 1) ∷ Does (Fence 1) ∷ Stores 1 InForce 1 ∷ Does (TakeNumber Delivery) ∷ Does (TakeNumber Threshold) ∷ Does
+    (Take Pending 0) ∷ Does (Take Enabled 0) ∷ Does (PutNumber Delivery) ∷ Does (PutNumber Threshold) ∷ Does (Join Pending 0) ∷ Does Tell ∷ Does
+    (Join Enabled 0) ∷ Does Free ∷ []) refl refl
     (tt, (tt, (tt, (omega arith, (tt, (tt, (tt, (tt, (tt, (tt, (tt, (tt, (tt, (tt, tt)))))))))))))) refl refl
 
 -- ---- delivery is zeroed last
 
-one_keeps : (d : Setting) (f : Option Flight) (z : Machine) → (one_landed d f z).new_number ≡ z.new_number
+one_keeps : (d : Setting) (f : Option AnyFlight) (z : AnyMachine) → (one_landed d f z).new_number ≡ z.new_number
 one_keeps d None z = refl
 one_keeps d (Some f) z = refl
 
-no_steps_keep : (d : Setting) (run : List Happening) (z : Machine) → steps_in run ≡ [] → (all_happened d run z).new_number ≡ z.new_number
+no_steps_keep : (d : Setting) (run : List AnyHappening) (z : AnyMachine) → steps_in run ≡ [] → (all_happened d run z).new_number ≡ z.new_number
 no_steps_keep d [] z e = refl
 no_steps_keep d (Does x ∷ later) z e = absurd (cc)
 no_steps_keep d (Stores p by x ∷ later) z e = no_steps_keep d later _ e
@@ -113,16 +153,18 @@ heads x y xs ys e = cc
 tails : {X : Type 0} (x y : X) (xs ys : List X) → x ∷ xs ≡ y ∷ ys → xs ≡ ys
 tails x y xs ys e = cc
 
-abbrev zeroes : List Step
+abbrev zeroes : List AnyStep
 zeroes = ZeroNumber New Delivery ∷ []
 
-does_last : (d : Setting) (x : Step) (later : List Happening) (z : Machine) → x ≡ ZeroNumber New Delivery → steps_in later ≡ [] → (all_happened d later (happened d (Does x) z)).new_number Delivery ≡ 0
+does_last : (d : Setting) (x : AnyStep) (later : List AnyHappening) (z : AnyMachine) → x ≡ ZeroNumber New Delivery → steps_in later ≡ []
+    → (all_happened d later (happened d (Does x) z)).new_number Delivery ≡ 0
 does_last d x later z e none = no_steps_at ∙ ap (λ y. (happened d (Does y) z).new_number Delivery) e
   where
     no_steps_at : (all_happened d later (happened d (Does x) z)).new_number Delivery ≡ (happened d (Does x) z).new_number Delivery
     no_steps_at = ap (λ (numbers : Number → ℕ). numbers Delivery) (no_steps_keep d later _ none)
 
-zeroed_last : (d : Setting) (xs : List Step) (run : List Happening) (z : Machine) → steps_in run ≡ xs ++ zeroes → (all_happened d run z).new_number Delivery ≡ 0
+zeroed_last : (d : Setting) (xs : List AnyStep) (run : List AnyHappening) (z : AnyMachine) → steps_in run ≡ xs ++ zeroes
+    → (all_happened d run z).new_number Delivery ≡ 0
 zeroed_last d [] [] z e = absurd (cc)
 zeroed_last d (y ∷ ys) [] z e = absurd (cc)
 zeroed_last d [] (Does x ∷ later) z e = does_last d x later z (heads _ _ _ _ e) (tails _ _ _ _ e)

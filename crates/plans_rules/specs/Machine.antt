@@ -1,28 +1,28 @@
 -- The machine on which a plan is tried: an old place and a new one, a hand between them, the routes
 -- of the producers, and all that these may do before, between and after the steps. Profile.
 use Rattle.std.specs.Prelude.{ℕ, zero, suc, ◌*◌, ◌+◌, ◌/◌, Bool, true, false, not, ◌&&◌, ◌||◌, nat_eq, nat_lt, if◌then◌else◌, List, [], ◌∷◌, Option, Some, None, slice_get}
-use Rattle.plans_rules.specs.declared.step.Place.{Place}
-use Rattle.plans_rules.specs.declared.step.Place.TheVariants.{Old, New}
-use Rattle.plans_rules.specs.declared.step.Bank.{Bank}
-use Rattle.plans_rules.specs.declared.step.Bank.TheVariants.{Pending, Enabled}
+use Rattle.plans_rules.specs.declared.step.AnyPlace.{AnyPlace}
+use Rattle.plans_rules.specs.declared.step.AnyPlace.TheVariants.{Old, New}
+use Rattle.plans_rules.specs.declared.step.WhichSet.{WhichSet}
+use Rattle.plans_rules.specs.declared.step.WhichSet.TheVariants.{Pending, Enabled}
 use Rattle.plans_rules.specs.declared.step.Number.{Number}
 use Rattle.plans_rules.specs.declared.step.Number.TheVariants.{Threshold, Delivery}
-use Rattle.plans_rules.specs.declared.step.Step.{Step}
-use Rattle.plans_rules.specs.declared.step.Step.TheVariants.{Route, Fence, Switch, Zero, Take, Join, Put, ZeroNumber, TakeNumber, PutNumber, Look, Post, Tell, WriteNotice, Free}
+use Rattle.plans_rules.specs.declared.step.AnyStep.{AnyStep}
+use Rattle.plans_rules.specs.declared.step.AnyStep.TheVariants.{Route, Fence, Switch, Zero, Take, Join, Put, ZeroNumber, TakeNumber, PutNumber, Look, Post, Tell, WriteNotice, Free}
 use Rattle.plans_rules.specs.Setting.{Setting, is_old, is_pending, same_number, names, any_below}
 
 -- For each set the identities that stand in it.
 abbrev pub Sets : Type 0
-Sets = Bank → ℕ → Bool
+Sets = WhichSet → ℕ → Bool
 
 -- A store in flight: whose it is, the place where it will land, and what it asks for.
-pub record Flight : Type 0 where
+pub record AnyFlight : Type 0 where
   pub producer : ℕ
-  pub place : Place
+  pub place : AnyPlace
   pub identity : ℕ
 
 -- All that a plan and the producers change.
-pub record Machine : Type 0 where
+pub record AnyMachine : Type 0 where
   pub old : Sets
   pub new : Sets
   -- what was taken and is not yet in the new place: any number of words
@@ -33,9 +33,9 @@ pub record Machine : Type 0 where
   pub new_number : Number → ℕ
   pub hand_number : Number → ℕ
   -- where each producer's route leads as it is written, and as it is in force
-  pub written : ℕ → Place
-  pub in_force : ℕ → Place
-  pub flights : List Flight
+  pub written : ℕ → AnyPlace
+  pub in_force : ℕ → AnyPlace
+  pub flights : List AnyFlight
   -- whether the old place was given back, and whether anything reached it after that
   pub freed : Bool
   pub strayed : Bool
@@ -76,7 +76,7 @@ with_one here x sets t i = ((is_pending t && nat_eq x i) && here) || sets t i
 
 -- What a store for an identity makes of the machine as it lands: in the new place it tells the
 -- host, if notices go there and the identity is enabled in that place and let through.
-abbrev pub landed : Setting → Place → ℕ → Machine → Machine
+abbrev pub landed : Setting → AnyPlace → ℕ → AnyMachine → AnyMachine
 landed d place x z = record z {
   old = with_one (is_old place) x z.old;
   new = with_one (not (is_old place)) x z.new;
@@ -87,21 +87,21 @@ landed d place x z = record z {
 }
 
 -- The same of a store that was in flight.
-abbrev pub flight_landed : Setting → Flight → Machine → Machine
+abbrev pub flight_landed : Setting → AnyFlight → AnyMachine → AnyMachine
 flight_landed d f z = landed d f.place f.identity z
 
 -- Stores that were in flight land, the first of a list first.
-abbrev pub all_landed : Setting → List Flight → Machine → Machine
+abbrev pub all_landed : Setting → List AnyFlight → AnyMachine → AnyMachine
 all_landed d [] z = z
 all_landed d (f ∷ later) z = all_landed d later (flight_landed d f z)
 
 -- The flights of a producer, and those of the others.
-abbrev pub flights_of : ℕ → List Flight → List Flight
+abbrev pub flights_of : ℕ → List AnyFlight → List AnyFlight
 flights_of p [] = []
 flights_of p (f ∷ later) =
     if nat_eq p f.producer then f ∷ flights_of p later else flights_of p later
 
-abbrev pub flights_beside : ℕ → List Flight → List Flight
+abbrev pub flights_beside : ℕ → List AnyFlight → List AnyFlight
 flights_beside p [] = []
 flights_beside p (f ∷ later) =
     if nat_eq p f.producer then flights_beside p later else f ∷ flights_beside p later
@@ -109,11 +109,11 @@ flights_beside p (f ∷ later) =
 -- ---- a step
 
 -- Sets without a word of one of them.
-abbrev pub without : Bank → ℕ → Sets → Sets
+abbrev pub without : WhichSet → ℕ → Sets → Sets
 without s w sets t i = not (names s w t (i / 64)) && sets t i
 
 -- That word of one of them alone.
-abbrev pub only : Bank → ℕ → Sets → Sets
+abbrev pub only : WhichSet → ℕ → Sets → Sets
 only s w sets t i = names s w t (i / 64) && sets t i
 
 -- Sets that are joined.
@@ -121,7 +121,7 @@ abbrev pub both : Sets → Sets → Sets
 both a b t i = a t i || b t i
 
 -- The routes, with that of a producer to a place.
-abbrev pub led_to : ℕ → Place → (ℕ → Place) → ℕ → Place
+abbrev pub led_to : ℕ → AnyPlace → (ℕ → AnyPlace) → ℕ → AnyPlace
 led_to p place routes q = if nat_eq p q then place else routes q
 
 -- The numbers, with another value of one.
@@ -129,7 +129,7 @@ abbrev pub with_number : Number → ℕ → (Number → ℕ) → Number → ℕ
 with_number n value numbers m = if same_number n m then value else numbers m
 
 -- What a step makes of the machine.
-abbrev pub stepped : Setting → Step → Machine → Machine
+abbrev pub stepped : Setting → AnyStep → AnyMachine → AnyMachine
 stepped d (Route p) z = record z { written = led_to p New z.written }
 stepped d (Fence p) z = record (all_landed d (flights_of p z.flights) z) {
   flights = flights_beside p z.flights;
@@ -184,22 +184,22 @@ pub data By : Type 0 where
   InForce : By
 
 -- Where that route of a producer leads.
-abbrev pub route_of : By → ℕ → Machine → Place
+abbrev pub route_of : By → ℕ → AnyMachine → AnyPlace
 route_of Written p z = z.written p
 route_of InForce p z = z.in_force p
 
 -- A step of the plan, or what may come before it or behind it: a store that lands at once; one
 -- that is sent, and is in flight from then on; a landing of the k-th store in flight, counted from
 -- 0, the newest first; a route that comes in force as it is written, before its fence.
-pub data Happening : Type 0 where
-  Does : (step : Step) → Happening
-  Stores : (producer : ℕ) → (by : By) → (identity : ℕ) → Happening
-  Sends : (producer : ℕ) → (by : By) → (identity : ℕ) → Happening
-  Lands : (k : ℕ) → Happening
-  Refetches : (producer : ℕ) → Happening
+pub data AnyHappening : Type 0 where
+  Does : (step : AnyStep) → AnyHappening
+  Stores : (producer : ℕ) → (by : By) → (identity : ℕ) → AnyHappening
+  Sends : (producer : ℕ) → (by : By) → (identity : ℕ) → AnyHappening
+  Lands : (k : ℕ) → AnyHappening
+  Refetches : (producer : ℕ) → AnyHappening
 
 -- A store in flight, if there is such a one, lands.
-abbrev pub one_landed : Setting → Option Flight → Machine → Machine
+abbrev pub one_landed : Setting → Option AnyFlight → AnyMachine → AnyMachine
 one_landed d None z = z
 one_landed d (Some f) z = flight_landed d f z
 
@@ -210,7 +210,7 @@ all_but zero (x ∷ xs) = xs
 all_but (suc k) (x ∷ xs) = x ∷ all_but k xs
 
 -- What one of these makes of the machine.
-abbrev pub happened : Setting → Happening → Machine → Machine
+abbrev pub happened : Setting → AnyHappening → AnyMachine → AnyMachine
 happened d (Does step) z = stepped d step z
 happened d (Stores p by x) z = landed d (route_of by p z) x z
 happened d (Sends p by x) z = record z {
@@ -222,12 +222,12 @@ happened d (Lands k) z = record (one_landed d (slice_get z.flights k) z) {
 happened d (Refetches p) z = record z { in_force = led_to p (z.written p) z.in_force }
 
 -- What happens one after the other, the first of a list first.
-abbrev pub all_happened : Setting → List Happening → Machine → Machine
+abbrev pub all_happened : Setting → List AnyHappening → AnyMachine → AnyMachine
 all_happened d [] z = z
 all_happened d (x ∷ later) z = all_happened d later (happened d x z)
 
 -- The steps among what happens, in their order.
-abbrev pub steps_in : List Happening → List Step
+abbrev pub steps_in : List AnyHappening → List AnyStep
 steps_in [] = []
 steps_in (Does step ∷ later) = step ∷ steps_in later
 steps_in (x ∷ later) = steps_in later

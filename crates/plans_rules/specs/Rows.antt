@@ -1,15 +1,15 @@
 -- What the rules say of the plans of hypervisors, and of plans that break one rule. Profile.
 use Rattle.std.specs.Prelude.{◌≡◌, ℕ, true, false, Bool, List, [], ◌∷◌, ◌++◌}
-use Rattle.plans_rules.specs.declared.step.Place.TheVariants.{Old, New}
-use Rattle.plans_rules.specs.declared.step.Bank.TheVariants.{Pending, Enabled}
+use Rattle.plans_rules.specs.declared.step.AnyPlace.TheVariants.{Old, New}
+use Rattle.plans_rules.specs.declared.step.WhichSet.TheVariants.{Pending, Enabled}
 use Rattle.plans_rules.specs.declared.step.Number.TheVariants.{Threshold, Delivery}
-use Rattle.plans_rules.specs.declared.setting.Spot.{Spot}
-use Rattle.plans_rules.specs.declared.setting.Spot.TheVariants.{InOld, InNew}
-use Rattle.plans_rules.specs.declared.setting.Kind.TheVariants.{Routed}
+use Rattle.plans_rules.specs.declared.setting.NumberSpot.{NumberSpot}
+use Rattle.plans_rules.specs.declared.setting.NumberSpot.TheVariants.{InOld, InNew}
+use Rattle.plans_rules.specs.declared.setting.RouteKind.TheVariants.{Routed}
 use Rattle.plans_rules.specs.declared.rule.Rule.{Rule}
 use Rattle.plans_rules.specs.declared.rule.Rule.TheVariants.{Notice}
-use Rattle.plans_rules.specs.declared.step.Step.{Step}
-use Rattle.plans_rules.specs.declared.step.Step.TheVariants.{Route, Fence, Switch, Zero, Take, Join, Put, ZeroNumber, TakeNumber, PutNumber, Look, Post, Tell, WriteNotice, Free}
+use Rattle.plans_rules.specs.declared.step.AnyStep.{AnyStep}
+use Rattle.plans_rules.specs.declared.step.AnyStep.TheVariants.{Route, Fence, Switch, Zero, Take, Join, Put, ZeroNumber, TakeNumber, PutNumber, Look, Post, Tell, WriteNotice, Free}
 use Rattle.plans_rules.specs.Setting.{Setting}
 use Rattle.plans_rules.specs.Safe.{IsTold}
 use Rattle.plans_rules.specs.Rules.{accepts, broken}
@@ -22,18 +22,18 @@ abbrev pub widths : List ℕ
 widths = 1 ∷ 2 ∷ 4 ∷ 8 ∷ 16 ∷ 32 ∷ []
 
 -- A plan of each of these numbers of words is accepted.
-abbrev pub AreAccepted : List ℕ → (ℕ → Setting) → (ℕ → List Step) → Type 0
+abbrev pub AreAccepted : List ℕ → (ℕ → Setting) → (ℕ → List AnyStep) → Type 0
 AreAccepted [] settings plans = Unit {0}
 AreAccepted (words ∷ others) settings plans =
     (accepts (settings words) (plans words) ≡ true) × AreAccepted others settings plans
 
 -- Each of these plans breaks a rule, and no other one.
-abbrev pub BreakAlone : Rule → Setting → List (List Step) → Type 0
+abbrev pub BreakAlone : Rule → Setting → List (List AnyStep) → Type 0
 BreakAlone rule d [] = Unit {0}
 BreakAlone rule d (plan ∷ plans) = (broken d plan ≡ rule ∷ []) × BreakAlone rule d plans
 
 -- Each of these plans breaks the rule on notices alone, and leaves its host untold.
-abbrev pub LeaveUntold : Setting → List (List Step) → Type 0
+abbrev pub LeaveUntold : Setting → List (List AnyStep) → Type 0
 LeaveUntold d [] = Unit {0}
 LeaveUntold d (plan ∷ plans) =
     (broken d plan ≡ Notice ∷ []) × (¬ IsTold d plan) × LeaveUntold d plans
@@ -66,7 +66,7 @@ abbrev pub unset : Setting
 unset = record to_memory { notices_go = false }
 
 -- With numbers that move to memory, or into the hand, and are heeded there.
-abbrev pub heeded : Spot → Setting
+abbrev pub heeded : NumberSpot → Setting
 heeded number_to = record (plainly true) {
   in_memory = true;
   heeds = true;
@@ -78,29 +78,29 @@ abbrev pub without_words : Setting
 without_words = record (plainly true) { producers = Routed ∷ Routed ∷ []; words = 0 }
 
 -- The route is written and put in force.
-abbrev pub lead : List Step
+abbrev pub lead : List AnyStep
 lead = Route 0 ∷ Fence 0 ∷ []
 
 -- The pending word is taken and joined.
-abbrev pub pending_moved : List Step
+abbrev pub pending_moved : List AnyStep
 pending_moved = Take Pending 0 ∷ Join Pending 0 ∷ []
 
 -- The word of the enables is taken and joined.
-abbrev pub enables_moved : List Step
+abbrev pub enables_moved : List AnyStep
 enables_moved = Take Enabled 0 ∷ Join Enabled 0 ∷ []
 
 -- All that a plan has to do here, where numbers stay.
-abbrev pub all_moved : List Step
+abbrev pub all_moved : List AnyStep
 all_moved = lead ++ pending_moved ++ enables_moved
 
 -- Both numbers are taken.
-abbrev pub numbers_taken : List Step
+abbrev pub numbers_taken : List AnyStep
 numbers_taken = TakeNumber Threshold ∷ TakeNumber Delivery ∷ []
 
 -- ---- plans that break one rule
 
 -- Plans that break the rule on routes.
-abbrev pub break_routes : List (List Step)
+abbrev pub break_routes : List (List AnyStep)
 break_routes =
     -- the fence is left out
     (Route 0 ∷ pending_moved ++ enables_moved)
@@ -114,7 +114,7 @@ break_routes =
     ∷ (Switch 0 ∷ pending_moved ++ enables_moved) ∷ []
 
 -- Plans that break the rule on words.
-abbrev pub break_words : List (List Step)
+abbrev pub break_words : List (List AnyStep)
 break_words =
     -- the new word is zeroed after it was joined
     (all_moved ++ Zero New Enabled 0 ∷ [])
@@ -134,13 +134,13 @@ break_words =
     ∷ (lead ++ pending_moved) ∷ []
 
 -- A plan that breaks the rule on blank words.
-abbrev pub break_blank : List (List Step)
+abbrev pub break_blank : List (List AnyStep)
 break_blank =
     -- a word is joined to what was left over
     (Zero New Enabled 0 ∷ all_moved) ∷ []
 
 -- Plans that break the rule on numbers, with numbers that move.
-abbrev pub break_numbers : List (List Step)
+abbrev pub break_numbers : List (List AnyStep)
 break_numbers =
     -- a number is put before it is taken
     (all_moved ++ PutNumber Threshold ∷ numbers_taken ++ PutNumber Delivery ∷ [])
@@ -154,7 +154,7 @@ break_numbers =
     ∷ (all_moved ++ TakeNumber Delivery ∷ PutNumber Delivery ∷ []) ∷ []
 
 -- Plans that break the rule on freeing.
-abbrev pub break_freeing : List (List Step)
+abbrev pub break_freeing : List (List AnyStep)
 break_freeing =
     -- a word is taken from what was given back
     (lead ++ pending_moved ++ Free ∷ enables_moved)
@@ -162,7 +162,7 @@ break_freeing =
     ∷ (all_moved ++ Free ∷ Zero Old Pending 0 ∷ []) ∷ []
 
 -- Plans that break it with numbers that move.
-abbrev pub break_freeing_with_numbers : List (List Step)
+abbrev pub break_freeing_with_numbers : List (List AnyStep)
 break_freeing_with_numbers =
     -- a number is taken from it
     (all_moved ++ TakeNumber Threshold ∷ Free ∷ TakeNumber Delivery ∷ put_numbers)
@@ -170,50 +170,50 @@ break_freeing_with_numbers =
     ∷ (all_moved ++ numbers_taken ++ put_numbers ++ Free ∷ ZeroNumber Old Threshold ∷ []) ∷ []
 
 -- The old place is given back before a fence.
-abbrev pub freed_early : List Step
+abbrev pub freed_early : List AnyStep
 freed_early = Route 0 ∷ Fence 0 ∷ Route 1 ∷ Free ∷ Fence 1 ∷ []
 
 -- ---- plans that leave the host untold
 
 -- It looks before the enables are there.
-abbrev pub looked_early : List Step
+abbrev pub looked_early : List AnyStep
 looked_early = lead ++ pending_moved ++ Look 0 ∷ enables_moved ++ Post ∷ []
 
 -- It looks before the pending words are there.
-abbrev pub looked_first : List Step
+abbrev pub looked_first : List AnyStep
 looked_first = lead ++ enables_moved ++ Look 0 ∷ pending_moved ++ Post ∷ []
 
 -- It posts before it looks.
-abbrev pub posted_first : List Step
+abbrev pub posted_first : List AnyStep
 posted_first = all_moved ++ Post ∷ Look 0 ∷ []
 
 -- It tells before the enables are there.
-abbrev pub told_early : List Step
+abbrev pub told_early : List AnyStep
 told_early = lead ++ pending_moved ++ Tell ∷ enables_moved
 
 -- It tells before delivery is there, which the tell heeds.
-abbrev pub told_shut : List Step
+abbrev pub told_shut : List AnyStep
 told_shut =
     all_moved ++ numbers_taken ++ PutNumber Threshold ∷ Tell ∷ PutNumber Delivery ∷ []
 
 -- It looks at all once all is there, and posts.
-abbrev pub looked_last : List Step
+abbrev pub looked_last : List AnyStep
 looked_last = all_moved ++ Look 0 ∷ Post ∷ []
 
 -- It looks likewise, and writes then where notices go.
-abbrev pub written_late : List Step
+abbrev pub written_late : List AnyStep
 written_late = all_moved ++ Look 0 ∷ WriteNotice ∷ Post ∷ []
 
 -- It writes it once it has told.
-abbrev pub written_last : List Step
+abbrev pub written_last : List AnyStep
 written_last = all_moved ++ Tell ∷ WriteNotice ∷ []
 
 -- It writes it before it looks.
-abbrev pub written_first : List Step
+abbrev pub written_first : List AnyStep
 written_first = all_moved ++ WriteNotice ∷ Look 0 ∷ Post ∷ []
 
 -- It zeroes delivery after the tell, and puts it again.
-abbrev pub shut_again : List Step
+abbrev pub shut_again : List AnyStep
 shut_again =
     all_moved ++ numbers_taken ++ put_numbers
     ++ Tell ∷ ZeroNumber New Delivery ∷ PutNumber Delivery ∷ []
@@ -222,32 +222,32 @@ shut_again =
 
 -- Delivery is heeded, is put in the new place, and is zeroed there in the end: so nothing stands
 -- out, and nobody has to be told.
-abbrev pub shut_in_the_end : List Step
+abbrev pub shut_in_the_end : List AnyStep
 shut_in_the_end =
     all_moved ++ numbers_taken ++ put_numbers ++ Tell ∷ ZeroNumber New Delivery ∷ []
 
 -- ---- edits of KVM's plans, of one word
 
 -- The old file is read before the G stage is fenced.
-abbrev pub kvm_read_early : List Step
+abbrev pub kvm_read_early : List AnyStep
 kvm_read_early =
     zeroed 1 ++ Route 1 ∷ Take Pending 0 ∷ Fence 1 ∷ Switch 0
     ∷ TakeNumber Delivery ∷ TakeNumber Threshold ∷ Take Enabled 0 ∷ Free ∷ joined 1 ++ put_numbers
 
 -- The new file is zeroed once the G stage leads there.
-abbrev pub kvm_zeroed_late : List Step
+abbrev pub kvm_zeroed_late : List AnyStep
 kvm_zeroed_late =
     ZeroNumber New Delivery ∷ ZeroNumber New Threshold ∷ Route 1 ∷ Zero New Pending 0
     ∷ Zero New Enabled 0 ∷ Fence 1 ∷ Switch 0 ∷ swapped 1 ++ Free ∷ joined 1 ++ put_numbers
 
 -- A pending word is put, where it has to be joined.
-abbrev pub kvm_put_over : List Step
+abbrev pub kvm_put_over : List AnyStep
 kvm_put_over =
     Switch 0 ∷ Route 1 ∷ Fence 1 ∷ swapped 1 ++ PutNumber Delivery ∷ PutNumber Threshold
     ∷ Put Pending 0 ∷ Join Enabled 0 ∷ Tell ∷ Free ∷ []
 
 -- The host is told before the enables are there.
-abbrev pub kvm_told_early : List Step
+abbrev pub kvm_told_early : List AnyStep
 kvm_told_early =
     Switch 0 ∷ Route 1 ∷ Fence 1 ∷ swapped 1 ++ PutNumber Delivery ∷ PutNumber Threshold
     ∷ Join Pending 0 ∷ Tell ∷ Join Enabled 0 ∷ Free ∷ []

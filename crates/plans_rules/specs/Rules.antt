@@ -5,78 +5,78 @@
 -- there. Profile.
 use Rattle.std.specs.Prelude.{ℕ, length, Bool, true, false, not, ◌&&◌, ◌||◌, nat_eq, List, [], ◌∷◌, Option, Some, None, slice_get}
 use Rattle.std.specs.List.{list_any}
-use Rattle.plans_rules.specs.declared.step.Place.TheVariants.{Old, New}
-use Rattle.plans_rules.specs.declared.step.Bank.{Bank}
-use Rattle.plans_rules.specs.declared.step.Bank.TheVariants.{Pending, Enabled}
+use Rattle.plans_rules.specs.declared.step.AnyPlace.TheVariants.{Old, New}
+use Rattle.plans_rules.specs.declared.step.WhichSet.{WhichSet}
+use Rattle.plans_rules.specs.declared.step.WhichSet.TheVariants.{Pending, Enabled}
 use Rattle.plans_rules.specs.declared.step.Number.{Number}
 use Rattle.plans_rules.specs.declared.step.Number.TheVariants.{Threshold, Delivery}
-use Rattle.plans_rules.specs.declared.setting.Spot.{Spot}
-use Rattle.plans_rules.specs.declared.setting.Spot.TheVariants.{InOld, InHand, InNew}
-use Rattle.plans_rules.specs.declared.setting.Kind.{Kind}
-use Rattle.plans_rules.specs.declared.setting.Kind.TheVariants.{Routed, Switched}
+use Rattle.plans_rules.specs.declared.setting.NumberSpot.{NumberSpot}
+use Rattle.plans_rules.specs.declared.setting.NumberSpot.TheVariants.{InOld, InHand, InNew}
+use Rattle.plans_rules.specs.declared.setting.RouteKind.{RouteKind}
+use Rattle.plans_rules.specs.declared.setting.RouteKind.TheVariants.{Routed, Switched}
 use Rattle.plans_rules.specs.declared.rule.Rule.{Rule}
 use Rattle.plans_rules.specs.declared.rule.Rule.TheVariants.{Routes, Blank, Words, Numbers, Freeing, Notice}
-use Rattle.plans_rules.specs.declared.step.Step.{Step}
-use Rattle.plans_rules.specs.declared.step.Step.TheVariants.{Route, Fence, Switch, Zero, Take, Join, Put, ZeroNumber, TakeNumber, PutNumber, Look, Post, Tell, WriteNotice, Free}
+use Rattle.plans_rules.specs.declared.step.AnyStep.{AnyStep}
+use Rattle.plans_rules.specs.declared.step.AnyStep.TheVariants.{Route, Fence, Switch, Zero, Take, Join, Put, ZeroNumber, TakeNumber, PutNumber, Look, Post, Tell, WriteNotice, Free}
 use Rattle.plans_rules.specs.Setting.{Setting, same_number, same_spot, names, all_below, any_below}
 
 -- ---- what a step does
 
 -- Whether a step writes a producer's route.
-abbrev pub turns : ℕ → Step → Bool
+abbrev pub turns : ℕ → AnyStep → Bool
 turns p (Route q) = nat_eq q p
 turns p (Switch q) = nat_eq q p
 turns p x = false
 
 -- Whether it is the fence of the route.
-abbrev pub fences : ℕ → Step → Bool
+abbrev pub fences : ℕ → AnyStep → Bool
 fences p (Fence q) = nat_eq q p
 fences p x = false
 
 -- Whether it writes the route and puts it in force at once, with no fence.
-abbrev pub switches : ℕ → Step → Bool
+abbrev pub switches : ℕ → AnyStep → Bool
 switches p (Switch q) = nat_eq q p
 switches p x = false
 
 -- Whether a step takes a word.
-abbrev pub takes : Bank → ℕ → Step → Bool
+abbrev pub takes : WhichSet → ℕ → AnyStep → Bool
 takes t v (Take s w) = names s w t v
 takes t v x = false
 
 -- Whether it moves the word from the hand to the new place.
-abbrev pub fills : Bank → ℕ → Step → Bool
+abbrev pub fills : WhichSet → ℕ → AnyStep → Bool
 fills t v (Join s w) = names s w t v
 fills t v (Put s w) = names s w t v
 fills t v x = false
 
 -- Whether it leaves nothing in the new place of what stood there before.
-abbrev pub blanks : Bank → ℕ → Step → Bool
+abbrev pub blanks : WhichSet → ℕ → AnyStep → Bool
 blanks t v (Zero New s w) = names s w t v
 blanks t v (Put s w) = names s w t v
 blanks t v x = false
 
 -- Whether it gives the old place back.
-abbrev pub frees : Step → Bool
+abbrev pub frees : AnyStep → Bool
 frees Free = true
 frees x = false
 
 -- Whether it looks at a word.
-abbrev pub looks : ℕ → Step → Bool
+abbrev pub looks : ℕ → AnyStep → Bool
 looks v (Look w) = nat_eq w v
 looks v x = false
 
 -- Whether it posts what looks saw.
-abbrev pub posts : Step → Bool
+abbrev pub posts : AnyStep → Bool
 posts Post = true
 posts x = false
 
 -- Whether it tells the host what stands out.
-abbrev pub tells : Step → Bool
+abbrev pub tells : AnyStep → Bool
 tells Tell = true
 tells x = false
 
 -- Whether it writes where notices go.
-abbrev pub writes_notice : Step → Bool
+abbrev pub writes_notice : AnyStep → Bool
 writes_notice WriteNotice = true
 writes_notice x = false
 
@@ -84,7 +84,7 @@ writes_notice x = false
 
 -- The steps that are done, the newest first.
 abbrev pub Done : Type 0
-Done = List Step
+Done = List AnyStep
 
 -- A producer's route leads to the new place, as it is written.
 abbrev pub is_turned : ℕ → Done → Bool
@@ -100,7 +100,7 @@ is_fenced p (x ∷ done) = elim (fences p x) [
 ]
 
 -- All that a producer of a kind stores from now on goes to the new place.
-abbrev pub is_led_as : Option Kind → ℕ → Done → Bool
+abbrev pub is_led_as : Option RouteKind → ℕ → Done → Bool
 is_led_as kind p done = elim kind [
   | None ↦ false
   | Some Routed ↦ is_fenced p done
@@ -116,18 +116,18 @@ abbrev pub all_led : Setting → Done → Bool
 all_led d done = all_below (λ p. is_led d p done) (length d.producers)
 
 -- Somebody may store into a set of the new place. Nobody ever stores into the enables.
-abbrev pub is_reached : Setting → Bank → Done → Bool
+abbrev pub is_reached : Setting → WhichSet → Done → Bool
 is_reached d s done = elim s [
   | Pending ↦ any_below (λ p. is_turned p done) (length d.producers)
   | Enabled ↦ false
 ]
 
 -- Nobody stores into a set of the old place.
-abbrev pub is_still : Setting → Bank → Done → Bool
+abbrev pub is_still : Setting → WhichSet → Done → Bool
 is_still d s done = elim s [ Pending ↦ all_led d done | Enabled ↦ true ]
 
 -- A word may hold something in the old place.
-abbrev pub old_holds : Setting → Bank → ℕ → Done → Bool
+abbrev pub old_holds : Setting → WhichSet → ℕ → Done → Bool
 old_holds d s w [] = true
 old_holds d s w (x ∷ done) = elim (takes s w x) [
   | true ↦ old_holds d s w done && not (is_still d s done)
@@ -135,7 +135,7 @@ old_holds d s w (x ∷ done) = elim (takes s w x) [
 ]
 
 -- A word may hold something in the hand.
-abbrev pub hand_holds : Setting → Bank → ℕ → Done → Bool
+abbrev pub hand_holds : Setting → WhichSet → ℕ → Done → Bool
 hand_holds d s w [] = false
 hand_holds d s w (x ∷ done) = elim (takes s w x) [
   | true ↦ old_holds d s w done
@@ -143,7 +143,7 @@ hand_holds d s w (x ∷ done) = elim (takes s w x) [
 ]
 
 -- A word that might hold something was joined or put.
-abbrev pub is_filled : Setting → Bank → ℕ → Done → Bool
+abbrev pub is_filled : Setting → WhichSet → ℕ → Done → Bool
 is_filled d s w [] = false
 is_filled d s w (x ∷ done) = elim (fills s w x) [
   | true ↦ hand_holds d s w done || is_filled d s w done
@@ -151,16 +151,16 @@ is_filled d s w (x ∷ done) = elim (fills s w x) [
 ]
 
 -- A word may hold something in the new place that is due there.
-abbrev pub new_holds : Setting → Bank → ℕ → Done → Bool
+abbrev pub new_holds : Setting → WhichSet → ℕ → Done → Bool
 new_holds d s w done = is_reached d s done || is_filled d s w done
 
 -- Nothing of a word stands in the new place but what is due: it was fresh, zeroed or put over.
-abbrev pub is_blank : Setting → Bank → ℕ → Done → Bool
+abbrev pub is_blank : Setting → WhichSet → ℕ → Done → Bool
 is_blank d s w [] = d.is_fresh
 is_blank d s w (x ∷ done) = blanks s w x || is_blank d s w done
 
 -- A number stands in a spot as it was at the start.
-abbrev pub has_number : Setting → Number → Spot → Done → Bool
+abbrev pub has_number : Setting → Number → NumberSpot → Done → Bool
 has_number d n spot [] = same_spot d.number_from spot
 has_number d n spot (TakeNumber m ∷ done) = elim (same_number m n) [
   | true ↦ elim spot [
@@ -197,7 +197,7 @@ has_number d n spot (ZeroNumber New m ∷ done) = elim (same_number m n) [
 has_number d n spot (x ∷ done) = has_number d n spot done
 
 -- A word is moved for good: neither the old place nor the hand may hold anything of it.
-abbrev pub is_moved : Setting → Bank → ℕ → Done → Bool
+abbrev pub is_moved : Setting → WhichSet → ℕ → Done → Bool
 is_moved d s w done = not (old_holds d s w done) && not (hand_holds d s w done)
 
 -- Both numbers are in the new place, if they are heeded.
@@ -244,7 +244,7 @@ abbrev pub heeds_there : Setting → Bool
 heeds_there d = d.in_memory && d.heeds
 
 -- Whether a rule lets a step stand.
-abbrev pub lets : Rule → Setting → Step → Done → Bool
+abbrev pub lets : Rule → Setting → AnyStep → Done → Bool
 -- What may hold something is not overwritten: a word in the hand by a take, one of the new place by
 -- a put, one of either place by zeros.
 lets Words d (Take s w) done = not (hand_holds d s w done)
@@ -286,12 +286,12 @@ lets_end Notice d done = elim d.in_memory [
 lets_end rule d done = true
 
 -- Whether a rule lets the rest of a plan stand, and the plan end.
-abbrev pub lets_rest : Rule → Setting → Done → List Step → Bool
+abbrev pub lets_rest : Rule → Setting → Done → List AnyStep → Bool
 lets_rest rule d done [] = lets_end rule d done
 lets_rest rule d done (x ∷ rest) = lets rule d x done && lets_rest rule d (x ∷ done) rest
 
 -- Whether a plan keeps a rule.
-abbrev pub keeps : Rule → Setting → List Step → Bool
+abbrev pub keeps : Rule → Setting → List AnyStep → Bool
 keeps rule d plan = lets_rest rule d [] plan
 
 -- All rules, in their order.
@@ -299,7 +299,7 @@ abbrev pub rules : List Rule
 rules = Routes ∷ Words ∷ Blank ∷ Numbers ∷ Freeing ∷ Notice ∷ []
 
 -- Those of some rules that a plan breaks.
-abbrev pub broken_of : List Rule → Setting → List Step → List Rule
+abbrev pub broken_of : List Rule → Setting → List AnyStep → List Rule
 broken_of [] d plan = []
 broken_of (rule ∷ others) d plan = elim (keeps rule d plan) [
   | true ↦ broken_of others d plan
@@ -307,15 +307,15 @@ broken_of (rule ∷ others) d plan = elim (keeps rule d plan) [
 ]
 
 -- All rules that it breaks.
-abbrev pub broken : Setting → List Step → List Rule
+abbrev pub broken : Setting → List AnyStep → List Rule
 broken d plan = broken_of rules d plan
 
 -- Whether a plan keeps the five rules of safety.
-abbrev pub moves : Setting → List Step → Bool
+abbrev pub moves : Setting → List AnyStep → Bool
 moves d plan =
     keeps Routes d plan && (keeps Words d plan
     && (keeps Blank d plan && (keeps Numbers d plan && keeps Freeing d plan)))
 
 -- Whether it keeps all six.
-abbrev pub accepts : Setting → List Step → Bool
+abbrev pub accepts : Setting → List AnyStep → Bool
 accepts d plan = moves d plan && keeps Notice d plan

@@ -2,18 +2,18 @@
 -- the steps. Profile.
 use Rattle.std.specs.Prelude.{◌≡◌, ℕ, ◌/◌, ◌<◌, length, true, false, List, Some, slice_get}
 use Rattle.std.specs.List.{AllByRecursion}
-use Rattle.plans_rules.specs.declared.step.Place.TheVariants.{Old, New}
-use Rattle.plans_rules.specs.declared.step.Bank.{Bank}
-use Rattle.plans_rules.specs.declared.step.Bank.TheVariants.{Pending, Enabled}
+use Rattle.plans_rules.specs.declared.step.AnyPlace.TheVariants.{Old, New}
+use Rattle.plans_rules.specs.declared.step.WhichSet.{WhichSet}
+use Rattle.plans_rules.specs.declared.step.WhichSet.TheVariants.{Pending, Enabled}
 use Rattle.plans_rules.specs.declared.step.Number.{Number}
-use Rattle.plans_rules.specs.declared.setting.Spot.{Spot}
-use Rattle.plans_rules.specs.declared.setting.Spot.TheVariants.{InOld, InHand, InNew}
-use Rattle.plans_rules.specs.declared.setting.Kind.TheVariants.{Routed}
-use Rattle.plans_rules.specs.declared.step.Step.{Step}
-use Rattle.plans_rules.specs.declared.step.Step.TheVariants.{Zero, Take, Join, Put}
+use Rattle.plans_rules.specs.declared.setting.NumberSpot.{NumberSpot}
+use Rattle.plans_rules.specs.declared.setting.NumberSpot.TheVariants.{InOld, InHand, InNew}
+use Rattle.plans_rules.specs.declared.setting.RouteKind.TheVariants.{Routed}
+use Rattle.plans_rules.specs.declared.step.AnyStep.{AnyStep}
+use Rattle.plans_rules.specs.declared.step.AnyStep.TheVariants.{Zero, Take, Join, Put}
 use Rattle.plans_rules.specs.Setting.{Setting}
-use Rattle.plans_rules.specs.Machine.{Flight, Machine, stands_out, Happening, all_happened, steps_in}
-use Rattle.plans_rules.specs.Machine.Happening.{Stores, Sends, Refetches}
+use Rattle.plans_rules.specs.Machine.{AnyFlight, AnyMachine, stands_out, AnyHappening, all_happened, steps_in}
+use Rattle.plans_rules.specs.Machine.AnyHappening.{Stores, Sends, Refetches}
 
 -- A number is that of a producer; of one that is routed.
 abbrev pub IsProducer : Setting → ℕ → Type 0
@@ -24,14 +24,14 @@ IsRouted d p = (p < length d.producers) × (slice_get d.producers p ≡ Some Rou
 
 -- Only producers store. One that is switched has nothing in flight, and its route comes into
 -- force by a step alone.
-abbrev pub CanHappen : Setting → Happening → Type 0
+abbrev pub CanHappen : Setting → AnyHappening → Type 0
 CanHappen d (Stores p by x) = IsProducer d p
 CanHappen d (Sends p by x) = IsRouted d p
 CanHappen d (Refetches p) = IsRouted d p
 CanHappen d x = Unit {0}
 
 -- What happens in a run of a plan: its steps, in order, and what else can happen.
-pub record IsRun (d : Setting) (plan : List Step) (run : List Happening) : Type 0 where
+pub record IsRun (d : Setting) (plan : List AnyStep) (run : List AnyHappening) : Type 0 where
   pub steps : steps_in run ≡ plan
   pub others : AllByRecursion (CanHappen d) run
 
@@ -40,20 +40,20 @@ pub record IsRun (d : Setting) (plan : List Step) (run : List Happening) : Type 
 -- go to the host where that is declared. What stands in the old place, and in a new one that is not
 -- fresh, the numbers, what is in flight, what was seen or told before, and where notices go that
 -- were not declared to go, are free.
-pub record IsStart (d : Setting) (z : Machine) : Type 0 where
+pub record IsStartOfAny (d : Setting) (z : AnyMachine) : Type 0 where
   pub written : (p : ℕ) → IsProducer d p → z.written p ≡ Old
   pub in_force : (p : ℕ) → IsProducer d p → z.in_force p ≡ Old
   pub flights : AllByRecursion
-      (λ (f : Flight). IsRouted d f.producer × (f.place ≡ Old)) z.flights
-  pub due : (s : Bank) (i : ℕ) → z.due s i ≡ z.old s i
-  pub hand : (s : Bank) (i : ℕ) → z.hand s i ≡ false
-  pub fresh : d.is_fresh ≡ true → (s : Bank) (i : ℕ) → z.new s i ≡ false
+      (λ (f : AnyFlight). IsRouted d f.producer × (f.place ≡ Old)) z.flights
+  pub due : (s : WhichSet) (i : ℕ) → z.due s i ≡ z.old s i
+  pub hand : (s : WhichSet) (i : ℕ) → z.hand s i ≡ false
+  pub fresh : d.is_fresh ≡ true → (s : WhichSet) (i : ℕ) → z.new s i ≡ false
   pub freed : z.freed ≡ false
   pub strayed : z.strayed ≡ false
   pub noticed : d.notices_go ≡ true → z.noticed ≡ true
 
 -- What a number is in a spot.
-abbrev pub number_in : Spot → Number → Machine → ℕ
+abbrev pub number_in : NumberSpot → Number → AnyMachine → ℕ
 number_in spot n z = elim spot [
   | InOld ↦ z.old_number n
   | InHand ↦ z.hand_number n
@@ -64,37 +64,37 @@ number_in spot n z = elim spot [
 -- pending, and just what was enabled at the start is enabled; nothing is left in the sets of the
 -- old place; the numbers are where they have to be, as they were, whatever they are elsewhere; all
 -- leads to the new place; and nothing reached the old one after it was given back.
-pub record IsMoved (d : Setting) (start z : Machine) : Type 0 where
+pub record IsMovedByAny (d : Setting) (start z : AnyMachine) : Type 0 where
   pub pending : (i : ℕ) → i / 64 < d.words → z.new Pending i ≡ z.due Pending i
   pub enabled : (i : ℕ) → i / 64 < d.words → z.new Enabled i ≡ start.old Enabled i
-  pub none_left : (s : Bank) (i : ℕ) → i / 64 < d.words → z.old s i ≡ false
+  pub none_left : (s : WhichSet) (i : ℕ) → i / 64 < d.words → z.old s i ≡ false
   pub numbers : (n : Number) → number_in d.number_to n z ≡ number_in d.number_from n start
   pub written : (p : ℕ) → IsProducer d p → z.written p ≡ New
   pub in_force : (p : ℕ) → IsProducer d p → z.in_force p ≡ New
-  pub flights : AllByRecursion (λ (f : Flight). f.place ≡ New) z.flights
+  pub flights : AllByRecursion (λ (f : AnyFlight). f.place ≡ New) z.flights
   pub strayed : z.strayed ≡ false
 
 -- A plan is safe: from every start, each of its runs ends so.
-abbrev pub IsSafe : Setting → List Step → Type 0
+abbrev pub IsSafe : Setting → List AnyStep → Type 0
 IsSafe d plan =
-    (start : Machine) (run : List Happening) → IsStart d start → IsRun d plan run
-    → IsMoved d start (all_happened d run start)
+    (start : AnyMachine) (run : List AnyHappening) → IsStartOfAny d start → IsRun d plan run
+    → IsMovedByAny d start (all_happened d run start)
 
 -- Where an identity stands out in the new place, the host was told, now or earlier: it is told that
 -- something stands out, and not which identity.
-abbrev pub HostKnows : Setting → Machine → Type 0
+abbrev pub HostKnows : Setting → AnyMachine → Type 0
 HostKnows d z =
     (i : ℕ) → i / 64 < d.words → stands_out d z.new z.new_number i ≡ true → z.told ≡ true
 
 -- A plan tells its host: from every start, each of its runs ends so.
-abbrev pub IsTold : Setting → List Step → Type 0
+abbrev pub IsTold : Setting → List AnyStep → Type 0
 IsTold d plan =
-    (start : Machine) (run : List Happening) → IsStart d start → IsRun d plan run
+    (start : AnyMachine) (run : List AnyHappening) → IsStartOfAny d start → IsRun d plan run
     → HostKnows d (all_happened d run start)
 
 -- Where a step names a word of a set, it is one of so many. A look, which changes no set, may be at
 -- any word.
-abbrev pub IsInFile : ℕ → Step → Type 0
+abbrev pub IsInFile : ℕ → AnyStep → Type 0
 IsInFile words (Zero place s w) = w < words
 IsInFile words (Take s w) = w < words
 IsInFile words (Join s w) = w < words

@@ -9,5 +9,5 @@ mod setting;
 mod step;
 
 pub use rule::Rule;
-pub use setting::{Kind, Spot, Terms};
-pub use step::{Bank, Number, Place, Step};
+pub use setting::{NumberSpot, RouteKind, Terms};
+pub use step::{AnyPlace, AnyStep, Number, WhichSet};

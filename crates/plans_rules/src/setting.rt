@@ -1,6 +1,6 @@
 /// How the route of a producer, which stores into the file, is changed.
 #[derive(Clone, Copy, Debug, PartialEq, Eq)]
-pub enum Kind {
+pub enum RouteKind {
     /// It is written, and comes in force at its fence, or before; up to the fence stores may be in
     /// flight to the old place.
     Routed,
@@ -11,7 +11,7 @@ pub enum Kind {
 
 /// Where threshold and delivery are.
 #[derive(Clone, Copy, Debug, PartialEq, Eq)]
-pub enum Spot {
+pub enum NumberSpot {
     InOld,
     InHand,
     InNew,
@@ -36,8 +36,8 @@ pub struct Terms {
     pub notices_go: bool,
 
     /// Where the numbers are at the start.
-    pub number_from: Spot,
+    pub number_from: NumberSpot,
 
     /// Where they have to be at the end.
-    pub number_to: Spot,
+    pub number_to: NumberSpot,
 }

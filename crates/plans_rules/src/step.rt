@@ -1,6 +1,6 @@
 /// The two places of a move, each a guest interrupt file or memory.
 #[derive(Clone, Copy, Debug, PartialEq, Eq)]
-pub enum Place {
+pub enum AnyPlace {
     /// The one that the virtual hart leaves.
     Old,
 
@@ -10,7 +10,7 @@ pub enum Place {
 
 /// The two sets of an interrupt file, which `eip` and `eie` show in words of 64 identities.
 #[derive(Clone, Copy, Debug, PartialEq, Eq)]
-pub enum Bank {
+pub enum WhichSet {
     Pending,
     Enabled,
 }
@@ -28,7 +28,7 @@ pub enum Number {
 /// A step of a plan: one access of the hypervisor. Producers are counted from 0 in the order in
 /// which they are declared, and words of a set from 0.
 #[derive(Clone, Copy, Debug, PartialEq, Eq)]
-pub enum Step {
+pub enum AnyStep {
     /// Writes the route of a producer, to the new place: stores may go there from now on, and all
     /// do once it is in force.
     Route(u32),
@@ -42,20 +42,20 @@ pub enum Step {
     Switch(u32),
 
     /// Overwrites a word of a place with zeros.
-    Zero(Place, Bank, u32),
+    Zero(AnyPlace, WhichSet, u32),
 
     /// Takes a word of the old place into the hand, over what the hand has of that word; the old
     /// place keeps none of it.
-    Take(Bank, u32),
+    Take(WhichSet, u32),
 
     /// Adds what the hand has of a word to that word of the new place; the hand keeps none of it.
-    Join(Bank, u32),
+    Join(WhichSet, u32),
 
     /// Writes what the hand has of a word over that word of the new place; the hand keeps none.
-    Put(Bank, u32),
+    Put(WhichSet, u32),
 
     /// Overwrites a number of a place with 0.
-    ZeroNumber(Place, Number),
+    ZeroNumber(AnyPlace, Number),
 
     /// Takes a number of the old place into the hand; the old place keeps 0.
     TakeNumber(Number),

@@ -1,8 +1,8 @@
 //! What is answered of files of plans, by the rows that are laws too.
 
 use plans_counterexamples::{losing_run, untold_run};
-use plans_judge::{Kind, Rule, Spot, Step, Terms, Verdict, judge};
-use plans_text::{Line, Outcome, Reading, answers, parse_line};
+use plans_judge::{AnyStep, Judgement, NumberSpot, RouteKind, Rule, Terms, judge};
+use plans_text::{FileOutcome, PlanLine, Reading, answers, parse_line};
 use std::alloc::{AllocError, Global};
 use std::test::Fail;
 
@@ -179,14 +179,14 @@ fn bad_lines_are_named_by_their_numbers(rt: HostRuntime) -> Result<(), Fail> {
 
 #[test]
 fn lines_are_read(rt: HostRuntime) {
-    assert!(rt; parse_line(b"  words   32  # of 64") == Reading::Line(Line::Words(32)));
+    assert!(rt; parse_line(b"  words   32  # of 64") == Reading::Line(PlanLine::Words(32)));
     assert!(rt; parse_line(b"# nothing") == Reading::Skip);
     assert!(rt; parse_line(b"words 100") == Reading::Bad);
     assert!(rt; parse_line(b"join threshold") == Reading::Bad);
-    assert!(rt; parse_line(b"write notice") == Reading::Line(Line::Step(Step::WriteNotice)));
+    assert!(rt; parse_line(b"write notice") == Reading::Line(PlanLine::Step(AnyStep::WriteNotice)));
     assert!(rt; parse_line(b"write") == Reading::Bad);
     assert!(rt; parse_line(b"write notice 0") == Reading::Bad);
-    assert!(rt; parse_line(b"notices unset # yet") == Reading::Line(Line::NoticesUnset));
+    assert!(rt; parse_line(b"notices unset # yet") == Reading::Line(PlanLine::NoticesUnset));
     assert!(rt; parse_line(b"notices") == Reading::Bad);
     assert!(rt; parse_line(b"notices set") == Reading::Bad);
 }
@@ -199,23 +199,23 @@ fn a_plan_that_forgets_its_words_is_refused_in_the_end(rt: HostRuntime) -> Resul
         in_memory: false,
         heeds: false,
         notices_go: true,
-        number_from: Spot::InOld,
-        number_to: Spot::InOld,
+        number_from: NumberSpot::InOld,
+        number_to: NumberSpot::InOld,
     };
-    let plan = [Step::Route(0), Step::Fence(0)];
-    let verdict = judge(rt.alloc(), &[Kind::Routed], terms, &plan)?;
-    let refused = Verdict::Refused {
+    let plan = [AnyStep::Route(0), AnyStep::Fence(0)];
+    let verdict = judge(rt.alloc(), &[RouteKind::Routed], terms, &plan)?;
+    let refused = Judgement::Refused {
         rule: Rule::Routes,
         before: 2,
     };
     assert!(rt; verdict == refused);
-    assert!(rt; losing_run(&[Kind::Routed], terms, &plan).is_some());
-    assert!(rt; untold_run(&[Kind::Routed], terms, &plan).is_none());
+    assert!(rt; losing_run(&[RouteKind::Routed], terms, &plan).is_some());
+    assert!(rt; untold_run(&[RouteKind::Routed], terms, &plan).is_none());
     Ok(())
 }
 
 /// What comes of the plans of a file.
-fn outcome_of(alloc: Global, file: &[u8]) -> Result<Outcome, AllocError> {
+fn outcome_of(alloc: Global, file: &[u8]) -> Result<FileOutcome, AllocError> {
     let found = answers(alloc, file)?;
     Ok(found.outcome)
 }
@@ -223,15 +223,15 @@ fn outcome_of(alloc: Global, file: &[u8]) -> Result<Outcome, AllocError> {
 #[test]
 fn no_plan_and_a_plan_have_their_outcomes(rt: HostRuntime) -> Result<(), Fail> {
     let empty = outcome_of(rt.alloc(), b"")?;
-    assert!(rt; empty == Outcome::NoPlan);
+    assert!(rt; empty == FileOutcome::NoPlan);
     let comments = outcome_of(rt.alloc(), b"# nothing\n\n")?;
-    assert!(rt; comments == Outcome::NoPlan);
+    assert!(rt; comments == FileOutcome::NoPlan);
     let good = outcome_of(rt.alloc(), GOOD)?;
-    assert!(rt; good == Outcome::Accepted);
+    assert!(rt; good == FileOutcome::Accepted);
     let unfenced = outcome_of(rt.alloc(), UNFENCED)?;
-    assert!(rt; unfenced == Outcome::Refused);
+    assert!(rt; unfenced == FileOutcome::Refused);
     let nonsense = outcome_of(rt.alloc(), b"nonsense")?;
-    assert!(rt; nonsense == Outcome::BadLine);
+    assert!(rt; nonsense == FileOutcome::BadLine);
     Ok(())
 }
 
@@ -242,10 +242,10 @@ fn of_many_plans_the_worst_counts(rt: HostRuntime) -> Result<(), Fail> {
     file.extend_from_slice(b"plan\n")?;
     file.extend_from_slice(GOOD)?;
     let refused = outcome_of(rt.alloc(), &file)?;
-    assert!(rt; refused == Outcome::Refused);
+    assert!(rt; refused == FileOutcome::Refused);
     file.extend_from_slice(b"plan\nnonsense\nplan\n")?;
     file.extend_from_slice(GOOD)?;
     let bad = outcome_of(rt.alloc(), &file)?;
-    assert!(rt; bad == Outcome::BadLine);
+    assert!(rt; bad == FileOutcome::BadLine);
     Ok(())
 }

@@ -1,7 +1,7 @@
 //! Runs between ends that fail, or take little at a time.
 
 use aia_io::{MemSink, MemSource};
-use plans_text::{Outcome, Status, run};
+use plans_text::{FileOutcome, PlansStatus, run};
 use std::alloc::{AllocError, Global};
 use std::test::Fail;
 
@@ -21,7 +21,7 @@ struct Failing {
 /// How a run ended, and how much was written of the answers, which are written from their begin.
 #[derive(Clone, Copy)]
 struct Ended {
-    status: Status,
+    status: PlansStatus,
     written: usize,
     is_front: bool,
 }
@@ -56,7 +56,7 @@ fn judged(alloc: Global, words: &[&str], failing: Failing) -> Result<Ended, Allo
 #[test]
 fn a_file_is_answered_whole(rt: HostRuntime) -> Result<(), Fail> {
     let ended = judged(rt.alloc(), &["judge"], Failing { read: 0, write: 0 })?;
-    assert!(rt; ended.status == Status::Done(Outcome::BadLine));
+    assert!(rt; ended.status == PlansStatus::Done(FileOutcome::BadLine));
     assert!(rt; ended.is_front && ended.written == ANSWERS.len());
     Ok(())
 }
@@ -66,7 +66,7 @@ fn a_source_that_fails_before_a_plan_ends_leaves_nothing_written(
     rt: HostRuntime,
 ) -> Result<(), Fail> {
     let ended = judged(rt.alloc(), &["judge"], Failing { read: 3, write: 0 })?;
-    assert!(rt; ended.status == Status::ReadFault);
+    assert!(rt; ended.status == PlansStatus::ReadFault);
     assert!(rt; ended.written == 0);
     Ok(())
 }
@@ -74,7 +74,7 @@ fn a_source_that_fails_before_a_plan_ends_leaves_nothing_written(
 #[test]
 fn one_that_fails_after_that_leaves_its_answer(rt: HostRuntime) -> Result<(), Fail> {
     let ended = judged(rt.alloc(), &["judge"], Failing { read: 4, write: 0 })?;
-    assert!(rt; ended.status == Status::ReadFault);
+    assert!(rt; ended.status == PlansStatus::ReadFault);
     assert!(rt; ended.is_front && ended.written == FIRST.len());
     Ok(())
 }
@@ -83,14 +83,14 @@ fn one_that_fails_after_that_leaves_its_answer(rt: HostRuntime) -> Result<(), Fa
 #[test]
 fn a_plan_is_answered_before_the_next_read(rt: HostRuntime) -> Result<(), Fail> {
     let ended = judged(rt.alloc(), &["judge"], Failing { read: 4, write: 1 })?;
-    assert!(rt; ended.status == Status::WriteFault);
+    assert!(rt; ended.status == PlansStatus::WriteFault);
     Ok(())
 }
 
 #[test]
 fn a_sink_that_fails_is_told(rt: HostRuntime) -> Result<(), Fail> {
     let ended = judged(rt.alloc(), &["judge"], Failing { read: 0, write: 1 })?;
-    assert!(rt; ended.status == Status::WriteFault);
+    assert!(rt; ended.status == PlansStatus::WriteFault);
     assert!(rt; ended.is_front);
     Ok(())
 }
@@ -100,7 +100,7 @@ fn other_words_are_refused(rt: HostRuntime) -> Result<(), Fail> {
     let refused: [&[&str]; 4] = [&[], &["judge", "judge"], &["--help"], &["replay"]];
     for words in refused {
         let ended = judged(rt.alloc(), words, Failing { read: 1, write: 1 })?;
-        assert!(rt; ended.status == Status::Usage);
+        assert!(rt; ended.status == PlansStatus::Usage);
         assert!(rt; ended.written == 0);
     }
     Ok(())

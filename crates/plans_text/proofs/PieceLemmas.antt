@@ -6,28 +6,29 @@ use Rattle.std.proofs.KnownBytes.{Appends-nil, Appends-trans, Consumes-whole}
 use Rattle.aia_io.specs.Ends.{Supply, Gives, GivesNone, Rose, CutOff}
 use Rattle.aia_io.proofs.SupplyLemmas.{gives_nothing, gives_more, gives_no_more}
 use Rattle.aia_io.specs.declared.limits.TheConstants.{SOURCE_BYTES}
-use Rattle.plans_text.specs.declared.outcome.Outcome.{Outcome}
-use Rattle.plans_text.specs.PlanFile.{Read, answers, outcome}
+use Rattle.aia_io.specs.Written.{CutsAll}
+use Rattle.plans_text.specs.declared.outcome.FileOutcome.{FileOutcome}
+use Rattle.plans_text.specs.PlanFile.{FileRead, answers, outcome}
 use Rattle.plans_text.specs.declared.judging.Stop.{Stop}
 use Rattle.plans_text.specs.declared.judging.Stop.TheVariants.{Sink, Memory as LacksMemory}
-use Rattle.plans_text.specs.declared.program.Status.{Status}
-use Rattle.plans_text.specs.declared.program.Status.TheVariants.{Done, ReadFault, TooLong}
-use Rattle.plans_text.specs.declared.plan_reader.PlanReader.{PlanReader}
+use Rattle.plans_text.specs.declared.program.PlansStatus.{PlansStatus}
+use Rattle.plans_text.specs.declared.program.PlansStatus.TheVariants.{Done, ReadFault, TooLong}
+use Rattle.plans_text.specs.declared.plan_reader.PlanFileReader.{PlanFileReader}
 use Rattle.plans_text.specs.Streaming.{HasRead, NoneWaits, WhateverWasRead}
 use Rattle.plans_text.proofs.StreamLemmas.{answers_grow}
-use Rattle.plans_text.specs.Runs.{AnswersEnded, CutsAnswers, EndsJudge, IsFront, Judged, JudgesAll, WhateverWasJudged, WritesFront, stopped}
+use Rattle.plans_text.specs.Runs.{AnswersEnded, EndsJudge, IsFront, Judged, JudgesAll, WhateverWasJudged, WritesPlansFront, stopped}
 
 -- ---- what was written
 
 -- all that a reader gave, and what waits in it, is a front of what is answered of a longer file
-pub grown : (reader : PlanReader) (given bytes more : List ℕ) → HasRead reader given bytes → (lost : List ℕ) × (given ++ lost ≡ answers (bytes ++ more))
+pub grown : (reader : PlanFileReader) (given bytes more : List ℕ) → HasRead reader given bytes → (lost : List ℕ) × (given ++ lost ≡ answers (bytes ++ more))
 grown reader given bytes more h =
     let g = answers_grow h.whole (h.tail ++ more) h.lines in (
       reader.file.answers.items ++ g.0,
-      sym (append_assoc given reader.file.answers.items g.0) ∙ ap (λ (r : Read). r.answers ++ g.0) h.read ∙ g.1 ∙ ap answers (sym (append_assoc h.whole h.tail more) ∙ ap (λ xs. xs ++ more) (sym h.split)),
+      sym (append_assoc given reader.file.answers.items g.0) ∙ ap (λ (r : FileRead). r.answers ++ g.0) h.read ∙ g.1 ∙ ap answers (sym (append_assoc h.whole h.tail more) ∙ ap (λ xs. xs ++ more) (sym h.split)),
     )
 
-pub judged_front : (reader : PlanReader) (before now : Option (List ℕ)) (bytes more : List ℕ) → Judged reader before now bytes → CutOff before now (answers (bytes ++ more))
+pub judged_front : (reader : PlanFileReader) (before now : Option (List ℕ)) (bytes more : List ℕ) → Judged reader before now bytes → CutOff before now (answers (bytes ++ more))
 judged_front reader before now bytes more j =
     let g = grown reader j.given bytes more j.read in
     record { part = j.given; lost = g.0; appended = j.written; together = g.1 }
@@ -43,10 +44,10 @@ cut_more before mid now given text lost all a c e = record {
 
 -- ---- a piece
 
-pub piece_lacks : (reader : PlanReader) (now : Option (List ℕ)) (piece : List ℕ) → WhateverWasJudged reader now (λ before bytes. IsFront before now (bytes ++ piece))
+pub piece_lacks : (reader : PlanFileReader) (now : Option (List ℕ)) (piece : List ℕ) → WhateverWasJudged reader now (λ before bytes. IsFront before now (bytes ++ piece))
 piece_lacks reader now piece = λ before bytes j more. subst (λ xs. CutOff before now (answers xs)) (sym (append_assoc bytes piece more)) (judged_front reader before now bytes (piece ++ more) j)
 
-pub piece_written : (old fed new : PlanReader) (mid now : Option (List ℕ)) (piece text : List ℕ) → WhateverWasRead old (λ given bytes. HasRead fed given (bytes ++ piece)) → WhateverWasRead fed (λ given bytes. HasRead new (given ++ text) bytes) → NoneWaits new
+pub piece_written : (old fed new : PlanFileReader) (mid now : Option (List ℕ)) (piece text : List ℕ) → WhateverWasRead old (λ given bytes. HasRead fed given (bytes ++ piece)) → WhateverWasRead fed (λ given bytes. HasRead new (given ++ text) bytes) → NoneWaits new
     → Appends mid now text → WhateverWasJudged old mid (λ before bytes. Judged new before now (bytes ++ piece))
 piece_written old fed new mid now piece text feeds takes none wrote = λ before bytes j. record {
   given = j.given ++ text;
@@ -55,7 +56,7 @@ piece_written old fed new mid now piece text feeds takes none wrote = λ before 
   written = Appends-trans before mid now j.given text j.written wrote;
 }
 
-pub piece_cut : (old fed new : PlanReader) (mid now : Option (List ℕ)) (piece text : List ℕ) → WhateverWasRead old (λ given bytes. HasRead fed given (bytes ++ piece)) → WhateverWasRead fed (λ given bytes. HasRead new (given ++ text) bytes)
+pub piece_cut : (old fed new : PlanFileReader) (mid now : Option (List ℕ)) (piece text : List ℕ) → WhateverWasRead old (λ given bytes. HasRead fed given (bytes ++ piece)) → WhateverWasRead fed (λ given bytes. HasRead new (given ++ text) bytes)
     → CutOff mid now text → WhateverWasJudged old mid (λ before bytes. IsFront before now (bytes ++ piece))
 piece_cut old fed new mid now piece text feeds takes cut = λ before bytes j more.
     let g = grown new (j.given ++ text) (bytes ++ piece) more (takes j.given (bytes ++ piece) (feeds j.given bytes j.read)) in
@@ -63,25 +64,25 @@ piece_cut old fed new mid now piece text feeds takes cut = λ before bytes j mor
 
 -- ---- the end
 
-pub last_written : (reader : PlanReader) (mid now : Option (List ℕ)) (text : List ℕ) (came : Outcome) → WhateverWasRead reader (λ given bytes. given ++ text ≡ answers bytes) → WhateverWasRead reader (λ given bytes. came ≡ outcome bytes) → Appends mid now text
+pub last_written : (reader : PlanFileReader) (mid now : Option (List ℕ)) (text : List ℕ) (came : FileOutcome) → WhateverWasRead reader (λ given bytes. given ++ text ≡ answers bytes) → WhateverWasRead reader (λ given bytes. came ≡ outcome bytes) → Appends mid now text
     → WhateverWasJudged reader mid (λ before bytes. Appends before now (answers bytes) × (came ≡ outcome bytes))
 last_written reader mid now text came ends comes wrote = λ before bytes j. (subst (Appends before now) (ends j.given bytes j.read) (Appends-trans before mid now j.given text j.written wrote), comes j.given bytes j.read)
 
-pub last_given : (reader : PlanReader) (mid now : Option (List ℕ)) (text : List ℕ) (said : Outcome) (given : Result Outcome Stop) → WhateverWasRead reader (λ given bytes. given ++ text ≡ answers bytes) → WhateverWasRead reader (λ given bytes. said ≡ outcome bytes)
+pub last_given : (reader : PlanFileReader) (mid now : Option (List ℕ)) (text : List ℕ) (said : FileOutcome) (given : Result FileOutcome Stop) → WhateverWasRead reader (λ given bytes. given ++ text ≡ answers bytes) → WhateverWasRead reader (λ given bytes. said ≡ outcome bytes)
     → OnOk given (Appends mid now text) → IfOk given (λ came. came ≡ said) → IfOk given (λ came. WhateverWasJudged reader mid (λ before bytes. Appends before now (answers bytes) × (came ≡ outcome bytes)))
 last_given reader mid now text said (Ok came) ends comes wrote is = last_written reader mid now text came ends (λ given bytes h. is ∙ comes given bytes h) wrote
 last_given reader mid now text said (Err stop) ends comes wrote is = tt
 
-pub last_cut : (reader : PlanReader) (mid now : Option (List ℕ)) (text : List ℕ) → WhateverWasRead reader (λ given bytes. given ++ text ≡ answers bytes) → CutOff mid now text → WhateverWasJudged reader mid (λ before bytes. CutOff before now (answers bytes))
+pub last_cut : (reader : PlanFileReader) (mid now : Option (List ℕ)) (text : List ℕ) → WhateverWasRead reader (λ given bytes. given ++ text ≡ answers bytes) → CutOff mid now text → WhateverWasJudged reader mid (λ before bytes. CutOff before now (answers bytes))
 last_cut reader mid now text ends cut = λ before bytes j. cut_more before mid now j.given text [] _ j.written cut (append-nil (j.given ++ text) ∙ ends j.given bytes j.read)
 
-pub last_lacks : (reader : PlanReader) (now : Option (List ℕ)) → WhateverWasJudged reader now (λ before bytes. CutOff before now (answers bytes))
+pub last_lacks : (reader : PlanFileReader) (now : Option (List ℕ)) → WhateverWasJudged reader now (λ before bytes. CutOff before now (answers bytes))
 last_lacks reader now = λ before bytes j. subst (λ xs. CutOff before now (answers xs)) (append-nil bytes) (judged_front reader before now bytes [] j)
 
 -- ---- a whole run
 
 -- So much was taken and judged.
-pub record SoFar (reader : PlanReader) (left mid : Supply) (before now : Option (List ℕ)) (taken : ℕ) : Type 0 where
+pub record SoFar (reader : PlanFileReader) (left mid : Supply) (before now : Option (List ℕ)) (taken : ℕ) : Type 0 where
   pub bytes : List ℕ
   pub gave : Gives left mid bytes
   pub ends : mid.ends ≡ left.ends
@@ -89,7 +90,7 @@ pub record SoFar (reader : PlanReader) (left mid : Supply) (before now : Option 
   pub within : taken ≤ SOURCE_BYTES
   pub judged : Judged reader before now bytes
 
-pub nothing_yet : (reader : PlanReader) (left : Supply) (before : Option (List ℕ)) → HasRead reader [] [] → NoneWaits reader → SoFar reader left left before before 0
+pub nothing_yet : (reader : PlanFileReader) (left : Supply) (before : Option (List ℕ)) → HasRead reader [] [] → NoneWaits reader → SoFar reader left left before before 0
 nothing_yet reader left before h none = record {
   bytes = [];
   gave = gives_nothing left;
@@ -100,12 +101,12 @@ nothing_yet reader left before h none = record {
 }
 
 -- few lines were read
-pub few_lines : (reader : PlanReader) (left mid : Supply) (before now : Option (List ℕ)) (taken : ℕ) → SoFar reader left mid before now taken → reader.file.lines ≤ SOURCE_BYTES
+pub few_lines : (reader : PlanFileReader) (left mid : Supply) (before now : Option (List ℕ)) (taken : ℕ) → SoFar reader left mid before now taken → reader.file.lines ≤ SOURCE_BYTES
 few_lines reader left mid before now taken so =
     let h = so.judged.read in
     omega (arith, h.few, ap length h.split, length-append h.whole h.tail, so.size, so.within)
 
-pub so_far_more : (old new : PlanReader) (left mid rest : Supply) (before middle now : Option (List ℕ)) (taken n : ℕ) (piece : List ℕ) → SoFar old left mid before middle taken → Gives mid rest (take n piece) → rest.ends ≡ mid.ends → length (take n piece) ≡ n → taken + n ≤ SOURCE_BYTES
+pub so_far_more : (old new : PlanFileReader) (left mid rest : Supply) (before middle now : Option (List ℕ)) (taken n : ℕ) (piece : List ℕ) → SoFar old left mid before middle taken → Gives mid rest (take n piece) → rest.ends ≡ mid.ends → length (take n piece) ≡ n → taken + n ≤ SOURCE_BYTES
     → WhateverWasJudged old middle (λ before bytes. Judged new before now (bytes ++ take n piece)) → SoFar new left rest before now (taken + n)
 so_far_more old new left mid rest before middle now taken n piece so gave same size within judged = record {
   bytes = so.bytes ++ take n piece;
@@ -139,10 +140,10 @@ of_file P (Some file) bytes whole h = subst P (sym whole) h
 whole_front : (before now : Option (List ℕ)) (all : List ℕ) → Appends before now all → CutOff before now all
 whole_front before now all wrote = record { part = all; lost = []; appended = wrote; together = append-nil all }
 
-same_outcome : (one other : Outcome) → ◌≡◌ {A = Status} (Done one) (Done other) → one ≡ other
+same_outcome : (one other : FileOutcome) → ◌≡◌ {A = PlansStatus} (Done one) (Done other) → one ≡ other
 same_outcome one other e = cc
 
-pub ends_done : (reader : PlanReader) (left mid rest : Supply) (before middle now : Option (List ℕ)) (came : Outcome) (taken a b c d : ℕ) → SoFar reader left mid before middle taken → IsAtEnd mid.to_come → GivesNone mid rest → Rose mid.ends rest.ends
+pub ends_done : (reader : PlanFileReader) (left mid rest : Supply) (before middle now : Option (List ℕ)) (came : FileOutcome) (taken a b c d : ℕ) → SoFar reader left mid before middle taken → IsAtEnd mid.to_come → GivesNone mid rest → Rose mid.ends rest.ends
     → WhateverWasJudged reader middle (λ before bytes. Appends before now (answers bytes) × (came ≡ outcome bytes)) → EndsJudge (Done came) left rest before now a b c d
 ends_done reader left mid rest before middle now came taken a b c d so ended none rose last =
     let all = gives_no_more left mid rest so.bytes so.gave none in
@@ -154,7 +155,7 @@ ends_done reader left mid rest before middle now came taken a b c d so ended non
       came = of_file (λ file. came ≡ outcome file) left.to_come so.bytes file comes;
     } in
     record {
-      done = λ other e. subst (λ (o : Outcome). JudgesAll o left rest before now) (same_outcome came other e) judged;
+      done = λ other e. subst (λ (o : FileOutcome). JudgesAll o left rest before now) (same_outcome came other e) judged;
       write_fault = λ e. absurd (cc);
       memory = λ e. absurd (cc);
       read_fault = λ e. absurd (cc);
@@ -164,7 +165,7 @@ ends_done reader left mid rest before middle now came taken a b c d so ended non
       usage = λ e. absurd (cc);
     }
 
-stops : (stop : Stop) (left rest : Supply) (before now : Option (List ℕ)) (a b c d : ℕ) → WritesFront left rest before now → CutsAnswers left before now → (stop ≡ Sink → Rose c d) → EndsJudge (stopped stop) left rest before now a b c d
+stops : (stop : Stop) (left rest : Supply) (before now : Option (List ℕ)) (a b c d : ℕ) → WritesPlansFront left rest before now → CutsAll answers left before now → (stop ≡ Sink → Rose c d) → EndsJudge (stopped stop) left rest before now a b c d
 stops Sink left rest before now a b c d w front rose = record {
   done = λ other e. absurd (cc);
   write_fault = λ e. (w, rose refl);
@@ -186,7 +187,7 @@ stops LacksMemory left rest before now a b c d w front rose = record {
   usage = λ e. absurd (cc);
 }
 
-pub stops_last : (status : Status) (stop : Stop) (reader : PlanReader) (left mid rest : Supply) (before middle now : Option (List ℕ)) (taken a b c d : ℕ) → SoFar reader left mid before middle taken → IsAtEnd mid.to_come → GivesNone mid rest
+pub stops_last : (status : PlansStatus) (stop : Stop) (reader : PlanFileReader) (left mid rest : Supply) (before middle now : Option (List ℕ)) (taken a b c d : ℕ) → SoFar reader left mid before middle taken → IsAtEnd mid.to_come → GivesNone mid rest
     → WhateverWasJudged reader middle (λ before bytes. CutOff before now (answers bytes)) → (stop ≡ Sink → Rose c d) → status ≡ stopped stop → EndsJudge status left rest before now a b c d
 stops_last status stop reader left mid rest before middle now taken a b c d so ended none last rose is =
     let all = gives_no_more left mid rest so.bytes so.gave none in
@@ -195,7 +196,7 @@ stops_last status stop reader left mid rest before middle now taken a b c d so e
     subst (λ s. EndsJudge s left rest before now a b c d) (sym is) (stops stop left rest before now a b c d (record { bytes = so.bytes; taken = all; within = omega (arith, so.size, so.within); cut = cut })
     (of_file (λ file. CutOff before now (answers file)) left.to_come so.bytes file cut) rose)
 
-pub stops_piece : (status : Status) (stop : Stop) (reader : PlanReader) (left mid rest : Supply) (before middle now : Option (List ℕ)) (taken n a b c d : ℕ) (piece : List ℕ) → SoFar reader left mid before middle taken → Gives mid rest (take n piece) → length (take n piece) ≡ n → taken + n ≤ SOURCE_BYTES
+pub stops_piece : (status : PlansStatus) (stop : Stop) (reader : PlanFileReader) (left mid rest : Supply) (before middle now : Option (List ℕ)) (taken n a b c d : ℕ) (piece : List ℕ) → SoFar reader left mid before middle taken → Gives mid rest (take n piece) → length (take n piece) ≡ n → taken + n ≤ SOURCE_BYTES
     → WhateverWasJudged reader middle (λ before bytes. IsFront before now (bytes ++ take n piece)) → (stop ≡ Sink → Rose c d) → status ≡ stopped stop → EndsJudge status left rest before now a b c d
 stops_piece status stop reader left mid rest before middle now taken n a b c d piece so gave size within fronts rose is =
     let all = gives_more left mid rest so.bytes (take n piece) so.gave gave in
@@ -204,7 +205,7 @@ stops_piece status stop reader left mid rest before middle now taken n a b c d p
     (cuts_told left.to_come rest.to_come before now (so.bytes ++ take n piece) all.0 front) rose)
 
 -- no answer waits where reading ends early
-ended_so : (reader : PlanReader) (before now : Option (List ℕ)) (bytes : List ℕ) → Judged reader before now bytes → AnswersEnded before now bytes
+ended_so : (reader : PlanFileReader) (before now : Option (List ℕ)) (bytes : List ℕ) → Judged reader before now bytes → AnswersEnded before now bytes
 ended_so reader before now bytes j =
     let h = j.read in
     record {
@@ -213,10 +214,10 @@ ended_so reader before now bytes j =
       split = h.split;
       lines = h.lines;
       no_end = h.no_end;
-      written = subst (Appends before now) (sym (append-nil j.given) ∙ ap (λ xs. j.given ++ xs) (sym j.none) ∙ ap (λ (r : Read). r.answers) h.read) j.written;
+      written = subst (Appends before now) (sym (append-nil j.given) ∙ ap (λ xs. j.given ++ xs) (sym j.none) ∙ ap (λ (r : FileRead). r.answers) h.read) j.written;
     }
 
-pub ends_failed : (reader : PlanReader) (left mid rest : Supply) (before now : Option (List ℕ)) (taken a b c d : ℕ) → SoFar reader left mid before now taken → GivesNone mid rest → Rose a b → EndsJudge ReadFault left rest before now a b c d
+pub ends_failed : (reader : PlanFileReader) (left mid rest : Supply) (before now : Option (List ℕ)) (taken a b c d : ℕ) → SoFar reader left mid before now taken → GivesNone mid rest → Rose a b → EndsJudge ReadFault left rest before now a b c d
 ends_failed reader left mid rest before now taken a b c d so none rose =
     let all = gives_no_more left mid rest so.bytes so.gave none in
     record {
@@ -230,7 +231,7 @@ ends_failed reader left mid rest before now taken a b c d so none rose =
       usage = λ e. absurd (cc);
     }
 
-pub ends_past : (reader : PlanReader) (left mid rest : Supply) (before now : Option (List ℕ)) (n a b c d : ℕ) (piece : List ℕ) → SoFar reader left mid before now SOURCE_BYTES → Gives mid rest (take n piece) → length (take n piece) ≡ n → n ≡ 1 → EndsJudge TooLong left rest before now a b c d
+pub ends_past : (reader : PlanFileReader) (left mid rest : Supply) (before now : Option (List ℕ)) (n a b c d : ℕ) (piece : List ℕ) → SoFar reader left mid before now SOURCE_BYTES → Gives mid rest (take n piece) → length (take n piece) ≡ n → n ≡ 1 → EndsJudge TooLong left rest before now a b c d
 ends_past reader left mid rest before now n a b c d piece so gave size one =
     let all = gives_more left mid rest so.bytes (take n piece) so.gave gave in
     let long : length (so.bytes ++ take n piece) ≡ SOURCE_BYTES + 1 = omega (arith, length-append so.bytes (take n piece), so.size, size, one) in

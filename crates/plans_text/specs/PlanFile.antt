@@ -2,25 +2,25 @@
 -- of a refused one a line about a run. Profile.
 use Rattle.std.specs.Prelude.{ℕ, ◌+◌, ◌-◌, Bool, true, false, ◌&&◌, nat_eq, nat_lt, nat_le, if◌then◌else◌, List, [], ◌∷◌, ◌++◌, length, map, Option, Some, None, codes, decimal, slice_get}
 use Rattle.std.specs.List.{All, onto_first}
-use Rattle.plans_rules.specs.declared.setting.Kind.{Kind}
-use Rattle.plans_rules.specs.declared.setting.Spot.{Spot}
-use Rattle.plans_rules.specs.declared.setting.Spot.TheVariants.{InOld, InHand, InNew}
+use Rattle.plans_rules.specs.declared.setting.RouteKind.{RouteKind}
+use Rattle.plans_rules.specs.declared.setting.NumberSpot.{NumberSpot}
+use Rattle.plans_rules.specs.declared.setting.NumberSpot.TheVariants.{InOld, InHand, InNew}
 use Rattle.plans_rules.specs.declared.setting.Terms.{Terms}
 use Rattle.plans_rules.specs.declared.rule.Rule.{Rule}
 use Rattle.plans_rules.specs.declared.rule.Rule.TheVariants as rules
-use Rattle.plans_rules.specs.declared.step.Step.{Step}
-use Rattle.plans_rules.specs.declared.step.Step.TheVariants as steps
+use Rattle.plans_rules.specs.declared.step.AnyStep.{AnyStep}
+use Rattle.plans_rules.specs.declared.step.AnyStep.TheVariants as steps
 use Rattle.plans_rules.specs.Setting.{setting_of}
 use Rattle.plans_rules.specs.Safe.{IsInFile}
-use Rattle.plans_judge.specs.declared.verdict.Verdict.{Verdict}
-use Rattle.plans_judge.specs.declared.verdict.Verdict.TheVariants.{Accepted, Refused}
+use Rattle.plans_judge.specs.declared.verdict.Judgement.{Judgement}
+use Rattle.plans_judge.specs.declared.verdict.Judgement.TheVariants.{Accepted, Refused}
 use Rattle.plans_judge.specs.Verdicts.{verdict_on}
-use Rattle.plans_rules.specs.declared.step.Bank.{Bank}
-use Rattle.plans_rules.specs.declared.step.Bank.TheVariants.{Pending, Enabled}
+use Rattle.plans_rules.specs.declared.step.WhichSet.{WhichSet}
+use Rattle.plans_rules.specs.declared.step.WhichSet.TheVariants.{Pending, Enabled}
 use Rattle.plans_counterexamples.specs.declared.trace.Begin.{Begin}
 use Rattle.plans_counterexamples.specs.declared.trace.Begin.TheVariants as begins
-use Rattle.plans_counterexamples.specs.declared.trace.Route.{Route}
-use Rattle.plans_counterexamples.specs.declared.trace.Route.TheVariants.{Written, InForce}
+use Rattle.plans_counterexamples.specs.declared.trace.StoreRoute.{StoreRoute}
+use Rattle.plans_counterexamples.specs.declared.trace.StoreRoute.TheVariants.{Written, InForce}
 use Rattle.plans_counterexamples.specs.declared.run.Extra.{Extra}
 use Rattle.plans_counterexamples.specs.declared.run.Extra.TheVariants as extras
 use Rattle.plans_counterexamples.specs.declared.run.Run.{Run}
@@ -34,33 +34,33 @@ use Rattle.plans_text.specs.declared.limits.TheConstants.{WORDS, PRODUCERS, STEP
 use Rattle.plans_text.specs.declared.draft.Mark.{Mark}
 use Rattle.plans_text.specs.declared.draft.Draft.{Draft}
 use Rattle.plans_text.specs.declared.plan_file.PlanFile.{PlanFile}
-use Rattle.plans_text.specs.declared.line.Line.{Line}
-use Rattle.plans_text.specs.declared.line.Line.TheVariants as lines
+use Rattle.plans_text.specs.declared.line.PlanLine.{PlanLine}
+use Rattle.plans_text.specs.declared.line.PlanLine.TheVariants as lines
 use Rattle.plans_text.specs.declared.line.Reading.{Reading}
 use Rattle.plans_text.specs.declared.line.Reading.TheVariants as readings
-use Rattle.plans_text.specs.declared.outcome.Outcome.{Outcome}
-use Rattle.plans_text.specs.declared.outcome.Outcome.TheVariants.{BadLine, NoPlan}
+use Rattle.plans_text.specs.declared.outcome.FileOutcome.{FileOutcome}
+use Rattle.plans_text.specs.declared.outcome.FileOutcome.TheVariants.{BadLine, NoPlan}
 use Rattle.plans_text.specs.Outcomes.{outcome_of, worse}
 use Rattle.plans_text.specs.Reading.{Text, reading}
 
 -- ---- a plan, as far as it is read
 
 -- Where a step was read: the number of its line in the file, from 1 on, and the line's text.
-pub record Place : Type 0 where
+pub record StepLine : Type 0 where
   pub line : ℕ
   pub text : Text
 
 -- A plan, as far as it is read.
-pub record Plan : Type 0 where
+pub record PlanRead : Type 0 where
   -- whether any line of it was read
   pub is_begun : Bool
   -- the number of its first bad line, if it has one
   pub bad : Option ℕ
-  pub producers : List Kind
+  pub producers : List RouteKind
   pub terms : Terms
-  pub steps : List Step
+  pub steps : List AnyStep
   -- where each step was read
-  pub places : List Place
+  pub places : List StepLine
 
 -- What is declared where nothing is: one word, a place that is no memory and may hold anything,
 -- notices that go to the host, and numbers that move from the old place to the new one.
@@ -76,7 +76,7 @@ first_terms = record {
 }
 
 -- A plan of which nothing is read.
-abbrev pub no_plan : Plan
+abbrev pub no_plan : PlanRead
 no_plan = record {
   is_begun = false;
   bad = None;
@@ -87,14 +87,14 @@ no_plan = record {
 }
 
 -- A plan with a bad line.
-abbrev pub bad_at : ℕ → Plan → Plan
+abbrev pub bad_at : ℕ → PlanRead → PlanRead
 bad_at line plan = record plan { is_begun = true; bad = Some line }
 
 -- ---- declarations, which stand before the first step
 
 -- What is declared with one declaration more; None where the line is none, or its number out of
 -- range.
-abbrev pub terms_with : Line → Terms → Option Terms
+abbrev pub terms_with : PlanLine → Terms → Option Terms
 terms_with (lines.Words n) terms =
     if nat_lt 0 n && nat_le n WORDS then Some (record terms { words = n }) else None
 terms_with lines.Fresh terms = Some (record terms { is_fresh = true })
@@ -108,14 +108,14 @@ terms_with (lines.Numbers from to) terms = Some (record terms {
 terms_with line terms = None
 
 -- A plan for which that is declared now, if it is good; a declaration comes before the first step.
-abbrev pub with_terms : ℕ → Option Terms → Plan → Plan
+abbrev pub with_terms : ℕ → Option Terms → PlanRead → PlanRead
 with_terms line None plan = bad_at line plan
 with_terms line (Some terms) plan =
     if nat_eq (length plan.steps) 0 then record plan { is_begun = true; terms = terms }
     else bad_at line plan
 
 -- A plan with one producer more, likewise.
-abbrev pub with_producer : ℕ → Kind → Plan → Plan
+abbrev pub with_producer : ℕ → RouteKind → PlanRead → PlanRead
 with_producer line kind plan =
     if nat_eq (length plan.steps) 0 && nat_lt (length plan.producers) PRODUCERS then record plan {
       is_begun = true;
@@ -125,7 +125,7 @@ with_producer line kind plan =
 -- ---- steps
 
 -- Whether a step names words of the file and producers that are declared.
-abbrev pub is_known : ℕ → ℕ → Step → Bool
+abbrev pub is_known : ℕ → ℕ → AnyStep → Bool
 is_known words producers (steps.Route p) = nat_lt p producers
 is_known words producers (steps.Fence p) = nat_lt p producers
 is_known words producers (steps.Switch p) = nat_lt p producers
@@ -137,7 +137,7 @@ is_known words producers (steps.Look w) = nat_lt w words
 is_known words producers step = true
 
 -- A plan with one step more, from this line of the file.
-abbrev pub with_step : ℕ → Text → Step → Plan → Plan
+abbrev pub with_step : ℕ → Text → AnyStep → PlanRead → PlanRead
 with_step line text step plan =
     if is_known plan.terms.words (length plan.producers) step && nat_lt (length plan.steps) STEPS
     then record plan {
@@ -147,7 +147,7 @@ with_step line text step plan =
     } else bad_at line plan
 
 -- A plan with one line more, of this number and this text.
-abbrev pub with_line : ℕ → Text → Line → Plan → Plan
+abbrev pub with_line : ℕ → Text → PlanLine → PlanRead → PlanRead
 with_line line text (lines.Step step) plan = with_step line text step plan
 with_line line text (lines.Producer kind) plan = with_producer line kind plan
 with_line line text x plan = with_terms line (terms_with x plan.terms) plan
@@ -164,7 +164,7 @@ rule_word rules.Freeing = codes "freeing"
 rule_word rules.Notice = codes "notice"
 
 -- Where a rule is broken: at a step, whose line is given as it was read, or in the end.
-abbrev pub place_text : Option Place → Text
+abbrev pub place_text : Option StepLine → Text
 place_text None = codes " in the end"
 place_text (Some place) =
     codes " at line " ++ (decimal place.line ++ (codes ": " ++ place.text))
@@ -172,7 +172,7 @@ place_text (Some place) =
 -- ---- the run that is shown of a plan that loses something, in a line of its own
 
 -- How it is said in which set the identity stands.
-abbrev pub bank_word : Bank → Text
+abbrev pub bank_word : WhichSet → Text
 bank_word Pending = codes " is pending "
 bank_word Enabled = codes " is enabled "
 
@@ -183,28 +183,28 @@ begin_word begins.InOld = codes "in the old place at the start"
 begin_word begins.InNew = codes "in the new place at the start"
 
 -- By which route a store goes.
-abbrev pub route_word : Route → Text
+abbrev pub route_word : StoreRoute → Text
 route_word Written = codes " by its written route"
 route_word InForce = codes " by its route in force"
 
 -- Behind which line a store comes.
-abbrev pub behind_text : Option Place → Text
+abbrev pub behind_text : Option StepLine → Text
 behind_text None = codes " before the first step"
 behind_text (Some place) = codes " behind line " ++ decimal place.line
 
 -- The same of one that has so many steps before it.
-abbrev pub between_text : List Place → ℕ → Text
+abbrev pub between_text : List StepLine → ℕ → Text
 between_text places before =
     if nat_eq before 0 then behind_text None else behind_text (slice_get places (before - 1))
 
 -- A store that lands with more steps before it than there are lands at its fence alone.
-abbrev pub landing_text : List Place → ℕ → Text
+abbrev pub landing_text : List StepLine → ℕ → Text
 landing_text places before =
     if nat_le before (length places) then codes ", and lands" ++ between_text places before
     else codes ", and lands at its fence"
 
 -- What comes between the steps of the run.
-abbrev pub extra_text : List Place → ℕ → Extra → Text
+abbrev pub extra_text : List StepLine → ℕ → Extra → Text
 extra_text places producer extras.Nothing = []
 extra_text places producer (extras.Stores before route) =
     codes "; producer " ++ (decimal producer ++ (codes " stores it"
@@ -226,7 +226,7 @@ abbrev pub none_text : Text
 none_text = 10 ∷ codes "  run: none was found with one store at most"
 
 -- The run that is shown, if one is found.
-abbrev pub run_text : List Place → Option Run → Text
+abbrev pub run_text : List StepLine → Option Run → Text
 run_text places None = none_text
 run_text places (Some run) =
     (10 ∷ codes "  run: identity ")
@@ -235,24 +235,24 @@ run_text places (Some run) =
 -- ---- the run that is shown of a plan that may leave its host untold
 
 -- How a spot is named.
-abbrev pub spot_word : Spot → Text
+abbrev pub spot_word : NumberSpot → Text
 spot_word InOld = codes " in the old place"
 spot_word InHand = codes " in the hand"
 spot_word InNew = codes " in the new place"
 
 -- The store of such a run, if it has one.
-abbrev pub store_text : List Place → Option Store → Text
+abbrev pub store_text : List StepLine → Option Store → Text
 store_text places None = codes ", and pending there"
 store_text places (Some store) =
     extra_text places store.producer (extras.Stores store.before store.route)
 
 -- Where the threshold lets the identity through at the start.
-abbrev pub threshold_text : Option Spot → Text
+abbrev pub threshold_text : Option NumberSpot → Text
 threshold_text None = codes "1 everywhere"
 threshold_text (Some spot) = codes "0" ++ (spot_word spot ++ codes " and 1 elsewhere")
 
 -- Where delivery is 1 at the start.
-abbrev pub delivery_text : Spot → Text
+abbrev pub delivery_text : NumberSpot → Text
 delivery_text spot =
     codes "; at the start delivery is 1" ++ (spot_word spot
     ++ codes " and 0 elsewhere, and the threshold is ")
@@ -273,7 +273,7 @@ untold_begin_text run =
     ++ (decimal run.identity ++ codes " is enabled in the old place at the start")
 
 -- The run that is shown, if one is found.
-abbrev pub untold_text : List Place → Bool → Option UntoldRun → Text
+abbrev pub untold_text : List StepLine → Bool → Option UntoldRun → Text
 untold_text places heeds None =
     none_text ++ codes "; the rule asks for more than that the host is told"
 untold_text places heeds (Some run) =
@@ -282,13 +282,13 @@ untold_text places heeds (Some run) =
 -- ---- what is shown of a verdict
 
 -- The text of what is shown.
-abbrev pub shown_text : List Place → Shown → Text
+abbrev pub shown_text : List StepLine → Shown → Text
 shown_text places shows.Nothing = []
 shown_text places (shows.Losing run) = run_text places run
 shown_text places (shows.Untold run heeds) = untold_text places heeds run
 
 -- The text of a verdict, with what is shown of it.
-abbrev pub verdict_text : List Place → Shown → Verdict → Text
+abbrev pub verdict_text : List StepLine → Shown → Judgement → Text
 verdict_text places shown Accepted = codes "accepted"
 verdict_text places shown (Refused rule before) =
     codes "refused " ++ (rule_word rule ++ (place_text (slice_get places before)
@@ -296,7 +296,7 @@ verdict_text places shown (Refused rule before) =
 
 -- Of a plan that breaks a rule of safety a run that loses something; of one that breaks the rule on
 -- notices one that leaves the host untold.
-abbrev pub shown_of : List Kind → Terms → List Step → Verdict → Shown
+abbrev pub shown_of : List RouteKind → Terms → List AnyStep → Judgement → Shown
 shown_of producers terms plan Accepted = shows.Nothing
 shown_of producers terms plan (Refused rules.Notice before) =
     shows.Untold (untold_run_of producers terms plan) terms.heeds
@@ -304,52 +304,52 @@ shown_of producers terms plan (Refused rule before) =
     shows.Losing (losing_run_of producers terms plan)
 
 -- The text of the verdict on a plan.
-abbrev pub found_text : List Place → List Kind → Terms → List Step → Verdict → Text
+abbrev pub found_text : List StepLine → List RouteKind → Terms → List AnyStep → Judgement → Text
 found_text places producers terms plan verdict =
     verdict_text places (shown_of producers terms plan verdict) verdict
 
 -- What is answered of a plan: its first bad line, or the verdict.
-abbrev pub bad_or_verdict : Option ℕ → Plan → Text
+abbrev pub bad_or_verdict : Option ℕ → PlanRead → Text
 bad_or_verdict (Some line) plan = codes "bad line " ++ decimal line
 bad_or_verdict None plan =
     found_text plan.places plan.producers plan.terms plan.steps
     (verdict_on (setting_of plan.producers plan.terms) plan.steps)
 
 -- What is answered of a plan that ends, with its LF: nothing, where it did not begin.
-abbrev pub plan_answer : Plan → Text
+abbrev pub plan_answer : PlanRead → Text
 plan_answer plan =
     if plan.is_begun then bad_or_verdict plan.bad plan ++ 10 ∷ [] else []
 
 -- What comes of a plan that ends: a bad line, or what the verdict says; no plan, where it did not
 -- begin.
-abbrev pub bad_or_outcome : Option ℕ → Plan → Outcome
+abbrev pub bad_or_outcome : Option ℕ → PlanRead → FileOutcome
 bad_or_outcome (Some line) plan = BadLine
 bad_or_outcome None plan =
     outcome_of (verdict_on (setting_of plan.producers plan.terms) plan.steps)
 
-abbrev pub plan_outcome : Plan → Outcome
+abbrev pub plan_outcome : PlanRead → FileOutcome
 plan_outcome plan = if plan.is_begun then bad_or_outcome plan.bad plan else NoPlan
 
 -- ---- a file
 
 -- The plan that is being read, how many lines were read, and of the plans before it the answers and
 -- what came of them.
-pub record Read : Type 0 where
-  pub plan : Plan
+pub record FileRead : Type 0 where
+  pub plan : PlanRead
   pub lines : ℕ
   pub answers : Text
-  pub outcome : Outcome
+  pub outcome : FileOutcome
 
 -- Nothing is read yet.
-abbrev pub none_read : Read
+abbrev pub none_read : FileRead
 none_read = record { plan = no_plan; lines = 0; answers = []; outcome = NoPlan }
 
 -- What came of all plans, once the last one ends too.
-abbrev pub all_outcomes : Read → Outcome
+abbrev pub all_outcomes : FileRead → FileOutcome
 all_outcomes read = worse read.outcome (plan_outcome read.plan)
 
 -- A plan begins: the one before it ends.
-abbrev pub plan_begun : Read → Read
+abbrev pub plan_begun : FileRead → FileRead
 plan_begun read = record {
   plan = record no_plan { is_begun = true };
   lines = read.lines;
@@ -358,14 +358,14 @@ plan_begun read = record {
 }
 
 -- A line that is no `plan`; after a bad one nothing more is read of a plan.
-abbrev pub line_read : Text → Line → Read → Read
+abbrev pub line_read : Text → PlanLine → FileRead → FileRead
 line_read text line read = elim read.plan.bad [
   | Some bad ↦ read
   | None ↦ record read { plan = with_line read.lines text line read.plan }
 ]
 
 -- What is read with one text more, by what that says; of a bad one its plan is bad.
-abbrev pub as_read : Text → Reading → Read → Read
+abbrev pub as_read : Text → Reading → FileRead → FileRead
 as_read text readings.Skip read = read
 as_read text readings.Bad read = elim read.plan.bad [
   | Some bad ↦ read
@@ -375,16 +375,16 @@ as_read text (readings.Line lines.Plan) read = plan_begun read
 as_read text (readings.Line line) read = line_read text line read
 
 -- The same, by the text.
-abbrev pub with_text : Read → Text → Read
+abbrev pub with_text : FileRead → Text → FileRead
 with_text read text = as_read text (reading text) (record read { lines = read.lines + 1 })
 
 -- What is read with more texts, the first first.
-abbrev pub with_texts : Read → List Text → Read
+abbrev pub with_texts : FileRead → List Text → FileRead
 with_texts read [] = read
 with_texts read (text ∷ texts) = with_texts (with_text read text) texts
 
 -- All answers, once the last plan ends too.
-abbrev pub all_answers : Read → Text
+abbrev pub all_answers : FileRead → Text
 all_answers read = read.answers ++ plan_answer read.plan
 
 -- The texts of a file: its bytes cut at LF, and a last text where bytes stand after the last LF.
@@ -397,17 +397,17 @@ unfoldable pub answers : Text → Text
 answers bytes = all_answers (with_texts none_read (texts_of bytes))
 
 -- What comes of the plans of a file, by its bytes.
-unfoldable pub outcome : Text → Outcome
+unfoldable pub outcome : Text → FileOutcome
 outcome bytes = all_outcomes (with_texts none_read (texts_of bytes))
 
 -- ---- what the program's values stand for
 
 -- Where a step was read, as the program keeps it.
-abbrev pub place_of : Mark → Place
+abbrev pub place_of : Mark → StepLine
 place_of mark = record { line = mark.line; text = mark.text.items }
 
 -- The plan that a draft of the program is.
-abbrev pub plan_of : Draft → Plan
+abbrev pub plan_of : Draft → PlanRead
 plan_of draft = record {
   is_begun = draft.is_begun;
   bad = draft.bad;
@@ -422,7 +422,7 @@ abbrev pub AreInFile : Draft → Type 0
 AreInFile draft = All (IsInFile draft.terms.words) draft.steps.items
 
 -- What is read, as the program keeps it.
-abbrev pub read_of : PlanFile → Read
+abbrev pub read_of : PlanFile → FileRead
 read_of file = record {
   plan = plan_of file.draft;
   lines = file.lines;

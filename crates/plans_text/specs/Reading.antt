@@ -2,22 +2,22 @@
 use Rattle.std.specs.Prelude.{ℕ, ◌+◌, ◌-◌, ◌*◌, Bool, not, nat_eq, nat_le, if◌then◌else◌, List, [], ◌∷◌, length, take, drop, Option, Some, None, codes, position}
 use Rattle.std.specs.Int.{is_in_range}
 use Rattle.std.specs.Str.{bytes_eq}
-use Rattle.plans_rules.specs.declared.step.Place.{Place}
-use Rattle.plans_rules.specs.declared.step.Place.TheVariants.{Old, New}
-use Rattle.plans_rules.specs.declared.step.Bank.{Bank}
-use Rattle.plans_rules.specs.declared.step.Bank.TheVariants.{Pending, Enabled}
+use Rattle.plans_rules.specs.declared.step.AnyPlace.{AnyPlace}
+use Rattle.plans_rules.specs.declared.step.AnyPlace.TheVariants.{Old, New}
+use Rattle.plans_rules.specs.declared.step.WhichSet.{WhichSet}
+use Rattle.plans_rules.specs.declared.step.WhichSet.TheVariants.{Pending, Enabled}
 use Rattle.plans_rules.specs.declared.step.Number.{Number}
 use Rattle.plans_rules.specs.declared.step.Number.TheVariants.{Threshold, Delivery}
-use Rattle.plans_rules.specs.declared.step.Step.{Step}
-use Rattle.plans_rules.specs.declared.step.Step.TheVariants as steps
-use Rattle.plans_rules.specs.declared.setting.Kind.{Kind}
-use Rattle.plans_rules.specs.declared.setting.Kind.TheVariants.{Routed, Switched}
-use Rattle.plans_rules.specs.declared.setting.Spot.{Spot}
-use Rattle.plans_rules.specs.declared.setting.Spot.TheVariants.{InOld, InHand, InNew}
+use Rattle.plans_rules.specs.declared.step.AnyStep.{AnyStep}
+use Rattle.plans_rules.specs.declared.step.AnyStep.TheVariants as steps
+use Rattle.plans_rules.specs.declared.setting.RouteKind.{RouteKind}
+use Rattle.plans_rules.specs.declared.setting.RouteKind.TheVariants.{Routed, Switched}
+use Rattle.plans_rules.specs.declared.setting.NumberSpot.{NumberSpot}
+use Rattle.plans_rules.specs.declared.setting.NumberSpot.TheVariants.{InOld, InHand, InNew}
 use Rattle.plans_counterexamples.specs.Search.{or_else}
 use Rattle.plans_text.specs.declared.limits.TheConstants.{LINE_BYTES}
-use Rattle.plans_text.specs.declared.line.Line.{Line}
-use Rattle.plans_text.specs.declared.line.Line.TheVariants as lines
+use Rattle.plans_text.specs.declared.line.PlanLine.{PlanLine}
+use Rattle.plans_text.specs.declared.line.PlanLine.TheVariants as lines
 use Rattle.plans_text.specs.declared.line.Thing.{Thing}
 use Rattle.plans_text.specs.declared.line.Thing.TheVariants as things
 use Rattle.plans_text.specs.declared.line.Reading.{Reading}
@@ -87,7 +87,7 @@ numeral_at text = do
 -- ---- names
 
 -- The set that a word names.
-abbrev pub bank_named : Text → Option Bank
+abbrev pub bank_named : Text → Option WhichSet
 bank_named word =
     if bytes_eq word (codes "pending") then Some Pending
     else if bytes_eq word (codes "enabled") then Some Enabled else None
@@ -99,20 +99,20 @@ number_named word =
     else if bytes_eq word (codes "delivery") then Some Delivery else None
 
 -- The place that a word names.
-abbrev pub place_named : Text → Option Place
+abbrev pub place_named : Text → Option AnyPlace
 place_named word =
     if bytes_eq word (codes "old") then Some Old
     else if bytes_eq word (codes "new") then Some New else None
 
 -- The spot that a word names: the old place, the hand or the new place.
-abbrev pub spot_named : Text → Option Spot
+abbrev pub spot_named : Text → Option NumberSpot
 spot_named word =
     if bytes_eq word (codes "old") then Some InOld
     else if bytes_eq word (codes "hand") then Some InHand
     else if bytes_eq word (codes "new") then Some InNew else None
 
 -- The kind of producer that a word names.
-abbrev pub kind_named : Text → Option Kind
+abbrev pub kind_named : Text → Option RouteKind
 kind_named word =
     if bytes_eq word (codes "routed") then Some Routed
     else if bytes_eq word (codes "switched") then Some Switched else None
@@ -139,35 +139,35 @@ unfoldable pub thing_at : Text → Option (Thing × Text)
 thing_at text = elim (number_thing_at text) [ Some thing ↦ Some thing | None ↦ word_at text ]
 
 -- The step that zeroes such a thing in a place.
-abbrev pub zero_of : Place → Thing → Step
+abbrev pub zero_of : AnyPlace → Thing → AnyStep
 zero_of place (things.Word bank word) = steps.Zero place bank word
 zero_of place (things.Number number) = steps.ZeroNumber place number
 
 -- The step that takes it from the old place.
-abbrev pub take_of : Thing → Step
+abbrev pub take_of : Thing → AnyStep
 take_of (things.Word bank word) = steps.Take bank word
 take_of (things.Number number) = steps.TakeNumber number
 
 -- The step that puts it in the new place.
-abbrev pub put_of : Thing → Step
+abbrev pub put_of : Thing → AnyStep
 put_of (things.Word bank word) = steps.Put bank word
 put_of (things.Number number) = steps.PutNumber number
 
 -- The step that joins it to the new place; a number is not joined.
-abbrev pub join_of : Thing → Option Step
+abbrev pub join_of : Thing → Option AnyStep
 join_of (things.Word bank word) = Some (steps.Join bank word)
 join_of (things.Number number) = None
 
 -- ---- steps, by their names
 
 -- A step with a number, which is the one word of a text.
-unfoldable pub numbered_at : (ℕ → Step) → Text → Option Step
+unfoldable pub numbered_at : (ℕ → AnyStep) → Text → Option AnyStep
 numbered_at step text = do
   number ← numeral_at text
   at_end number.1 (step number.0)
 
 -- What follows `zero`: a place, and what is zeroed there.
-unfoldable pub zero_at : Text → Option Step
+unfoldable pub zero_at : Text → Option AnyStep
 zero_at text = do
   word ← next_word text
   place ← place_named word.0
@@ -175,33 +175,33 @@ zero_at text = do
   at_end thing.1 (zero_of place thing.0)
 
 -- What follows `take`.
-unfoldable pub take_at : Text → Option Step
+unfoldable pub take_at : Text → Option AnyStep
 take_at text = do
   thing ← thing_at text
   at_end thing.1 (take_of thing.0)
 
 -- What follows `put`.
-unfoldable pub put_at : Text → Option Step
+unfoldable pub put_at : Text → Option AnyStep
 put_at text = do
   thing ← thing_at text
   at_end thing.1 (put_of thing.0)
 
 -- What follows `join`.
-unfoldable pub join_at : Text → Option Step
+unfoldable pub join_at : Text → Option AnyStep
 join_at text = do
   thing ← thing_at text
   step ← join_of thing.0
   at_end thing.1 step
 
 -- A step about routes, by its name and the text behind it.
-abbrev pub routing_named : Text → Text → Option Step
+abbrev pub routing_named : Text → Text → Option AnyStep
 routing_named name text =
     if bytes_eq name (codes "route") then numbered_at steps.Route text
     else if bytes_eq name (codes "fence") then numbered_at steps.Fence text
     else if bytes_eq name (codes "switch") then numbered_at steps.Switch text else None
 
 -- A step that moves something, likewise.
-abbrev pub moving_named : Text → Text → Option Step
+abbrev pub moving_named : Text → Text → Option AnyStep
 moving_named name text =
     if bytes_eq name (codes "zero") then zero_at text
     else if bytes_eq name (codes "take") then take_at text
@@ -209,19 +209,19 @@ moving_named name text =
     else if bytes_eq name (codes "put") then put_at text else None
 
 -- The step that the word behind `write` names.
-abbrev pub notice_named : Text → Option Step
+abbrev pub notice_named : Text → Option AnyStep
 notice_named word =
     if bytes_eq word (codes "notice") then Some steps.WriteNotice else None
 
 -- What follows `write`.
-unfoldable pub write_at : Text → Option Step
+unfoldable pub write_at : Text → Option AnyStep
 write_at text = do
   word ← next_word text
   step ← notice_named word.0
   at_end word.1 step
 
 -- A step about notices, or `free`, likewise.
-abbrev pub telling_named : Text → Text → Option Step
+abbrev pub telling_named : Text → Text → Option AnyStep
 telling_named name text =
     if bytes_eq name (codes "look") then numbered_at steps.Look text
     else if bytes_eq name (codes "post") then at_end text steps.Post
@@ -230,7 +230,7 @@ telling_named name text =
     else if bytes_eq name (codes "free") then at_end text steps.Free else None
 
 -- The step that a name spells with the text behind it.
-unfoldable pub step_named : Text → Text → Option Step
+unfoldable pub step_named : Text → Text → Option AnyStep
 step_named name text =
     or_else (routing_named name text)
     (or_else (moving_named name text) (telling_named name text))
@@ -238,20 +238,20 @@ step_named name text =
 -- ---- declarations, by their names
 
 -- What follows `words`: how many words each set has.
-unfoldable pub words_at : Text → Option Line
+unfoldable pub words_at : Text → Option PlanLine
 words_at text = do
   number ← numeral_at text
   at_end number.1 (lines.Words number.0)
 
 -- What follows `producer`: its kind.
-unfoldable pub producer_at : Text → Option Line
+unfoldable pub producer_at : Text → Option PlanLine
 producer_at text = do
   word ← next_word text
   kind ← kind_named word.0
   at_end word.1 (lines.Producer kind)
 
 -- What follows `numbers`: where they stand at first, and where in the end.
-unfoldable pub numbers_at : Text → Option Line
+unfoldable pub numbers_at : Text → Option PlanLine
 numbers_at text = do
   first ← next_word text
   from ← spot_named first.0
@@ -260,18 +260,18 @@ numbers_at text = do
   at_end second.1 (lines.Numbers from to)
 
 -- The declaration that the word behind `notices` makes.
-abbrev pub unset_named : Text → Option Line
+abbrev pub unset_named : Text → Option PlanLine
 unset_named word = if bytes_eq word (codes "unset") then Some lines.NoticesUnset else None
 
 -- What follows `notices`.
-unfoldable pub notices_at : Text → Option Line
+unfoldable pub notices_at : Text → Option PlanLine
 notices_at text = do
   word ← next_word text
   line ← unset_named word.0
   at_end word.1 line
 
 -- A line that is one word, by that and the text behind it.
-abbrev pub flag_named : Text → Text → Option Line
+abbrev pub flag_named : Text → Text → Option PlanLine
 flag_named name text =
     if bytes_eq name (codes "plan") then at_end text lines.Plan
     else if bytes_eq name (codes "fresh") then at_end text lines.Fresh
@@ -279,7 +279,7 @@ flag_named name text =
     else if bytes_eq name (codes "heeds") then at_end text lines.Heeds else None
 
 -- A declaration, or the begin of a plan, by its name and the text behind it.
-abbrev pub declaration_named : Text → Text → Option Line
+abbrev pub declaration_named : Text → Text → Option PlanLine
 declaration_named name text =
     if bytes_eq name (codes "words") then words_at text
     else if bytes_eq name (codes "producer") then producer_at text
@@ -287,19 +287,19 @@ declaration_named name text =
     else if bytes_eq name (codes "notices") then notices_at text else flag_named name text
 
 -- A step as a line.
-abbrev pub step_line : Option Step → Option Line
+abbrev pub step_line : Option AnyStep → Option PlanLine
 step_line None = None
 step_line (Some step) = Some (lines.Step step)
 
 -- The line that a name spells with the text behind it.
-abbrev pub line_named : Text → Text → Option Line
+abbrev pub line_named : Text → Text → Option PlanLine
 line_named name text =
     or_else (declaration_named name text) (step_line (step_named name text))
 
 -- ---- a text
 
 -- What a text says that has a word: a line, or it is bad.
-abbrev pub line_or_bad : Option Line → Reading
+abbrev pub line_or_bad : Option PlanLine → Reading
 line_or_bad None = readings.Bad
 line_or_bad (Some line) = readings.Line line
 

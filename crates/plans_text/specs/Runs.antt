@@ -5,37 +5,30 @@ use Rattle.aia_io.specs.Ends.{Supply, Gives, Rose, Takes, TakesAtMost, TakesAll,
 use Rattle.aia_io.specs.declared.limits.TheConstants.{SOURCE_BYTES}
 use Rattle.aia_io.specs.Lines.{NoEnd}
 use Rattle.aia_io.specs.Words.{EndsUnasked}
-use Rattle.plans_text.specs.declared.plan_reader.PlanReader.{PlanReader}
-use Rattle.plans_text.specs.declared.outcome.Outcome.{Outcome}
+use Rattle.aia_io.specs.Written.{CutsAll, WritesAll}
+use Rattle.plans_text.specs.declared.plan_reader.PlanFileReader.{PlanFileReader}
+use Rattle.plans_text.specs.declared.outcome.FileOutcome.{FileOutcome}
 use Rattle.plans_text.specs.PlanFile.{answers}
 use Rattle.plans_text.specs.PlanFile.{outcome as outcome_of_file}
 use Rattle.plans_text.specs.Streaming.{AreWhole, HasRead, NoneWaits, ended_answers}
-use Rattle.plans_text.specs.declared.command_line.Subcommand.{Subcommand}
-use Rattle.plans_text.specs.declared.command_line.Subcommand.TheVariants.{Judge}
+use Rattle.plans_text.specs.declared.command_line.PlansSubcommand.{PlansSubcommand}
+use Rattle.plans_text.specs.declared.command_line.PlansSubcommand.TheVariants.{Judge}
 use Rattle.plans_text.specs.declared.judging.Stop.{Stop}
 use Rattle.plans_text.specs.declared.judging.Stop.TheVariants.{Sink, Memory as LacksMemory}
-use Rattle.plans_text.specs.declared.program.Status.{Status}
-use Rattle.plans_text.specs.declared.program.Status.TheVariants.{Done, Usage, ReadFault, WriteFault, Memory, TooLong}
+use Rattle.plans_text.specs.declared.program.PlansStatus.{PlansStatus}
+use Rattle.plans_text.specs.declared.program.PlansStatus.TheVariants.{Done, Usage, ReadFault, WriteFault, Memory, TooLong}
 
 -- ---- what is written
 
--- What the sink took is what is answered of all that the source had left, where it tells that; or a
--- front of it.
-abbrev pub WritesAnswers : Supply → Option (List ℕ) → Option (List ℕ) → Type 0
-WritesAnswers left before now = IfSome left.to_come (λ file. Appends before now (answers file))
-
-abbrev pub CutsAnswers : Supply → Option (List ℕ) → Option (List ℕ) → Type 0
-CutsAnswers left before now = IfSome left.to_come (λ file. CutOff before now (answers file))
-
 -- The whole file was taken, what is answered of it was written, and that came of its plans.
-pub record JudgesAll (outcome : Outcome) (left rest : Supply) (before now : Option (List ℕ))
+pub record JudgesAll (outcome : FileOutcome) (left rest : Supply) (before now : Option (List ℕ))
     : Type 0 where
   pub taken : TakesAll left rest
-  pub written : WritesAnswers left before now
+  pub written : WritesAll answers left before now
   pub came : IfSome left.to_come (λ file. outcome ≡ outcome_of_file file)
 
 -- The sink took a front of what is answered of the bytes that were taken, no more than a file has.
-pub record WritesFront (left rest : Supply) (before now : Option (List ℕ)) : Type 0 where
+pub record WritesPlansFront (left rest : Supply) (before now : Option (List ℕ)) : Type 0 where
   pub bytes : List ℕ
   pub taken : Gives left rest bytes
   pub within : length bytes ≤ SOURCE_BYTES
@@ -64,7 +57,7 @@ pub record WritesEnded (count : ℕ) (left rest : Supply) (before now : Option (
 -- ---- on the way
 
 -- A reader has read these bytes, and all that it gave was written: no answer waits.
-pub record Judged (reader : PlanReader) (before now : Option (List ℕ)) (bytes : List ℕ)
+pub record Judged (reader : PlanFileReader) (before now : Option (List ℕ)) (bytes : List ℕ)
     : Type 0 where
   pub given : List ℕ
   pub read : HasRead reader given bytes
@@ -72,7 +65,7 @@ pub record Judged (reader : PlanReader) (before now : Option (List ℕ)) (bytes 
   pub written : Appends before now given
 
 -- Said of all that was judged, whatever that is.
-abbrev pub WhateverWasJudged : PlanReader → Option (List ℕ)
+abbrev pub WhateverWasJudged : PlanFileReader → Option (List ℕ)
     → (Option (List ℕ) → List ℕ → Type 0) → Type 0
 WhateverWasJudged reader now P =
     (before : Option (List ℕ)) (bytes : List ℕ) → Judged reader before now bytes → P before bytes
@@ -84,29 +77,29 @@ IsFront before now bytes = (more : List ℕ) → CutOff before now (answers (byt
 -- ---- a run
 
 -- How a run ends where it stops.
-abbrev pub stopped : Stop → Status
+abbrev pub stopped : Stop → PlansStatus
 stopped Sink = WriteFault
 stopped LacksMemory = Memory
 
 -- A run of `judge`, which answers each plan as it ends.
-pub record EndsJudge (status : Status) (left rest : Supply) (before now : Option (List ℕ))
+pub record EndsJudge (status : PlansStatus) (left rest : Supply) (before now : Option (List ℕ))
     (source_old source_new sink_old sink_new : ℕ) : Type 0 where
-  pub done : (outcome : Outcome) → status ≡ Done outcome
+  pub done : (outcome : FileOutcome) → status ≡ Done outcome
       → JudgesAll outcome left rest before now
   pub write_fault : status ≡ WriteFault
-      → WritesFront left rest before now × Rose sink_old sink_new
-  pub memory : status ≡ Memory → WritesFront left rest before now
+      → WritesPlansFront left rest before now × Rose sink_old sink_new
+  pub memory : status ≡ Memory → WritesPlansFront left rest before now
   pub read_fault : status ≡ ReadFault
       → WritesEnded 0 left rest before now × Rose source_old source_new
   pub too_long : status ≡ TooLong
       → WritesEnded 1 left rest before now × Takes (SOURCE_BYTES + 1) left rest
   -- in each case it is a front of the answers of the whole file, where the source tells it
-  pub front : CutsAnswers left before now
+  pub front : CutsAll answers left before now
   pub bound : TakesAtMost (SOURCE_BYTES + 1) left rest
   pub usage : status ≢ Usage
 
 -- By what the words ask for.
-abbrev pub EndsAsAsked : Option Subcommand → Status → Supply → Supply → Option (List ℕ)
+abbrev pub EndsAsAsked : Option PlansSubcommand → PlansStatus → Supply → Supply → Option (List ℕ)
     → Option (List ℕ) → ℕ → ℕ → ℕ → ℕ → Type 0
 EndsAsAsked None status left rest before now a b c d =
     EndsUnasked Usage Memory status left rest before now

@@ -9,8 +9,8 @@ use crate::draft::Mark;
 use crate::shown::Shown;
 use crate::untold::push_untold;
 use itoa::Buffer;
-use plans_counterexamples::{Begin, Extra, Route, Run};
-use plans_judge::{Bank, Rule, Verdict};
+use plans_counterexamples::{Begin, Extra, Run, StoreRoute};
+use plans_judge::{Judgement, Rule, WhichSet};
 use std::alloc::AllocError;
 
 /// Gives the word of a rule.
@@ -109,22 +109,22 @@ fn push_landing(out: &mut Vec<u8>, marks: &[Mark], before: usize) -> Result<(), 
 }
 
 /// Gives the words for a route.
-fn route_word(route: Route) -> &'static [u8]
+fn route_word(route: StoreRoute) -> &'static [u8]
     ensures { result.now ≡ file.route_word route }
 {
     match route {
-        Route::Written => b" by its written route",
-        Route::InForce => b" by its route in force",
+        StoreRoute::Written => b" by its written route",
+        StoreRoute::InForce => b" by its route in force",
     }
 }
 
 /// Gives the words for a set.
-fn bank_word(bank: Bank) -> &'static [u8]
+fn bank_word(bank: WhichSet) -> &'static [u8]
     ensures { result.now ≡ file.bank_word bank }
 {
     match bank {
-        Bank::Pending => b" is pending ",
-        Bank::Enabled => b" is enabled ",
+        WhichSet::Pending => b" is pending ",
+        WhichSet::Enabled => b" is enabled ",
     }
 }
 
@@ -145,7 +145,7 @@ pub(crate) fn push_store(
     marks: &[Mark],
     producer: usize,
     before: usize,
-    route: Route,
+    route: StoreRoute,
 ) -> Result<(), AllocError>
     ensures { OnOk result (out.new.items ≡ out.old.items
         ++ file.extra_text (map place_of marks.now) producer (extras.Stores before route)) }
@@ -263,14 +263,14 @@ pub(crate) fn push_verdict(
     out: &mut Vec<u8>,
     marks: &[Mark],
     shown: Shown,
-    verdict: Verdict,
+    verdict: Judgement,
 ) -> Result<(), AllocError>
     ensures { OnOk result (out.new.items
         ≡ out.old.items ++ file.verdict_text (map place_of marks.now) shown verdict) }
 {
     match verdict {
-        Verdict::Accepted => out.extend_from_slice(b"accepted"),
-        Verdict::Refused { rule, before } => {
+        Judgement::Accepted => out.extend_from_slice(b"accepted"),
+        Judgement::Refused { rule, before } => {
             out.extend_from_slice(b"refused ")?;
             out.extend_from_slice(rule_word(rule))?;
             push_place(out, marks, before)?;

@@ -1,38 +1,28 @@
 //! The words of the command line.
 
-ghost use Rattle.std.specs.Prelude.{◌≡◌, false, map, IfOk};
-ghost use Rattle.clap.specs.Words.{app_of, subcommand_rows_of};
+ghost use Rattle.std.specs.Prelude.{◌≡◌, false, IfOk, true};
+ghost use Rattle.clap.specs.Words.{app_of, is_simple_and_free, subcommand_rows_of};
 ghost use Rattle.clap.specs.declared.builder.command.Command.TheViews.{out-Command};
-ghost use Rattle.plans_text.specs.CommandLine.{bare_command, judge_command, named, subcommand_of, the_command};
+ghost use Rattle.aia_io.specs.Words.{asked};
+ghost use Rattle.plans_text.specs.CommandLine.{judge_command, named, subcommand_of, the_command};
 
-use clap::error::ErrorKind;
+use aia_io::{bare_command, match_words};
 use clap::{ArgMatches, Command};
 use std::alloc::{AllocError, Global};
 
 /// What the program is to do. Profile.
 #[derive(Clone, Copy, Debug, PartialEq, Eq)]
-pub enum Subcommand {
+pub enum PlansSubcommand {
     /// Judge the plans of a file.
     Judge,
 }
 
 /// Makes the command of the words. `Err`: there is no memory for it.
 fn command<'a>(alloc: Global) -> Result<Command<'a>, AllocError>
-    ensures { IfOk result (λ made. app_of made ≡ the_command) }
+    ensures shape { IfOk result (λ made. app_of made ≡ the_command) }
+    ensures simple { IfOk result (λ made. is_simple_and_free (app_of made) ≡ true) }
 {
-    bare_command(alloc).subcommand(judge_command(alloc))
-}
-
-/// Makes the command with no subcommand yet: one is required, and it shows no help.
-fn bare_command<'a>(alloc: Global) -> Command<'a>
-    ensures shape { app_of result ≡ bare_command }
-    ensures local { (out-Command result).has_globals ≡ false }
-{
-    Command::new(alloc, "plans")
-        .no_binary_name(true)
-        .subcommand_required(true)
-        .disable_help_flag(true)
-        .disable_help_subcommand(true)
+    bare_command(alloc, "plans").subcommand(judge_command(alloc))
 }
 
 /// Makes the subcommand `judge`.
@@ -44,26 +34,26 @@ fn judge_command<'a>(alloc: Global) -> Command<'a>
 }
 
 /// Reads the subcommand that was met. `None`: there is none.
-fn read_matches(matches: &ArgMatches<'_>) -> Option<Subcommand>
+fn read_matches(matches: &ArgMatches<'_>) -> Option<PlansSubcommand>
     ensures { result ≡ named (subcommand_rows_of matches.now) }
 {
     let (name, _arguments) = matches.subcommand()?;
     match name {
-        "judge" => Some(Subcommand::Judge),
+        "judge" => Some(PlansSubcommand::Judge),
         _ => None,
     }
 }
 
 /// Reads what the words of the command line ask for, the program's name not among them. `None`: the
 /// words are refused. `Err`: there is no memory to read them.
-pub(crate) fn read_words(alloc: Global, words: &[&str]) -> Result<Option<Subcommand>, AllocError>
-    ensures { IfOk result (λ given. given ≡ subcommand_of (map (λ word. word.now) words.now)) }
+pub(crate) fn read_words(
+    alloc: Global,
+    words: &[&str],
+) -> Result<Option<PlansSubcommand>, AllocError>
+    ensures { IfOk result (λ given. given ≡ asked subcommand_of words.now) }
 {
-    match command(alloc)?.try_get_matches_from(words) {
-        Ok(matches) => Ok(read_matches(&matches)),
-        Err(error) => match error.kind() {
-            ErrorKind::OutOfMemory => Err(AllocError),
-            _ => Ok(None),
-        },
+    match match_words(command(alloc)?, words)? {
+        Some(found) => Ok(read_matches(&found)),
+        None => Ok(None),
     }
 }

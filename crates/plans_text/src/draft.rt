@@ -6,10 +6,10 @@ ghost use Rattle.plans_text.specs.PlanFile.{AreInFile, plan_of, place_of};
 
 use crate::answer::{push_number, push_verdict};
 use crate::limits::{PRODUCERS, STEPS, WORDS};
-use crate::line::Line;
-use crate::outcome::Outcome;
+use crate::line::PlanLine;
+use crate::outcome::FileOutcome;
 use crate::shown::shown_of;
-use plans_judge::{Kind, Spot, Step, Terms, judge};
+use plans_judge::{AnyStep, NumberSpot, RouteKind, Terms, judge};
 use std::alloc::{AllocError, Global};
 
 /// Where a step was read.
@@ -30,9 +30,9 @@ pub(crate) struct Draft {
     /// The number of its first bad line.
     bad: Option<usize>,
 
-    producers: Vec<Kind>,
+    producers: Vec<RouteKind>,
     terms: Terms,
-    steps: Vec<Step>,
+    steps: Vec<AnyStep>,
     marks: Vec<Mark>,
 }
 
@@ -46,41 +46,41 @@ fn first_terms() -> Terms
         in_memory: false,
         heeds: false,
         notices_go: true,
-        number_from: Spot::InOld,
-        number_to: Spot::InNew,
+        number_from: NumberSpot::InOld,
+        number_to: NumberSpot::InNew,
     }
 }
 
 /// Gives the terms that a declaration makes of others. `None`: the line is none, or declares what
 /// can't be.
-fn terms_with(line: Line, terms: Terms) -> Option<Terms>
+fn terms_with(line: PlanLine, terms: Terms) -> Option<Terms>
     ensures { result ≡ file.terms_with line terms }
 {
     match line {
-        Line::Words(words) => {
+        PlanLine::Words(words) => {
             if 0 < words && words <= WORDS {
                 Some(Terms { words, ..terms })
             } else {
                 None
             }
         }
-        Line::Fresh => Some(Terms {
+        PlanLine::Fresh => Some(Terms {
             is_fresh: true,
             ..terms
         }),
-        Line::Memory => Some(Terms {
+        PlanLine::Memory => Some(Terms {
             in_memory: true,
             ..terms
         }),
-        Line::Heeds => Some(Terms {
+        PlanLine::Heeds => Some(Terms {
             heeds: true,
             ..terms
         }),
-        Line::NoticesUnset => Some(Terms {
+        PlanLine::NoticesUnset => Some(Terms {
             notices_go: false,
             ..terms
         }),
-        Line::Numbers(number_from, number_to) => Some(Terms {
+        PlanLine::Numbers(number_from, number_to) => Some(Terms {
             number_from,
             number_to,
             ..terms
@@ -90,13 +90,14 @@ fn terms_with(line: Line, terms: Terms) -> Option<Terms>
 }
 
 /// Tells whether a step names words of the file and producers that are declared.
-fn is_known(words: u32, producers: usize, step: Step) -> bool
+fn is_known(words: u32, producers: usize, step: AnyStep) -> bool
     ensures { result ≡ file.is_known words producers step }
 {
     match step {
-        Step::Route(p) | Step::Fence(p) | Step::Switch(p) => (p as usize) < producers,
-        Step::Zero(_, _, w) | Step::Take(_, w) | Step::Join(_, w) | Step::Put(_, w) => w < words,
-        Step::Look(w) => w < words,
+        AnyStep::Route(p) | AnyStep::Fence(p) | AnyStep::Switch(p) => (p as usize) < producers,
+        AnyStep::Zero(_, _, w) | AnyStep::Take(_, w) | AnyStep::Join(_, w) | AnyStep::Put(_, w) => w
+            < words,
+        AnyStep::Look(w) => w < words,
         _ => true,
     }
 }
@@ -168,7 +169,7 @@ impl Draft {
 
     /// Declares a producer, where no step stands yet and there is room. `Err`: there is no memory
     /// for it.
-    fn declare_producer(&mut self, line: usize, kind: Kind) -> Result<(), AllocError>
+    fn declare_producer(&mut self, line: usize, kind: RouteKind) -> Result<(), AllocError>
         ensures plan { OnOk result
             (plan_of self.new ≡ file.with_producer line kind (plan_of self.old)) }
         ensures inside { AreInFile self.old → AreInFile self.new }
@@ -189,7 +190,7 @@ impl Draft {
         alloc: Global,
         line: usize,
         text: &[u8],
-        step: Step,
+        step: AnyStep,
     ) -> Result<(), AllocError>
         ensures plan { OnOk result
             (plan_of self.new ≡ file.with_step line text.now step (plan_of self.old)) }
@@ -212,15 +213,15 @@ impl Draft {
         alloc: Global,
         number: usize,
         text: &[u8],
-        line: Line,
+        line: PlanLine,
     ) -> Result<(), AllocError>
         ensures plan { OnOk result
             (plan_of self.new ≡ file.with_line number text.now line (plan_of self.old)) }
         ensures inside { AreInFile self.old → AreInFile self.new }
     {
         match line {
-            Line::Step(step) => self.add_step(alloc, number, text, step),
-            Line::Producer(kind) => self.declare_producer(number, kind),
+            PlanLine::Step(step) => self.add_step(alloc, number, text, step),
+            PlanLine::Producer(kind) => self.declare_producer(number, kind),
             line => {
                 self.declare(number, terms_with(line, self.terms));
                 Ok(())
@@ -232,7 +233,7 @@ impl Draft {
 impl Draft {
     /// Appends which line is bad, or the verdict, and gives what came of the plan. `Err`: there is
     /// no memory for it, or for the verdict.
-    fn push_found(&self, alloc: Global, out: &mut Vec<u8>) -> Result<Outcome, AllocError>
+    fn push_found(&self, alloc: Global, out: &mut Vec<u8>) -> Result<FileOutcome, AllocError>
         requires { AreInFile self.now }
         ensures text { OnOk result (out.new.items
             ≡ out.old.items ++ file.bad_or_verdict self.now.bad (plan_of self.now)) }
@@ -243,13 +244,13 @@ impl Draft {
             Some(line) => {
                 out.extend_from_slice(b"bad line ")?;
                 push_number(out, line as u64)?;
-                Ok(Outcome::BadLine)
+                Ok(FileOutcome::BadLine)
             }
             None => {
                 let verdict = judge(alloc, &self.producers, self.terms, &self.steps)?;
                 let shown = shown_of(&self.producers, self.terms, &self.steps, verdict);
                 push_verdict(out, &self.marks, shown, verdict)?;
-                Ok(Outcome::of(verdict))
+                Ok(FileOutcome::of(verdict))
             }
         }
     }
@@ -260,7 +261,7 @@ impl Draft {
         &self,
         alloc: Global,
         out: &mut Vec<u8>,
-    ) -> Result<Outcome, AllocError>
+    ) -> Result<FileOutcome, AllocError>
         requires { AreInFile self.now }
         ensures text { OnOk result
             (out.new.items ≡ out.old.items ++ file.plan_answer (plan_of self.now)) }
@@ -271,7 +272,7 @@ impl Draft {
             out.push(b'\n')?;
             Ok(outcome)
         } else {
-            Ok(Outcome::NoPlan)
+            Ok(FileOutcome::NoPlan)
         }
     }
 }

@@ -7,9 +7,9 @@ ghost use Rattle.plans_text.specs.PlanFile.{answers, outcome};
 ghost use Rattle.plans_text.specs.Streaming.{IsReady, lines_read};
 ghost use Rattle.plans_text.specs.Runs.{EndsJudge, IsFront, Judged, WhateverWasJudged, stopped};
 
-use crate::outcome::{Answered, Outcome};
-use crate::plan_reader::PlanReader;
-use crate::program::Status;
+use crate::outcome::{Answered, FileOutcome};
+use crate::plan_reader::PlanFileReader;
+use crate::program::PlansStatus;
 use aia_io::limits::{PIECE_BYTES, SOURCE_BYTES};
 use aia_io::{Read, Sink, Source, read_front, write_all};
 use std::alloc::Global;
@@ -25,12 +25,12 @@ pub(crate) enum Stop {
 }
 
 /// Gives the status of a run that stops.
-fn stopped(stop: Stop) -> Status
+fn stopped(stop: Stop) -> PlansStatus
     ensures { result ≡ stopped stop }
 {
     match stop {
-        Stop::Sink => Status::WriteFault,
-        Stop::Memory => Status::Memory,
+        Stop::Sink => PlansStatus::WriteFault,
+        Stop::Memory => PlansStatus::Memory,
     }
 }
 
@@ -50,7 +50,7 @@ fn give<K: Sink>(sink: &mut K, bytes: &[u8]) -> Result<(), Stop>
 /// Reads a piece of the file, and writes what is answered of the plans that end in it.
 fn judge_piece<K: Sink>(
     alloc: Global,
-    reader: &mut PlanReader,
+    reader: &mut PlanFileReader,
     sink: &mut K,
     piece: &[u8],
 ) -> Result<(), Stop>
@@ -70,7 +70,7 @@ fn judge_piece<K: Sink>(
 }
 
 /// Writes the last answers of a file, and gives what came of its plans.
-fn give_last<K: Sink>(sink: &mut K, last: Answered) -> Result<Outcome, Stop>
+fn give_last<K: Sink>(sink: &mut K, last: Answered) -> Result<FileOutcome, Stop>
     ensures ok { OnOk result (Appends (K.taken sink.old) (K.taken sink.new) last.text.items) }
     ensures came { IfOk result (λ came. came ≡ last.outcome) }
     ensures cut { OnErr result (CutOff (K.taken sink.old) (K.taken sink.new) last.text.items) }
@@ -84,7 +84,11 @@ fn give_last<K: Sink>(sink: &mut K, last: Answered) -> Result<Outcome, Stop>
 }
 
 /// Ends the file, writes what is answered of its last plan, and gives what came of all its plans.
-fn judge_last<K: Sink>(alloc: Global, reader: PlanReader, sink: &mut K) -> Result<Outcome, Stop>
+fn judge_last<K: Sink>(
+    alloc: Global,
+    reader: PlanFileReader,
+    sink: &mut K,
+) -> Result<FileOutcome, Stop>
     requires ready { IsReady reader }
     requires room { lines_read reader < 2 ^ 64 - 1 }
     ensures ok { IfOk result (λ came. WhateverWasJudged reader (K.taken sink.old)
@@ -102,18 +106,22 @@ fn judge_last<K: Sink>(alloc: Global, reader: PlanReader, sink: &mut K) -> Resul
 }
 
 /// Judges the plans of the file that the source gives. It never ends by `Usage`.
-pub(crate) fn judge_file<S: Source, K: Sink>(alloc: Global, source: &mut S, sink: &mut K) -> Status
+pub(crate) fn judge_file<S: Source, K: Sink>(
+    alloc: Global,
+    source: &mut S,
+    sink: &mut K,
+) -> PlansStatus
     ensures ends { EndsJudge result (S.supply source.old) (S.supply source.new)
         (K.taken sink.old) (K.taken sink.new) (S.faults source.old) (S.faults source.new)
         (K.faults sink.old) (K.faults sink.new) }
 {
-    let mut reader = PlanReader::new(alloc);
+    let mut reader = PlanFileReader::new(alloc);
     let mut piece = [0; PIECE_BYTES];
     let mut taken: usize = 0;
     loop {
         let asked = (SOURCE_BYTES - taken).clamp(1, PIECE_BYTES);
         match read_front(source, &mut piece, asked) {
-            Read::Got(_) if taken == SOURCE_BYTES => return Status::TooLong,
+            Read::Got(_) if taken == SOURCE_BYTES => return PlansStatus::TooLong,
             Read::Got(n) => {
                 if let Err(stop) = judge_piece(alloc, &mut reader, sink, &piece[..n]) {
                     return stopped(stop);
@@ -122,11 +130,11 @@ pub(crate) fn judge_file<S: Source, K: Sink>(alloc: Global, source: &mut S, sink
             }
             Read::End => {
                 return match judge_last(alloc, reader, sink) {
-                    Ok(outcome) => Status::Done(outcome),
+                    Ok(outcome) => PlansStatus::Done(outcome),
                     Err(stop) => stopped(stop),
                 };
             }
-            Read::Failed => return Status::ReadFault,
+            Read::Failed => return PlansStatus::ReadFault,
         }
     }
 }

@@ -4,29 +4,24 @@
 #![tactic(auto, unfolding(clap::proofs::OnLiterals::clap_on_literals, crate::specs::CommandLine::the_command, crate::specs::CommandLine::subcommand_of))]
 
 ghost use Rattle.std.specs.Prelude.{◌≡◌, [], ◌∷◌, Some, None, codes};
+ghost use Rattle.aia_io.specs.Commands.{RefusesOthers};
 ghost use Rattle.plans_text.specs.CommandLine.{subcommand_of};
 
-use crate::command_line::Subcommand;
+use crate::command_line::PlansSubcommand;
 
 /// The word `judge` is taken, with the delimiter `--` behind it or not.
 pub fn judge_is_taken()
-    ensures alone { subcommand_of (codes "judge" ∷ []) ≡ Some Subcommand.Judge }
-    ensures delimiter { subcommand_of (codes "judge" ∷ codes "--" ∷ []) ≡ Some Subcommand.Judge }
+    ensures alone { subcommand_of (codes "judge" ∷ []) ≡ Some PlansSubcommand.Judge }
+    ensures delimiter { subcommand_of (codes "judge" ∷ codes "--" ∷ [])
+        ≡ Some PlansSubcommand.Judge }
 {}
 
 /// These words, which are not `judge` alone, are refused; so are requests for help and for the
 /// version.
 pub fn other_words_are_refused()
-    ensures no_word { subcommand_of [] ≡ None }
-    ensures empty_word { subcommand_of (codes "" ∷ []) ≡ None }
-    ensures other_word { subcommand_of (codes "x" ∷ []) ≡ None }
+    ensures others { RefusesOthers subcommand_of }
     ensures front { subcommand_of (codes "judg" ∷ []) ≡ None }
     ensures great_letter { subcommand_of (codes "Judge" ∷ []) ≡ None }
-    ensures delimiter { subcommand_of (codes "--" ∷ []) ≡ None }
-    ensures help { subcommand_of (codes "help" ∷ []) ≡ None }
-    ensures help_option { subcommand_of (codes "--help" ∷ []) ≡ None }
-    ensures help_letter { subcommand_of (codes "-h" ∷ []) ≡ None }
-    ensures version_option { subcommand_of (codes "--version" ∷ []) ≡ None }
     ensures judge_with_a_word { subcommand_of (codes "judge" ∷ codes "x" ∷ []) ≡ None }
     ensures judge_twice { subcommand_of (codes "judge" ∷ codes "judge" ∷ []) ≡ None }
 {}

@@ -22,11 +22,11 @@ mod words;
 
 // The most bytes of a file of plans.
 pub use aia_io::limits::SOURCE_BYTES as FILE_BYTES;
-pub use command_line::Subcommand;
-pub use line::{Line, Reading};
-pub use outcome::{Answered, Outcome};
+pub use command_line::PlansSubcommand;
+pub use line::{PlanLine, Reading};
+pub use outcome::{Answered, FileOutcome};
 pub use parse::parse_line;
 pub use plan_file::answers;
-pub use plan_reader::PlanReader;
-pub use program::{Status, run};
+pub use plan_reader::PlanFileReader;
+pub use program::{PlansStatus, run};
 pub use starting::{command, start};

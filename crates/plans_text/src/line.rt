@@ -1,8 +1,8 @@
-use plans_rules::{Bank, Kind, Number, Spot, Step};
+use plans_rules::{AnyStep, Number, NumberSpot, RouteKind, WhichSet};
 
 /// What a line of a plan file says.
 #[derive(Clone, Copy, Debug, PartialEq, Eq)]
-pub enum Line {
+pub enum PlanLine {
     /// `plan`: a plan begins here, and the one before it ends.
     Plan,
 
@@ -10,7 +10,7 @@ pub enum Line {
     Words(u32),
 
     /// `producer KIND`: one producer more.
-    Producer(Kind),
+    Producer(RouteKind),
 
     /// `fresh`: the new place is known to hold nothing.
     Fresh,
@@ -25,10 +25,10 @@ pub enum Line {
     NoticesUnset,
 
     /// `numbers FROM TO`: where threshold and delivery are, and have to be.
-    Numbers(Spot, Spot),
+    Numbers(NumberSpot, NumberSpot),
 
     /// A step.
-    Step(Step),
+    Step(AnyStep),
 }
 
 /// What a text is read as.
@@ -38,7 +38,7 @@ pub enum Reading {
     Skip,
 
     /// It spells a line.
-    Line(Line),
+    Line(PlanLine),
 
     /// It spells none.
     Bad,
@@ -48,7 +48,7 @@ pub enum Reading {
 #[derive(Clone, Copy)]
 pub(crate) enum Thing {
     /// A word of a set.
-    Word(Bank, u32),
+    Word(WhichSet, u32),
 
     /// A number.
     Number(Number),

@@ -3,11 +3,11 @@
 ghost use Rattle.std.specs.Prelude.{◌≡◌};
 ghost use Rattle.plans_text.specs.Outcomes as outcomes;
 
-use plans_judge::Verdict;
+use plans_judge::Judgement;
 
 /// What came of plans: the worst that came of any of them. From the best on to the worst.
 #[derive(Clone, Copy, Debug, PartialEq, Eq)]
-pub enum Outcome {
+pub enum FileOutcome {
     /// There is no plan.
     NoPlan,
 
@@ -21,26 +21,26 @@ pub enum Outcome {
     BadLine,
 }
 
-impl Outcome {
+impl FileOutcome {
     /// Gives the worse of two.
-    pub(crate) fn worse(self, other: Outcome) -> Outcome
+    pub(crate) fn worse(self, other: FileOutcome) -> FileOutcome
         ensures { result ≡ outcomes.worse self other }
     {
         match (self, other) {
-            (Outcome::BadLine, _) | (_, Outcome::BadLine) => Outcome::BadLine,
-            (Outcome::Refused, _) | (_, Outcome::Refused) => Outcome::Refused,
-            (Outcome::Accepted, _) | (_, Outcome::Accepted) => Outcome::Accepted,
-            (Outcome::NoPlan, Outcome::NoPlan) => Outcome::NoPlan,
+            (FileOutcome::BadLine, _) | (_, FileOutcome::BadLine) => FileOutcome::BadLine,
+            (FileOutcome::Refused, _) | (_, FileOutcome::Refused) => FileOutcome::Refused,
+            (FileOutcome::Accepted, _) | (_, FileOutcome::Accepted) => FileOutcome::Accepted,
+            (FileOutcome::NoPlan, FileOutcome::NoPlan) => FileOutcome::NoPlan,
         }
     }
 
     /// Gives what came of a plan on which this is the verdict.
-    pub(crate) fn of(verdict: Verdict) -> Outcome
+    pub(crate) fn of(verdict: Judgement) -> FileOutcome
         ensures { result ≡ outcomes.outcome_of verdict }
     {
         match verdict {
-            Verdict::Accepted => Outcome::Accepted,
-            Verdict::Refused { .. } => Outcome::Refused,
+            Judgement::Accepted => FileOutcome::Accepted,
+            Judgement::Refused { .. } => FileOutcome::Refused,
         }
     }
 }
@@ -51,5 +51,5 @@ pub struct Answered {
     /// A line for each plan, and one more where it is refused.
     pub text: Vec<u8>,
 
-    pub outcome: Outcome,
+    pub outcome: FileOutcome,
 }

@@ -5,12 +5,12 @@ ghost use Rattle.std.specs.Option.{option_map};
 ghost use Rattle.plans_text.specs.Reading as reading;
 
 use crate::limits::LINE_BYTES;
-use crate::line::{Line, Reading, Thing};
+use crate::line::{PlanLine, Reading, Thing};
 use crate::words::{
     at_end, bank_named, before_comment, kind_named, next_word, number_named, numeral_at,
     place_named, spot_named,
 };
-use plans_rules::{Place, Step};
+use plans_rules::{AnyPlace, AnyStep};
 
 /// Reads a word of a set: its set and its number. `None`: it is none.
 #[tactic(auto, unfolding(crate::specs::Reading::word_at))]
@@ -45,48 +45,48 @@ fn thing_at(text: &[u8]) -> Option<(Thing, &[u8])>
 }
 
 /// Gives the step that overwrites it with zeros.
-fn zero_of(place: Place, thing: Thing) -> Step
+fn zero_of(place: AnyPlace, thing: Thing) -> AnyStep
     ensures { result ≡ reading.zero_of place thing }
 {
     match thing {
-        Thing::Word(bank, word) => Step::Zero(place, bank, word),
-        Thing::Number(number) => Step::ZeroNumber(place, number),
+        Thing::Word(bank, word) => AnyStep::Zero(place, bank, word),
+        Thing::Number(number) => AnyStep::ZeroNumber(place, number),
     }
 }
 
 /// Gives the step that takes it.
-fn take_of(thing: Thing) -> Step
+fn take_of(thing: Thing) -> AnyStep
     ensures { result ≡ reading.take_of thing }
 {
     match thing {
-        Thing::Word(bank, word) => Step::Take(bank, word),
-        Thing::Number(number) => Step::TakeNumber(number),
+        Thing::Word(bank, word) => AnyStep::Take(bank, word),
+        Thing::Number(number) => AnyStep::TakeNumber(number),
     }
 }
 
 /// Gives the step that puts it.
-fn put_of(thing: Thing) -> Step
+fn put_of(thing: Thing) -> AnyStep
     ensures { result ≡ reading.put_of thing }
 {
     match thing {
-        Thing::Word(bank, word) => Step::Put(bank, word),
-        Thing::Number(number) => Step::PutNumber(number),
+        Thing::Word(bank, word) => AnyStep::Put(bank, word),
+        Thing::Number(number) => AnyStep::PutNumber(number),
     }
 }
 
 /// Gives the step that joins it. `None`: a number is not joined.
-fn join_of(thing: Thing) -> Option<Step>
+fn join_of(thing: Thing) -> Option<AnyStep>
     ensures { result ≡ reading.join_of thing }
 {
     match thing {
-        Thing::Word(bank, word) => Some(Step::Join(bank, word)),
+        Thing::Word(bank, word) => Some(AnyStep::Join(bank, word)),
         Thing::Number(_) => None,
     }
 }
 
 /// Reads the place and the thing of a `zero`. `None`: they are none.
 #[tactic(auto, unfolding(crate::specs::Reading::zero_at))]
-fn zero_at(text: &[u8]) -> Option<Step>
+fn zero_at(text: &[u8]) -> Option<AnyStep>
     ensures { result ≡ reading.zero_at text.now }
 {
     let (word, rest) = next_word(text)?;
@@ -97,7 +97,7 @@ fn zero_at(text: &[u8]) -> Option<Step>
 
 /// Reads the thing of a `take`. `None`: it is none.
 #[tactic(auto, unfolding(crate::specs::Reading::take_at))]
-fn take_at(text: &[u8]) -> Option<Step>
+fn take_at(text: &[u8]) -> Option<AnyStep>
     ensures { result ≡ reading.take_at text.now }
 {
     let (thing, rest) = thing_at(text)?;
@@ -106,7 +106,7 @@ fn take_at(text: &[u8]) -> Option<Step>
 
 /// Reads the thing of a `put`. `None`: it is none.
 #[tactic(auto, unfolding(crate::specs::Reading::put_at))]
-fn put_at(text: &[u8]) -> Option<Step>
+fn put_at(text: &[u8]) -> Option<AnyStep>
     ensures { result ≡ reading.put_at text.now }
 {
     let (thing, rest) = thing_at(text)?;
@@ -115,7 +115,7 @@ fn put_at(text: &[u8]) -> Option<Step>
 
 /// Reads the word of a `join`. `None`: it is none.
 #[tactic(auto, unfolding(crate::specs::Reading::join_at))]
-fn join_at(text: &[u8]) -> Option<Step>
+fn join_at(text: &[u8]) -> Option<AnyStep>
     ensures { result ≡ reading.join_at text.now }
 {
     let (thing, rest) = thing_at(text)?;
@@ -126,29 +126,29 @@ fn join_at(text: &[u8]) -> Option<Step>
 /// Reads the number with which a text ends. `None`: it is none, or a word stands behind it.
 #[tactic(auto, unfolding(crate::specs::Reading::numbered_at))]
 fn last_number(text: &[u8]) -> Option<u32>
-    ensures { (step : ℕ → Step) → option_map step result ≡ reading.numbered_at step text.now }
+    ensures { (step : ℕ → AnyStep) → option_map step result ≡ reading.numbered_at step text.now }
 {
     let (number, rest) = numeral_at(text)?;
     at_end(rest, number)
 }
 
 /// Reads a step about a route. `None`: the name or what stands behind it spells none.
-fn routing_named(name: &[u8], text: &[u8]) -> Option<Step>
+fn routing_named(name: &[u8], text: &[u8]) -> Option<AnyStep>
     ensures { result ≡ reading.routing_named name.now text.now }
 {
     if name == b"route".as_slice() {
-        Some(Step::Route(last_number(text)?))
+        Some(AnyStep::Route(last_number(text)?))
     } else if name == b"fence".as_slice() {
-        Some(Step::Fence(last_number(text)?))
+        Some(AnyStep::Fence(last_number(text)?))
     } else if name == b"switch".as_slice() {
-        Some(Step::Switch(last_number(text)?))
+        Some(AnyStep::Switch(last_number(text)?))
     } else {
         None
     }
 }
 
 /// Reads a step that moves something. `None`: the name or what stands behind it spells none.
-fn moving_named(name: &[u8], text: &[u8]) -> Option<Step>
+fn moving_named(name: &[u8], text: &[u8]) -> Option<AnyStep>
     ensures { result ≡ reading.moving_named name.now text.now }
 {
     if name == b"zero".as_slice() {
@@ -165,11 +165,11 @@ fn moving_named(name: &[u8], text: &[u8]) -> Option<Step>
 }
 
 /// Gives the step that the word behind `write` names. `None`: it names none.
-fn notice_named(word: &[u8]) -> Option<Step>
+fn notice_named(word: &[u8]) -> Option<AnyStep>
     ensures { result ≡ reading.notice_named word.now }
 {
     if word == b"notice".as_slice() {
-        Some(Step::WriteNotice)
+        Some(AnyStep::WriteNotice)
     } else {
         None
     }
@@ -177,7 +177,7 @@ fn notice_named(word: &[u8]) -> Option<Step>
 
 /// Reads what a `write` writes. `None`: it is none.
 #[tactic(auto, unfolding(crate::specs::Reading::write_at))]
-fn write_at(text: &[u8]) -> Option<Step>
+fn write_at(text: &[u8]) -> Option<AnyStep>
     ensures { result ≡ reading.write_at text.now }
 {
     let (word, rest) = next_word(text)?;
@@ -186,19 +186,19 @@ fn write_at(text: &[u8]) -> Option<Step>
 }
 
 /// Reads a step about the host, or `free`. `None`: the name or what stands behind it spells none.
-fn telling_named(name: &[u8], text: &[u8]) -> Option<Step>
+fn telling_named(name: &[u8], text: &[u8]) -> Option<AnyStep>
     ensures { result ≡ reading.telling_named name.now text.now }
 {
     if name == b"look".as_slice() {
-        Some(Step::Look(last_number(text)?))
+        Some(AnyStep::Look(last_number(text)?))
     } else if name == b"post".as_slice() {
-        at_end(text, Step::Post)
+        at_end(text, AnyStep::Post)
     } else if name == b"tell".as_slice() {
-        at_end(text, Step::Tell)
+        at_end(text, AnyStep::Tell)
     } else if name == b"write".as_slice() {
         write_at(text)
     } else if name == b"free".as_slice() {
-        at_end(text, Step::Free)
+        at_end(text, AnyStep::Free)
     } else {
         None
     }
@@ -206,7 +206,7 @@ fn telling_named(name: &[u8], text: &[u8]) -> Option<Step>
 
 /// Reads the step that a name spells with the text behind it. `None`: they spell none.
 #[tactic(auto, unfolding(crate::specs::Reading::step_named))]
-fn step_named(name: &[u8], text: &[u8]) -> Option<Step>
+fn step_named(name: &[u8], text: &[u8]) -> Option<AnyStep>
     ensures { result ≡ reading.step_named name.now text.now }
 {
     if let Some(step) = routing_named(name, text) {
@@ -220,41 +220,41 @@ fn step_named(name: &[u8], text: &[u8]) -> Option<Step>
 
 /// Reads how many words a set has. `None`: it is no number.
 #[tactic(auto, unfolding(crate::specs::Reading::words_at))]
-fn words_at(text: &[u8]) -> Option<Line>
+fn words_at(text: &[u8]) -> Option<PlanLine>
     ensures { result ≡ reading.words_at text.now }
 {
     let (number, rest) = numeral_at(text)?;
-    at_end(rest, Line::Words(number))
+    at_end(rest, PlanLine::Words(number))
 }
 
 /// Reads the kind of a producer. `None`: it is none.
 #[tactic(auto, unfolding(crate::specs::Reading::producer_at))]
-fn producer_at(text: &[u8]) -> Option<Line>
+fn producer_at(text: &[u8]) -> Option<PlanLine>
     ensures { result ≡ reading.producer_at text.now }
 {
     let (word, rest) = next_word(text)?;
     let kind = kind_named(word)?;
-    at_end(rest, Line::Producer(kind))
+    at_end(rest, PlanLine::Producer(kind))
 }
 
 /// Reads where the numbers are, and have to be. `None`: they are no spots.
 #[tactic(auto, unfolding(crate::specs::Reading::numbers_at))]
-fn numbers_at(text: &[u8]) -> Option<Line>
+fn numbers_at(text: &[u8]) -> Option<PlanLine>
     ensures { result ≡ reading.numbers_at text.now }
 {
     let (word, rest) = next_word(text)?;
     let from = spot_named(word)?;
     let (word, rest) = next_word(rest)?;
     let to = spot_named(word)?;
-    at_end(rest, Line::Numbers(from, to))
+    at_end(rest, PlanLine::Numbers(from, to))
 }
 
 /// Gives the declaration that the word behind `notices` makes. `None`: it makes none.
-fn unset_named(word: &[u8]) -> Option<Line>
+fn unset_named(word: &[u8]) -> Option<PlanLine>
     ensures { result ≡ reading.unset_named word.now }
 {
     if word == b"unset".as_slice() {
-        Some(Line::NoticesUnset)
+        Some(PlanLine::NoticesUnset)
     } else {
         None
     }
@@ -262,7 +262,7 @@ fn unset_named(word: &[u8]) -> Option<Line>
 
 /// Reads what is declared of notices. `None`: it is nothing.
 #[tactic(auto, unfolding(crate::specs::Reading::notices_at))]
-fn notices_at(text: &[u8]) -> Option<Line>
+fn notices_at(text: &[u8]) -> Option<PlanLine>
     ensures { result ≡ reading.notices_at text.now }
 {
     let (word, rest) = next_word(text)?;
@@ -271,24 +271,24 @@ fn notices_at(text: &[u8]) -> Option<Line>
 }
 
 /// Reads a declaration of one word, or the begin of a plan. `None`: they spell none.
-fn flag_named(name: &[u8], text: &[u8]) -> Option<Line>
+fn flag_named(name: &[u8], text: &[u8]) -> Option<PlanLine>
     ensures { result ≡ reading.flag_named name.now text.now }
 {
     if name == b"plan".as_slice() {
-        at_end(text, Line::Plan)
+        at_end(text, PlanLine::Plan)
     } else if name == b"fresh".as_slice() {
-        at_end(text, Line::Fresh)
+        at_end(text, PlanLine::Fresh)
     } else if name == b"memory".as_slice() {
-        at_end(text, Line::Memory)
+        at_end(text, PlanLine::Memory)
     } else if name == b"heeds".as_slice() {
-        at_end(text, Line::Heeds)
+        at_end(text, PlanLine::Heeds)
     } else {
         None
     }
 }
 
 /// Reads a declaration. `None`: the name and the text behind it spell none.
-fn declaration_named(name: &[u8], text: &[u8]) -> Option<Line>
+fn declaration_named(name: &[u8], text: &[u8]) -> Option<PlanLine>
     ensures { result ≡ reading.declaration_named name.now text.now }
 {
     if name == b"words".as_slice() {
@@ -305,14 +305,14 @@ fn declaration_named(name: &[u8], text: &[u8]) -> Option<Line>
 }
 
 /// Reads the line that a name spells with the text behind it. `None`: they spell none.
-fn line_named(name: &[u8], text: &[u8]) -> Option<Line>
+fn line_named(name: &[u8], text: &[u8]) -> Option<PlanLine>
     ensures { result ≡ reading.line_named name.now text.now }
 {
     if let Some(line) = declaration_named(name, text) {
         return Some(line);
     }
     let step = step_named(name, text)?;
-    Some(Line::Step(step))
+    Some(PlanLine::Step(step))
 }
 
 /// Reads the words of a text that is not too long.

@@ -6,8 +6,8 @@ ghost use Rattle.plans_text.specs.PlanFile as file;
 ghost use Rattle.plans_text.specs.PlanFile.{AreInFile, read_of};
 
 use crate::draft::Draft;
-use crate::line::{Line, Reading};
-use crate::outcome::{Answered, Outcome};
+use crate::line::{PlanLine, Reading};
+use crate::outcome::{Answered, FileOutcome};
 use crate::parse::parse_line;
 use crate::words::find_byte;
 use std::alloc::{AllocError, Global};
@@ -25,7 +25,7 @@ pub(crate) struct PlanFile {
     answers: Vec<u8>,
 
     /// What came of them.
-    outcome: Outcome,
+    outcome: FileOutcome,
 }
 
 impl PlanFile {
@@ -38,7 +38,7 @@ impl PlanFile {
             draft: Draft::new(alloc),
             lines: 0,
             answers: Vec::new(alloc),
-            outcome: Outcome::NoPlan,
+            outcome: FileOutcome::NoPlan,
         }
     }
 
@@ -71,7 +71,7 @@ impl PlanFile {
                 }
                 Ok(())
             }
-            Reading::Line(Line::Plan) => self.begin(alloc),
+            Reading::Line(PlanLine::Plan) => self.begin(alloc),
             Reading::Line(line) => {
                 if self.draft.is_bad() {
                     Ok(())

@@ -13,20 +13,20 @@ use std::alloc::{AllocError, Global};
 
 /// Reads a file of plans that comes in pieces, and keeps one plan of it.
 #[derive(Drop)]
-pub struct PlanReader {
+pub struct PlanFileReader {
     file: PlanFile,
 
     /// What was read behind the last LF.
     rest: Vec<u8>,
 }
 
-impl PlanReader {
+impl PlanFileReader {
     /// Makes a reader that has read nothing.
-    pub fn new(alloc: Global) -> PlanReader
+    pub fn new(alloc: Global) -> PlanFileReader
         ensures read { HasRead result [] [] }
         ensures none { NoneWaits result }
     {
-        PlanReader {
+        PlanFileReader {
             file: PlanFile::new(alloc),
             rest: Vec::new(alloc),
         }

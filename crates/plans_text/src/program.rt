@@ -5,17 +5,17 @@ ghost use Rattle.aia_io.specs.Words.{asked};
 ghost use Rattle.plans_text.specs.CommandLine.{subcommand_of};
 ghost use Rattle.plans_text.specs.Runs.{EndsAsAsked};
 
-use crate::command_line::{Subcommand, read_words};
+use crate::command_line::{PlansSubcommand, read_words};
 use crate::judging::judge_file;
-use crate::outcome::Outcome;
+use crate::outcome::FileOutcome;
 use aia_io::{Sink, Source};
 use std::alloc::Global;
 
 /// How a run ended.
 #[derive(Clone, Copy, Debug, PartialEq, Eq)]
-pub enum Status {
+pub enum PlansStatus {
     /// The file was read to its end, and all its answers were written; this came of its plans.
-    Done(Outcome),
+    Done(FileOutcome),
 
     /// The words of the command line are refused.
     Usage,
@@ -44,17 +44,18 @@ pub fn run<S: Source, K: Sink>(
     words: &[&str],
     source: &mut S,
     sink: &mut K,
-) -> Status
+) -> PlansStatus
     ensures ends { EndsAsAsked (asked subcommand_of words.now) result (S.supply source.old)
         (S.supply source.new) (K.taken sink.old) (K.taken sink.new) (S.faults source.old)
         (S.faults source.new) (K.faults sink.old) (K.faults sink.new) }
-    ensures usage { result ≢ Status.Memory
-        → ((result ≡ Status.Usage) ↔ (asked subcommand_of words.now ≡ None)) }
-    ensures nothing { result ≡ Status.Usage → (source.new ≡ source.old) × (sink.new ≡ sink.old) }
+    ensures usage { result ≢ PlansStatus.Memory
+        → ((result ≡ PlansStatus.Usage) ↔ (asked subcommand_of words.now ≡ None)) }
+    ensures nothing { result ≡ PlansStatus.Usage
+        → (source.new ≡ source.old) × (sink.new ≡ sink.old) }
 {
     match read_words(alloc, words) {
-        Ok(Some(Subcommand::Judge)) => judge_file(alloc, source, sink),
-        Ok(None) => Status::Usage,
-        Err(_) => Status::Memory,
+        Ok(Some(PlansSubcommand::Judge)) => judge_file(alloc, source, sink),
+        Ok(None) => PlansStatus::Usage,
+        Err(_) => PlansStatus::Memory,
     }
 }

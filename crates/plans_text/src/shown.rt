@@ -4,7 +4,7 @@ ghost use Rattle.std.specs.Prelude.{◌≡◌};
 ghost use Rattle.plans_text.specs.PlanFile as file;
 
 use plans_counterexamples::{Run, UntoldRun, losing_run, untold_run};
-use plans_judge::{Kind, Rule, Step, Terms, Verdict};
+use plans_judge::{AnyStep, Judgement, RouteKind, Rule, Terms};
 
 /// What is shown of a plan beside its verdict.
 #[derive(Clone, Copy)]
@@ -21,18 +21,23 @@ pub(crate) enum Shown {
 }
 
 /// Gives what is shown of a plan.
-pub(crate) fn shown_of(producers: &[Kind], terms: Terms, plan: &[Step], verdict: Verdict) -> Shown
+pub(crate) fn shown_of(
+    producers: &[RouteKind],
+    terms: Terms,
+    plan: &[AnyStep],
+    verdict: Judgement,
+) -> Shown
     ensures { result ≡ file.shown_of producers.now terms plan.now verdict }
 {
     match verdict {
-        Verdict::Accepted => Shown::Nothing,
-        Verdict::Refused {
+        Judgement::Accepted => Shown::Nothing,
+        Judgement::Refused {
             rule: Rule::Notice,
             ..
         } => Shown::Untold {
             run: untold_run(producers, terms, plan),
             heeds: terms.heeds,
         },
-        Verdict::Refused { .. } => Shown::Losing(losing_run(producers, terms, plan)),
+        Judgement::Refused { .. } => Shown::Losing(losing_run(producers, terms, plan)),
     }
 }

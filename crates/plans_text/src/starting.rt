@@ -7,8 +7,8 @@ ghost use Rattle.aia_io.specs.Words.{AreRefused, asked_by, words_of};
 ghost use Rattle.plans_text.specs.Command.{exit_number, exit_numbers, outcome_number};
 ghost use Rattle.plans_text.specs.Runs.{EndsAsAsked, JudgesAll};
 
-use crate::outcome::Outcome;
-use crate::program::{Status, run};
+use crate::outcome::FileOutcome;
+use crate::program::{PlansStatus, run};
 use aia_io::{Sink, Source, StdSink, StdSource, arguments, refusal, words};
 use std::alloc::Global;
 use std::io;
@@ -34,12 +34,12 @@ pub fn command<S: Source, K: Sink>(
 ) -> ExitCode
     // The headline: at the number of an outcome, as 0 where each plan is accepted, all was read,
     // what is written is what is answered of the whole file, and that came of its plans.
-    ensures done { (outcome : Outcome) → exit_status result ≡ outcome_number outcome
+    ensures done { (outcome : FileOutcome) → exit_status result ≡ outcome_number outcome
         → JudgesAll outcome (S.supply source.old) (S.supply source.new) (K.taken sink.old)
         (K.taken sink.new) }
 
     // What every number promises.
-    ensures ends { (status : Status) → exit_status result ≡ exit_number status
+    ensures ends { (status : PlansStatus) → exit_status result ≡ exit_number status
         → EndsAsAsked (asked_by subcommand_of arguments) status (S.supply source.old)
         (S.supply source.new) (K.taken sink.old) (K.taken sink.new) (S.faults source.old)
         (S.faults source.new) (K.faults sink.old) (K.faults sink.new) }
@@ -60,17 +60,18 @@ fn run_arguments<S: Source, K: Sink>(
     arguments: io::Result<Vec<String>>,
     source: &mut S,
     sink: &mut K,
-) -> Status
+) -> PlansStatus
     ensures ends { EndsAsAsked (asked_by subcommand_of arguments) result (S.supply source.old)
         (S.supply source.new) (K.taken sink.old) (K.taken sink.new) (S.faults source.old)
         (S.faults source.new) (K.faults sink.old) (K.faults sink.new) }
-    ensures usage { result ≢ Status.Memory
-        → ((result ≡ Status.Usage) ↔ AreRefused subcommand_of arguments) }
-    ensures nothing { result ≡ Status.Usage → (source.new ≡ source.old) × (sink.new ≡ sink.old) }
+    ensures usage { result ≢ PlansStatus.Memory
+        → ((result ≡ PlansStatus.Usage) ↔ AreRefused subcommand_of arguments) }
+    ensures nothing { result ≡ PlansStatus.Usage
+        → (source.new ≡ source.old) × (sink.new ≡ sink.old) }
 {
     match arguments {
         Ok(arguments) => run_words(alloc, &arguments, source, sink),
-        Err(error) => refusal(&error, Status::Usage, Status::Memory),
+        Err(error) => refusal(&error, PlansStatus::Usage, PlansStatus::Memory),
     }
 }
 
@@ -80,34 +81,35 @@ fn run_words<S: Source, K: Sink>(
     arguments: &[String],
     source: &mut S,
     sink: &mut K,
-) -> Status
+) -> PlansStatus
     ensures ends { EndsAsAsked (subcommand_of (words_of arguments.now)) result
         (S.supply source.old) (S.supply source.new) (K.taken sink.old) (K.taken sink.new)
         (S.faults source.old) (S.faults source.new) (K.faults sink.old) (K.faults sink.new) }
-    ensures usage { result ≢ Status.Memory
-        → ((result ≡ Status.Usage) ↔ (subcommand_of (words_of arguments.now) ≡ None)) }
-    ensures nothing { result ≡ Status.Usage → (source.new ≡ source.old) × (sink.new ≡ sink.old) }
+    ensures usage { result ≢ PlansStatus.Memory
+        → ((result ≡ PlansStatus.Usage) ↔ (subcommand_of (words_of arguments.now) ≡ None)) }
+    ensures nothing { result ≡ PlansStatus.Usage
+        → (source.new ≡ source.old) × (sink.new ≡ sink.old) }
 {
     match words(alloc, arguments) {
         Ok(words) => run(alloc, &words, source, sink),
-        Err(_) => Status::Memory,
+        Err(_) => PlansStatus::Memory,
     }
 }
 
 /// Gives each status its number, by which the program ends.
-fn exit_code(status: Status) -> ExitCode
+fn exit_code(status: PlansStatus) -> ExitCode
     ensures by_status { exit_status result ≡ exit_number status }
     ensures number { Contains exit_numbers (exit_status result) }
 {
     ExitCode::from(match status {
-        Status::Done(Outcome::Accepted) => 0,
-        Status::Done(Outcome::Refused) => 1,
-        Status::Done(Outcome::BadLine) => 7,
-        Status::Done(Outcome::NoPlan) => 8,
-        Status::Usage => 2,
-        Status::ReadFault => 3,
-        Status::WriteFault => 4,
-        Status::Memory => 5,
-        Status::TooLong => 6,
+        PlansStatus::Done(FileOutcome::Accepted) => 0,
+        PlansStatus::Done(FileOutcome::Refused) => 1,
+        PlansStatus::Done(FileOutcome::BadLine) => 7,
+        PlansStatus::Done(FileOutcome::NoPlan) => 8,
+        PlansStatus::Usage => 2,
+        PlansStatus::ReadFault => 3,
+        PlansStatus::WriteFault => 4,
+        PlansStatus::Memory => 5,
+        PlansStatus::TooLong => 6,
     })
 }

@@ -7,17 +7,17 @@ ghost use Rattle.plans_text.specs.PlanFile.{place_of};
 use crate::answer::{push_none, push_number, push_store};
 use crate::draft::Mark;
 use plans_counterexamples::{Store, UntoldRun};
-use plans_judge::Spot;
+use plans_judge::NumberSpot;
 use std::alloc::AllocError;
 
 /// Gives the words for where a number is.
-fn spot_word(spot: Spot) -> &'static [u8]
+fn spot_word(spot: NumberSpot) -> &'static [u8]
     ensures { result.now ≡ file.spot_word spot }
 {
     match spot {
-        Spot::InOld => b" in the old place",
-        Spot::InHand => b" in the hand",
-        Spot::InNew => b" in the new place",
+        NumberSpot::InOld => b" in the old place",
+        NumberSpot::InHand => b" in the hand",
+        NumberSpot::InNew => b" in the new place",
     }
 }
 
@@ -29,7 +29,7 @@ fn push_words(out: &mut Vec<u8>, words: &[u8]) -> Result<(), AllocError>
 }
 
 /// Appends the words for where a number is. `Err`: there is no memory for them.
-fn push_spot(out: &mut Vec<u8>, spot: Spot) -> Result<(), AllocError>
+fn push_spot(out: &mut Vec<u8>, spot: NumberSpot) -> Result<(), AllocError>
     ensures { OnOk result (out.new.items ≡ out.old.items ++ file.spot_word spot) }
 {
     out.extend_from_slice(spot_word(spot))
@@ -47,7 +47,7 @@ fn push_store_of(out: &mut Vec<u8>, marks: &[Mark], store: Option<Store>) -> Res
 }
 
 /// Appends the threshold at the start. `Err`: there is no memory for it.
-fn push_threshold(out: &mut Vec<u8>, threshold: Option<Spot>) -> Result<(), AllocError>
+fn push_threshold(out: &mut Vec<u8>, threshold: Option<NumberSpot>) -> Result<(), AllocError>
     ensures { OnOk result (out.new.items
         ≡ out.old.items ++ file.threshold_text threshold) }
 {
@@ -62,7 +62,7 @@ fn push_threshold(out: &mut Vec<u8>, threshold: Option<Spot>) -> Result<(), Allo
 }
 
 /// Appends delivery at the start. `Err`: there is no memory for it.
-fn push_delivery(out: &mut Vec<u8>, spot: Spot) -> Result<(), AllocError>
+fn push_delivery(out: &mut Vec<u8>, spot: NumberSpot) -> Result<(), AllocError>
     ensures { OnOk result (out.new.items ≡ out.old.items ++ file.delivery_text spot) }
 {
     out.extend_from_slice(b"; at the start delivery is 1")?;

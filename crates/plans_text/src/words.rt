@@ -4,7 +4,7 @@ ghost use Rattle.std.specs.Prelude.{◌≡◌, ◌≤◌, length, nat_eq, not, p
 ghost use Rattle.std.specs.Option.{option_map};
 ghost use Rattle.plans_text.specs.Reading as reading;
 
-use plans_rules::{Bank, Kind, Number, Place, Spot};
+use plans_rules::{AnyPlace, Number, NumberSpot, RouteKind, WhichSet};
 
 /// A word, and the text behind it.
 pub(crate) type Cut<'a> = (&'a [u8], &'a [u8]);
@@ -101,13 +101,13 @@ pub(crate) fn numeral_at(text: &[u8]) -> Option<(u32, &[u8])>
 }
 
 /// Gives the set that a word names. `None`: it names none.
-pub(crate) fn bank_named(word: &[u8]) -> Option<Bank>
+pub(crate) fn bank_named(word: &[u8]) -> Option<WhichSet>
     ensures { result ≡ reading.bank_named word.now }
 {
     if word == b"pending".as_slice() {
-        Some(Bank::Pending)
+        Some(WhichSet::Pending)
     } else if word == b"enabled".as_slice() {
-        Some(Bank::Enabled)
+        Some(WhichSet::Enabled)
     } else {
         None
     }
@@ -127,41 +127,41 @@ pub(crate) fn number_named(word: &[u8]) -> Option<Number>
 }
 
 /// Gives the place that a word names. `None`: it names none.
-pub(crate) fn place_named(word: &[u8]) -> Option<Place>
+pub(crate) fn place_named(word: &[u8]) -> Option<AnyPlace>
     ensures { result ≡ reading.place_named word.now }
 {
     if word == b"old".as_slice() {
-        Some(Place::Old)
+        Some(AnyPlace::Old)
     } else if word == b"new".as_slice() {
-        Some(Place::New)
+        Some(AnyPlace::New)
     } else {
         None
     }
 }
 
 /// Gives the spot that a word names. `None`: it names none.
-pub(crate) fn spot_named(word: &[u8]) -> Option<Spot>
+pub(crate) fn spot_named(word: &[u8]) -> Option<NumberSpot>
     ensures { result ≡ reading.spot_named word.now }
 {
     if word == b"old".as_slice() {
-        Some(Spot::InOld)
+        Some(NumberSpot::InOld)
     } else if word == b"hand".as_slice() {
-        Some(Spot::InHand)
+        Some(NumberSpot::InHand)
     } else if word == b"new".as_slice() {
-        Some(Spot::InNew)
+        Some(NumberSpot::InNew)
     } else {
         None
     }
 }
 
 /// Gives the kind of producer that a word names. `None`: it names none.
-pub(crate) fn kind_named(word: &[u8]) -> Option<Kind>
+pub(crate) fn kind_named(word: &[u8]) -> Option<RouteKind>
     ensures { result ≡ reading.kind_named word.now }
 {
     if word == b"routed".as_slice() {
-        Some(Kind::Routed)
+        Some(RouteKind::Routed)
     } else if word == b"switched".as_slice() {
-        Some(Kind::Switched)
+        Some(RouteKind::Switched)
     } else {
         None
     }

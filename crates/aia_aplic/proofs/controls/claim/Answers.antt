@@ -7,5 +7,7 @@ use Rattle.aia_aplic.proofs.controls.claim.Goals as goal
 pub returns-clause-sources : goal.returns-clause-sources
 returns-clause-sources c = λ s.
     let same : get_or c.args.controls.now c.args.hart c.index-controls-hart.result ≡ control_at c.args.controls.now c.args.hart =
-    get_or_from_slice_get c.args.controls.now c.args.hart (control_at c.args.controls.now c.args.hart) c.index-controls-hart.result (slice_get-get_or c.args.controls.now c.args.hart new_idc c.requires) in
-    c.claimi.ensures.sources s ∙ ap (λ (x : IdcState). option_map (claimed_top (top_shown x c.args.domain.now c.args.hart) s) (slice_get c.args.domain.now.sources s)) same
+    get_or_from_slice_get c.args.controls.now c.args.hart (control_at c.args.controls.now c.args.hart) c.index-controls-hart.result
+    (slice_get-get_or c.args.controls.now c.args.hart new_idc c.requires) in
+    c.claimi.ensures.sources s ∙ ap (λ (x : IdcState). option_map (claimed_top (top_shown x c.args.domain.now c.args.hart) s)
+    (slice_get c.args.domain.now.sources s)) same

@@ -8,4 +8,5 @@ use Rattle.aia_command.proofs.words.read_kind.Goals as goal
 
 pub returns : goal.returns
 returns c =
-    kind_read _ c.get_one.result c.get_one.ensures.none c.get_one.ensures.value ∙ ap (option_and_then kind_named) (one_text-rows (found_of c.args.arguments.now) (codes "KIND"))
+    kind_read _ c.get_one.result c.get_one.ensures.none c.get_one.ensures.value
+    ∙ ap (option_and_then kind_named) (one_text-rows (found_of c.args.arguments.now) (codes "KIND"))

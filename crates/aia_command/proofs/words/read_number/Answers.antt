@@ -9,5 +9,6 @@ use Rattle.aia_command.proofs.words.read_number.Goals as goal
 
 pub returns : goal.returns
 returns c =
-    number_read (λ bs r. ParsesUnsigned 64 10 bs r × ExplainsUnsignedError 10 bs r × HasUnsignedDigitsIfOk bs r) _ c.get_one.result c.get_one.ensures.none c.get_one.ensures.value (λ t r gave. gave.0)
+    number_read (λ bs r. ParsesUnsigned 64 10 bs r × ExplainsUnsignedError 10 bs r × HasUnsignedDigitsIfOk bs r) _ c.get_one.result
+    c.get_one.ensures.none c.get_one.ensures.value (λ t r gave. gave.0)
     ∙ ap (option_and_then number_of) (one_text-rows (found_of c.args.arguments.now) c.args.name.now)

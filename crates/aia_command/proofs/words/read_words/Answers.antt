@@ -1,9 +1,15 @@
 use Rattle.std.proofs.Common.{◌∙◌}
-use Rattle.aia_command.proofs.WordLemmas.{error_is_refusal, found_is_asked}
+use Rattle.std.specs.Prelude.{map}
+use Rattle.aia_io.proofs.CommandLemmas.{found_is_asked, refused_is_unasked}
+use Rattle.aia_command.specs.CommandLine.{named, subcommand_of, the_command}
 use Rattle.aia_command.proofs.words.read_words.Goals as goal
 
-pub returns-in-Ok : goal.returns-in-Ok
-returns-in-Ok c = c.read_matches.ensures ∙ found_is_asked _ _ c.in-Ok.matches c.in_ok-command.ensures c.in-Ok.ensures.kinds c.in-Ok.ensures.matches
+pub returns-in-Some : goal.returns-in-Some
+unfolding subcommand_of
+returns-in-Some c = c.read_matches.ensures ∙ found_is_asked the_command _ named (map (λ word. word.now) c.args.words.now) _ c.in-Some.found
+    c.in_ok-command.ensures.shape c.in-Some.is c.in_ok-found.ensures
 
-pub returns : goal.returns
-returns c = error_is_refusal _ _ c.in-Err.error c.in_ok-command.ensures c.in-Err.ensures.kinds (λ memory. c.in_default.not-OutOfMemory (c.kind.ensures ∙ memory))
+pub returns-in-None : goal.returns-in-None
+unfolding subcommand_of
+returns-in-None c = refused_is_unasked the_command _ named (map (λ word. word.now) c.args.words.now) _ c.in_ok-command.ensures.shape c.in-None.is
+    c.in_ok-found.ensures

@@ -7,4 +7,5 @@ use Rattle.aia_domain.proofs.candidates.place_of.Goals as goal
 pub returns-clause-point : goal.returns-clause-point
 returns-clause-point c =
     unflipped_point c.args.pair c.args.falling.now c.partition_point.result
-    (IsPartitionPoint-from_clause (λ q. not (comes_before q c.args.pair)) _ _ c.partition_point.ensures.partitioned (falling_parted c.args.pair c.args.falling.now c.requires.rising) (λ a r q k. search rules))
+    (IsPartitionPoint-from_clause (λ q. not (comes_before q c.args.pair)) _ _ c.partition_point.ensures.partitioned
+    (falling_parted c.args.pair c.args.falling.now c.requires.rising) (λ a r q k. search rules))

@@ -5,7 +5,8 @@ use Rattle.aia_domain.proofs.WaitingLemmas.{cleared_have}
 use Rattle.aia_domain.proofs.waiting.begin_all.Goals as goal
 
 pub put_all-requires-clause-empty : goal.put_all-requires-clause-empty
-put_all-requires-clause-empty c = cleared_have (length c.args.sources.now - 1) c.args.fronts.now c.clear_all.new.fronts c.requires.room c.clear_all.ensures
+put_all-requires-clause-empty c = cleared_have (length c.args.sources.now - 1) c.args.fronts.now c.clear_all.new.fronts c.requires.room
+    c.clear_all.ensures
 
 pub returns-then-msi-clause-lists : goal.returns-then-msi-clause-lists
 returns-then-msi-clause-lists c =

@@ -12,7 +12,8 @@ returns-in-Some-clause-line c =
 
 pub returns-in-Some-clause-listed : goal.returns-in-Some-clause-listed
 returns-in-Some-clause-listed c =
-    let at : line_at c.args.x c.args.k ≡ c.in-Some.line = line_at-place c.args.x c.args.k c.requires ∙ ap (λ (o : Option Line). unwrap_or o (line_drawn c.args.x)) (sym c.in-Some.ensures) in
+    let at : line_at c.args.x c.args.k ≡ c.in-Some.line = line_at-place c.args.x c.args.k c.requires
+    ∙ ap (λ (o : Option Line). unwrap_or o (line_drawn c.args.x)) (sym c.in-Some.ensures) in
     subst IsListed at (line_at-listed c.args.x c.args.k)
 
 pub returns-in-None-clause-line : goal.returns-in-None-clause-line

@@ -6,4 +6,6 @@ use Rattle.aia_hyp.proofs.moves.carry_on.Goals as goal
 
 pub step_in_place-requires-clause-fits : goal.step_in_place-requires-clause-fits
 step_in_place-requires-clause-fits g c =
-    (c.requires.knows c.in-Moving.plan (ap (λ (r : VcpuRecord). r.stay) (get_or_default c.args.vcpus.now.items c.args.slot no_record c.index_mut.result.now c.requires.low ∙ sym c.index_mut.ensures.value) ∙ c.in-Moving.is)).0
+    (c.requires.knows c.in-Moving.plan (ap (λ (r : VcpuRecord). r.stay)
+    (get_or_default c.args.vcpus.now.items c.args.slot no_record c.index_mut.result.now c.requires.low ∙ sym c.index_mut.ensures.value)
+    ∙ c.in-Moving.is)).0

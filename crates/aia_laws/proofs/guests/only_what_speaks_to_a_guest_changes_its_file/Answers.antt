@@ -5,4 +5,5 @@ pub returns-clause-silent : goal.returns-clause-silent
 returns-clause-silent c = λ h line g stands quiet still. quiet_same h line g still stands quiet
 
 pub returns-clause-other_vms : goal.returns-clause-other_vms
-returns-clause-other_vms c = λ h line g stands other. quiet_same h line g (none_forwarded h line g (others_send_none line g other)) stands (other_is_quiet h line g other)
+returns-clause-other_vms c = λ h line g stands other. quiet_same h line g (none_forwarded h line g (others_send_none line g other)) stands
+    (other_is_quiet h line g other)

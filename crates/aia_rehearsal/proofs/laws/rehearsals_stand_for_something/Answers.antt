@@ -9,7 +9,8 @@ pub returns-clause-leave : goal.returns-clause-leave
 returns-clause-leave c = has_left
 
 pub returns-clause-next : goal.returns-clause-next
-returns-clause-next c w u r t asked_for place o e of alone two none pending enabled = next_begins w u r asked_for place o t e of alone two none pending enabled
+returns-clause-next c w u r t asked_for place o e of alone two none pending enabled =
+    next_begins w u r asked_for place o t e of alone two none pending enabled
 
 pub returns-clause-begun : goal.returns-clause-begun
 returns-clause-begun c w r b = (begun_stands w r b, begun_starts w r b)

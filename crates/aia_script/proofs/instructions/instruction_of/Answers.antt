@@ -17,12 +17,14 @@ pub returns-in_err-op : goal.returns-in_err-op
 returns-in_err-op c =
     let after = after_first c.args.text.now in
     let m = c.in_ok-mnemonic.mnemonic in
-    let step : c.from_residual-in_err-op.result ≡ (csr_at c.args.level after >>= λ a. operation_at m a.1 >>= λ d. whole {A = Csr × Op} d.1 (a.0, d.0)) = search rules in
+    let step : c.from_residual-in_err-op.result ≡ (csr_at c.args.level after >>= λ a. operation_at m a.1 >>= λ d. whole {A = Csr × Op} d.1
+    (a.0, d.0)) = search rules in
     step ∙ sym (by_mnemonic c.args.level m (first_word c.args.text.now) after c.in_ok-mnemonic.ensures.name)
 
 pub returns : goal.returns
 returns c =
     let after = after_first c.args.text.now in
     let m = c.in_ok-mnemonic.mnemonic in
-    let step : c.at_end.result ≡ (csr_at c.args.level after >>= λ a. operation_at m a.1 >>= λ d. whole {A = Csr × Op} d.1 (a.0, d.0)) = search rules in
+    let step : c.at_end.result ≡ (csr_at c.args.level after >>= λ a. operation_at m a.1 >>= λ d. whole {A = Csr × Op} d.1 (a.0, d.0)) =
+    search rules in
     step ∙ sym (by_mnemonic c.args.level m (first_word c.args.text.now) after c.in_ok-mnemonic.ensures.name)

@@ -21,8 +21,10 @@ returns-in_err-number c =
     let at = c.loop-at.at in
     let n = c.loop-at.number in
     let digit = c.in-Some.digit in
-    rw c.from_residual.ensures (sym (stays_large Decimal (length text - (at + 1)) (n * 10 + digit) (drop (at + 1) text) (none_below _ _ (sym c.with_digit.ensures ∙ c.in_err-number.was)))
-    ∙ sym (ap below_limit (digit_taken Decimal (length text) n at digit text c.loop-at-test.true c.loop-at-test.true (sym c.digit.ensures.value ∙ c.in-Some.is)))
+    rw c.from_residual.ensures (sym (stays_large Decimal (length text - (at + 1)) (n * 10 + digit) (drop (at + 1) text)
+    (none_below _ _ (sym c.with_digit.ensures ∙ c.in_err-number.was)))
+    ∙ sym (ap below_limit (digit_taken Decimal (length text) n at digit text c.loop-at-test.true c.loop-at-test.true
+    (sym c.digit.ensures.value ∙ c.in-Some.is)))
     ∙ c.loop-at.invariant.same)
 
 pub loop-at-preserved : goal.loop-at-preserved
@@ -34,7 +36,8 @@ loop-at-preserved c =
     let is = is_below _ _ _ (sym c.with_digit.ensures ∙ c.in_ok-number.was) in
     record {
       same = ap (λ m. below_limit (number_from Decimal (length text - (at + 1)) m (drop (at + 1) text))) (sym is.0)
-          ∙ sym (ap below_limit (digit_taken Decimal (length text) n at digit text c.loop-at-test.true c.loop-at-test.true (sym c.digit.ensures.value ∙ c.in-Some.is)))
+          ∙ sym (ap below_limit (digit_taken Decimal (length text) n at digit text c.loop-at-test.true c.loop-at-test.true
+          (sym c.digit.ensures.value ∙ c.in-Some.is)))
           ∙ c.loop-at.invariant.same;
       low = omega arith;
     }

@@ -5,6 +5,7 @@ use Rattle.aia_script.proofs.number.decimal.Given as goal
 
 abbrev pub invariant-loop-at : goal.invariant-loop-at
 invariant-loop-at l = record {
-  same : below_limit (number_from Decimal (length l.text - l.at) l.number (drop l.at l.text)) ≡ below_limit (number_from Decimal (length l.text) l.first l.text);
+  same : below_limit (number_from Decimal (length l.text - l.at) l.number (drop l.at l.text)) ≡ below_limit
+      (number_from Decimal (length l.text) l.first l.text);
   low : l.number < 2 ^ 64;
 }

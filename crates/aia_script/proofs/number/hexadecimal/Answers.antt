@@ -38,7 +38,8 @@ loop-at-preserved c =
     let at = c.loop-at.at in
     let n = c.loop-at.number in
     record {
-      same = sym (ap below_limit (digit_taken Hexadecimal 15 n at c.in-Some.digit text (omega (arith, c.min-most.ensures)) (omega (arith, c.min-most.ensures)) (sym c.digit.ensures.value ∙ c.in-Some.is)))
+      same = sym (ap below_limit (digit_taken Hexadecimal 15 n at c.in-Some.digit text (omega (arith, c.min-most.ensures))
+          (omega (arith, c.min-most.ensures)) (sym c.digit.ensures.value ∙ c.in-Some.is)))
           ∙ c.loop-at.invariant.same;
       low = (room_for n at c.in-Some.digit c.loop-at.invariant.low (omega (arith, c.min-most.ensures)) (low_digit c)).0;
     }
@@ -52,7 +53,8 @@ returns c =
     let fits : n < 2 ^ 64 = search rules in
     let last : number_from Hexadecimal (15 - at) n (drop at text) ≡ ended n (drop at text) =
     elim (cases_lt at (length text)) [
-      | inl there ↦ let none : 15 - at ≡ 0 = omega (arith, c.min-most.ensures) in ap (λ k. number_from Hexadecimal k n (drop at text)) none ∙ no_room Hexadecimal n (drop at text)
+      | inl there ↦ let none : 15 - at ≡ 0 = omega (arith, c.min-most.ensures) in ap (λ k. number_from Hexadecimal k n (drop at text)) none
+          ∙ no_room Hexadecimal n (drop at text)
       | inr past ↦ text_ends Hexadecimal (15 - at) n at text past
     ] in
     c.ended-2.ensures

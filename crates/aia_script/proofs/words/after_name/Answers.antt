@@ -30,7 +30,8 @@ loop-at-preserved c =
 all_bytes : (c : goal.After-words_after) → c.loop-at.at ≡ length c.args.name.now
 all_bytes c = omega arith
 
-word_whole : (c : goal.After-words_after) → is_word (first_word (drop (length c.args.name.now) c.args.text.now)) (drop (length c.args.name.now) c.args.name.now) ≡ is_word (first_word c.args.text.now) c.args.name.now
+word_whole : (c : goal.After-words_after) → is_word (first_word (drop (length c.args.name.now) c.args.text.now))
+    (drop (length c.args.name.now) c.args.name.now) ≡ is_word (first_word c.args.text.now) c.args.name.now
 word_whole c = ap (λ at. is_word (first_word (drop at c.args.text.now)) (drop at c.args.name.now)) (sym (all_bytes c)) ∙ c.loop-at.invariant.word
 
 pub returns-clause-found : goal.returns-clause-found

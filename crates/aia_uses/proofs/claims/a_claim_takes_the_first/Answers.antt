@@ -17,7 +17,8 @@ pub returns-clause-answered : goal.returns-clause-answered
 returns-clause-answered c = (c.a_claim_takes_the_least_identity.ensures.found asked (vcpu 0 0) (Write 0) 1 claim_allowed refl first).0
 
 pub returns-clause-cleared : goal.returns-clause-cleared
-returns-clause-cleared c = ap (λ file. file.pending 1) (c.a_claim_takes_the_least_identity.ensures.found asked (vcpu 0 0) (Write 0) 1 claim_allowed refl first).1
+returns-clause-cleared c = ap (λ file. file.pending 1)
+    (c.a_claim_takes_the_least_identity.ensures.found asked (vcpu 0 0) (Write 0) 1 claim_allowed refl first).1
 
 pub returns-clause-nothing : goal.returns-clause-nothing
 returns-clause-nothing c = (c.a_claim_takes_the_least_identity.ensures.none enabled (vcpu 0 0) (Write 0) empty_claim_allowed none).0

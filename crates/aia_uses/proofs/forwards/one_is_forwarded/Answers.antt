@@ -27,17 +27,29 @@ use Rattle.aia_uses.proofs.ForwardFacts.{is_passed, is_forward, wire_allowed, is
 use Rattle.aia_uses.proofs.forwards.one_is_forwarded.Goals as goal
 
 pub returns-clause-own : goal.returns-clause-own
-unfolding word_of least_of packed ones number_at n32_at flag_at csr_at line_at reading select_by file_by majors_of home in_force_of stage_in_force_of flight passes_of look_saw domain_register_of newest wire_of enabled target pending least_pair addresses_of genmsi_waits all_senders after
-returns-clause-own c = ap (λ file. file.pending 5) (c.a_forward_asks_at_its_guest_alone.ensures.guests (history_of PASSED.now) 0 forward (vcpu 0 0) (script_happens PASSED.now) is_passed is_forward)
+unfolding word_of least_of packed ones number_at n32_at flag_at csr_at line_at reading select_by file_by majors_of home in_force_of
+    stage_in_force_of flight passes_of look_saw domain_register_of newest wire_of enabled target pending least_pair addresses_of genmsi_waits
+    all_senders after
+returns-clause-own c = ap (λ file. file.pending 5)
+    (c.a_forward_asks_at_its_guest_alone.ensures.guests (history_of PASSED.now) 0 forward (vcpu 0 0) (script_happens PASSED.now) is_passed is_forward)
 
 pub returns-clause-asks : goal.returns-clause-asks
-unfolding word_of least_of packed ones number_at n32_at flag_at csr_at line_at reading select_by file_by majors_of home in_force_of stage_in_force_of flight passes_of look_saw domain_register_of newest wire_of enabled target pending least_pair addresses_of genmsi_waits all_senders after
-returns-clause-asks c = c.a_forward_asks_at_its_guest_alone.ensures.asks (history_of PASSED.now) 0 forward (script_happens PASSED.now) is_passed is_forward
+unfolding word_of least_of packed ones number_at n32_at flag_at csr_at line_at reading select_by file_by majors_of home in_force_of
+    stage_in_force_of flight passes_of look_saw domain_register_of newest wire_of enabled target pending least_pair addresses_of genmsi_waits
+    all_senders after
+returns-clause-asks c = c.a_forward_asks_at_its_guest_alone.ensures.asks (history_of PASSED.now) 0 forward (script_happens PASSED.now)
+    is_passed is_forward
 
 pub returns-clause-hosts : goal.returns-clause-hosts
-unfolding word_of least_of packed ones number_at n32_at flag_at csr_at line_at reading select_by file_by majors_of home in_force_of stage_in_force_of flight passes_of look_saw domain_register_of newest wire_of enabled target pending least_pair addresses_of genmsi_waits all_senders after
-returns-clause-hosts c = c.a_forward_asks_at_its_guest_alone.ensures.hosts (history_of PASSED.now) 0 forward (SupervisorFile 0) 5 (script_happens PASSED.now) is_passed is_forward refl
+unfolding word_of least_of packed ones number_at n32_at flag_at csr_at line_at reading select_by file_by majors_of home in_force_of
+    stage_in_force_of flight passes_of look_saw domain_register_of newest wire_of enabled target pending least_pair addresses_of genmsi_waits
+    all_senders after
+returns-clause-hosts c = c.a_forward_asks_at_its_guest_alone.ensures.hosts (history_of PASSED.now) 0 forward (SupervisorFile 0) 5
+    (script_happens PASSED.now) is_passed is_forward refl
 
 pub returns-clause-after_a_line : goal.returns-clause-after_a_line
-unfolding word_of least_of packed ones number_at n32_at flag_at csr_at line_at reading select_by file_by majors_of home in_force_of stage_in_force_of flight passes_of look_saw domain_register_of newest wire_of enabled target pending least_pair addresses_of genmsi_waits all_senders after
-returns-clause-after_a_line c = c.what_a_line_forwards_is_pending_after_it.ensures (history_of PASSED.now) (Wire 1 true) forward 0 (script_happens PASSED.now) wire_allowed is_sent is_passed_then
+unfolding word_of least_of packed ones number_at n32_at flag_at csr_at line_at reading select_by file_by majors_of home in_force_of
+    stage_in_force_of flight passes_of look_saw domain_register_of newest wire_of enabled target pending least_pair addresses_of genmsi_waits
+    all_senders after
+returns-clause-after_a_line c = c.what_a_line_forwards_is_pending_after_it.ensures (history_of PASSED.now) (Wire 1 true) forward 0
+    (script_happens PASSED.now) wire_allowed is_sent is_passed_then

@@ -12,18 +12,21 @@ use Rattle.aia_uses.proofs.forwards.what_a_forward_is.Goals as goal
 pub returns-clause-own : goal.returns-clause-own
 returns-clause-own c = λ h p msi good is forward.
     let g = (nth_pass h p).to in
-    c.a_forward_asks_at_its_guest_alone.ensures.guests h p msi g good is forward ∙ ap (λ deed. file_after (guest_select h g) deed (guest_file h g)) (cond-true _ _ _ (is_itself g))
+    c.a_forward_asks_at_its_guest_alone.ensures.guests h p msi g good is forward
+    ∙ ap (λ deed. file_after (guest_select h g) deed (guest_file h g)) (cond-true _ _ _ (is_itself g))
 
 pub returns-clause-others : goal.returns-clause-others
 returns-clause-others c = λ h p msi g good is forward other.
-    c.a_forward_asks_at_its_guest_alone.ensures.guests h p msi g good is forward ∙ ap (λ deed. file_after (guest_select h g) deed (guest_file h g)) (cond-false _ _ _ other)
+    c.a_forward_asks_at_its_guest_alone.ensures.guests h p msi g good is forward
+    ∙ ap (λ deed. file_after (guest_select h g) deed (guest_file h g)) (cond-false _ _ _ other)
 
 pub returns-clause-asks : goal.returns-clause-asks
 returns-clause-asks c = λ h p msi good is forward. c.a_forward_asks_at_its_guest_alone.ensures.asks h p msi good is forward
 
 pub returns-clause-machine : goal.returns-clause-machine
 returns-clause-machine c = λ h p msi hart i good is forward there.
-    c.a_forward_asks_at_its_guest_alone.ensures.hosts h p msi (MachineFile hart) i good is forward there ∙ ap (λ said. settle said ((file_of h (MachineFile hart)).pending i)) (nothing_said h p msi hart i)
+    c.a_forward_asks_at_its_guest_alone.ensures.hosts h p msi (MachineFile hart) i good is forward there
+    ∙ ap (λ said. settle said ((file_of h (MachineFile hart)).pending i)) (nothing_said h p msi hart i)
 
 pub returns-clause-supervisor : goal.returns-clause-supervisor
 returns-clause-supervisor c = λ h p msi hart i good is forward there.

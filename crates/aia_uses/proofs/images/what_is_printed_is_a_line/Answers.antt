@@ -22,9 +22,12 @@ returns-clause-saved c = λ h vm number k x good ok low small. c.what_is_printed
 pub returns-clause-one_read : goal.returns-clause-one_read
 returns-clause-one_read c =
     let part = parts.Word 0 2 2 in
-    sym (ap reading (c.what_is_printed_loads_it.ensures.text (vcpu 0 1) part)) ∙ c.what_is_printed_loads_it.ensures.reading (vcpu 0 1) part (omega arith) (omega arith) word_fits
+    sym (ap reading (c.what_is_printed_loads_it.ensures.text (vcpu 0 1) part))
+    ∙ c.what_is_printed_loads_it.ensures.reading (vcpu 0 1) part (omega arith) (omega arith) word_fits
 
 pub returns-clause-one_saved : goal.returns-clause-one_saved
 returns-clause-one_saved c =
     let part = part_of (state_of (history_of TOLD.now) (vcpu 0 0)) 3 in
-    sym (ap reading (c.what_is_printed_loads_it.ensures.text (vcpu 0 1) part)) ∙ c.what_is_printed_loads_it.ensures.saved (history_of TOLD.now) 0 0 3 (vcpu 0 1) (script_happens TOLD.now) save_allowed (omega arith) (omega arith)
+    sym (ap reading (c.what_is_printed_loads_it.ensures.text (vcpu 0 1) part))
+    ∙ c.what_is_printed_loads_it.ensures.saved (history_of TOLD.now) 0 0 3 (vcpu 0 1) (script_happens TOLD.now) save_allowed (omega arith)
+    (omega arith)

@@ -16,7 +16,8 @@ pub returns-clause-parts : goal.returns-clause-parts
 returns-clause-parts c =
     let x = state_of (history_of TOLD.now) (vcpu 0 0) in
     subst (λ n. is_loadable n (part_of x 3) ≡ true) told_n
-    (c.what_is_saved_may_be_loaded.ensures.parts x 3 (c.every_virtual_hart_has_a_state.ensures (history_of TOLD.now) (vcpu 0 0) (script_happens TOLD.now) told_stands) last_told)
+    (c.what_is_saved_may_be_loaded.ensures.parts x 3
+    (c.every_virtual_hart_has_a_state.ensures (history_of TOLD.now) (vcpu 0 0) (script_happens TOLD.now) told_stands) last_told)
 
 pub returns-clause-answered : goal.returns-clause-answered
 returns-clause-answered c = c.what_is_saved_may_be_loaded.ensures.answered (history_of TOLD.now) 0 0 3 save_allowed ∙ ap answers.Part last_part
@@ -24,9 +25,11 @@ returns-clause-answered c = c.what_is_saved_may_be_loaded.ensures.answered (hist
 pub returns-clause-saved : goal.returns-clause-saved
 returns-clause-saved c =
     subst (λ part. is_loadable 63 part ≡ true) last_part
-    (subst (λ n. is_loadable n (part_of (state_of (history_of TOLD.now) (vcpu 0 0)) 3) ≡ true) told_greatest (c.what_is_saved_may_be_loaded.ensures.saved (history_of TOLD.now) 0 0 3 (script_happens TOLD.now) save_allowed))
+    (subst (λ n. is_loadable n (part_of (state_of (history_of TOLD.now) (vcpu 0 0)) 3) ≡ true) told_greatest
+    (c.what_is_saved_may_be_loaded.ensures.saved (history_of TOLD.now) 0 0 3 (script_happens TOLD.now) save_allowed))
 
 pub returns-clause-accepted : goal.returns-clause-accepted
 returns-clause-accepted c =
     subst (λ part. refusal made (LoadPart 0 1 part) ≡ None) last_part
-    (c.what_is_saved_may_be_loaded.ensures.accepted (history_of TOLD.now) made 0 0 3 (vcpu 0 1) (script_happens TOLD.now) save_allowed refl refl is_parked (sym told_greatest))
+    (c.what_is_saved_may_be_loaded.ensures.accepted (history_of TOLD.now) made 0 0 3 (vcpu 0 1) (script_happens TOLD.now) save_allowed refl refl
+    is_parked (sym told_greatest))

@@ -29,7 +29,9 @@ pub returns-clause-other_vms : goal.returns-clause-other_vms
 returns-clause-other_vms c = λ h line g stands other. c.only_what_speaks_to_a_guest_changes_its_file.ensures.other_vms h line g stands other
 
 pub returns-clause-wired : goal.returns-clause-wired
-returns-clause-wired c = ap (λ file. file.pending 1) (c.only_what_speaks_to_a_guest_changes_its_file.ensures.silent asked (lines.Wire 1 true) (vcpu 0 0) refl refl wire_alone).0 ∙ is_asked
+returns-clause-wired c = ap (λ file. file.pending 1)
+    (c.only_what_speaks_to_a_guest_changes_its_file.ensures.silent asked (lines.Wire 1 true) (vcpu 0 0) refl refl wire_alone).0 ∙ is_asked
 
 pub returns-clause-others : goal.returns-clause-others
-returns-clause-others c = ap (λ file. file.pending 1) (c.only_what_speaks_to_a_guest_changes_its_file.ensures.other_vms asked (lines.Msi 1 0x28000000 2) (vcpu 0 0) refl refl).0 ∙ is_asked
+returns-clause-others c = ap (λ file. file.pending 1)
+    (c.only_what_speaks_to_a_guest_changes_its_file.ensures.other_vms asked (lines.Msi 1 0x28000000 2) (vcpu 0 0) refl refl).0 ∙ is_asked

@@ -22,7 +22,9 @@ pub returns-clause-rest : goal.returns-clause-rest
 returns-clause-rest c = λ h vm number g. c.no_move_changes_a_guest.ensures.rest h (lines.Step vm number) g (λ e. cc)
 
 pub returns-clause-kept : goal.returns-clause-kept
-returns-clause-kept c = ap (λ file. file.pending 1) (c.no_move_changes_a_guest.ensures.file moving (lines.Step 0 0) (vcpu 0 0) (λ e. cc) none_at_fence) ∙ asked_while_moving
+returns-clause-kept c = ap (λ file. file.pending 1)
+    (c.no_move_changes_a_guest.ensures.file moving (lines.Step 0 0) (vcpu 0 0) (λ e. cc) none_at_fence) ∙ asked_while_moving
 
 pub returns-clause-still_enabled : goal.returns-clause-still_enabled
-returns-clause-still_enabled c = ap (λ is. is 1) (c.no_move_changes_a_guest.ensures.rest moving (lines.Step 0 0) (vcpu 0 0) (λ e. cc)).3 ∙ enabled_while_moving
+returns-clause-still_enabled c = ap (λ is. is 1) (c.no_move_changes_a_guest.ensures.rest moving (lines.Step 0 0) (vcpu 0 0) (λ e. cc)).3
+    ∙ enabled_while_moving

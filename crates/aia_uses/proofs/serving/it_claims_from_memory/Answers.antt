@@ -17,7 +17,9 @@ same : HasSameFile entered asked (vcpu 0 0)
 same = record { file = same_file; select = same_select }
 
 pub returns-clause-answered : goal.returns-clause-answered
-returns-clause-answered c = (c.a_guest_reads_from_memory_what_it_would_in_a_file.ensures entered asked (vcpu 0 0) Topei (Write 0) tt has_it_in_memory has_it same).0
+returns-clause-answered c = (c.a_guest_reads_from_memory_what_it_would_in_a_file.ensures entered asked (vcpu 0 0) Topei (Write 0) tt
+    has_it_in_memory has_it same).0
 
 pub returns-clause-left : goal.returns-clause-left
-returns-clause-left c = (c.a_guest_reads_from_memory_what_it_would_in_a_file.ensures entered asked (vcpu 0 0) Topei (Write 0) tt has_it_in_memory has_it same).1.file
+returns-clause-left c = (c.a_guest_reads_from_memory_what_it_would_in_a_file.ensures entered asked (vcpu 0 0) Topei (Write 0) tt has_it_in_memory
+    has_it same).1.file

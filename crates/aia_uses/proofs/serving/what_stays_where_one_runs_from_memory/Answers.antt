@@ -15,7 +15,9 @@ returns-clause-exits c = λ h x g.
     (same.0.file, same.0.select, same.1)
 
 pub returns-clause-entered : goal.returns-clause-entered
-returns-clause-entered c = ap (λ file. file.pending 1) (c.running_from_memory_changes_no_guest.ensures.enters parked_asked 0 0 (vcpu 0 0)).0.file ∙ asked_when_parked
+returns-clause-entered c = ap (λ file. file.pending 1) (c.running_from_memory_changes_no_guest.ensures.enters parked_asked 0 0 (vcpu 0 0)).0.file
+    ∙ asked_when_parked
 
 pub returns-clause-exited : goal.returns-clause-exited
-returns-clause-exited c = ap (λ file. file.pending 1) (c.running_from_memory_changes_no_guest.ensures.exits entered 0 0 (vcpu 0 0)).0.file ∙ asked_when_entered
+returns-clause-exited c = ap (λ file. file.pending 1) (c.running_from_memory_changes_no_guest.ensures.exits entered 0 0 (vcpu 0 0)).0.file
+    ∙ asked_when_entered

@@ -11,4 +11,5 @@ returns-clause-sent c = λ h g i good parked pending enabled.
 
 pub returns-clause-told : goal.returns-clause-told
 returns-clause-told c = λ h g i good parked pending enabled.
-    told_shown h (SupervisorFile (notice_hart (vms_of h) g)) (notice_identity (vms_of h) g) g i (c.no_notice_is_lost.ensures.told h g i good parked (and_from _ _ pending enabled))
+    told_shown h (SupervisorFile (notice_hart (vms_of h) g)) (notice_identity (vms_of h) g) g i
+    (c.no_notice_is_lost.ensures.told h g i good parked (and_from _ _ pending enabled))

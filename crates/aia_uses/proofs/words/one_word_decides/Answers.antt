@@ -21,17 +21,21 @@ use Rattle.aia_uses.specs.declared.told.TheConstants.{TOLD}
 use Rattle.aia_uses.proofs.words.one_word_decides.Goals as goal
 
 pub returns-clause-asked : goal.returns-clause-asked
-unfolding number_at n32_at flag_at csr_at line_at reading word_of least_of packed ones select_by file_by majors_of home flight passes_of in_force_of stage_in_force_of look_saw newest genmsi_waits all_senders answer after newest_word
+unfolding number_at n32_at flag_at csr_at line_at reading word_of least_of packed ones select_by file_by majors_of home flight passes_of
+    in_force_of stage_in_force_of look_saw newest genmsi_waits all_senders answer after newest_word
 returns-clause-asked c = c.the_newest_word_decides_at_a_guest.ensures.pending (history_of TOLD.now) (vcpu 0 0) 1 (script_happens TOLD.now)
 
 pub returns-clause-enabled : goal.returns-clause-enabled
-unfolding number_at n32_at flag_at csr_at line_at reading word_of least_of packed ones select_by file_by majors_of home flight passes_of in_force_of stage_in_force_of look_saw newest genmsi_waits all_senders answer after newest_word
+unfolding number_at n32_at flag_at csr_at line_at reading word_of least_of packed ones select_by file_by majors_of home flight passes_of
+    in_force_of stage_in_force_of look_saw newest genmsi_waits all_senders answer after newest_word
 returns-clause-enabled c = c.the_newest_word_decides_at_a_guest.ensures.enabled (history_of TOLD.now) (vcpu 0 0) 1 (script_happens TOLD.now)
 
 pub returns-clause-told : goal.returns-clause-told
-unfolding number_at n32_at flag_at csr_at line_at reading word_of least_of packed ones select_by file_by majors_of home flight passes_of in_force_of stage_in_force_of look_saw newest genmsi_waits all_senders answer after newest_word
+unfolding number_at n32_at flag_at csr_at line_at reading word_of least_of packed ones select_by file_by majors_of home flight passes_of
+    in_force_of stage_in_force_of look_saw newest genmsi_waits all_senders answer after newest_word
 returns-clause-told c = c.the_newest_word_decides_at_a_host.ensures.pending (history_of TOLD.now) (SupervisorFile 0) 1 (script_happens TOLD.now)
 
 pub returns-clause-untold : goal.returns-clause-untold
-unfolding number_at n32_at flag_at csr_at line_at reading word_of least_of packed ones select_by file_by majors_of home flight passes_of in_force_of stage_in_force_of look_saw newest genmsi_waits all_senders answer after newest_word
+unfolding number_at n32_at flag_at csr_at line_at reading word_of least_of packed ones select_by file_by majors_of home flight passes_of
+    in_force_of stage_in_force_of look_saw newest genmsi_waits all_senders answer after newest_word
 returns-clause-untold c = c.the_newest_word_decides_at_a_host.ensures.enabled (history_of TOLD.now) (SupervisorFile 0) 1 (script_happens TOLD.now)

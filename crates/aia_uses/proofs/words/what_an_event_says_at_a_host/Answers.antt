@@ -6,29 +6,37 @@ use Rattle.aia_uses.proofs.words.what_an_event_says_at_a_host.Goals as goal
 pub returns-clause-asked : goal.returns-clause-asked
 unfolding newest
 returns-clause-asked c = λ past event f i good said.
-    c.the_newest_word_decides_at_a_host.ensures.pending (event ∷ past) f i good ∙ ap (λ word. is_ask (or_before word (newest (λ past event. host_pending_said past event f i) past))) said
+    c.the_newest_word_decides_at_a_host.ensures.pending (event ∷ past) f i good
+    ∙ ap (λ word. is_ask (or_before word (newest (λ past event. host_pending_said past event f i) past))) said
 
 pub returns-clause-cleared : goal.returns-clause-cleared
 unfolding newest
 returns-clause-cleared c = λ past event f i good said.
-    c.the_newest_word_decides_at_a_host.ensures.pending (event ∷ past) f i good ∙ ap (λ word. is_ask (or_before word (newest (λ past event. host_pending_said past event f i) past))) said
+    c.the_newest_word_decides_at_a_host.ensures.pending (event ∷ past) f i good
+    ∙ ap (λ word. is_ask (or_before word (newest (λ past event. host_pending_said past event f i) past))) said
 
 pub returns-clause-kept : goal.returns-clause-kept
 unfolding newest
 returns-clause-kept c = λ past event f i good said.
-    c.the_newest_word_decides_at_a_host.ensures.pending (event ∷ past) f i good ∙ ap (λ word. is_ask (or_before word (newest (λ past event. host_pending_said past event f i) past))) said ∙ sym (c.the_newest_word_decides_at_a_host.ensures.pending past f i good.1)
+    c.the_newest_word_decides_at_a_host.ensures.pending (event ∷ past) f i good
+    ∙ ap (λ word. is_ask (or_before word (newest (λ past event. host_pending_said past event f i) past))) said
+    ∙ sym (c.the_newest_word_decides_at_a_host.ensures.pending past f i good.1)
 
 pub returns-clause-enabled : goal.returns-clause-enabled
 unfolding newest
 returns-clause-enabled c = λ past event f i good said.
-    c.the_newest_word_decides_at_a_host.ensures.enabled (event ∷ past) f i good ∙ ap (λ word. is_ask (or_before word (newest (λ past event. host_enable_said past event f i) past))) said
+    c.the_newest_word_decides_at_a_host.ensures.enabled (event ∷ past) f i good
+    ∙ ap (λ word. is_ask (or_before word (newest (λ past event. host_enable_said past event f i) past))) said
 
 pub returns-clause-disabled : goal.returns-clause-disabled
 unfolding newest
 returns-clause-disabled c = λ past event f i good said.
-    c.the_newest_word_decides_at_a_host.ensures.enabled (event ∷ past) f i good ∙ ap (λ word. is_ask (or_before word (newest (λ past event. host_enable_said past event f i) past))) said
+    c.the_newest_word_decides_at_a_host.ensures.enabled (event ∷ past) f i good
+    ∙ ap (λ word. is_ask (or_before word (newest (λ past event. host_enable_said past event f i) past))) said
 
 pub returns-clause-left : goal.returns-clause-left
 unfolding newest
 returns-clause-left c = λ past event f i good said.
-    c.the_newest_word_decides_at_a_host.ensures.enabled (event ∷ past) f i good ∙ ap (λ word. is_ask (or_before word (newest (λ past event. host_enable_said past event f i) past))) said ∙ sym (c.the_newest_word_decides_at_a_host.ensures.enabled past f i good.1)
+    c.the_newest_word_decides_at_a_host.ensures.enabled (event ∷ past) f i good
+    ∙ ap (λ word. is_ask (or_before word (newest (λ past event. host_enable_said past event f i) past))) said
+    ∙ sym (c.the_newest_word_decides_at_a_host.ensures.enabled past f i good.1)

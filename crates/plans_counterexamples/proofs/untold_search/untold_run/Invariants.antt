@@ -4,4 +4,5 @@ use Rattle.plans_counterexamples.specs.UntoldSearch.{untold_word}
 use Rattle.plans_counterexamples.proofs.untold_search.untold_run.Given as goal
 
 abbrev pub invariant-loop-word : goal.invariant-loop-word
-invariant-loop-word l = first_of (untold_word l.producers l.fn.terms l.plan) l.word (l.fn.terms.words - l.word) ≡ first_of (untold_word l.producers l.fn.terms l.plan) 0 (l.fn.terms.words)
+invariant-loop-word l = first_of (untold_word l.producers l.fn.terms l.plan) l.word (l.fn.terms.words - l.word) ≡ first_of
+    (untold_word l.producers l.fn.terms l.plan) 0 (l.fn.terms.words)

@@ -8,4 +8,5 @@ abbrev pub invariant-loop-before : goal.invariant-loop-before
 invariant-loop-before l =
     Stands l.table l.producers (past l.plan l.before)
     × (l.table.terms ≡ l.fn.terms)
-    × (first_break (rules_of l.part) (setting_of l.producers l.fn.terms) (past l.plan l.before) l.before (drop l.before l.plan) ≡ break_in l.part (setting_of l.producers l.fn.terms) l.plan)
+    × (first_break (rules_of l.part) (setting_of l.producers l.fn.terms) (past l.plan l.before) l.before (drop l.before l.plan) ≡ break_in l.part
+    (setting_of l.producers l.fn.terms) l.plan)

@@ -1,5 +1,5 @@
 use Rattle.std.proofs.Common.{◌≡◌, ◌∙◌, ◌+◌, ap, subst, sym, IfOk, length, arith, length-drop}
-use Rattle.plans_text.specs.declared.outcome.Outcome.{Outcome}
+use Rattle.plans_text.specs.declared.outcome.FileOutcome.{FileOutcome}
 use Rattle.plans_text.specs.Reading.{Text}
 use Rattle.plans_text.specs.PlanFile.{read_of, texts_of, with_texts}
 use Rattle.aia_io.proofs.CutLemmas.{end_within, no_end_at_all}
@@ -23,5 +23,5 @@ returns c =
     let read = c.in_ok-add_last.ensures.read (no_end_at_all _ (sym c.in_default.ensures)) ∙ c.loop-end.invariant.read in
     record {
       text = subst (λ (x : Text). IfOk c.finish.result (λ out. out.text.items ≡ x)) (whole c.args.bytes.now _ read) c.finish.ensures.text;
-      outcome = subst (λ (x : Outcome). IfOk c.finish.result (λ out. out.outcome ≡ x)) (whole_outcome c.args.bytes.now _ read) c.finish.ensures.outcome;
+      outcome = subst (λ (x : FileOutcome). IfOk c.finish.result (λ out. out.outcome ≡ x)) (whole_outcome c.args.bytes.now _ read) c.finish.ensures.outcome;
     }

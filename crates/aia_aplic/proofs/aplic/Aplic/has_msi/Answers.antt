@@ -6,4 +6,5 @@ pub returns-then-genmsi_waits-clause-waits : goal.returns-then-genmsi_waits-clau
 returns-then-genmsi_waits-clause-waits c = genmsi_does_wait c.args.self.now c.genmsi_waits.result c.genmsi_waits.ensures c.if-genmsi_waits.true
 
 pub returns-else-genmsi_waits-clause-waits : goal.returns-else-genmsi_waits-clause-waits
-returns-else-genmsi_waits-clause-waits c = ready_does_wait c.args.self.now c.has_ready.result (sym c.genmsi_waits.ensures ∙ c.if-genmsi_waits.false) c.has_ready.ensures
+returns-else-genmsi_waits-clause-waits c = ready_does_wait c.args.self.now c.has_ready.result
+    (sym c.genmsi_waits.ensures ∙ c.if-genmsi_waits.false) c.has_ready.ensures

@@ -6,7 +6,8 @@ use Rattle.aia_aplic.proofs.aplic.Aplic.wire.Goals as goal
 
 pub returns : goal.returns
 returns c = λ past stands.
-    let now : AplicStands (record { root = c.self.inside.root; child = c.self.inside.child; addresses = c.self.inside.addresses }) past = subst (λ (a : AplicState). AplicStands a past) (sym c.self.view_is) stands in
+    let now : AplicStands (record { root = c.self.inside.root; child = c.self.inside.child; addresses = c.self.inside.addresses }) past =
+    subst (λ (a : AplicState). AplicStands a past) (sym c.self.view_is) stands in
     record {
       root = c.wire.ensures past Root now.root;
       child = c.wire-2.ensures past Child now.child;

@@ -7,10 +7,14 @@ use Rattle.aia_aplic.proofs.side.Side.delegate.Goals as goal
 
 pub returns-then-given : goal.returns-then-given
 returns-then-given c = λ past v gives stands.
-    let now : SideStands (record { domain = c.self.inside.domain; controls = c.self.inside.controls.items }) past Child = subst (λ (a : SideState). SideStands a past Child) (sym c.self.view_is) stands in
-    child-side_written (SourceCfg c.args.s) c.args.s v _ (record { domain = c.self.inside.domain; controls = c.self.inside.controls.items }) _ past refl (sym c.if-given.true ∙ gives) c.grant.ensures.sources c.grant.ensures.domain now
+    let now : SideStands (record { domain = c.self.inside.domain; controls = c.self.inside.controls.items }) past Child =
+    subst (λ (a : SideState). SideStands a past Child) (sym c.self.view_is) stands in
+    child-side_written (SourceCfg c.args.s) c.args.s v _ (record { domain = c.self.inside.domain; controls = c.self.inside.controls.items }) _
+    past refl (sym c.if-given.true ∙ gives) c.grant.ensures.sources c.grant.ensures.domain now
 
 pub returns-else-given : goal.returns-else-given
 returns-else-given c = λ past v gives stands.
-    let now : SideStands (record { domain = c.self.inside.domain; controls = c.self.inside.controls.items }) past Child = subst (λ (a : SideState). SideStands a past Child) (sym c.self.view_is) stands in
-    child-side_written (SourceCfg c.args.s) c.args.s v _ (record { domain = c.self.inside.domain; controls = c.self.inside.controls.items }) _ past refl (sym c.if-given.false ∙ gives) c.withdraw.ensures.sources c.withdraw.ensures.domain now
+    let now : SideStands (record { domain = c.self.inside.domain; controls = c.self.inside.controls.items }) past Child =
+    subst (λ (a : SideState). SideStands a past Child) (sym c.self.view_is) stands in
+    child-side_written (SourceCfg c.args.s) c.args.s v _ (record { domain = c.self.inside.domain; controls = c.self.inside.controls.items }) _
+    past refl (sym c.if-given.false ∙ gives) c.withdraw.ensures.sources c.withdraw.ensures.domain now

@@ -9,8 +9,11 @@ use Rattle.aia_aplic.proofs.side.Side.forward.Goals as goal
 
 pub returns-clause-stands : goal.returns-clause-stands
 returns-clause-stands c = λ past name stands.
-    subst (λ (controls : List IdcState). SideStands (record { domain = c.forwarded.new.self.domain; controls = controls }) (Sent (BySource name c.args.s) ∷ past) name) (sym c.forwarded.ensures.controls)
-    (side-forwarded c.args.s c.args.self.now c.forwarded.new.self.domain past name c.requires c.forwarded.ensures.sources c.forwarded.ensures.domain stands)
+    subst (λ (controls : List IdcState). SideStands (record { domain = c.forwarded.new.self.domain; controls = controls })
+    (Sent (BySource name c.args.s) ∷ past) name) (sym c.forwarded.ensures.controls)
+    (side-forwarded c.args.s c.args.self.now c.forwarded.new.self.domain past name c.requires c.forwarded.ensures.sources
+    c.forwarded.ensures.domain stands)
 
 pub returns-clause-fewer : goal.returns-clause-fewer
-returns-clause-fewer c = fewer_forwarded c.args.s c.args.self.now.domain c.forwarded.new.self.domain c.requires c.forwarded.ensures.sources c.forwarded.ensures.domain
+returns-clause-fewer c = fewer_forwarded c.args.s c.args.self.now.domain c.forwarded.new.self.domain c.requires c.forwarded.ensures.sources
+    c.forwarded.ensures.domain

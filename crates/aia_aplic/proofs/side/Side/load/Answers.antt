@@ -10,10 +10,12 @@ returns-in-TopI-clause-stands c = λ past name stands. side-loaded c.args.reg c.
 
 pub returns-in_default : goal.returns-in_default
 returns-in_default c =
-    let plain = not_control c.args.reg c.in_default.not-IDelivery c.in_default.not-IForce c.in_default.not-IThreshold c.in_default.not-TopI c.in_default.not-ClaimI in
+    let plain = not_control c.args.reg c.in_default.not-IDelivery c.in_default.not-IForce c.in_default.not-IThreshold c.in_default.not-TopI
+    c.in_default.not-ClaimI in
     record {
       reads = λ past name stands.
-          let now : SideStands (record { domain = c.self.inside.domain; controls = c.self.inside.controls.items }) past name = subst (λ (a : SideState). SideStands a past name) (sym c.self.view_is) stands in
+          let now : SideStands (record { domain = c.self.inside.domain; controls = c.self.inside.controls.items }) past name =
+          subst (λ (a : SideState). SideStands a past name) (sym c.self.view_is) stands in
           c.load.ensures ∙ read-stands c.args.reg c.self.inside.domain past name plain now.domain;
       stands = λ past name stands. side-loaded c.args.reg c.args.self.now past name (not_claim c.args.reg plain) stands;
     }

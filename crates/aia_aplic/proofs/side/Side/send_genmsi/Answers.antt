@@ -8,5 +8,6 @@ use Rattle.aia_aplic.proofs.side.Side.send_genmsi.Goals as goal
 
 pub returns-clause-stands : goal.returns-clause-stands
 returns-clause-stands c = λ past name stands.
-    subst (λ (controls : List IdcState). SideStands (record { domain = c.take_genmsi.new.self.domain; controls = controls }) (Sent (ByGenMsi name) ∷ past) name) (sym c.take_genmsi.ensures.controls)
+    subst (λ (controls : List IdcState). SideStands (record { domain = c.take_genmsi.new.self.domain; controls = controls })
+    (Sent (ByGenMsi name) ∷ past) name) (sym c.take_genmsi.ensures.controls)
     (side-genmsi_sent c.args.self.now c.take_genmsi.new.self.domain past name c.take_genmsi.ensures.domain stands)

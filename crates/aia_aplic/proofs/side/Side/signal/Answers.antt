@@ -7,7 +7,8 @@ use Rattle.aia_aplic.proofs.side.Side.signal.Goals as goal
 
 pub returns-then-hart-len-clause-signal : goal.returns-then-hart-len-clause-signal
 returns-then-hart-len-clause-signal c = λ past name stands there.
-    let now : SideStands (record { domain = c.self.inside.domain; controls = c.self.inside.controls.items }) past name = subst (λ (a : SideState). SideStands a past name) (sym c.self.view_is) stands in
+    let now : SideStands (record { domain = c.self.inside.domain; controls = c.self.inside.controls.items }) past name =
+    subst (λ (a : SideState). SideStands a past name) (sym c.self.view_is) stands in
     let low : c.args.hart < length c.self.inside.controls.items = omega (arith, c.if-hart-len.true, c.len.ensures) in
     c.signal_of.ensures ∙ ap (λ (xs : List IdcState). signals_hart (control_at xs c.args.hart) c.self.inside.domain c.args.hart) c.deref.ensures.value
     ∙ signals_is c.args.hart (record { domain = c.self.inside.domain; controls = c.self.inside.controls.items }) past name low now

@@ -8,7 +8,9 @@ use Rattle.aia_aplic.proofs.side.Side.topi.Goals as goal
 
 pub returns-then-hart-len : goal.returns-then-hart-len
 returns-then-hart-len c = λ past name stands.
-    let now : SideStands (record { domain = c.self.inside.domain; controls = c.self.inside.controls.items }) past name = subst (λ (a : SideState). SideStands a past name) (sym c.self.view_is) stands in
+    let now : SideStands (record { domain = c.self.inside.domain; controls = c.self.inside.controls.items }) past name =
+    subst (λ (a : SideState). SideStands a past name) (sym c.self.view_is) stands in
     let low : c.args.hart < length c.self.inside.controls.items = omega (arith, c.if-hart-len.true, c.len.ensures) in
-    c.topi_of.ensures ∙ ap (λ (xs : List IdcState). topi_value (top_shown (control_at xs c.args.hart) c.self.inside.domain c.args.hart)) c.deref.ensures.value
+    c.topi_of.ensures ∙ ap (λ (xs : List IdcState). topi_value (top_shown (control_at xs c.args.hart) c.self.inside.domain c.args.hart))
+    c.deref.ensures.value
     ∙ topi_there c.args.hart (record { domain = c.self.inside.domain; controls = c.self.inside.controls.items }) past name low now

@@ -85,7 +85,8 @@ of_spec 𝓤 𝓛 𝓜 𝓡 wired T A T-laws A-laws g dict T-drop A-drop allocat
     pass_all ! refl (word-typed, tt) $
     sets ! (of_opd ! (get ! refl)) refl word-typed $
     calls_at ! (framed 𝓤 𝓛.H 𝓜 (tables 𝓤 𝓛.H 𝓜 𝓡 𝓡.env)) callee
-    (met 𝓤 𝓛 𝓜 𝓡 (code.calls-std_alloc::boxed::Box::into_raw_with_allocator 𝓡.env wired) T A T-laws A-laws g dict A-drop T-drop allocator A-glue T-glue)
+    (met 𝓤 𝓛 𝓜 𝓡 (code.calls-std_alloc::boxed::Box::into_raw_with_allocator 𝓡.env wired) T A T-laws A-laws g dict A-drop T-drop allocator
+    A-glue T-glue)
     call (and_then ! (get ! refl) (no_more !)) (λ out.
     use1 𝓛
     (later (some (λ (r : Ptr × A.Denot). (tokens ⊛ ‵ (Pair.own_val r (out ∷ [])))

@@ -10,12 +10,14 @@ put_is c = ap reverse c.push_reserved.ensures.items ∙ pushed_first c.args.pair
 
 pub push_reserved-requires : goal.push_reserved-requires
 push_reserved-requires c =
-    let room : length (reverse c.self.inside.falling.items) < c.self.inside.room = subst (λ v. length v.pairs < v.room) (sym c.self.view_is) c.requires.room in
+    let room : length (reverse c.self.inside.falling.items) < c.self.inside.room =
+    subst (λ v. length v.pairs < v.room) (sym c.self.view_is) c.requires.room in
     search (rules, room, length-reverse c.self.inside.falling.items, c.self.invariant.0)
 
 pub invariant_of-self : goal.invariant_of-self
 invariant_of-self c =
-    let room : length (reverse c.self.inside.falling.items) < c.self.inside.room = subst (λ v. length v.pairs < v.room) (sym c.self.view_is) c.requires.room in
+    let room : length (reverse c.self.inside.falling.items) < c.self.inside.room =
+    subst (λ v. length v.pairs < v.room) (sym c.self.view_is) c.requires.room in
     let first = subst (λ v. put_in c.args.pair v.pairs ≡ c.args.pair ∷ v.pairs) (sym c.self.view_is) c.requires.first in (
       omega (arith, c.push_reserved.ensures.capacity, c.self.invariant.0),
       omega (arith, ap length (put_is c), room, length-reverse c.push_reserved.new.self.items),

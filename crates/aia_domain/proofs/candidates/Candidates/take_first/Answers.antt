@@ -5,7 +5,8 @@ use Rattle.aia_domain.proofs.FallingLemmas.{popped_first}
 use Rattle.aia_domain.proofs.candidates.Candidates.take_first.Goals as goal
 
 rest_is : (c : goal.After-pop-pair) → reverse c.pop-pair.new.self.items ≡ drop 1 (reverse c.self.inside.falling.items)
-rest_is c = popped_first c.self.inside.falling.items c.pop-pair.new.self.items c.pop-pair.result c.pop-pair.ensures.items (λ some. c.pop-pair.ensures.variant.1 (search (rules, some)))
+rest_is c = popped_first c.self.inside.falling.items c.pop-pair.new.self.items c.pop-pair.result c.pop-pair.ensures.items
+    (λ some. c.pop-pair.ensures.variant.1 (search (rules, some)))
 
 pub invariant_of-self : goal.invariant_of-self
 invariant_of-self c = (

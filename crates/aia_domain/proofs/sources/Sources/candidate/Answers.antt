@@ -8,4 +8,5 @@ pub returns-clause-rising : goal.returns-clause-rising
 returns-clause-rising c = list_rising c.args.self.now c.args.hart
 
 pub returns-clause-small : goal.returns-clause-small
-returns-clause-small c = list_small c.args.self.now c.args.hart (subst (λ (x : SourcesState). length x.sources ≤ suc SOURCES) c.self.view_is c.self.invariant.2)
+returns-clause-small c = list_small c.args.self.now c.args.hart
+    (subst (λ (x : SourcesState). length x.sources ≤ suc SOURCES) c.self.view_is c.self.invariant.2)

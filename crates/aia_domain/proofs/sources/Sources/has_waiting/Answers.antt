@@ -7,5 +7,6 @@ use Rattle.aia_domain.proofs.sources.Sources.has_waiting.Goals as goal
 pub returns : goal.returns
 returns c =
     let bits = c.self.invariant.4.bits in
-    subst (λ (x : SourcesState). (IsFalse c.has_waiting.result → (s : ℕ) → (x.msi && waits_at x.sources s) ≡ false) × (((s : ℕ) → (x.msi && waits_at x.sources s) ≡ false) → IsFalse c.has_waiting.result)) c.self.view_is
+    subst (λ (x : SourcesState). (IsFalse c.has_waiting.result → (s : ℕ) → (x.msi && waits_at x.sources s) ≡ false)
+    × (((s : ℕ) → (x.msi && waits_at x.sources s) ≡ false) → IsFalse c.has_waiting.result)) c.self.view_is
     (λ none s. sym (bits s) ∙ c.has_waiting.ensures.0 none s, λ none. c.has_waiting.ensures.1 (λ s. bits s ∙ none s))

@@ -8,5 +8,6 @@ invariant_of-result c = (
   omega (arith, c.in_ok-each.ensures.length),
   omega (arith, c.in_ok-each.ensures.length, c.requires.few),
   c.in_ok-waiting.ensures.lists,
-  new_keeps c.in_ok-each.each.items c.in_ok-waiting.waiting c.args.sources c.in_ok-each.ensures.each (omega (arith, c.in_ok-each.ensures.length)) c.in_ok-waiting.ensures.pairs c.in_ok-waiting.ensures.ready,
+  new_keeps c.in_ok-each.each.items c.in_ok-waiting.waiting c.args.sources c.in_ok-each.ensures.each (omega (arith, c.in_ok-each.ensures.length))
+      c.in_ok-waiting.ensures.pairs c.in_ok-waiting.ensures.ready,
 )

@@ -5,4 +5,5 @@ use Rattle.aia_fabric.proofs.fabric.Fabric.reg.Goals as goal
 
 pub invariant_of-self : goal.invariant_of-self
 invariant_of-self c =
-    file_whole _ c.args.spot c.access.new.self c.self.invariant c.file_mut.ensures.within (c.access.ensures.after.n ∙ ap (λ (f : FileState). f.n) c.file_mut.ensures.value)
+    file_whole _ c.args.spot c.access.new.self c.self.invariant c.file_mut.ensures.within
+    (c.access.ensures.after.n ∙ ap (λ (f : FileState). f.n) c.file_mut.ensures.value)

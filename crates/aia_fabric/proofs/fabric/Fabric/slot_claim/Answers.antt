@@ -8,4 +8,5 @@ invariant_of-self c = slot_whole (the_view c.self.inside) c.args.q c.claim.new.s
 
 pub returns-clause-done : goal.returns-clause-done
 returns-clause-done c =
-    rw (← c.self.view_is) (slot_done (the_view c.self.inside) c.args.q c.args.threshold claimed c.claim.new.self.ram.now (rw (c.claim.ensures.same_slot) at c.claim.ensures.after) c.claim.ensures.rest)
+    rw (← c.self.view_is) (slot_done (the_view c.self.inside) c.args.q c.args.threshold claimed c.claim.new.self.ram.now
+    (rw (c.claim.ensures.same_slot) at c.claim.ensures.after) c.claim.ensures.rest)

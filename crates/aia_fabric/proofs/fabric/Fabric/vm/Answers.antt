@@ -11,4 +11,5 @@ loop-file-preserved c =
     let number : c.vms-vm.result ≡ length w.tables = omega (arith, c.vms-vm.ensures.whole.tables) in
     let few = has_entry c.args.mask c.loop-file.file (mask_parts c.args.mask c.requires.mask).1 (omega arith) in
     rw (c.make_entry.ensures, number, c.vcpus-first.ensures.value)
-    (one_more_made w c.loop-file.self vm c.loop-file.file c.notice_page-page.result c.loop-file.invariant (omega (arith, number)) few (omega arith) c.notice_page-page.ensures.value c.notice_page-page.ensures.fits)
+    (one_more_made w c.loop-file.self vm c.loop-file.file c.notice_page-page.result c.loop-file.invariant (omega (arith, number)) few
+    (omega arith) c.notice_page-page.ensures.value c.notice_page-page.ensures.fits)

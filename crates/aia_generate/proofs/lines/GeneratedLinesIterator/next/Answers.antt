@@ -17,13 +17,21 @@ returns-clause-steps c =
       | then-self-ge-HEAD_LINES+in_ok-self w ↦
           let given : c.if-self-ge-HEAD_LINES.self.given ≡ c.args.self.now.given = ap (λ (s : GeneratedLines). s.given) w.self-is in
           let left : c.if-self-ge-HEAD_LINES.self.left ≡ w.in_ok-self.field-0 = ap (λ (s : GeneratedLines). s.left) w.self-is in
-          lines_left-body c.args.self.now c.generate.result _ (omega arith) (omega arith) (omega (arith, w.in_ok-self.ensures)) (ap (λ (s : GeneratedLines). s.number) w.self-is ∙ w.lcg-self.ensures) c.generate.ensures.line
+          lines_left-body c.args.self.now c.generate.result _ (omega arith) (omega arith) (omega (arith, w.in_ok-self.ensures))
+          (ap (λ (s : GeneratedLines). s.number) w.self-is ∙ w.lcg-self.ensures) c.generate.ensures.line
       | else-self-ge-HEAD_LINES w ↦
           let given : c.if-self-ge-HEAD_LINES.self.given ≡ c.args.self.now.given = ap (λ (s : GeneratedLines). s.given) w.self-is in
-          lines_left-head c.args.self.now c.generate.result _ (omega arith) (omega arith) (ap (λ (s : GeneratedLines). s.left) w.self-is) (ap (λ (s : GeneratedLines). s.number) w.self-is) c.generate.ensures.line
+          lines_left-head c.args.self.now c.generate.result _ (omega arith) (omega arith) (ap (λ (s : GeneratedLines). s.left) w.self-is)
+          (ap (λ (s : GeneratedLines). s.number) w.self-is) c.generate.ensures.line
     ]
 
 pub returns-clause-goes : goal.returns-clause-goes
 returns-clause-goes c =
-    let fewer : length (lines_left c.args.self.now) ≡ length (lines_left (record { given = c.saturating_add-self.result; left = c.if-self-ge-HEAD_LINES.self.left; number = c.if-self-ge-HEAD_LINES.self.number })) + 1 = omega (arith, ap length (returns-clause-steps c)) in
+    let fewer : length (lines_left c.args.self.now) ≡ length
+    (lines_left (record {
+      given = c.saturating_add-self.result;
+      left = c.if-self-ge-HEAD_LINES.self.left;
+      number =
+          c.if-self-ge-HEAD_LINES.self.number;
+    })) + 1 = omega (arith, ap length (returns-clause-steps c)) in
     search rules

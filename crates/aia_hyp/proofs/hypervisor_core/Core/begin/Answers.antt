@@ -9,7 +9,8 @@ use Rattle.aia_hyp_values.proofs.MoveLines.{begin_taken}
 use Rattle.aia_hyp.proofs.hypervisor_core.Core.begin.Goals as goal
 
 pub returns-in_default : goal.returns-in_default
-returns-in_default c = rw (← c.self.view_is) (begin_taken _ _ c.args.vm c.args.number c.args.want (answers.Refused words.Range) (no_move _ c.args.vm c.args.number c.args.want c.in_default.ensures.none))
+returns-in_default c = rw (← c.self.view_is) (begin_taken _ _ c.args.vm c.args.number c.args.want (answers.Refused words.Range)
+    (no_move _ c.args.vm c.args.number c.args.want c.in_default.ensures.none))
 
 pub returns : goal.returns
 returns c =

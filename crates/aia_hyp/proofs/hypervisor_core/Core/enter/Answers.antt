@@ -15,12 +15,47 @@ pub returns-in_default : goal.returns-in_default
 returns-in_default c = rw (← c.self.view_is) (no_vcpu_to_enter _ c.args.vm c.args.number c.in_default.ensures.none)
 
 pub enter_in-requires : goal.enter_in-requires
-enter_in-requires c = who_low (record { world = c.self.inside.fabric; leases = c.self.inside.pool; vcpus = c.self.inside.vcpus.items; selects = c.self.inside.selects; passes = c.self.inside.passes }) c.in-Some.found c.self.invariant.0 c.in-Some.ensures.there
+enter_in-requires c = who_low (record {
+  world = c.self.inside.fabric;
+  leases = c.self.inside.pool;
+  vcpus = c.self.inside.vcpus.items;
+  selects =
+      c.self.inside.selects;
+  passes = c.self.inside.passes;
+}) c.in-Some.found c.self.invariant.0 c.in-Some.ensures.there
 
-taken : (c : After-enter_in) → CoreTakes (record { world = c.self.inside.fabric; leases = c.self.inside.pool; vcpus = c.self.inside.vcpus.items; selects = c.self.inside.selects; passes = c.self.inside.passes }) (record { world = c.self.inside.fabric; leases = c.self.inside.pool; vcpus = c.enter_in.new.vcpus.items; selects = c.self.inside.selects; passes = c.self.inside.passes }) (Enter c.args.vm c.args.number) (answer_by (λ _. Okay) c.enter_in.result)
+taken : (c : After-enter_in) → CoreTakes (record {
+  world = c.self.inside.fabric;
+  leases = c.self.inside.pool;
+  vcpus = c.self.inside.vcpus.items;
+  selects = c.self.inside.selects;
+  passes =
+      c.self.inside.passes;
+}) (record {
+  world = c.self.inside.fabric;
+  leases = c.self.inside.pool;
+  vcpus = c.enter_in.new.vcpus.items;
+  selects =
+      c.self.inside.selects;
+  passes = c.self.inside.passes;
+}) (Enter c.args.vm c.args.number) (answer_by (λ _. Okay) c.enter_in.result)
 taken c =
-    let x : CoreState = record { world = c.self.inside.fabric; leases = c.self.inside.pool; vcpus = c.self.inside.vcpus.items; selects = c.self.inside.selects; passes = c.self.inside.passes } in
-    let y : CoreState = record { world = c.self.inside.fabric; leases = c.self.inside.pool; vcpus = c.enter_in.new.vcpus.items; selects = c.self.inside.selects; passes = c.self.inside.passes } in
+    let x : CoreState = record {
+      world = c.self.inside.fabric;
+      leases = c.self.inside.pool;
+      vcpus = c.self.inside.vcpus.items;
+      selects =
+          c.self.inside.selects;
+      passes = c.self.inside.passes;
+    } in
+    let y : CoreState = record {
+      world = c.self.inside.fabric;
+      leases = c.self.inside.pool;
+      vcpus = c.enter_in.new.vcpus.items;
+      selects =
+          c.self.inside.selects;
+      passes = c.self.inside.passes;
+    } in
     let given = answer_by (λ _. Okay) c.enter_in.result in
     let found = c.in-Some.found in
     let is = c.in-Some.ensures.there in
@@ -30,7 +65,10 @@ taken c =
     (subst (λ q. EntersFrom (parked_at (slice_index_or x.vcpus q no_record).stay) x.vcpus y.vcpus q given) is.slot c.enter_in.ensures.enters)))
 
 pub invariant_of-self : goal.invariant_of-self
-invariant_of-self c = (still _ _ _ _ (taken c) c.self.invariant.0, (let room = c.enter_in.ensures.room in let before = c.self.invariant.1 in omega (arith, room, before)))
+invariant_of-self c = (
+  still _ _ _ _ (taken c) c.self.invariant.0,
+  (let room = c.enter_in.ensures.room in let before = c.self.invariant.1 in omega (arith, room, before)),
+)
 
 pub returns : goal.returns
 returns c = rw (← c.self.view_is) (taken c)

@@ -18,5 +18,7 @@ returns-in-None c =
     let found = c.in-Some.found in
     let there = subst (λ (z : CoreState). is_vcpu_in z.world.vms (vcpu found.vm found.number) ≡ true) c.self.view_is c.in-Some.ensures.there.there in
     let named = c.in-Some.ensures.named in
-    subst (λ vm. CoreTakes x x (Exit vm c.args.number) (Refused Idle)) named.0 (subst (λ number. CoreTakes x x (Exit found.vm number) (Refused Idle)) named.1
-    (not_entered x found.vm found.number there (sym (c.entered.ensures ∙ ap (λ (r : VcpuRecord). entered_at r.stay) c.record_of.ensures) ∙ c.in-None.is)))
+    subst (λ vm. CoreTakes x x (Exit vm c.args.number) (Refused Idle)) named.0
+    (subst (λ number. CoreTakes x x (Exit found.vm number) (Refused Idle)) named.1
+    (not_entered x found.vm found.number there (sym (c.entered.ensures ∙ ap (λ (r : VcpuRecord). entered_at r.stay) c.record_of.ensures)
+    ∙ c.in-None.is)))

@@ -13,26 +13,77 @@ use Rattle.aia_hyp.proofs.hypervisor_core.Core.hvictl.Goals.{After-set_hvictl_in
 use Rattle.aia_hyp.proofs.hypervisor_core.Core.hvictl.Goals as goal
 
 pub set_hvictl_in-requires : goal.set_hvictl_in-requires
-set_hvictl_in-requires c = who_low (record { world = c.self.inside.fabric; leases = c.self.inside.pool; vcpus = c.self.inside.vcpus.items; selects = c.self.inside.selects; passes = c.self.inside.passes }) c.in-Some.found c.self.invariant.0 c.in-Some.ensures.there
+set_hvictl_in-requires c = who_low (record {
+  world = c.self.inside.fabric;
+  leases = c.self.inside.pool;
+  vcpus = c.self.inside.vcpus.items;
+  selects = c.self.inside.selects;
+  passes = c.self.inside.passes;
+}) c.in-Some.found c.self.invariant.0 c.in-Some.ensures.there
 
-taken : (c : After-set_hvictl_in) → CoreTakes (record { world = c.self.inside.fabric; leases = c.self.inside.pool; vcpus = c.self.inside.vcpus.items; selects = c.self.inside.selects; passes = c.self.inside.passes }) (record { world = c.self.inside.fabric; leases = c.self.inside.pool; vcpus = c.set_hvictl_in.new.vcpus.items; selects = c.self.inside.selects; passes = c.self.inside.passes }) (Hvictl c.args.vm c.args.number c.args.value) (answer_by (λ _. Okay) c.set_hvictl_in.result)
+taken : (c : After-set_hvictl_in) → CoreTakes (record {
+  world = c.self.inside.fabric;
+  leases = c.self.inside.pool;
+  vcpus = c.self.inside.vcpus.items;
+  selects = c.self.inside.selects;
+  passes =
+      c.self.inside.passes;
+}) (record {
+  world = c.self.inside.fabric;
+  leases = c.self.inside.pool;
+  vcpus = c.set_hvictl_in.new.vcpus.items;
+  selects = c.self.inside.selects;
+  passes = c.self.inside.passes;
+}) (Hvictl c.args.vm c.args.number c.args.value)
+    (answer_by (λ _. Okay) c.set_hvictl_in.result)
 taken c =
-    let x : CoreState = record { world = c.self.inside.fabric; leases = c.self.inside.pool; vcpus = c.self.inside.vcpus.items; selects = c.self.inside.selects; passes = c.self.inside.passes } in
+    let x : CoreState = record {
+      world = c.self.inside.fabric;
+      leases = c.self.inside.pool;
+      vcpus = c.self.inside.vcpus.items;
+      selects =
+          c.self.inside.selects;
+      passes = c.self.inside.passes;
+    } in
     let is = c.in-Some.ensures.there in
     let named = c.in-Some.ensures.named in
     let same : vcpu c.in-Some.found.vm c.in-Some.found.number ≡ vcpu c.args.vm c.args.number = λ k. vcpu (named.0 k) (named.1 k) in
     let there : is_vcpu_in x.world.vms (vcpu c.args.vm c.args.number) ≡ true = subst (λ (g : Vcpu). is_vcpu_in x.world.vms g ≡ true) same is.there in
-    let slot : c.in-Some.found.slot ≡ slot_of x.world.vms (vcpu c.args.vm c.args.number) = subst (λ (g : Vcpu). c.in-Some.found.slot ≡ slot_of x.world.vms g) same is.slot in
+    let slot : c.in-Some.found.slot ≡ slot_of x.world.vms (vcpu c.args.vm c.args.number) =
+    subst (λ (g : Vcpu). c.in-Some.found.slot ≡ slot_of x.world.vms g) same is.slot in
     let below = who_low x c.in-Some.found c.self.invariant.0 is in
     let low : slot_of x.world.vms (vcpu c.args.vm c.args.number) < length x.vcpus = omega (arith, below, slot) in
-    majors_answered (record { world = c.self.inside.fabric; leases = c.self.inside.pool; vcpus = c.self.inside.vcpus.items; selects = c.self.inside.selects; passes = c.self.inside.passes }) (record { world = c.self.inside.fabric; leases = c.self.inside.pool; vcpus = c.set_hvictl_in.new.vcpus.items; selects = c.self.inside.selects; passes = c.self.inside.passes }) (Hvictl c.args.vm c.args.number c.args.value) c.args.vm c.args.number (is_hvictl c.args.value) (with_hvictl c.args.value) (hvictl_line c.args.vm c.args.number c.args.value) c.set_hvictl_in.result c.set_hvictl_in.ensures.range
-    (subst (λ q. OnOk c.set_hvictl_in.result (MajorsDone c.self.inside.vcpus.items c.set_hvictl_in.new.vcpus.items q (with_hvictl c.args.value))) slot c.set_hvictl_in.ensures.ok) c.set_hvictl_in.ensures.err there low refl refl refl refl
+    majors_answered (record {
+      world = c.self.inside.fabric;
+      leases = c.self.inside.pool;
+      vcpus = c.self.inside.vcpus.items;
+      selects =
+          c.self.inside.selects;
+      passes = c.self.inside.passes;
+    })
+    (record {
+      world = c.self.inside.fabric;
+      leases = c.self.inside.pool;
+      vcpus = c.set_hvictl_in.new.vcpus.items;
+      selects =
+          c.self.inside.selects;
+      passes = c.self.inside.passes;
+    }) (Hvictl c.args.vm c.args.number c.args.value) c.args.vm c.args.number
+    (is_hvictl c.args.value) (with_hvictl c.args.value) (hvictl_line c.args.vm c.args.number c.args.value) c.set_hvictl_in.result
+    c.set_hvictl_in.ensures.range
+    (subst (λ q. OnOk c.set_hvictl_in.result (MajorsDone c.self.inside.vcpus.items c.set_hvictl_in.new.vcpus.items q (with_hvictl c.args.value)))
+    slot c.set_hvictl_in.ensures.ok) c.set_hvictl_in.ensures.err there low refl refl refl refl
 
 pub returns-in_default : goal.returns-in_default
-returns-in_default c = no_such c.args.self.now c.args.self.now (Hvictl c.args.vm c.args.number c.args.value) c.args.vm c.args.number (is_hvictl c.args.value) (with_hvictl c.args.value) (hvictl_line c.args.vm c.args.number c.args.value) (subst (λ (z : CoreState). is_vcpu_in z.world.vms (vcpu c.args.vm c.args.number) ≡ false) c.self.view_is c.in_default.ensures.none)
+returns-in_default c = no_such c.args.self.now c.args.self.now (Hvictl c.args.vm c.args.number c.args.value) c.args.vm c.args.number
+    (is_hvictl c.args.value) (with_hvictl c.args.value) (hvictl_line c.args.vm c.args.number c.args.value)
+    (subst (λ (z : CoreState). is_vcpu_in z.world.vms (vcpu c.args.vm c.args.number) ≡ false) c.self.view_is c.in_default.ensures.none)
 
 pub invariant_of-self : goal.invariant_of-self
-invariant_of-self c = (still _ _ _ _ (taken c) c.self.invariant.0, (let room = c.set_hvictl_in.ensures.room in let before = c.self.invariant.1 in omega (arith, room, before)))
+invariant_of-self c = (
+  still _ _ _ _ (taken c) c.self.invariant.0,
+  (let room = c.set_hvictl_in.ensures.room in let before = c.self.invariant.1 in omega (arith, room, before)),
+)
 
 pub returns : goal.returns
 returns c = rw (← c.self.view_is) (taken c)

@@ -19,22 +19,49 @@ pub returns-then-not-runs : goal.returns-then-not-runs
 returns-then-not-runs c =
     let named = c.in-Some.ensures.named in
     let same : vcpu c.in-Some.from.vm c.in-Some.from.number ≡ vcpu c.args.vm c.args.number = λ k. vcpu (named.0 k) (named.1 k) in
-    let there = subst (λ (g : Vcpu). is_vcpu_in c.args.self.now.world.vms g ≡ true) same (subst (λ (x : CoreState). is_vcpu_in x.world.vms (vcpu c.in-Some.from.vm c.in-Some.from.number) ≡ true) c.self.view_is c.in-Some.ensures.there.there) in
+    let there = subst (λ (g : Vcpu). is_vcpu_in c.args.self.now.world.vms g ≡ true) same
+    (subst (λ (x : CoreState). is_vcpu_in x.world.vms (vcpu c.in-Some.from.vm c.in-Some.from.number) ≡ true) c.self.view_is
+    c.in-Some.ensures.there.there) in
     let kept = sym (c.runs.ensures ∙ ap (λ (r : VcpuRecord). runs_in r.stay) c.record_of.ensures) ∙ c.if-not-runs.true in
-    sender_away c.args.self.now c.args.vm c.args.number c.args.to c.args.value there (subst (λ (g : Vcpu). runs_in (record_of c.args.self.now g).stay ≡ false) same kept)
+    sender_away c.args.self.now c.args.vm c.args.number c.args.to c.args.value there
+    (subst (λ (g : Vcpu). runs_in (record_of c.args.self.now g).stay ≡ false) same kept)
 
 pub returns-in_default-find : goal.returns-in_default-find
 returns-in_default-find c =
     let named = c.in-Some.ensures.named in
     let same : vcpu c.in-Some.from.vm c.in-Some.from.number ≡ vcpu c.args.vm c.args.number = λ k. vcpu (named.0 k) (named.1 k) in
-    let there = subst (λ (g : Vcpu). is_vcpu_in c.args.self.now.world.vms g ≡ true) same (subst (λ (x : CoreState). is_vcpu_in x.world.vms (vcpu c.in-Some.from.vm c.in-Some.from.number) ≡ true) c.self.view_is c.in-Some.ensures.there.there) in
+    let there = subst (λ (g : Vcpu). is_vcpu_in c.args.self.now.world.vms g ≡ true) same
+    (subst (λ (x : CoreState). is_vcpu_in x.world.vms (vcpu c.in-Some.from.vm c.in-Some.from.number) ≡ true) c.self.view_is
+    c.in-Some.ensures.there.there) in
     let kept = sym (c.runs.ensures ∙ ap (λ (r : VcpuRecord). runs_in r.stay) c.record_of.ensures) ∙ c.if-not-runs.false in
     let lacks = subst (λ (x : CoreState). is_vcpu_in x.world.vms (vcpu c.args.vm c.args.to) ≡ false) c.self.view_is c.in_default-find.ensures.none in
-    no_peer c.args.self.now c.args.vm c.args.number c.args.to c.args.value there (subst (λ (g : Vcpu). runs_in (record_of c.args.self.now g).stay ≡ true) same kept) lacks
+    no_peer c.args.self.now c.args.vm c.args.number c.args.to c.args.value there
+    (subst (λ (g : Vcpu). runs_in (record_of c.args.self.now g).stay ≡ true) same kept) lacks
 
-taken : (c : After-guest_store) → CoreTakes (record { world = c.self.inside.fabric; leases = c.self.inside.pool; vcpus = c.self.inside.vcpus.items; selects = c.self.inside.selects; passes = c.self.inside.passes }) (record { world = c.guest_store.new.self; leases = c.self.inside.pool; vcpus = c.self.inside.vcpus.items; selects = c.self.inside.selects; passes = c.self.inside.passes }) (Ipi c.args.vm c.args.number c.args.to c.args.value) Okay
+taken : (c : After-guest_store) → CoreTakes (record {
+  world = c.self.inside.fabric;
+  leases = c.self.inside.pool;
+  vcpus = c.self.inside.vcpus.items;
+  selects = c.self.inside.selects;
+  passes =
+      c.self.inside.passes;
+}) (record {
+  world = c.guest_store.new.self;
+  leases = c.self.inside.pool;
+  vcpus = c.self.inside.vcpus.items;
+  selects =
+      c.self.inside.selects;
+  passes = c.self.inside.passes;
+}) (Ipi c.args.vm c.args.number c.args.to c.args.value) Okay
 taken c =
-    let x : CoreState = record { world = c.self.inside.fabric; leases = c.self.inside.pool; vcpus = c.self.inside.vcpus.items; selects = c.self.inside.selects; passes = c.self.inside.passes } in
+    let x : CoreState = record {
+      world = c.self.inside.fabric;
+      leases = c.self.inside.pool;
+      vcpus = c.self.inside.vcpus.items;
+      selects =
+          c.self.inside.selects;
+      passes = c.self.inside.passes;
+    } in
     let named = c.in-Some.ensures.named in
     let same : vcpu c.in-Some.from.vm c.in-Some.from.number ≡ vcpu c.args.vm c.args.number = λ k. vcpu (named.0 k) (named.1 k) in
     let peers = c.in-Some-find.ensures.named in
@@ -42,8 +69,10 @@ taken c =
     let sender = subst (λ (g : Vcpu). is_vcpu_in x.world.vms g ≡ true) same c.in-Some.ensures.there.there in
     let there = subst (λ (g : Vcpu). is_vcpu_in x.world.vms g ≡ true) peer c.in-Some-find.ensures.there.there in
     let now = sym (c.runs.ensures ∙ ap (λ (r : VcpuRecord). runs_in r.stay) c.record_of.ensures) ∙ c.if-not-runs.false in
-    let kept = subst (λ (g : Vcpu). runs_in (record_of x g).stay ≡ true) same (subst (λ (z : CoreState). runs_in (record_of z (vcpu c.in-Some.from.vm c.in-Some.from.number)).stay ≡ true) (sym c.self.view_is) now) in
-    let relays = subst (λ (g : Vcpu). ReachesByRecord (stage_of x.world g).in_force x.world c.guest_store.new.self g c.args.value) peer c.guest_store.ensures.reaches in
+    let kept = subst (λ (g : Vcpu). runs_in (record_of x g).stay ≡ true) same
+    (subst (λ (z : CoreState). runs_in (record_of z (vcpu c.in-Some.from.vm c.in-Some.from.number)).stay ≡ true) (sym c.self.view_is) now) in
+    let relays = subst (λ (g : Vcpu). ReachesByRecord (stage_of x.world g).in_force x.world c.guest_store.new.self g c.args.value) peer
+    c.guest_store.ensures.reaches in
     ipi_taken _ _ c.args.vm c.args.number c.args.to c.args.value c.find.ensures.whole sender kept there relays refl refl refl refl
 
 pub invariant_of-self : goal.invariant_of-self

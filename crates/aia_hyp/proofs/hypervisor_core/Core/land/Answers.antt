@@ -18,7 +18,21 @@ returns-then-k-flying c =
     let past : length (flight_of c.self.inside.fabric c.args.vm) ≤ c.args.k = omega (arith, c.flying.ensures.value, c.if-k-flying.true) in
     rw (← c.self.view_is) (none_to_land _ c.args.vm c.args.k past)
 
-taken : (c : After-land) → CoreTakes (record { world = c.self.inside.fabric; leases = c.self.inside.pool; vcpus = c.self.inside.vcpus.items; selects = c.self.inside.selects; passes = c.self.inside.passes }) (record { world = c.land.new.self; leases = c.self.inside.pool; vcpus = c.self.inside.vcpus.items; selects = c.self.inside.selects; passes = c.self.inside.passes }) (Land c.args.vm c.args.k) Okay
+taken : (c : After-land) → CoreTakes (record {
+  world = c.self.inside.fabric;
+  leases = c.self.inside.pool;
+  vcpus = c.self.inside.vcpus.items;
+  selects = c.self.inside.selects;
+  passes = c.self.inside.passes;
+})
+    (record {
+      world = c.land.new.self;
+      leases = c.self.inside.pool;
+      vcpus = c.self.inside.vcpus.items;
+      selects = c.self.inside.selects;
+      passes =
+          c.self.inside.passes;
+    }) (Land c.args.vm c.args.k) Okay
 taken c = land_taken _ _ c.args.vm c.args.k (record {
   whole = c.vms.ensures.whole;
   low = omega (arith, c.vms.ensures.value, c.from.ensures, c.if-vm-from.false);

@@ -31,11 +31,14 @@ use Rattle.aia_hyp.proofs.hypervisor_core.Core.load_into.Goals.{After-load_numbe
 use Rattle.aia_hyp.proofs.hypervisor_core.Core.load_into.Goals as goal
 
 -- what is known before the load
-module _ (x z : CoreState) (found : Found) (kept : KeptNumbers) (part : Part) (view : x ≡ z) (is_found : IsFound z.world found) (is_whole : IsWhole z.world) (parked : (record_of z (vcpu found.vm found.number)).stay ≡ stays.InMemory Parked kept) (loadable : is_loadable z.world.n part ≡ true) where
+module _ (x z : CoreState) (found : Found) (kept : KeptNumbers) (part : Part) (view : x ≡ z) (is_found : IsFound z.world found)
+    (is_whole : IsWhole z.world) (parked : (record_of z (vcpu found.vm found.number)).stay ≡ stays.InMemory Parked kept)
+    (loadable : is_loadable z.world.n part ≡ true) where
   is_of : IsFound x.world found
   is_of = subst (λ (s : CoreState). IsFound s.world found) (sym view) is_found
 
-  load_of : (y : CoreState) (made : Part) → part ≡ made → y.leases ≡ x.leases → y.selects ≡ x.selects → y.passes ≡ x.passes → IsLoad x y found.vm found.number kept made
+  load_of : (y : CoreState) (made : Part) → part ≡ made → y.leases ≡ x.leases → y.selects ≡ x.selects → y.passes ≡ x.passes
+      → IsLoad x y found.vm found.number kept made
   load_of y made is leases selects passes = record {
     inside = is_of.there;
     whole = subst (λ (s : CoreState). IsWhole s.world) (sym view) is_whole;
@@ -46,10 +49,39 @@ module _ (x z : CoreState) (found : Found) (kept : KeptNumbers) (part : Part) (v
     passes = passes;
   }
 
-numbers : (c : After-load_numbers_in) → CoreTakes (record { world = c.self.inside.fabric; leases = c.self.inside.pool; vcpus = c.self.inside.vcpus.items; selects = c.self.inside.selects; passes = c.self.inside.passes }) (record { world = c.self.inside.fabric; leases = c.self.inside.pool; vcpus = c.load_numbers_in.new.vcpus.items; selects = c.self.inside.selects; passes = c.self.inside.passes }) (LoadPart c.args.found.vm c.args.found.number c.args.part) Okay
+numbers : (c : After-load_numbers_in) → CoreTakes
+    (record {
+      world = c.self.inside.fabric;
+      leases = c.self.inside.pool;
+      vcpus = c.self.inside.vcpus.items;
+      selects = c.self.inside.selects;
+      passes = c.self.inside.passes;
+    }) (record {
+      world = c.self.inside.fabric;
+      leases = c.self.inside.pool;
+      vcpus =
+          c.load_numbers_in.new.vcpus.items;
+      selects = c.self.inside.selects;
+      passes = c.self.inside.passes;
+    })
+    (LoadPart c.args.found.vm c.args.found.number c.args.part) Okay
 numbers c =
-    let x : CoreState = record { world = c.self.inside.fabric; leases = c.self.inside.pool; vcpus = c.self.inside.vcpus.items; selects = c.self.inside.selects; passes = c.self.inside.passes } in
-    let y : CoreState = record { world = c.self.inside.fabric; leases = c.self.inside.pool; vcpus = c.load_numbers_in.new.vcpus.items; selects = c.self.inside.selects; passes = c.self.inside.passes } in
+    let x : CoreState = record {
+      world = c.self.inside.fabric;
+      leases = c.self.inside.pool;
+      vcpus = c.self.inside.vcpus.items;
+      selects =
+          c.self.inside.selects;
+      passes = c.self.inside.passes;
+    } in
+    let y : CoreState = record {
+      world = c.self.inside.fabric;
+      leases = c.self.inside.pool;
+      vcpus = c.load_numbers_in.new.vcpus.items;
+      selects =
+          c.self.inside.selects;
+      passes = c.self.inside.passes;
+    } in
     let found = c.args.found in
     let i = c.in-Image in
     let r = c.requires in
@@ -61,7 +93,12 @@ numbers c =
       load = load_of x c.args.self.now found c.args.kept c.args.part c.self.view_is r.found r.whole r.parked r.loadable y _ i.is refl refl refl;
       world = refl;
       low = subst (λ q. q < length x.vcpus) is.slot low;
-      vcpus = subst (λ q. y.vcpus ≡ slice_set x.vcpus q (record (slice_index_or x.vcpus q no_record) { stay = stays.InMemory Parked now; select = select_written (ops.Write i.select) (slice_index_or x.vcpus q no_record).select })) is.slot c.load_numbers_in.ensures.after;
+      vcpus = subst (λ q. y.vcpus ≡ slice_set x.vcpus q
+          (record (slice_index_or x.vcpus q no_record) {
+            stay = stays.InMemory Parked now;
+            select =
+                select_written (ops.Write i.select) (slice_index_or x.vcpus q no_record).select;
+          })) is.slot c.load_numbers_in.ensures.after;
       is_delivery = c.from.ensures ∙ a_bit i.delivery;
       is_threshold = c.from-in-Image.ensures;
     }))
@@ -70,17 +107,47 @@ numbers c =
     a_bit true = refl
     a_bit false = refl
 
-majors : (c : After-load_majors_in) → CoreTakes (record { world = c.self.inside.fabric; leases = c.self.inside.pool; vcpus = c.self.inside.vcpus.items; selects = c.self.inside.selects; passes = c.self.inside.passes }) (record { world = c.self.inside.fabric; leases = c.self.inside.pool; vcpus = c.load_majors_in.new.vcpus.items; selects = c.self.inside.selects; passes = c.self.inside.passes }) (LoadPart c.args.found.vm c.args.found.number c.args.part) Okay
+majors : (c : After-load_majors_in) → CoreTakes
+    (record {
+      world = c.self.inside.fabric;
+      leases = c.self.inside.pool;
+      vcpus = c.self.inside.vcpus.items;
+      selects = c.self.inside.selects;
+      passes = c.self.inside.passes;
+    }) (record {
+      world = c.self.inside.fabric;
+      leases = c.self.inside.pool;
+      vcpus =
+          c.load_majors_in.new.vcpus.items;
+      selects = c.self.inside.selects;
+      passes = c.self.inside.passes;
+    })
+    (LoadPart c.args.found.vm c.args.found.number c.args.part) Okay
 majors c =
-    let x : CoreState = record { world = c.self.inside.fabric; leases = c.self.inside.pool; vcpus = c.self.inside.vcpus.items; selects = c.self.inside.selects; passes = c.self.inside.passes } in
-    let y : CoreState = record { world = c.self.inside.fabric; leases = c.self.inside.pool; vcpus = c.load_majors_in.new.vcpus.items; selects = c.self.inside.selects; passes = c.self.inside.passes } in
+    let x : CoreState = record {
+      world = c.self.inside.fabric;
+      leases = c.self.inside.pool;
+      vcpus = c.self.inside.vcpus.items;
+      selects =
+          c.self.inside.selects;
+      passes = c.self.inside.passes;
+    } in
+    let y : CoreState = record {
+      world = c.self.inside.fabric;
+      leases = c.self.inside.pool;
+      vcpus = c.load_majors_in.new.vcpus.items;
+      selects =
+          c.self.inside.selects;
+      passes = c.self.inside.passes;
+    } in
     let found = c.args.found in
     let i = c.in-Majors in
     let r = c.requires in
     let is = is_of x c.args.self.now found c.args.kept c.args.part c.self.view_is r.found r.whole r.parked r.loadable in
     let low = who_low x found c.self.invariant.0 is in
     subst (λ (p : Part). CoreTakes x y (LoadPart found.vm found.number p) Okay) (sym i.is)
-    (majors_are_loaded x y found.vm found.number i.injected i.enabled c.args.kept (load_of x c.args.self.now found c.args.kept c.args.part c.self.view_is r.found r.whole r.parked r.loadable y _ i.is refl refl refl) (record {
+    (majors_are_loaded x y found.vm found.number i.injected i.enabled c.args.kept
+    (load_of x c.args.self.now found c.args.kept c.args.part c.self.view_is r.found r.whole r.parked r.loadable y _ i.is refl refl refl) (record {
       world = refl;
       leases = refl;
       selects = refl;
@@ -89,17 +156,47 @@ majors c =
       is_done = subst (λ q. MajorsDone x.vcpus y.vcpus q (majors_loaded (parts.Majors i.injected i.enabled))) is.slot c.load_majors_in.ensures.done;
     }))
 
-registers : (c : After-load_registers_in) → CoreTakes (record { world = c.self.inside.fabric; leases = c.self.inside.pool; vcpus = c.self.inside.vcpus.items; selects = c.self.inside.selects; passes = c.self.inside.passes }) (record { world = c.self.inside.fabric; leases = c.self.inside.pool; vcpus = c.load_registers_in.new.vcpus.items; selects = c.self.inside.selects; passes = c.self.inside.passes }) (LoadPart c.args.found.vm c.args.found.number c.args.part) Okay
+registers : (c : After-load_registers_in) → CoreTakes
+    (record {
+      world = c.self.inside.fabric;
+      leases = c.self.inside.pool;
+      vcpus = c.self.inside.vcpus.items;
+      selects = c.self.inside.selects;
+      passes = c.self.inside.passes;
+    }) (record {
+      world = c.self.inside.fabric;
+      leases = c.self.inside.pool;
+      vcpus =
+          c.load_registers_in.new.vcpus.items;
+      selects = c.self.inside.selects;
+      passes = c.self.inside.passes;
+    })
+    (LoadPart c.args.found.vm c.args.found.number c.args.part) Okay
 registers c =
-    let x : CoreState = record { world = c.self.inside.fabric; leases = c.self.inside.pool; vcpus = c.self.inside.vcpus.items; selects = c.self.inside.selects; passes = c.self.inside.passes } in
-    let y : CoreState = record { world = c.self.inside.fabric; leases = c.self.inside.pool; vcpus = c.load_registers_in.new.vcpus.items; selects = c.self.inside.selects; passes = c.self.inside.passes } in
+    let x : CoreState = record {
+      world = c.self.inside.fabric;
+      leases = c.self.inside.pool;
+      vcpus = c.self.inside.vcpus.items;
+      selects =
+          c.self.inside.selects;
+      passes = c.self.inside.passes;
+    } in
+    let y : CoreState = record {
+      world = c.self.inside.fabric;
+      leases = c.self.inside.pool;
+      vcpus = c.load_registers_in.new.vcpus.items;
+      selects =
+          c.self.inside.selects;
+      passes = c.self.inside.passes;
+    } in
     let found = c.args.found in
     let i = c.in-Prio in
     let r = c.requires in
     let is = is_of x c.args.self.now found c.args.kept c.args.part c.self.view_is r.found r.whole r.parked r.loadable in
     let low = who_low x found c.self.invariant.0 is in
     subst (λ (p : Part). CoreTakes x y (LoadPart found.vm found.number p) Okay) (sym i.is)
-    (registers_are_loaded x y found.vm found.number i.hviprio i.hvictl c.args.kept (load_of x c.args.self.now found c.args.kept c.args.part c.self.view_is r.found r.whole r.parked r.loadable y _ i.is refl refl refl) (record {
+    (registers_are_loaded x y found.vm found.number i.hviprio i.hvictl c.args.kept
+    (load_of x c.args.self.now found c.args.kept c.args.part c.self.view_is r.found r.whole r.parked r.loadable y _ i.is refl refl refl) (record {
       world = refl;
       leases = refl;
       selects = refl;
@@ -108,17 +205,46 @@ registers c =
       is_done = subst (λ q. MajorsDone x.vcpus y.vcpus q (majors_loaded (parts.Prio i.hviprio i.hvictl))) is.slot c.load_registers_in.ensures.done;
     }))
 
-told : (c : After-notice) → CoreTakes (record { world = c.self.inside.fabric; leases = c.self.inside.pool; vcpus = c.self.inside.vcpus.items; selects = c.self.inside.selects; passes = c.self.inside.passes }) (record { world = c.notice.new.self; leases = c.self.inside.pool; vcpus = c.self.inside.vcpus.items; selects = c.self.inside.selects; passes = c.self.inside.passes }) (LoadPart c.args.found.vm c.args.found.number c.args.part) Okay
+told : (c : After-notice) → CoreTakes (record {
+  world = c.self.inside.fabric;
+  leases = c.self.inside.pool;
+  vcpus = c.self.inside.vcpus.items;
+  selects = c.self.inside.selects;
+  passes = c.self.inside.passes;
+})
+    (record {
+      world = c.notice.new.self;
+      leases = c.self.inside.pool;
+      vcpus = c.self.inside.vcpus.items;
+      selects = c.self.inside.selects;
+      passes =
+          c.self.inside.passes;
+    }) (LoadPart c.args.found.vm c.args.found.number c.args.part) Okay
 told c =
-    let x : CoreState = record { world = c.self.inside.fabric; leases = c.self.inside.pool; vcpus = c.self.inside.vcpus.items; selects = c.self.inside.selects; passes = c.self.inside.passes } in
-    let y : CoreState = record { world = c.notice.new.self; leases = c.self.inside.pool; vcpus = c.self.inside.vcpus.items; selects = c.self.inside.selects; passes = c.self.inside.passes } in
+    let x : CoreState = record {
+      world = c.self.inside.fabric;
+      leases = c.self.inside.pool;
+      vcpus = c.self.inside.vcpus.items;
+      selects =
+          c.self.inside.selects;
+      passes = c.self.inside.passes;
+    } in
+    let y : CoreState = record {
+      world = c.notice.new.self;
+      leases = c.self.inside.pool;
+      vcpus = c.self.inside.vcpus.items;
+      selects =
+          c.self.inside.selects;
+      passes = c.self.inside.passes;
+    } in
     let m : World = c.load_word.new.fabric in
     let found = c.args.found in
     let g = vcpu found.vm found.number in
     let i = c.in-Word in
     let r = c.requires in
     let is = is_of x c.args.self.now found c.args.kept c.args.part c.self.view_is r.found r.whole r.parked r.loadable in
-    let done : DoneInSlot x.world m (slot_of x.world.vms g) 0 (sets_loaded i.w i.pending i.enable) = subst (λ q. DoneInSlot x.world m q 0 (sets_loaded i.w i.pending i.enable)) is.slot c.load_word.ensures in
+    let done : DoneInSlot x.world m (slot_of x.world.vms g) 0 (sets_loaded i.w i.pending i.enable) =
+    subst (λ q. DoneInSlot x.world m q 0 (sets_loaded i.w i.pending i.enable)) is.slot c.load_word.ensures in
     let same : m.vms ≡ x.world.vms = ap (λ (w : World). w.vms) done.rest in
     let there : is_vcpu_in m.vms g ≡ true = ap (λ vms. is_vcpu_in vms g) same ∙ is.there in
     let slot : slot_of m.vms g ≡ found.slot = ap (λ vms. slot_of vms g) same ∙ sym is.slot in
@@ -130,13 +256,42 @@ told c =
       done = done;
       memory = ap (λ (w : World). w.memory) c.notice.ensures.rest;
     })
-    (subst (λ q. Posts m y.world (spots.SupervisorFile (notice_hart x.world.vms g)) (q + 1)) is.slot (subst (λ vms. Posts m y.world (spots.SupervisorFile (notice_hart vms g)) (found.slot + 1)) same posts))
+    (subst (λ q. Posts m y.world (spots.SupervisorFile (notice_hart x.world.vms g)) (q + 1)) is.slot
+    (subst (λ vms. Posts m y.world (spots.SupervisorFile (notice_hart vms g)) (found.slot + 1)) same posts))
     (subst (λ q. is_live (file_of_slot m q 0) i.w ≡ true) is.slot (sym c.is_live.ensures ∙ c.if-is_live.true)))
 
-untold : (c : Else-is_live) → CoreTakes (record { world = c.self.inside.fabric; leases = c.self.inside.pool; vcpus = c.self.inside.vcpus.items; selects = c.self.inside.selects; passes = c.self.inside.passes }) (record { world = c.load_word.new.fabric; leases = c.self.inside.pool; vcpus = c.self.inside.vcpus.items; selects = c.self.inside.selects; passes = c.self.inside.passes }) (LoadPart c.args.found.vm c.args.found.number c.args.part) Okay
+untold : (c : Else-is_live) → CoreTakes (record {
+  world = c.self.inside.fabric;
+  leases = c.self.inside.pool;
+  vcpus = c.self.inside.vcpus.items;
+  selects = c.self.inside.selects;
+  passes =
+      c.self.inside.passes;
+}) (record {
+  world = c.load_word.new.fabric;
+  leases = c.self.inside.pool;
+  vcpus = c.self.inside.vcpus.items;
+  selects =
+      c.self.inside.selects;
+  passes = c.self.inside.passes;
+}) (LoadPart c.args.found.vm c.args.found.number c.args.part) Okay
 untold c =
-    let x : CoreState = record { world = c.self.inside.fabric; leases = c.self.inside.pool; vcpus = c.self.inside.vcpus.items; selects = c.self.inside.selects; passes = c.self.inside.passes } in
-    let y : CoreState = record { world = c.load_word.new.fabric; leases = c.self.inside.pool; vcpus = c.self.inside.vcpus.items; selects = c.self.inside.selects; passes = c.self.inside.passes } in
+    let x : CoreState = record {
+      world = c.self.inside.fabric;
+      leases = c.self.inside.pool;
+      vcpus = c.self.inside.vcpus.items;
+      selects =
+          c.self.inside.selects;
+      passes = c.self.inside.passes;
+    } in
+    let y : CoreState = record {
+      world = c.load_word.new.fabric;
+      leases = c.self.inside.pool;
+      vcpus = c.self.inside.vcpus.items;
+      selects =
+          c.self.inside.selects;
+      passes = c.self.inside.passes;
+    } in
     let m : World = c.load_word.new.fabric in
     let found = c.args.found in
     let i = c.in-Word in
@@ -156,17 +311,41 @@ untold c =
 pub load_numbers_in-requires : goal.load_numbers_in-requires
 load_numbers_in-requires c =
     let r = c.requires in
-    who_low (record { world = c.self.inside.fabric; leases = c.self.inside.pool; vcpus = c.self.inside.vcpus.items; selects = c.self.inside.selects; passes = c.self.inside.passes }) c.args.found c.self.invariant.0 (subst (λ (s : CoreState). IsFound s.world c.args.found) (sym c.self.view_is) r.found)
+    who_low (record {
+      world = c.self.inside.fabric;
+      leases = c.self.inside.pool;
+      vcpus = c.self.inside.vcpus.items;
+      selects =
+          c.self.inside.selects;
+      passes = c.self.inside.passes;
+    }) c.args.found c.self.invariant.0
+    (subst (λ (s : CoreState). IsFound s.world c.args.found) (sym c.self.view_is) r.found)
 
 pub load_majors_in-requires : goal.load_majors_in-requires
 load_majors_in-requires c =
     let r = c.requires in
-    who_low (record { world = c.self.inside.fabric; leases = c.self.inside.pool; vcpus = c.self.inside.vcpus.items; selects = c.self.inside.selects; passes = c.self.inside.passes }) c.args.found c.self.invariant.0 (subst (λ (s : CoreState). IsFound s.world c.args.found) (sym c.self.view_is) r.found)
+    who_low (record {
+      world = c.self.inside.fabric;
+      leases = c.self.inside.pool;
+      vcpus = c.self.inside.vcpus.items;
+      selects =
+          c.self.inside.selects;
+      passes = c.self.inside.passes;
+    }) c.args.found c.self.invariant.0
+    (subst (λ (s : CoreState). IsFound s.world c.args.found) (sym c.self.view_is) r.found)
 
 pub load_registers_in-requires-clause-slot : goal.load_registers_in-requires-clause-slot
 load_registers_in-requires-clause-slot c =
     let r = c.requires in
-    who_low (record { world = c.self.inside.fabric; leases = c.self.inside.pool; vcpus = c.self.inside.vcpus.items; selects = c.self.inside.selects; passes = c.self.inside.passes }) c.args.found c.self.invariant.0 (subst (λ (s : CoreState). IsFound s.world c.args.found) (sym c.self.view_is) r.found)
+    who_low (record {
+      world = c.self.inside.fabric;
+      leases = c.self.inside.pool;
+      vcpus = c.self.inside.vcpus.items;
+      selects =
+          c.self.inside.selects;
+      passes = c.self.inside.passes;
+    }) c.args.found c.self.invariant.0
+    (subst (λ (s : CoreState). IsFound s.world c.args.found) (sym c.self.view_is) r.found)
 
 pub load_word-requires-clause-slot : goal.load_word-requires-clause-slot
 load_word-requires-clause-slot c = let r = c.requires in found_few c.args.self.now.world c.args.found r.whole r.found
@@ -177,20 +356,30 @@ is_live-requires-clause-slot c = let r = c.requires in found_few c.args.self.now
 pub notice-requires : goal.notice-requires
 notice-requires c =
     let r = c.requires in
-    let below = found_below c.self.inside.fabric c.args.found (subst (λ (s : CoreState). IsFound s.world c.args.found) (sym c.self.view_is) r.found) in
+    let below = found_below c.self.inside.fabric c.args.found
+    (subst (λ (s : CoreState). IsFound s.world c.args.found) (sym c.self.view_is) r.found) in
     let same = ap (λ (w : World). vcpus_in w.vms) c.load_word.ensures.rest in
     omega (arith, below, same)
 
 -- ---- the core stands, and promises
 
 pub invariant_of-self : goal.invariant_of-self
-invariant_of-self c = (still _ _ _ _ (numbers c) c.self.invariant.0, (let room = c.load_numbers_in.ensures.room in let before = c.self.invariant.1 in omega (arith, room, before)))
+invariant_of-self c = (
+  still _ _ _ _ (numbers c) c.self.invariant.0,
+  (let room = c.load_numbers_in.ensures.room in let before = c.self.invariant.1 in omega (arith, room, before)),
+)
 
 pub invariant_of-self-in-Majors : goal.invariant_of-self-in-Majors
-invariant_of-self-in-Majors c = (still _ _ _ _ (majors c) c.self.invariant.0, (let room = c.load_majors_in.ensures.room in let before = c.self.invariant.1 in omega (arith, room, before)))
+invariant_of-self-in-Majors c = (
+  still _ _ _ _ (majors c) c.self.invariant.0,
+  (let room = c.load_majors_in.ensures.room in let before = c.self.invariant.1 in omega (arith, room, before)),
+)
 
 pub invariant_of-self-in-Prio : goal.invariant_of-self-in-Prio
-invariant_of-self-in-Prio c = (still _ _ _ _ (registers c) c.self.invariant.0, (let room = c.load_registers_in.ensures.room in let before = c.self.invariant.1 in omega (arith, room, before)))
+invariant_of-self-in-Prio c = (
+  still _ _ _ _ (registers c) c.self.invariant.0,
+  (let room = c.load_registers_in.ensures.room in let before = c.self.invariant.1 in omega (arith, room, before)),
+)
 
 pub invariant_of-self-then-is_live : goal.invariant_of-self-then-is_live
 invariant_of-self-then-is_live c = (still _ _ _ _ (told c) c.self.invariant.0, c.self.invariant.1)

@@ -16,12 +16,14 @@ returns-in_default c = rw (← c.self.view_is) (no_vcpu_to_load _ c.args.vm c.ar
 pub returns-then-not-is_loadable : goal.returns-then-not-is_loadable
 returns-then-not-is_loadable c =
     let n : 64 * c.words.result - 1 ≡ c.self.inside.fabric.n = omega (arith, c.words.ensures.all) in
-    let bad : is_loadable c.self.inside.fabric.n c.args.part.now ≡ false = ap (λ n. is_loadable n c.args.part.now) (sym n) ∙ sym c.is_loadable.ensures ∙ c.if-not-is_loadable.true in
+    let bad : is_loadable c.self.inside.fabric.n c.args.part.now ≡ false = ap (λ n. is_loadable n c.args.part.now) (sym n)
+    ∙ sym c.is_loadable.ensures ∙ c.if-not-is_loadable.true in
     rw (← c.self.view_is) (not_loadable _ c.args.vm c.args.number c.args.part.now bad)
 
 pub parked-requires : goal.parked-requires
 parked-requires c =
-    who_low c.args.self.now c.in-Some.found (subst StandsForSome c.self.view_is c.self.invariant.0) (subst (λ (z : CoreState). IsFound z.world c.in-Some.found) c.self.view_is c.in-Some.ensures.there)
+    who_low c.args.self.now c.in-Some.found (subst StandsForSome c.self.view_is c.self.invariant.0)
+    (subst (λ (z : CoreState). IsFound z.world c.in-Some.found) c.self.view_is c.in-Some.ensures.there)
 
 pub returns-in_err-kept : goal.returns-in_err-kept
 returns-in_err-kept c =
@@ -33,9 +35,11 @@ returns-in_err-kept c =
     let is = subst (λ (z : CoreState). IsFound z.world found) c.self.view_is c.in-Some.ensures.there in
     let named = c.in-Some.ensures.named in
     let n : 64 * c.words.result - 1 ≡ c.self.inside.fabric.n = omega (arith, c.words.ensures.all) in
-    let fits : is_loadable c.self.inside.fabric.n part ≡ true = ap (λ n. is_loadable n part) (sym n) ∙ sym c.is_loadable.ensures ∙ c.if-not-is_loadable.false in
+    let fits : is_loadable c.self.inside.fabric.n part ≡ true = ap (λ n. is_loadable n part) (sym n) ∙ sym c.is_loadable.ensures
+    ∙ c.if-not-is_loadable.false in
     let good = subst (λ (z : CoreState). is_loadable z.world.n part ≡ true) c.self.view_is fits in
     let stay = found_stay x found is c.parked.result parked_at c.parked.ensures in
     rw same
-    (subst (λ vm. CoreTakes x x (LoadPart vm c.args.number part) (Refused word)) named.0 (subst (λ number. CoreTakes x x (LoadPart found.vm number part) (Refused word)) named.1
+    (subst (λ vm. CoreTakes x x (LoadPart vm c.args.number part) (Refused word)) named.0
+    (subst (λ number. CoreTakes x x (LoadPart found.vm number part) (Refused word)) named.1
     (not_parked_to_load x found.vm found.number part word is.there good (sym stay ∙ c.in_err-kept.was))))

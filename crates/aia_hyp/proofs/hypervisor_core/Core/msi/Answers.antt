@@ -6,10 +6,25 @@ use Rattle.aia_hyp_values.proofs.DeviceLemmas.{no_vm_for_it, misaligned_store, s
 use Rattle.aia_hyp.proofs.hypervisor_core.Core.msi.Goals.{After-device_store}
 use Rattle.aia_hyp.proofs.hypervisor_core.Core.msi.Goals as goal
 
-taken : (c : After-device_store) → CoreTakes (record { world = c.self.inside.fabric; leases = c.self.inside.pool; vcpus = c.self.inside.vcpus.items; selects = c.self.inside.selects; passes = c.self.inside.passes }) (record { world = c.device_store.new.self; leases = c.self.inside.pool; vcpus = c.self.inside.vcpus.items; selects = c.self.inside.selects; passes = c.self.inside.passes }) (lines.Msi c.args.vm c.args.addr c.args.value) (route_answer c.device_store.result)
+taken : (c : After-device_store) → CoreTakes (record {
+  world = c.self.inside.fabric;
+  leases = c.self.inside.pool;
+  vcpus = c.self.inside.vcpus.items;
+  selects = c.self.inside.selects;
+  passes =
+      c.self.inside.passes;
+}) (record {
+  world = c.device_store.new.self;
+  leases = c.self.inside.pool;
+  vcpus = c.self.inside.vcpus.items;
+  selects =
+      c.self.inside.selects;
+  passes = c.self.inside.passes;
+}) (lines.Msi c.args.vm c.args.addr c.args.value) (route_answer c.device_store.result)
 taken c =
     let low : c.args.vm < length c.self.inside.fabric.vms = omega (arith, c.vms.ensures.value, c.from.ensures, c.if-vm-from.false) in
-    store_taken _ _ c.args.vm c.args.addr c.args.value c.device_store.result c.vms.ensures.whole low c.if-addr-ne0.false c.device_store.ensures.route c.device_store.ensures.reaches refl refl refl refl
+    store_taken _ _ c.args.vm c.args.addr c.args.value c.device_store.result c.vms.ensures.whole low c.if-addr-ne0.false
+    c.device_store.ensures.route c.device_store.ensures.reaches refl refl refl refl
 
 pub invariant_of-self : goal.invariant_of-self
 invariant_of-self c = (still _ _ _ _ (taken c.before) c.self.invariant.0, c.self.invariant.1)

@@ -16,18 +16,48 @@ use Rattle.aia_hyp_values.proofs.RunLines.{exits, exit_is_loud, exit_is_quiet, l
 use Rattle.aia_hyp.proofs.hypervisor_core.Core.park.Goals.{After-notice, Else-slot_is_live}
 use Rattle.aia_hyp.proofs.hypervisor_core.Core.park.Goals as goal
 
-told : (c : After-notice) → CoreTakes (record { world = c.self.inside.fabric; leases = c.self.inside.pool; vcpus = c.self.inside.vcpus.items; selects = c.self.inside.selects; passes = c.self.inside.passes }) (record { world = c.notice.new.self; leases = c.self.inside.pool; vcpus = c.put_stay.new.vcpus.items; selects = c.self.inside.selects; passes = c.self.inside.passes }) (Exit c.args.found.vm c.args.found.number) Okay
+told : (c : After-notice) → CoreTakes (record {
+  world = c.self.inside.fabric;
+  leases = c.self.inside.pool;
+  vcpus = c.self.inside.vcpus.items;
+  selects = c.self.inside.selects;
+  passes = c.self.inside.passes;
+})
+    (record {
+      world = c.notice.new.self;
+      leases = c.self.inside.pool;
+      vcpus = c.put_stay.new.vcpus.items;
+      selects = c.self.inside.selects;
+      passes = c.self.inside.passes;
+    }) (Exit c.args.found.vm c.args.found.number) Okay
 told c =
-    let x : CoreState = record { world = c.self.inside.fabric; leases = c.self.inside.pool; vcpus = c.self.inside.vcpus.items; selects = c.self.inside.selects; passes = c.self.inside.passes } in
-    let y : CoreState = record { world = c.notice.new.self; leases = c.self.inside.pool; vcpus = c.put_stay.new.vcpus.items; selects = c.self.inside.selects; passes = c.self.inside.passes } in
+    let x : CoreState = record {
+      world = c.self.inside.fabric;
+      leases = c.self.inside.pool;
+      vcpus = c.self.inside.vcpus.items;
+      selects =
+          c.self.inside.selects;
+      passes = c.self.inside.passes;
+    } in
+    let y : CoreState = record {
+      world = c.notice.new.self;
+      leases = c.self.inside.pool;
+      vcpus = c.put_stay.new.vcpus.items;
+      selects =
+          c.self.inside.selects;
+      passes = c.self.inside.passes;
+    } in
     let found = c.args.found in
     let g = vcpu found.vm found.number in
     let is = subst (λ (z : CoreState). IsFound z.world found) (sym c.self.view_is) c.requires.found in
     let was = subst (λ (z : CoreState). (record_of z g).stay ≡ stays.InMemory Entered c.args.kept) (sym c.self.view_is) c.requires.entered in
-    let whole = c.words-whole.ensures.whole in
-    let told : (w : World) → w ≡ x.world → ((g : Vcpu) → is_vcpu_in w.vms g ≡ true → slot_of w.vms g ≡ found.slot → Posts w y.world (spots.SupervisorFile (notice_hart w.vms g)) (found.slot + 1)) → Posts x.world y.world (spots.SupervisorFile (notice_hart x.world.vms g)) (notice_identity x.world.vms g) =
+    let whole = c.recall.ensures.whole in
+    let told : (w : World) → w ≡ x.world → ((g : Vcpu) → is_vcpu_in w.vms g ≡ true → slot_of w.vms g ≡ found.slot
+    → Posts w y.world (spots.SupervisorFile (notice_hart w.vms g)) (found.slot + 1))
+    → Posts x.world y.world (spots.SupervisorFile (notice_hart x.world.vms g)) (notice_identity x.world.vms g) =
     λ w same by. subst (λ s. Posts x.world y.world (spots.SupervisorFile (notice_hart x.world.vms g)) (s + 1)) is.slot
-    (subst (λ (w : World). (g : Vcpu) → is_vcpu_in w.vms g ≡ true → slot_of w.vms g ≡ found.slot → Posts w y.world (spots.SupervisorFile (notice_hart w.vms g)) (found.slot + 1)) same by g is.there (sym is.slot)) in
+    (subst (λ (w : World). (g : Vcpu) → is_vcpu_in w.vms g ≡ true → slot_of w.vms g ≡ found.slot
+    → Posts w y.world (spots.SupervisorFile (notice_hart w.vms g)) (found.slot + 1)) same by g is.there (sym is.slot)) in
     exits x y found.vm found.number c.args.kept (record {
       whole = whole;
       there = is.there;
@@ -41,15 +71,42 @@ told c =
           (told c.slot_is_live.new.fabric c.slot_is_live.ensures.same c.notice.ensures.posts);
     })
 
-untold : (c : Else-slot_is_live) → CoreTakes (record { world = c.self.inside.fabric; leases = c.self.inside.pool; vcpus = c.self.inside.vcpus.items; selects = c.self.inside.selects; passes = c.self.inside.passes }) (record { world = c.slot_is_live.new.fabric; leases = c.self.inside.pool; vcpus = c.put_stay.new.vcpus.items; selects = c.self.inside.selects; passes = c.self.inside.passes }) (Exit c.args.found.vm c.args.found.number) Okay
+untold : (c : Else-slot_is_live) → CoreTakes (record {
+  world = c.self.inside.fabric;
+  leases = c.self.inside.pool;
+  vcpus = c.self.inside.vcpus.items;
+  selects = c.self.inside.selects;
+  passes =
+      c.self.inside.passes;
+}) (record {
+  world = c.slot_is_live.new.fabric;
+  leases = c.self.inside.pool;
+  vcpus = c.put_stay.new.vcpus.items;
+  selects = c.self.inside.selects;
+  passes = c.self.inside.passes;
+}) (Exit c.args.found.vm c.args.found.number) Okay
 untold c =
-    let x : CoreState = record { world = c.self.inside.fabric; leases = c.self.inside.pool; vcpus = c.self.inside.vcpus.items; selects = c.self.inside.selects; passes = c.self.inside.passes } in
-    let y : CoreState = record { world = c.slot_is_live.new.fabric; leases = c.self.inside.pool; vcpus = c.put_stay.new.vcpus.items; selects = c.self.inside.selects; passes = c.self.inside.passes } in
+    let x : CoreState = record {
+      world = c.self.inside.fabric;
+      leases = c.self.inside.pool;
+      vcpus = c.self.inside.vcpus.items;
+      selects =
+          c.self.inside.selects;
+      passes = c.self.inside.passes;
+    } in
+    let y : CoreState = record {
+      world = c.slot_is_live.new.fabric;
+      leases = c.self.inside.pool;
+      vcpus = c.put_stay.new.vcpus.items;
+      selects =
+          c.self.inside.selects;
+      passes = c.self.inside.passes;
+    } in
     let found = c.args.found in
     let g = vcpu found.vm found.number in
     let is = subst (λ (z : CoreState). IsFound z.world found) (sym c.self.view_is) c.requires.found in
     let was = subst (λ (z : CoreState). (record_of z g).stay ≡ stays.InMemory Entered c.args.kept) (sym c.self.view_is) c.requires.entered in
-    let whole = c.words-whole.ensures.whole in
+    let whole = c.recall.ensures.whole in
     exits x y found.vm found.number c.args.kept (record {
       whole = whole;
       there = is.there;
@@ -63,10 +120,16 @@ untold c =
     })
 
 pub invariant_of-self : goal.invariant_of-self
-invariant_of-self c = (still _ _ _ _ (told c) c.self.invariant.0, (let room = c.put_stay.ensures.room in let before = c.self.invariant.1 in omega (arith, room, before)))
+invariant_of-self c = (
+  still _ _ _ _ (told c) c.self.invariant.0,
+  (let room = c.put_stay.ensures.room in let before = c.self.invariant.1 in omega (arith, room, before)),
+)
 
 pub invariant_of-self-else-slot_is_live : goal.invariant_of-self-else-slot_is_live
-invariant_of-self-else-slot_is_live c = (still _ _ _ _ (untold c) c.self.invariant.0, (let room = c.put_stay.ensures.room in let before = c.self.invariant.1 in omega (arith, room, before)))
+invariant_of-self-else-slot_is_live c = (
+  still _ _ _ _ (untold c) c.self.invariant.0,
+  (let room = c.put_stay.ensures.room in let before = c.self.invariant.1 in omega (arith, room, before)),
+)
 
 pub returns-then-slot_is_live : goal.returns-then-slot_is_live
 returns-then-slot_is_live c = rw (← c.self.view_is) (told c)

@@ -10,12 +10,68 @@ use Rattle.aia_hyp.proofs.hypervisor_core.Core.refetch.Goals as goal
 pub returns-in_default : goal.returns-in_default
 returns-in_default c = rw (← c.self.view_is) (no_entry_to_read _ c.args.vm c.args.number c.in_default.ensures.none)
 
-taken : (c : After-refetch) → CoreTakes (record { world = c.self.inside.fabric; leases = c.self.inside.pool; vcpus = c.self.inside.vcpus.items; selects = c.self.inside.selects; passes = c.self.inside.passes }) (record { world = c.refetch.new.self; leases = c.self.inside.pool; vcpus = c.self.inside.vcpus.items; selects = c.self.inside.selects; passes = c.self.inside.passes }) (Refetch c.args.vm c.args.number) Okay
+taken : (c : After-refetch) → CoreTakes (record {
+  world = c.self.inside.fabric;
+  leases = c.self.inside.pool;
+  vcpus = c.self.inside.vcpus.items;
+  selects = c.self.inside.selects;
+  passes =
+      c.self.inside.passes;
+}) (record {
+  world = c.refetch.new.self;
+  leases = c.self.inside.pool;
+  vcpus = c.self.inside.vcpus.items;
+  selects =
+      c.self.inside.selects;
+  passes = c.self.inside.passes;
+}) (Refetch c.args.vm c.args.number) Okay
 taken c =
     let found = c.in-Some.found in
     let named = c.in-Some.ensures.named in
-    subst (λ vm. CoreTakes (record { world = c.self.inside.fabric; leases = c.self.inside.pool; vcpus = c.self.inside.vcpus.items; selects = c.self.inside.selects; passes = c.self.inside.passes }) (record { world = c.refetch.new.self; leases = c.self.inside.pool; vcpus = c.self.inside.vcpus.items; selects = c.self.inside.selects; passes = c.self.inside.passes }) (Refetch vm c.args.number) Okay) named.0 (subst (λ number. CoreTakes (record { world = c.self.inside.fabric; leases = c.self.inside.pool; vcpus = c.self.inside.vcpus.items; selects = c.self.inside.selects; passes = c.self.inside.passes }) (record { world = c.refetch.new.self; leases = c.self.inside.pool; vcpus = c.self.inside.vcpus.items; selects = c.self.inside.selects; passes = c.self.inside.passes }) (Refetch found.vm number) Okay) named.1
-    (refetch_taken (record { world = c.self.inside.fabric; leases = c.self.inside.pool; vcpus = c.self.inside.vcpus.items; selects = c.self.inside.selects; passes = c.self.inside.passes }) (record { world = c.refetch.new.self; leases = c.self.inside.pool; vcpus = c.self.inside.vcpus.items; selects = c.self.inside.selects; passes = c.self.inside.passes }) found.vm found.number (record {
+    subst (λ vm. CoreTakes (record {
+      world = c.self.inside.fabric;
+      leases = c.self.inside.pool;
+      vcpus = c.self.inside.vcpus.items;
+      selects =
+          c.self.inside.selects;
+      passes = c.self.inside.passes;
+    })
+    (record {
+      world = c.refetch.new.self;
+      leases = c.self.inside.pool;
+      vcpus = c.self.inside.vcpus.items;
+      selects = c.self.inside.selects;
+      passes = c.self.inside.passes;
+    }) (Refetch vm c.args.number) Okay) named.0
+    (subst (λ number. CoreTakes (record {
+      world = c.self.inside.fabric;
+      leases = c.self.inside.pool;
+      vcpus = c.self.inside.vcpus.items;
+      selects = c.self.inside.selects;
+      passes = c.self.inside.passes;
+    })
+    (record {
+      world = c.refetch.new.self;
+      leases = c.self.inside.pool;
+      vcpus = c.self.inside.vcpus.items;
+      selects = c.self.inside.selects;
+      passes = c.self.inside.passes;
+    }) (Refetch found.vm number) Okay) named.1
+    (refetch_taken (record {
+      world = c.self.inside.fabric;
+      leases = c.self.inside.pool;
+      vcpus = c.self.inside.vcpus.items;
+      selects =
+          c.self.inside.selects;
+      passes = c.self.inside.passes;
+    })
+    (record {
+      world = c.refetch.new.self;
+      leases = c.self.inside.pool;
+      vcpus = c.self.inside.vcpus.items;
+      selects = c.self.inside.selects;
+      passes = c.self.inside.passes;
+    }) found.vm found.number (record {
       whole = c.find.ensures.whole;
       there = c.in-Some.ensures.there.there;
       world = c.refetch.ensures;

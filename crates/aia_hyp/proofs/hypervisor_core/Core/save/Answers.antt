@@ -22,11 +22,13 @@ pub returns-in_default : goal.returns-in_default
 returns-in_default c = rw (← c.self.view_is) (no_vcpu_to_save _ c.args.vm c.args.number c.args.k c.in_default.ensures.none)
 
 pub returns-then-k-from : goal.returns-then-k-from
-returns-then-k-from c = rw (← c.self.view_is) (no_such_part _ c.args.vm c.args.number c.args.k (omega (arith, c.if-k-from.true, c.from.ensures, c.words.ensures.value)))
+returns-then-k-from c = rw (← c.self.view_is) (no_such_part _ c.args.vm c.args.number c.args.k
+    (omega (arith, c.if-k-from.true, c.from.ensures, c.words.ensures.value)))
 
 pub parked-requires : goal.parked-requires
 parked-requires c =
-    who_low c.args.self.now c.in-Some.found (subst StandsForSome c.self.view_is c.self.invariant.0) (subst (λ (z : CoreState). IsFound z.world c.in-Some.found) c.self.view_is c.in-Some.ensures.there)
+    who_low c.args.self.now c.in-Some.found (subst StandsForSome c.self.view_is c.self.invariant.0)
+    (subst (λ (z : CoreState). IsFound z.world c.in-Some.found) c.self.view_is c.in-Some.ensures.there)
 
 pub returns-in_err-kept : goal.returns-in_err-kept
 returns-in_err-kept c =
@@ -41,7 +43,8 @@ returns-in_err-kept c =
     let low : k < (x.world.n + 1) / 64 + 3 = subst (λ (z : CoreState). k < (z.world.n + 1) / 64 + 3) c.self.view_is inside in
     let stay = found_stay x found is c.parked.result parked_at c.parked.ensures in
     rw same
-    (subst (λ vm. CoreTakes x x (Save vm c.args.number k) (Refused word)) named.0 (subst (λ number. CoreTakes x x (Save found.vm number k) (Refused word)) named.1
+    (subst (λ vm. CoreTakes x x (Save vm c.args.number k) (Refused word)) named.0
+    (subst (λ number. CoreTakes x x (Save found.vm number k) (Refused word)) named.1
     (not_parked_to_save x found.vm found.number k word is.there low (sym stay ∙ c.in_err-kept.was))))
 
 pub part-requires-clause-slot : goal.part-requires-clause-slot
@@ -49,9 +52,11 @@ part-requires-clause-slot c = found_few c.self.inside.fabric c.in-Some.found c.w
 
 pub part-requires-clause-there : goal.part-requires-clause-there
 part-requires-clause-there c =
-    who_low c.args.self.now c.in-Some.found (subst StandsForSome c.self.view_is c.self.invariant.0) (subst (λ (z : CoreState). IsFound z.world c.in-Some.found) c.self.view_is c.in-Some.ensures.there)
+    who_low c.args.self.now c.in-Some.found (subst StandsForSome c.self.view_is c.self.invariant.0)
+    (subst (λ (z : CoreState). IsFound z.world c.in-Some.found) c.self.view_is c.in-Some.ensures.there)
 
-parked_there : (c : In_ok-kept) → (record_of c.args.self.now (vcpu c.in-Some.found.vm c.in-Some.found.number)).stay ≡ stays.InMemory Parked c.in_ok-kept.kept
+parked_there : (c : In_ok-kept) → (record_of c.args.self.now (vcpu c.in-Some.found.vm c.in-Some.found.number)).stay ≡ stays.InMemory Parked
+    c.in_ok-kept.kept
 parked_there c =
     let is = subst (λ (z : CoreState). IsFound z.world c.in-Some.found) c.self.view_is c.in-Some.ensures.there in
     parked_is _ c.in_ok-kept.kept (sym (found_stay c.args.self.now c.in-Some.found is c.parked.result parked_at c.parked.ensures) ∙ c.in_ok-kept.was)
@@ -61,7 +66,8 @@ part-requires-clause-small c =
     let x = c.args.self.now in
     let found = c.in-Some.found in
     let is = subst (λ (z : CoreState). IsFound z.world found) c.self.view_is c.in-Some.ensures.there in
-    small_number x (vcpu found.vm found.number) c.in_ok-kept.kept (subst StandsForSome c.self.view_is c.self.invariant.0) (subst (λ (z : CoreState). IsWhole z.world) c.self.view_is c.words.ensures.whole) is.there (parked_there c)
+    small_number x (vcpu found.vm found.number) c.in_ok-kept.kept (subst StandsForSome c.self.view_is c.self.invariant.0)
+    (subst (λ (z : CoreState). IsWhole z.world) c.self.view_is c.words.ensures.whole) is.there (parked_there c)
 
 pub returns : goal.returns
 returns c =
@@ -75,6 +81,7 @@ returns c =
     let low : k < (x.world.n + 1) / 64 + 3 = subst (λ (z : CoreState). k < (z.world.n + 1) / 64 + 3) c.self.view_is inside in
     let stay = found_stay x found is c.parked.result parked_at c.parked.ensures in
     let whole = subst (λ (z : CoreState). IsWhole z.world) c.self.view_is c.words.ensures.whole in
-    subst (λ vm. CoreTakes x x (Save vm c.args.number k) (kinds.Part c.part.result)) named.0 (subst (λ number. CoreTakes x x (Save found.vm number k) (kinds.Part c.part.result)) named.1
+    subst (λ vm. CoreTakes x x (Save vm c.args.number k) (kinds.Part c.part.result)) named.0
+    (subst (λ number. CoreTakes x x (Save found.vm number k) (kinds.Part c.part.result)) named.1
     (saves x found.vm found.number k kept c.part.result is.there whole (parked_is _ kept (sym stay ∙ c.in_ok-kept.was)) low
     (c.part.ensures ∙ ap (λ q. part_of (state_in x q kept) k) is.slot)))

@@ -16,20 +16,38 @@ returns-then-vm-from c =
 pub returns-then-flying-ge-STORES_IN_FLIGHT : goal.returns-then-flying-ge-STORES_IN_FLIGHT
 returns-then-flying-ge-STORES_IN_FLIGHT c =
     let low : c.args.vm < length c.self.inside.fabric.vms = omega (arith, c.vms.ensures.value, c.from.ensures, c.if-vm-from.false) in
-    let past : STORES_IN_FLIGHT ≤ length (flight_of c.self.inside.fabric c.args.vm) = omega (arith, c.flying.ensures.value, c.if-flying-ge-STORES_IN_FLIGHT.true) in
+    let past : STORES_IN_FLIGHT ≤ length (flight_of c.self.inside.fabric c.args.vm) =
+    omega (arith, c.flying.ensures.value, c.if-flying-ge-STORES_IN_FLIGHT.true) in
     rw (← c.self.view_is) (no_room_for_sending _ c.args.vm c.args.addr c.args.value low past)
 
 pub returns-then-addr-ne0 : goal.returns-then-addr-ne0
 returns-then-addr-ne0 c =
     let low : c.args.vm < length c.self.inside.fabric.vms = omega (arith, c.vms.ensures.value, c.from.ensures, c.if-vm-from.false) in
-    let room : length (flight_of c.self.inside.fabric c.args.vm) < STORES_IN_FLIGHT = omega (arith, c.flying.ensures.value, c.if-flying-ge-STORES_IN_FLIGHT.false) in
+    let room : length (flight_of c.self.inside.fabric c.args.vm) < STORES_IN_FLIGHT =
+    omega (arith, c.flying.ensures.value, c.if-flying-ge-STORES_IN_FLIGHT.false) in
     rw (← c.self.view_is) (misaligned_sending _ c.args.vm c.args.addr c.args.value low room c.if-addr-ne0.true)
 
-taken : (c : After-send) → CoreTakes (record { world = c.self.inside.fabric; leases = c.self.inside.pool; vcpus = c.self.inside.vcpus.items; selects = c.self.inside.selects; passes = c.self.inside.passes }) (record { world = c.send.new.self; leases = c.self.inside.pool; vcpus = c.self.inside.vcpus.items; selects = c.self.inside.selects; passes = c.self.inside.passes }) (Send c.args.vm c.args.addr c.args.value) (route_answer c.send.result)
+taken : (c : After-send) → CoreTakes (record {
+  world = c.self.inside.fabric;
+  leases = c.self.inside.pool;
+  vcpus = c.self.inside.vcpus.items;
+  selects = c.self.inside.selects;
+  passes = c.self.inside.passes;
+})
+    (record {
+      world = c.send.new.self;
+      leases = c.self.inside.pool;
+      vcpus = c.self.inside.vcpus.items;
+      selects = c.self.inside.selects;
+      passes =
+          c.self.inside.passes;
+    }) (Send c.args.vm c.args.addr c.args.value) (route_answer c.send.result)
 taken c =
     let low : c.args.vm < length c.self.inside.fabric.vms = omega (arith, c.vms.ensures.value, c.from.ensures, c.if-vm-from.false) in
-    let room : length (flight_of c.self.inside.fabric c.args.vm) < STORES_IN_FLIGHT = omega (arith, c.flying.ensures.value, c.if-flying-ge-STORES_IN_FLIGHT.false) in
-    send_taken _ _ c.args.vm c.args.addr c.args.value c.send.result c.vms.ensures.whole low room c.if-addr-ne0.false c.send.ensures.route c.send.ensures.sends refl refl refl refl
+    let room : length (flight_of c.self.inside.fabric c.args.vm) < STORES_IN_FLIGHT =
+    omega (arith, c.flying.ensures.value, c.if-flying-ge-STORES_IN_FLIGHT.false) in
+    send_taken _ _ c.args.vm c.args.addr c.args.value c.send.result c.vms.ensures.whole low room c.if-addr-ne0.false c.send.ensures.route
+    c.send.ensures.sends refl refl refl refl
 
 pub invariant_of-self : goal.invariant_of-self
 invariant_of-self c = (still _ _ _ _ (taken c.before) c.self.invariant.0, c.self.invariant.1)

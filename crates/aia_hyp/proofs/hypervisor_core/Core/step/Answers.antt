@@ -30,7 +30,9 @@ returns-then-not-is_moved-clause-takes g c =
 
 pub step_of-requires-clause-moving : goal.step_of-requires-clause-moving
 step_of-requires-clause-moving g c =
-    moved_now c.args.self.now c.in-Some.found (subst (λ (x : CoreState). StandsForSome x) c.self.view_is c.self.invariant.0) (subst (λ (x : CoreState). IsFound x.world c.in-Some.found) c.self.view_is c.in-Some.ensures.there) (sym c.is_moved.ensures ∙ c.if-not-is_moved.false)
+    moved_now c.args.self.now c.in-Some.found (subst (λ (x : CoreState). StandsForSome x) c.self.view_is c.self.invariant.0)
+    (subst (λ (x : CoreState). IsFound x.world c.in-Some.found) c.self.view_is c.in-Some.ensures.there)
+    (sym c.is_moved.ensures ∙ c.if-not-is_moved.false)
 
 pub returns-clause-takes : goal.returns-clause-takes
 returns-clause-takes g c =
@@ -38,12 +40,20 @@ returns-clause-takes g c =
     let who = subst (λ (x : CoreState). IsFound x.world c.in-Some.found) c.self.view_is c.in-Some.ensures.there in
     subst (λ vm. CoreTakes c.args.self.now c.step_of.new.self (Step vm c.args.number) (step_answer c.step_of.result)) named.0
     (subst (λ number. CoreTakes c.args.self.now c.step_of.new.self (Step c.in-Some.found.vm number) (step_answer c.step_of.result)) named.1
-    (step_taken c.args.self.now c.step_of.new.self c.in-Some.found c.step_of.result who (sym c.is_moved.ensures ∙ c.if-not-is_moved.false) c.step_of.ensures.goes))
+    (step_taken c.args.self.now c.step_of.new.self c.in-Some.found c.step_of.result who (sym c.is_moved.ensures ∙ c.if-not-is_moved.false)
+    c.step_of.ensures.goes))
 
 pub returns-clause-aims : goal.returns-clause-aims
 returns-clause-aims g c =
     let named = c.in-Some.ensures.named in
     let found = subst (λ (x : CoreState). IsFound x.world c.in-Some.found) c.self.view_is c.in-Some.ensures.there in
-    subst (λ vm. (h : History) → CoreStands c.args.self.now h → UnlessRefused (refusal h (Step vm c.args.number)) (AimsBy g.T.Targets.aimed (aimed_by h (Stepped (vcpu vm c.args.number))) c.args.targets.now c.step_of.new.targets) (c.step_of.new.targets ≡ c.args.targets.now)) named.0
-    (subst (λ number. (h : History) → CoreStands c.args.self.now h → UnlessRefused (refusal h (Step c.in-Some.found.vm number)) (AimsBy g.T.Targets.aimed (aimed_by h (Stepped (vcpu c.in-Some.found.vm number))) c.args.targets.now c.step_of.new.targets) (c.step_of.new.targets ≡ c.args.targets.now)) named.1
-    (λ h stands. step_unrefused c.args.self.now h c.in-Some.found _ _ stands found (sym c.is_moved.ensures ∙ c.if-not-is_moved.false) (c.step_of.ensures.aims h stands)))
+    subst (λ vm. (h : History) → CoreStands c.args.self.now h
+    → UnlessRefused (refusal h (Step vm c.args.number))
+    (AimsBy g.T.Targets.aimed (aimed_by h (Stepped (vcpu vm c.args.number))) c.args.targets.now c.step_of.new.targets)
+    (c.step_of.new.targets ≡ c.args.targets.now)) named.0
+    (subst (λ number. (h : History) → CoreStands c.args.self.now h
+    → UnlessRefused (refusal h (Step c.in-Some.found.vm number))
+    (AimsBy g.T.Targets.aimed (aimed_by h (Stepped (vcpu c.in-Some.found.vm number))) c.args.targets.now c.step_of.new.targets)
+    (c.step_of.new.targets ≡ c.args.targets.now)) named.1
+    (λ h stands. step_unrefused c.args.self.now h c.in-Some.found _ _ stands found (sym c.is_moved.ensures ∙ c.if-not-is_moved.false)
+    (c.step_of.ensures.aims h stands)))

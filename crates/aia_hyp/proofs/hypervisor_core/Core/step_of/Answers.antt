@@ -6,19 +6,24 @@ use Rattle.aia_hyp_values.specs.Moves.{MoveGoes, MoveInPlace, IsAtItsLast}
 use Rattle.aia_hyp.proofs.hypervisor_core.Core.step_of.Goals as goal
 
 pub returns-then-step_in_place-clause-goes : goal.returns-then-step_in_place-clause-goes
-returns-then-step_in_place-clause-goes g c = subst (λ b. MoveInPlace c.args.self.now c.step_in_place.new.self (vcpu c.args.found.vm c.args.found.number) b) c.if-step_in_place.true c.step_in_place.ensures.makes
+returns-then-step_in_place-clause-goes g c = subst
+    (λ b. MoveInPlace c.args.self.now c.step_in_place.new.self (vcpu c.args.found.vm c.args.found.number) b) c.if-step_in_place.true
+    c.step_in_place.ensures.makes
 
 pub finish_move-requires-clause-moving : goal.finish_move-requires-clause-moving
 finish_move-requires-clause-moving g c =
-    let none = subst (λ b. MoveInPlace c.args.self.now c.step_in_place.new.self (vcpu c.args.found.vm c.args.found.number) b) c.if-step_in_place.false c.step_in_place.ensures.makes in
+    let none = subst (λ b. MoveInPlace c.args.self.now c.step_in_place.new.self (vcpu c.args.found.vm c.args.found.number) b)
+    c.if-step_in_place.false c.step_in_place.ensures.makes in
     subst (λ (x : CoreState). is_moving (home_in (record_of x (vcpu c.args.found.vm c.args.found.number)).stay) ≡ true) (sym none.0) c.requires.moving
 
 pub finish_move-requires-clause-last : goal.finish_move-requires-clause-last
 finish_move-requires-clause-last g c =
-    let none = subst (λ b. MoveInPlace c.args.self.now c.step_in_place.new.self (vcpu c.args.found.vm c.args.found.number) b) c.if-step_in_place.false c.step_in_place.ensures.makes in
+    let none = subst (λ b. MoveInPlace c.args.self.now c.step_in_place.new.self (vcpu c.args.found.vm c.args.found.number) b)
+    c.if-step_in_place.false c.step_in_place.ensures.makes in
     subst (λ (x : CoreState). IsAtItsLast x (vcpu c.args.found.vm c.args.found.number)) (sym none.0) none.1
 
 pub returns-clause-goes : goal.returns-clause-goes
 returns-clause-goes g c =
-    let none = subst (λ b. MoveInPlace c.args.self.now c.step_in_place.new.self (vcpu c.args.found.vm c.args.found.number) b) c.if-step_in_place.false c.step_in_place.ensures.makes in
+    let none = subst (λ b. MoveInPlace c.args.self.now c.step_in_place.new.self (vcpu c.args.found.vm c.args.found.number) b)
+    c.if-step_in_place.false c.step_in_place.ensures.makes in
     subst (λ (x : CoreState). MoveGoes x c.finish_move.new.self (vcpu c.args.found.vm c.args.found.number) true) none.0 c.finish_move.ensures.goes

@@ -20,5 +20,6 @@ returns g c =
     record {
       ends = ends.0;
       gives = subst (λ (h : Hand). GivesBack c.end.result s.home h) (ap (λ (y : Moving). y.hand) c.self.view_is ∙ ends.1)
-          (subst (λ (h : Home). GivesBack c.end.result h l.hand) (ap (λ (y : Moving). y.home) c.self.view_is ∙ c.access.ensures.same_home) (c.end.ensures (record { steps = l.done; aims = l.aims })));
+          (subst (λ (h : Home). GivesBack c.end.result h l.hand) (ap (λ (y : Moving). y.home) c.self.view_is ∙ c.access.ensures.same_home)
+          (c.end.ensures (record { steps = l.done; aims = l.aims })));
     }

@@ -15,4 +15,5 @@ returns g c =
     let s = c.args.self.now in
     let x = c.access.new.self in
     in_phase w c.access.new.fabric (phase_at c.args.stage) s _ c.stays-stays.result c.requires.access c.requires.phase
-    (executed_on w c.access.new.fabric s x _ c.requires.fits (omega (arith, c.recall.ensures.all, c.recall.ensures.some)) c.access.ensures c.requires.more (ap (λ (y : Moving). record y { home = one_more y.home }) c.self.view_is)) c.stays-stays.ensures
+    (executed_on w c.access.new.fabric s x _ c.requires.fits (omega (arith, c.recall.ensures.all, c.recall.ensures.some)) c.access.ensures
+    c.requires.more (ap (λ (y : Moving). record y { home = one_more y.home }) c.self.view_is)) c.stays-stays.ensures

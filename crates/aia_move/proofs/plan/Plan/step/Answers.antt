@@ -9,4 +9,5 @@ pub returns-else-step_in_place-clause-empty : goal.returns-else-step_in_place-cl
 returns-else-step_in_place-clause-empty g c =
     let none = c.if-step_in_place.ensures.goes in
     subst (λ (plan : PlanState). AreApart (moving_of plan).home → LeavesEmpty c.args.fabric.now (moving_of plan) c.finish.new.fabric) none.1
-    (subst (λ (w : World). AreApart (moving_of c.step_in_place.new.self).home → LeavesEmpty w (moving_of c.step_in_place.new.self) c.finish.new.fabric) none.0 c.finish.ensures.empty)
+    (subst (λ (w : World). AreApart (moving_of c.step_in_place.new.self).home
+    → LeavesEmpty w (moving_of c.step_in_place.new.self) c.finish.new.fabric) none.0 c.finish.ensures.empty)

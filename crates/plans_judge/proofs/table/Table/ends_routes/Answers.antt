@@ -8,4 +8,5 @@ use Rattle.plans_judge.proofs.table.Table.ends_routes.Goals as goal
 
 pub returns-then-all_led : goal.returns-then-all_led
 returns-then-all_led c = λ producers done v. all_of_two _ _ _ (sym c.if-all_led.true ∙ c.all_led.ensures producers done v)
-    (c.all_taken.ensures ∙ ap (λ (l : List Word). all_below (is_taken_at l) (length l)) c.deref.ensures.value ∙ taken_is c.args.self.now producers done v)
+    (c.all_taken.ensures ∙ ap (λ (l : List Word). all_below (is_taken_at l) (length l)) c.deref.ensures.value
+    ∙ taken_is c.args.self.now producers done v)

@@ -7,4 +7,5 @@ use Rattle.plans_judge.proofs.StandsLemmas.{kept_is}
 use Rattle.plans_judge.proofs.table.Table.ends_words.Goals as goal
 
 pub returns : goal.returns
-returns c = λ producers done v. c.all_kept.ensures ∙ ap (λ (l : List Word). all_below (is_kept_at l) (length l)) c.deref.ensures.value ∙ kept_is c.args.self.now producers done v
+returns c = λ producers done v. c.all_kept.ensures ∙ ap (λ (l : List Word). all_below (is_kept_at l) (length l)) c.deref.ensures.value
+    ∙ kept_is c.args.self.now producers done v

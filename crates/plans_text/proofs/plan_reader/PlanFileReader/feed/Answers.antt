@@ -2,7 +2,7 @@ use Rattle.std.proofs.Common.{arith, refl, sym, ap, ◌∙◌, ◌+◌, length, 
 use Rattle.aia_io.proofs.CutLemmas.{end_within}
 use Rattle.aia_io.proofs.PieceLemmas.{all_of_rest}
 use Rattle.plans_text.proofs.StreamLemmas.{fed_nothing, fed_line, fed_last, kept_on}
-use Rattle.plans_text.proofs.plan_reader.PlanReader.feed.Goals as goal
+use Rattle.plans_text.proofs.plan_reader.PlanFileReader.feed.Goals as goal
 
 pub loop-end-init : goal.loop-end-init
 loop-end-init c = record { fed = fed_nothing _ _; inside = c.requires.ready; few = omega arith }

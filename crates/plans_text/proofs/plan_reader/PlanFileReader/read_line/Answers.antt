@@ -1,6 +1,6 @@
 use Rattle.std.proofs.Common.{◌∙◌}
 use Rattle.plans_text.proofs.StreamLemmas.{line_ended}
-use Rattle.plans_text.proofs.plan_reader.PlanReader.read_line.Goals as goal
+use Rattle.plans_text.proofs.plan_reader.PlanFileReader.read_line.Goals as goal
 
 pub returns-clause-read : goal.returns-clause-read
 returns-clause-read c = λ none given bytes h.

@@ -1,7 +1,7 @@
 use Rattle.std.proofs.Common.{◌+◌, ◌≤◌, length}
 use Rattle.plans_text.specs.PlanFile.{AreInFile}
 use Rattle.plans_text.proofs.StreamLemmas.{Fed}
-use Rattle.plans_text.proofs.plan_reader.PlanReader.feed.Given as goal
+use Rattle.plans_text.proofs.plan_reader.PlanFileReader.feed.Given as goal
 
 abbrev pub invariant-loop-end : goal.invariant-loop-end
 invariant-loop-end l = record {

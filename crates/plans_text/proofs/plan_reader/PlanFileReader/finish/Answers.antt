@@ -3,7 +3,7 @@ use Rattle.std.proofs.lemmas.Result.{IfOk-weaker}
 use Rattle.plans_text.specs.PlanFile.{read_of, texts_of, with_texts}
 use Rattle.aia_io.specs.Lines.{NoEnd}
 use Rattle.plans_text.proofs.StreamLemmas.{ended_outcome, ended_whole}
-use Rattle.plans_text.proofs.plan_reader.PlanReader.finish.Goals as goal
+use Rattle.plans_text.proofs.plan_reader.PlanFileReader.finish.Goals as goal
 
 pub returns : goal.returns
 returns c =
