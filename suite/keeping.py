@@ -2,6 +2,7 @@
 one run to the next."""
 
 import os
+import re
 import shutil
 import time
 from pathlib import Path
@@ -80,10 +81,14 @@ def crate_named(word, every):
     return name if name in every else None
 
 
-def copied(place):
-    """Makes a copy of the crates in a folder, without edits and what was built."""
-    shutil.copytree(TOP / "crates", place / "crates", symlinks=True,
-                    ignore=shutil.ignore_patterns("out", "data", "must-fail", "more-fail"))
-    for name in ("crates.txt", "HANDLES"):
-        if (TOP / name).is_file():
-            shutil.copy(TOP / name, place / name)
+def copied(place, only=()):
+    """Copies the crates, or some only, into a folder, without edits and what was built."""
+    for crate in sorted(path for path in (TOP / "crates").iterdir() if path.is_dir()):
+        if not only or crate.name in only:
+            shutil.copytree(crate, place / "crates" / crate.name, symlinks=True,
+                            ignore=shutil.ignore_patterns("out", "data", "must-fail", "more-fail"))
+    if (TOP / "HANDLES").is_file():
+        shutil.copy(TOP / "HANDLES", place / "HANDLES")
+    lines = running.contents(TOP / "crates.txt").decode().splitlines(keepends=True)
+    kept = [line for line in lines if not only or re.match(r"\w*", line).group() in ("", *only)]
+    (place / "crates.txt").write_text("".join(kept), encoding="utf-8")

@@ -184,11 +184,24 @@ def move(copy, uses, laws):
         stand_on(copy, uses, laws)
 
 
-def stand_on(copy, uses, laws):
-    """Has the crate of the laws stand on what its uses stand on, but for what is above it."""
-    path = Path(copy) / "crates.txt"
-    more = [name for name in below()[uses]
+def beside(uses, laws):
+    """Lists what the uses of a crate's laws stand on beside what it stands on itself, but for it
+    and what is above it."""
+    return [name for name in below()[uses]
             if name != laws and name not in below()[laws] and laws not in all_below(name)]
+
+
+def wanted(laws):
+    """Gives the crates that a copy wants, in which the uses of a crate's laws stand in it."""
+    names = {laws, *(name for uses in crates_of_uses() if movable(uses, laws)[0]
+                     for name in beside(uses, laws))}
+    return names | {name for one in names for name in all_below(one)}
+
+
+def stand_on(copy, uses, laws):
+    """Has the crate of the laws stand on what its uses stand on."""
+    path = Path(copy) / "crates.txt"
+    more = beside(uses, laws)
     text = path.read_text(encoding="utf-8")
     path.write_text(re.sub(rf"^({laws}[^:#\n]*:[^#\n]*)", " ".join((r"\1", *more)), text,
                            flags=re.M), encoding="utf-8")
