@@ -46,7 +46,7 @@ pub fn read_piece<S: Source>(source: &mut S, piece: &mut [u8], taken: usize) -> 
 }
 
 /// Reads at most `most` bytes into the front of `piece`.
-pub fn read_front<S: Source>(source: &mut S, piece: &mut [u8], most: usize) -> Read
+fn read_front<S: Source>(source: &mut S, piece: &mut [u8], most: usize) -> Read
     requires some { 0 < most }
     requires room { most ≤ length piece.old }
     ensures bytes { ReadsFront most (S.supply source.old) (S.supply source.new) piece.new result }
