@@ -1,12 +1,12 @@
 -- Bytes that are read and written in pieces.
-use Rattle.std.proofs.Common.{◌≡◌, ℕ, ◌+◌, ◌-◌, ◌<◌, false, nat_eq, List, ◌++◌, length, take, drop, Option, refl, sym, ap, subst, ◌∙◌, arith}
+use Rattle.std.proofs.Common.{◌≡◌, ℕ, ◌+◌, ◌-◌, ◌<◌, ◌≤◌, false, nat_eq, List, ◌++◌, length, take, drop, Option, refl, sym, ap, subst, ◌∙◌, arith}
 use Rattle.std.proofs.lemmas.Bool.{eqb-false}
 use Rattle.std.proofs.lemmas.List.{take-append-drop, take-append-le, length-take}
 use Rattle.std.proofs.Math.Seq.{take-add}
 use Rattle.std.proofs.lemmas.Grind.{common_steps}
 use Rattle.std.specs.Io.KnownBytes.{Appends, Keeps}
 use Rattle.std.proofs.KnownBytes.{Appends-trans, Appends-kept, Consumes-whole}
-use Rattle.aia_io.specs.Ends.{Supply, Gives, Reads, CutOff}
+use Rattle.aia_io.specs.Ends.{Supply, Gives, Reads, ReadsFront, CutOff}
 use Rattle.aia_io.specs.declared.source.Read.{Read}
 use Rattle.aia_io.specs.declared.source.Read.TheVariants as reads
 use Rattle.aia_io.proofs.SupplyLemmas.{gives_more, gives_no_more}
@@ -23,6 +23,16 @@ reads_on old new buffer rest (reads.Got n) took =
 reads_on old new buffer rest reads.End ended =
     λ left bytes so_far. (gives_no_more left old new bytes so_far ended.1, Consumes-whole left.to_come old.to_come bytes (λ all. all ≡ bytes) so_far.0 ended.0 refl)
 reads_on old new buffer rest reads.Failed kept = λ left bytes so_far. gives_no_more left old new bytes so_far kept.0
+
+-- what a read of fewer bytes gives is what one of more may give
+pub reads_more : (asked most : ℕ) (old new : Supply) (piece : List ℕ) (read : Read) → asked ≤ most → ReadsFront asked old new piece read → ReadsFront most old new piece read
+reads_more asked most old new piece (reads.Got n) few took = (took.0, omega (arith, few, took.1), took.2, took.3)
+reads_more asked most old new piece reads.End few ended = ended
+reads_more asked most old new piece reads.Failed few kept = kept
+
+-- a read of one byte at most gives one
+pub one_read : (P : Read → Type 0) (n : ℕ) → n ≡ 1 → P (reads.Got n) → P (reads.Got 1)
+one_read P n one holds = subst (λ (k : ℕ). P (reads.Got k)) one holds
 
 -- ---- writing
 

@@ -8,6 +8,7 @@ pub mod StdSource
 pub mod Tape
 pub mod Lines
 pub mod Taken
+pub mod Pieces
 pub mod Written
 pub mod Words
 pub mod Commands

@@ -29,7 +29,7 @@ pub use mem_sink::MemSink;
 pub use mem_source::MemSource;
 pub use quiet_sink::QuietSink;
 pub use quiet_source::QuietSource;
-pub use reading::read_front;
+pub use reading::{Piece, read_piece};
 pub use sink::{Sink, Write};
 pub use source::{Read, Source};
 pub use std_sink::StdSink;

@@ -19,7 +19,7 @@ use Rattle.aia_move_values.specs.Move.{spot_in, place_at}
 use Rattle.aia_move_values.specs.Accesses.{NoZero, WordFits, Executes, moved}
 use Rattle.aia_plan.specs.Plan.{IsInside}
 use Rattle.aia_plan.specs.declared.step.Step.{Step}
-use Rattle.aia_plan.specs.declared.step.Step.TheVariants.{Quiet, Word0, Fence, Map, Unmap, Remap, TakeP, PutP, TakeE, PutE, Look, TakeT, PutT, Wake}
+use Rattle.aia_plan.specs.declared.step.Step.TheVariants.{Quiet, Word0, Map, Unmap, Remap, TakeP, PutP, TakeE, PutE, Look, TakeT, PutT, Wake}
 use Rattle.aia_rehearsal.specs.declared.place.Place as ends
 use Rattle.aia_rehearsal.specs.declared.place.Place.TheVariants.{File, Slot}
 use Rattle.aia_rehearsal.specs.Rehearsed.{Rehearsed, NotBothSlots, mover_of, at_of, file_of}

@@ -12,8 +12,8 @@ use crate::plan_so_far::PlanSoFar;
 use crate::program::Status;
 use aia_audit::Kind;
 use aia_command::Subcommand;
-use aia_io::limits::{PIECE_BYTES, SOURCE_BYTES};
-use aia_io::{Read, Sink, Source, read_front, write_all};
+use aia_io::limits::PIECE_BYTES;
+use aia_io::{Piece, Sink, Source, read_piece, write_all};
 use arrayvec::ArrayVec;
 
 /// Reads a plan that comes in pieces: the plan so far, and the line that is being read.
@@ -105,18 +105,17 @@ impl PlanReader {
         let mut piece = [0; PIECE_BYTES];
         let mut taken: usize = 0;
         loop {
-            let asked = (SOURCE_BYTES - taken).clamp(1, PIECE_BYTES);
-            match read_front(source, &mut piece, asked) {
-                Read::Got(_) if taken == SOURCE_BYTES => return Status::TooLong,
-                Read::Got(n) => {
+            match read_piece(source, &mut piece, taken) {
+                Piece::Got(n) => {
                     self.feed(&piece[..n]);
                     taken += n;
                 }
-                Read::End => {
+                Piece::End => {
                     self.finish();
                     return Status::Done;
                 }
-                Read::Failed => return Status::ReadFault,
+                Piece::Failed => return Status::ReadFault,
+                Piece::TooLong => return Status::TooLong,
             }
         }
     }

@@ -8,8 +8,8 @@ use crate::engine::Engine;
 use crate::pieces::{LINE, keep, line_end};
 use crate::program::Status;
 use crate::stop::Stop;
-use aia_io::limits::{PIECE_BYTES, SOURCE_BYTES};
-use aia_io::{Read, Sink, SinkFault, Source, read_front};
+use aia_io::limits::PIECE_BYTES;
+use aia_io::{Piece, Sink, SinkFault, Source, read_piece};
 use aia_script::{Answer, Parsed, parse_line};
 use arrayvec::ArrayVec;
 use std::alloc::Global;
@@ -179,18 +179,17 @@ impl Replayer {
         let mut taken: usize = 0;
         loop {
             self.write_out(sink)?;
-            let asked = (SOURCE_BYTES - taken).clamp(1, PIECE_BYTES);
-            match read_front(source, &mut piece, asked) {
-                Read::Got(_) if taken == SOURCE_BYTES => return Ok(Status::TooLong),
-                Read::Got(n) => {
+            match read_piece(source, &mut piece, taken) {
+                Piece::Got(n) => {
                     self.feed(alloc, sink, &piece[..n])?;
                     taken += n;
                 }
-                Read::End => {
+                Piece::End => {
                     self.finish(alloc, sink)?;
                     return Ok(Status::Done);
                 }
-                Read::Failed => return Ok(Status::ReadFault),
+                Piece::Failed => return Ok(Status::ReadFault),
+                Piece::TooLong => return Ok(Status::TooLong),
             }
         }
     }

@@ -10,8 +10,8 @@ ghost use Rattle.plans_text.specs.Runs.{EndsJudge, IsFront, Judged, WhateverWasJ
 use crate::outcome::{Answered, FileOutcome};
 use crate::plan_reader::PlanFileReader;
 use crate::program::PlansStatus;
-use aia_io::limits::{PIECE_BYTES, SOURCE_BYTES};
-use aia_io::{Read, Sink, Source, read_front, write_all};
+use aia_io::limits::PIECE_BYTES;
+use aia_io::{Piece, Sink, Source, read_piece, write_all};
 use std::alloc::Global;
 
 /// Why a run stops before its source ends, where the source does not fail.
@@ -119,22 +119,21 @@ pub(crate) fn judge_file<S: Source, K: Sink>(
     let mut piece = [0; PIECE_BYTES];
     let mut taken: usize = 0;
     loop {
-        let asked = (SOURCE_BYTES - taken).clamp(1, PIECE_BYTES);
-        match read_front(source, &mut piece, asked) {
-            Read::Got(_) if taken == SOURCE_BYTES => return PlansStatus::TooLong,
-            Read::Got(n) => {
+        match read_piece(source, &mut piece, taken) {
+            Piece::Got(n) => {
                 if let Err(stop) = judge_piece(alloc, &mut reader, sink, &piece[..n]) {
                     return stopped(stop);
                 }
                 taken += n;
             }
-            Read::End => {
+            Piece::End => {
                 return match judge_last(alloc, reader, sink) {
                     Ok(outcome) => PlansStatus::Done(outcome),
                     Err(stop) => stopped(stop),
                 };
             }
-            Read::Failed => return PlansStatus::ReadFault,
+            Piece::Failed => return PlansStatus::ReadFault,
+            Piece::TooLong => return PlansStatus::TooLong,
         }
     }
 }
