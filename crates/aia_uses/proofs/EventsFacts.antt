@@ -28,6 +28,7 @@ pub wire_unseen : (v : ℕ) (h : History) (source : ℕ) (level : Bool) → even
 unfolding events_for
 wire_unseen v h source level = refl
 
-pub other_unseen : (v : ℕ) (h : History) (vm addr value : ℕ) → nat_eq vm v ≡ false → events_for v (Accepted (lines.Msi vm addr value) ∷ h) ≡ events_for v h
+pub other_unseen : (v : ℕ) (h : History) (vm addr value : ℕ) → nat_eq vm v ≡ false
+    → events_for v (Accepted (lines.Msi vm addr value) ∷ h) ≡ events_for v h
 unfolding events_for
 other_unseen v h vm addr value e = ap (λ is. with_any (cond is (Some (Accepted (lines.Msi vm addr value))) None) (events_for v h)) e

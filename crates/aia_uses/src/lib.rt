@@ -1,5 +1,5 @@
-//! The laws of `aia_laws` and `aia_isolation` in use: what follows from each of their clauses, by it
-//! alone. A use calls its law, and its answer applies the clause, so a law that says less is
+//! The laws of `aia_laws` and `aia_isolation` in use: what follows from each of their clauses, by
+//! it alone. A use calls its law, and its answer applies the clause, so a law that says less is
 //! noticed: some uses spell the clause out, words of the law's crate replaced by what they say;
 //! others are worked at one history, where all premises hold. Nothing rests on them.
 #![tactic(auto)]

@@ -16,10 +16,12 @@ pub returns-clause-scripts : goal.returns-clause-scripts
 returns-clause-scripts c = λ script other g same. c.moves_and_others_are_not_seen.ensures.scripts script other g same
 
 pub returns-clause-begun : goal.returns-clause-begun
-returns-clause-begun c = λ h move g. ap (λ state. state.file) (c.moves_and_others_are_not_seen.ensures.guest (Began move ∷ h) h g (began_unseen g.vm h move))
+returns-clause-begun c = λ h move g.
+    ap (λ state. state.file) (c.moves_and_others_are_not_seen.ensures.guest (Began move ∷ h) h g (began_unseen g.vm h move))
 
 pub returns-clause-stepped : goal.returns-clause-stepped
-returns-clause-stepped c = λ h x g. ap (λ state. state.file) (c.moves_and_others_are_not_seen.ensures.guest (Stepped x ∷ h) h g (step_unseen g.vm h x))
+returns-clause-stepped c = λ h x g.
+    ap (λ state. state.file) (c.moves_and_others_are_not_seen.ensures.guest (Stepped x ∷ h) h g (step_unseen g.vm h x))
 
 pub returns-clause-entered : goal.returns-clause-entered
 returns-clause-entered c = λ h vm number g.
@@ -27,11 +29,13 @@ returns-clause-entered c = λ h vm number g.
 
 pub returns-clause-saved : goal.returns-clause-saved
 returns-clause-saved c = λ h vm number k g.
-    ap (λ state. state.file) (c.moves_and_others_are_not_seen.ensures.guest (Accepted (lines.Save vm number k) ∷ h) h g (save_unseen g.vm h vm number k))
+    ap (λ state. state.file)
+    (c.moves_and_others_are_not_seen.ensures.guest (Accepted (lines.Save vm number k) ∷ h) h g (save_unseen g.vm h vm number k))
 
 pub returns-clause-wired : goal.returns-clause-wired
 returns-clause-wired c = λ h source level g.
-    ap (λ state. state.file) (c.moves_and_others_are_not_seen.ensures.guest (Accepted (lines.Wire source level) ∷ h) h g (wire_unseen g.vm h source level))
+    ap (λ state. state.file)
+    (c.moves_and_others_are_not_seen.ensures.guest (Accepted (lines.Wire source level) ∷ h) h g (wire_unseen g.vm h source level))
 
 pub returns-clause-others : goal.returns-clause-others
 returns-clause-others c = λ h vm addr value g other.

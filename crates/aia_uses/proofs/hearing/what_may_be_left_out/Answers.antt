@@ -21,4 +21,5 @@ returns-clause-begun c = λ h move g.
 
 pub returns-clause-wired : goal.returns-clause-wired
 returns-clause-wired c = λ h source level g.
-    ap (λ kept. replies kept g) (sym (wire_left_out h source level g)) ∙ c.what_does_not_speak_to_a_guest_may_be_left_out.ensures.replies (Accepted (lines.Wire source level) ∷ h) g
+    ap (λ kept. replies kept g) (sym (wire_left_out h source level g))
+    ∙ c.what_does_not_speak_to_a_guest_may_be_left_out.ensures.replies (Accepted (lines.Wire source level) ∷ h) g
