@@ -48,7 +48,8 @@ pub cut_at_end : (bytes : List ℕ) (i : ℕ) → position is_end bytes ≡ Some
 cut_at_end bytes i e =
     let p = position_some is_end bytes i e in
     let lf = is_ten _ (passes_at_first is_end bytes 0 p.0) in
-    split_at_first is_end bytes 0 p.0 ∙ ap (λ b. before_first is_end bytes ++ (b ∷ after_first is_end bytes)) lf ∙ ap (λ k. take k bytes ++ (10 ∷ drop (k + 1) bytes)) p.1
+    split_at_first is_end bytes 0 p.0 ∙ ap (λ b. before_first is_end bytes ++ (b ∷ after_first is_end bytes)) lf
+    ∙ ap (λ k. take k bytes ++ (10 ∷ drop (k + 1) bytes)) p.1
 
 pub end_within : (bytes : List ℕ) (i : ℕ) → position is_end bytes ≡ Some i → i < length bytes
 end_within bytes i e = let p = position_some is_end bytes i e in omega (arith, p.0, p.1)
@@ -60,10 +61,13 @@ pub record CutsAtEnds (texts : List ℕ → List (List ℕ)) : Type 0 where
   pub none : texts [] ≡ []
   pub more : (b : ℕ) (bytes : List ℕ) → texts (b ∷ bytes) ≡ (if nat_eq b 10 then [] ∷ texts bytes else onto_first b (texts bytes))
 
-pub front_cut : (texts : List ℕ → List (List ℕ)) → CutsAtEnds texts → (front rest : List ℕ) → NoEnd front → texts (front ++ 10 ∷ rest) ≡ front ∷ texts rest
+pub front_cut : (texts : List ℕ → List (List ℕ)) → CutsAtEnds texts → (front rest : List ℕ) → NoEnd front
+    → texts (front ++ 10 ∷ rest) ≡ front ∷ texts rest
 front_cut texts cuts [] rest none = cuts.more 10 rest
-front_cut texts cuts (x ∷ xs) rest none = cuts.more x (xs ++ 10 ∷ rest) ∙ (cond-false _ _ _ (none 0 0 (omega arith)) ∙ ap (onto_first x) (front_cut texts cuts xs rest (λ k d h. none (suc k) d (omega arith))))
+front_cut texts cuts (x ∷ xs) rest none = cuts.more x (xs ++ 10 ∷ rest)
+    ∙ (cond-false _ _ _ (none 0 0 (omega arith)) ∙ ap (onto_first x) (front_cut texts cuts xs rest (λ k d h. none (suc k) d (omega arith))))
 
 pub last_cut : (texts : List ℕ → List (List ℕ)) → CutsAtEnds texts → (x : ℕ) (xs : List ℕ) → NoEnd (x ∷ xs) → texts (x ∷ xs) ≡ (x ∷ xs) ∷ []
 last_cut texts cuts x [] none = cuts.more x [] ∙ (cond-false _ _ _ (none 0 0 (omega arith)) ∙ ap (onto_first x) cuts.none)
-last_cut texts cuts x (y ∷ ys) none = cuts.more x (y ∷ ys) ∙ (cond-false _ _ _ (none 0 0 (omega arith)) ∙ ap (onto_first x) (last_cut texts cuts y ys (λ k d h. none (suc k) d (omega arith))))
+last_cut texts cuts x (y ∷ ys) none = cuts.more x (y ∷ ys)
+    ∙ (cond-false _ _ _ (none 0 0 (omega arith)) ∙ ap (onto_first x) (last_cut texts cuts y ys (λ k d h. none (suc k) d (omega arith))))

@@ -21,11 +21,15 @@ reads_on old new buffer rest (reads.Got n) took =
       λ left bytes so_far. subst (λ xs. Gives left new (bytes ++ xs)) (sym front) (gives_more left old new bytes (take n buffer) so_far took.2),
     )
 reads_on old new buffer rest reads.End ended =
-    λ left bytes so_far. (gives_no_more left old new bytes so_far ended.1, Consumes-whole left.to_come old.to_come bytes (λ all. all ≡ bytes) so_far.0 ended.0 refl)
+    λ left bytes so_far. (
+      gives_no_more left old new bytes so_far ended.1,
+      Consumes-whole left.to_come old.to_come bytes (λ all. all ≡ bytes) so_far.0 ended.0 refl,
+    )
 reads_on old new buffer rest reads.Failed kept = λ left bytes so_far. gives_no_more left old new bytes so_far kept.0
 
 -- what a read of fewer bytes gives is what one of more may give
-pub reads_more : (asked most : ℕ) (old new : Supply) (piece : List ℕ) (read : Read) → asked ≤ most → ReadsFront asked old new piece read → ReadsFront most old new piece read
+pub reads_more : (asked most : ℕ) (old new : Supply) (piece : List ℕ) (read : Read) → asked ≤ most → ReadsFront asked old new piece read
+    → ReadsFront most old new piece read
 reads_more asked most old new piece (reads.Got n) few took = (took.0, omega (arith, few, took.1), took.2, took.3)
 reads_more asked most old new piece reads.End few ended = ended
 reads_more asked most old new piece reads.Failed few kept = kept
@@ -40,12 +44,15 @@ pub all_of_rest : (bytes : List ℕ) (at : ℕ) → take (length bytes - at) (dr
 all_of_rest bytes at = grind (arith, common_steps)
 
 -- what was taken of `bytes[at..]`
-pub wrote_more : (before mid now : Option (List ℕ)) (bytes : List ℕ) (at n : ℕ) → Appends before mid (take at bytes) → Appends mid now (take n (take (length bytes - at) (drop at bytes))) → Appends before now (take (at + n) bytes)
+pub wrote_more : (before mid now : Option (List ℕ)) (bytes : List ℕ) (at n : ℕ) → Appends before mid (take at bytes)
+    → Appends mid now (take n (take (length bytes - at) (drop at bytes))) → Appends before now (take (at + n) bytes)
 wrote_more before mid now bytes at n a b =
-    subst (Appends before now) (sym (take-add at n bytes)) (Appends-trans before mid now _ _ a (subst (λ (rest : List ℕ). Appends mid now (take n rest)) (all_of_rest bytes at) b))
+    subst (Appends before now) (sym (take-add at n bytes))
+    (Appends-trans before mid now _ _ a (subst (λ (rest : List ℕ). Appends mid now (take n rest)) (all_of_rest bytes at) b))
 
 -- the sink fails after a part
-pub cut_here : (before mid now : Option (List ℕ)) (bytes : List ℕ) (at : ℕ) → Appends before mid (take at bytes) → Keeps mid now → CutOff before now bytes
+pub cut_here : (before mid now : Option (List ℕ)) (bytes : List ℕ) (at : ℕ) → Appends before mid (take at bytes) → Keeps mid now
+    → CutOff before now bytes
 cut_here before mid now bytes at wrote kept = record {
   part = take at bytes;
   lost = drop at bytes;

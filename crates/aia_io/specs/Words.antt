@@ -23,6 +23,11 @@ abbrev pub asked_by : {A : Type 0} → (List (List ℕ) → Option A)
 asked_by asks (Ok arguments) = asks (words_of arguments.items)
 asked_by asks (Err error) = None
 
+-- These are the words that were read.
+abbrev pub AreWordsOf : Result (Vec (String Global) Global) Error → List (Bor (List ℕ)) → Type 0
+AreWordsOf (Ok arguments) words = map (λ (w : Bor (List ℕ)). w.now) words ≡ words_of arguments.items
+AreWordsOf (Err error) words = ⊥
+
 -- They are no text: reading them failed, and not for want of memory.
 abbrev pub AreNoText : Result (Vec (String Global) Global) Error → Type 0
 AreNoText (Ok arguments) = ⊥

@@ -1,11 +1,11 @@
 //! The words of the command line.
 
-ghost use Rattle.std.specs.Prelude.{◌≡◌, ◌≢◌, true, false, map, IfOk};
+ghost use Rattle.std.specs.Prelude.{◌≡◌, ◌≢◌, ◌↔◌, true, false, map, Err, IfOk};
 ghost use Rattle.std.specs.IoError.{error_kind};
 ghost use Rattle.clap.specs.Words.{app_of, is_simple_and_free};
 ghost use Rattle.clap.specs.declared.builder.command.Command.TheViews.{out-Command};
 ghost use Rattle.aia_io.specs.Commands.{Finds, bare_command};
-ghost use Rattle.aia_io.specs.Words.{words_of};
+ghost use Rattle.aia_io.specs.Words.{AreNoText, AreWordsOf, words_of};
 
 use clap::error::ErrorKind as CommandError;
 use clap::{ArgMatches, Command};
@@ -20,8 +20,17 @@ pub fn arguments(rt: &HostRuntime) -> io::Result<Vec<String>> {
     Ok(arguments)
 }
 
+/// Why the words of the command line are not read.
+#[derive(Clone, Copy, Debug, PartialEq, Eq)]
+pub enum Unread {
+    /// One of them is no text.
+    NoText,
+    /// There is no memory for them.
+    Memory,
+}
+
 /// Gives the words without the program's name. `Err`: there is no memory for them.
-pub fn words(alloc: Global, arguments: &[String]) -> Result<Vec<&str>, AllocError>
+fn words(alloc: Global, arguments: &[String]) -> Result<Vec<&str>, AllocError>
     ensures { IfOk result (λ words. map (λ word. word.now) words.items ≡ words_of arguments.now) }
 {
     let mut words = Vec::new(alloc);
@@ -32,16 +41,33 @@ pub fn words(alloc: Global, arguments: &[String]) -> Result<Vec<&str>, AllocErro
     Ok(words)
 }
 
-/// Says how words that can't be read end a run: by `memory` where there is none for them, else by
-/// `usage`, since they are no text.
-pub fn refusal<T: Copy>(error: &io::Error, usage: T, memory: T) -> T
-    ensures memory { error_kind error.now ≡ ErrorKind.OutOfMemory → result ≡ memory }
-    ensures usage { error_kind error.now ≢ ErrorKind.OutOfMemory → result ≡ usage }
+/// Says why words that can't be read are not: there is no memory for them, or they are no text.
+fn why_unread(error: &io::Error) -> Unread
+    ensures memory { error_kind error.now ≡ ErrorKind.OutOfMemory → result ≡ Unread.Memory }
+    ensures no_text { error_kind error.now ≢ ErrorKind.OutOfMemory → result ≡ Unread.NoText }
 {
     if error.kind() == ErrorKind::OutOfMemory {
-        memory
+        Unread::Memory
     } else {
-        usage
+        Unread::NoText
+    }
+}
+
+/// Gives the words of the command line as they were read, without the program's name. `Err`: one of
+/// them is no text, or there is no memory for them.
+pub fn read_arguments(
+    alloc: Global,
+    arguments: &io::Result<Vec<String>>,
+) -> Result<Vec<&str>, Unread>
+    ensures words { IfOk result (λ words. AreWordsOf arguments.now words.items) }
+    ensures no_text { (result ≡ Err Unread.NoText) ↔ AreNoText arguments.now }
+{
+    match arguments {
+        Ok(arguments) => match words(alloc, arguments) {
+            Ok(words) => Ok(words),
+            Err(_) => Err(Unread::Memory),
+        },
+        Err(error) => Err(why_unread(error)),
     }
 }
 

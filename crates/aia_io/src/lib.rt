@@ -24,7 +24,7 @@ mod std_source;
 mod tape;
 mod writing;
 
-pub use command_line::{arguments, bare_command, match_words, refusal, words};
+pub use command_line::{Unread, arguments, bare_command, match_words, read_arguments};
 pub use mem_sink::MemSink;
 pub use mem_source::MemSource;
 pub use quiet_sink::QuietSink;

@@ -60,9 +60,11 @@ sources_there : (h : History) → IsHistory h → AllByRecursion (IsThere h) (pa
 unfolding passes_of
 sources_there [] good = tt
 sources_there (Accepted (lines.Pass source vm number identity) ∷ h) good =
-    all_append (IsThere h) (passes_of h) (record { source = source; to = vcpu vm number; identity = identity }) (sources_there h good.1) (pass_allowed h source vm number identity good.0).source_there
+    all_append (IsThere h) (passes_of h) (record { source = source; to = vcpu vm number; identity = identity }) (sources_there h good.1)
+    (pass_allowed h source vm number identity good.0).source_there
 sources_there (Accepted (lines.Machine harts guests n sources) ∷ h) good =
-    subst (λ (x : History). AllByRecursion (IsThere (Accepted (lines.Machine harts guests n sources) ∷ h)) (passes_of x)) (sym (machine_first h good.1 (machine_allowed h harts guests n sources good.0).0)) tt
+    subst (λ (x : History). AllByRecursion (IsThere (Accepted (lines.Machine harts guests n sources) ∷ h)) (passes_of x))
+    (sym (machine_first h good.1 (machine_allowed h harts guests n sources good.0).0)) tt
 sources_there (Accepted line ∷ h) good = sources_there h good.1
 sources_there (Began move ∷ h) good = sources_there h good.1
 sources_there (Stepped x ∷ h) good = sources_there h good.1
@@ -76,7 +78,8 @@ source_in h source there = ap (λ k. is_in_range 1 k source) (same_sources h) �
 
 passed_ready : (h : History) (p : ℕ) → IsHistory h → p < length (passes_of h) → is_passable_source (acts_of h) (nth_pass h p).source ≡ true
 passed_ready h p good low =
-    and_from _ _ (source_in h (nth_pass h p).source (each_at (IsThere h) (passes_of h) p no_pass low (sources_there h good))) ((passes_stand h good).pass p low).passable
+    and_from _ _ (source_in h (nth_pass h p).source (each_at (IsThere h) (passes_of h) p no_pass low (sources_there h good)))
+    ((passes_stand h good).pass p low).passable
 
 -- ---- one aim
 
@@ -84,13 +87,18 @@ passed_ready h p good low =
 abbrev pub wires_aim : Wires → ℕ → ℕ → Wires → Type 0
 wires_aim old source target new = WiresAim old.aplic source target new.aplic
 
-one_aim : (old new : Wires) (past : Past) (source target : ℕ) → is_passable_source past source ≡ true → AplicStands old.aplic past → wires_aim old source target new → AplicStands new.aplic (Aimed source target ∷ past)
-one_aim old new past source target ready stands aims = subst (λ b. AplicStands new.aplic (cond b (Aimed source target ∷ past) past)) ready (aims.stands past stands)
+one_aim : (old new : Wires) (past : Past) (source target : ℕ) → is_passable_source past source ≡ true → AplicStands old.aplic past
+    → wires_aim old source target new → AplicStands new.aplic (Aimed source target ∷ past)
+one_aim old new past source target ready stands aims =
+    subst (λ b. AplicStands new.aplic (cond b (Aimed source target ∷ past) past)) ready (aims.stands past stands)
 
-aim_stands : (old new : Wires) (h : History) (g : Vcpu) → IsHistory h → AplicStands old.aplic (acts_of h) → AimsBy wires_aim (aimed_by h (Stepped g)) old new → AplicStands new.aplic (with_act (aimed_by h (Stepped g)) (acts_of h))
+aim_stands : (old new : Wires) (h : History) (g : Vcpu) → IsHistory h → AplicStands old.aplic (acts_of h)
+    → AimsBy wires_aim (aimed_by h (Stepped g)) old new → AplicStands new.aplic (with_act (aimed_by h (Stepped g)) (acts_of h))
 aim_stands old new h g good stands aims = by_aim (is_aiming (passes_for h g) (home h g)) refl aims
   where
-    by_aim : (b : Bool) → is_aiming (passes_for h g) (home h g) ≡ b → AimsBy wires_aim (cond b (Some (aim_of h g (own_pass h g (aims_done (home h g))))) None) old new → AplicStands new.aplic (with_act (aimed_by h (Stepped g)) (acts_of h))
+    by_aim : (b : Bool) → is_aiming (passes_for h g) (home h g) ≡ b
+        → AimsBy wires_aim (cond b (Some (aim_of h g (own_pass h g (aims_done (home h g))))) None) old new
+        → AplicStands new.aplic (with_act (aimed_by h (Stepped g)) (acts_of h))
     by_aim true e aims =
         let low = ltb-true _ _ (and_parts _ _ e).1 in
         let own = own_is h g (aims_done (home h g)) low in
@@ -134,7 +142,8 @@ before_step g h good = by_fence (is_at_fence (home h g)) good.1
     by_fence true good = before_landings (length (flight h g.vm)) g.vm h good
     by_fence false good = good
 
-steps_aim : (count : ℕ) (g : Vcpu) (h : History) (old new : Wires) → IsHistory (steps_taken count g h) → AplicStands old.aplic (acts_of h) → StepsAim wires_aim count g h old new → AplicStands new.aplic (acts_of (steps_taken count g h))
+steps_aim : (count : ℕ) (g : Vcpu) (h : History) (old new : Wires) → IsHistory (steps_taken count g h) → AplicStands old.aplic (acts_of h)
+    → StepsAim wires_aim count g h old new → AplicStands new.aplic (acts_of (steps_taken count g h))
 steps_aim zero g h old new good stands same = subst (λ (w : Wires). AplicStands w.aplic (acts_of h)) (sym same) stands
 steps_aim (suc count) g h old new good stands (between, before, last) =
     let past = steps_taken count g h in
@@ -146,7 +155,8 @@ steps_aim (suc count) g h old new good stands (between, before, last) =
 -- ---- lines
 
 -- by the refusal
-taken_by : (m n : Machine) (line : Line) (given : Answer) → CoreTakes m.core n.core line given → ((h : History) → MachineStands m h → refusal h line ≡ None → AplicStands n.wires.aplic (act_taken None h line))
+taken_by : (m n : Machine) (line : Line) (given : Answer) → CoreTakes m.core n.core line given
+    → ((h : History) → MachineStands m h → refusal h line ≡ None → AplicStands n.wires.aplic (act_taken None h line))
     → ((h : History) (word : Answer) → MachineStands m h → refusal h line ≡ Some word → n.wires ≡ m.wires) → MachineTakes m n line given
 taken_by m n line given takes accepted refused = record {
   answers = λ h stands. takes.answers h stands.holds.core;
@@ -164,44 +174,66 @@ unless_refused : (r : Option Answer) (word : Answer) (taken refused : Type 0) �
 unless_refused r word taken refused e so = subst (λ (o : Option Answer). UnlessRefused o taken refused) e so
 
 pub step_taken_by : (m n : Machine) (vm number : ℕ) (given : Answer) → CoreTakes m.core n.core (lines.Step vm number) given
-    → ((h : History) → CoreStands m.core h → UnlessRefused (refusal h (lines.Step vm number)) (AimsBy wires_aim (aimed_by h (Stepped (vcpu vm number))) m.wires n.wires) (n.wires ≡ m.wires)) → MachineTakes m n (lines.Step vm number) given
+    → ((h : History) → CoreStands m.core h → UnlessRefused (refusal h (lines.Step vm number))
+    (AimsBy wires_aim (aimed_by h (Stepped (vcpu vm number))) m.wires n.wires) (n.wires ≡ m.wires))
+    → MachineTakes m n (lines.Step vm number) given
 step_taken_by m n vm number given takes aims = taken_by m n (lines.Step vm number) given takes
-    (λ h stands e. subst (AplicStands n.wires.aplic) (sym (acts_step (vcpu vm number) h)) (aim_stands m.wires n.wires h (vcpu vm number) stands.happens stands.holds.aplic (unless_accepted _ _ _ e (aims h stands.holds.core))))
+    (λ h stands e. subst (AplicStands n.wires.aplic) (sym (acts_step (vcpu vm number) h))
+    (aim_stands m.wires n.wires h (vcpu vm number) stands.happens stands.holds.aplic (unless_accepted _ _ _ e (aims h stands.holds.core))))
     (λ h word stands e. unless_refused _ word _ _ e (aims h stands.holds.core))
 
 -- the steps of a whole move
-whole_acts : (new : Wires) (h : History) (vm number : ℕ) (want : Want) → AplicStands new.aplic (acts_of (line_taken h (lines.Move vm number want))) → AplicStands new.aplic (act_taken None h (lines.Move vm number want))
+whole_acts : (new : Wires) (h : History) (vm number : ℕ) (want : Want)
+    → AplicStands new.aplic (acts_of (line_taken h (lines.Move vm number want)))
+    → AplicStands new.aplic (act_taken None h (lines.Move vm number want))
 whole_acts new h vm number wants.Leave s = s
 whole_acts new h vm number (wants.Arrive hart) s = s
 whole_acts new h vm number (wants.Shift hart) s = s
 
-whole_aims : (old new : Wires) (h : History) (vm number : ℕ) (want : Want) → IsHistory (line_taken h (lines.Move vm number want)) → AplicStands old.aplic (acts_of h) → WholeAims wires_aim h vm number want old new → AplicStands new.aplic (acts_of (line_taken h (lines.Move vm number want)))
-whole_aims old new h vm number wants.Leave good stands aims = steps_aim _ (vcpu vm number) (Began (wanted_move (vcpu vm number) wants.Leave) ∷ h) old new good stands aims
-whole_aims old new h vm number (wants.Arrive hart) good stands aims = steps_aim _ (vcpu vm number) (Began (wanted_move (vcpu vm number) (wants.Arrive hart)) ∷ h) old new good stands aims
-whole_aims old new h vm number (wants.Shift hart) good stands aims = steps_aim _ (vcpu vm number) (Began (wanted_move (vcpu vm number) (wants.Shift hart)) ∷ h) old new good stands aims
+whole_aims : (old new : Wires) (h : History) (vm number : ℕ) (want : Want) → IsHistory (line_taken h (lines.Move vm number want))
+    → AplicStands old.aplic (acts_of h) → WholeAims wires_aim h vm number want old new
+    → AplicStands new.aplic (acts_of (line_taken h (lines.Move vm number want)))
+whole_aims old new h vm number wants.Leave good stands aims =
+    steps_aim _ (vcpu vm number) (Began (wanted_move (vcpu vm number) wants.Leave) ∷ h) old new good stands aims
+whole_aims old new h vm number (wants.Arrive hart) good stands aims =
+    steps_aim _ (vcpu vm number) (Began (wanted_move (vcpu vm number) (wants.Arrive hart)) ∷ h) old new good stands aims
+whole_aims old new h vm number (wants.Shift hart) good stands aims =
+    steps_aim _ (vcpu vm number) (Began (wanted_move (vcpu vm number) (wants.Shift hart)) ∷ h) old new good stands aims
 
 pub whole_taken_by : (m n : Machine) (vm number : ℕ) (want : Want) (given : Answer) → CoreTakes m.core n.core (lines.Move vm number want) given
-    → ((h : History) → CoreStands m.core h → UnlessRefused (refusal h (lines.Move vm number want)) (WholeAims wires_aim h vm number want m.wires n.wires) (n.wires ≡ m.wires)) → MachineTakes m n (lines.Move vm number want) given
+    → ((h : History) → CoreStands m.core h → UnlessRefused (refusal h (lines.Move vm number want))
+    (WholeAims wires_aim h vm number want m.wires n.wires) (n.wires ≡ m.wires)) → MachineTakes m n (lines.Move vm number want) given
 whole_taken_by m n vm number want given takes aims = taken_by m n (lines.Move vm number want) given takes
-    (λ h stands e. whole_acts n.wires h vm number want (whole_aims m.wires n.wires h vm number want (line_happens h (lines.Move vm number want) e stands.happens) stands.holds.aplic (unless_accepted _ _ _ e (aims h stands.holds.core))))
+    (λ h stands e. whole_acts n.wires h vm number want
+    (whole_aims m.wires n.wires h vm number want (line_happens h (lines.Move vm number want) e stands.happens) stands.holds.aplic
+    (unless_accepted _ _ _ e (aims h stands.holds.core))))
     (λ h word stands e. unless_refused _ word _ _ e (aims h stands.holds.core))
 
 -- a source that is there is passed, or refused
-pub pass_taken_by : (m n : Machine) (source vm number identity : ℕ) (given : Answer) → ((h : History) → MachineStands m h → TellsOf (targets_of m.wires.aplic) h source)
+pub pass_taken_by : (m n : Machine) (source vm number identity : ℕ) (given : Answer)
+    → ((h : History) → MachineStands m h → TellsOf (targets_of m.wires.aplic) h source)
     → CorePasses m.core n.core (targets_of m.wires.aplic) source (lines.Pass source vm number identity) given
-    → ((h : History) → CoreStands m.core h → TellsOf (targets_of m.wires.aplic) h source → UnlessRefused (refusal h (lines.Pass source vm number identity)) (AimsBy wires_aim (aimed_by h (Accepted (lines.Pass source vm number identity))) m.wires n.wires) (n.wires ≡ m.wires))
+    → ((h : History) → CoreStands m.core h → TellsOf (targets_of m.wires.aplic) h source
+    → UnlessRefused (refusal h (lines.Pass source vm number identity))
+    (AimsBy wires_aim (aimed_by h (Accepted (lines.Pass source vm number identity))) m.wires n.wires) (n.wires ≡ m.wires))
     → MachineTakes m n (lines.Pass source vm number identity) given
 pass_taken_by m n source vm number identity given tells passes aims = record {
   answers = λ h stands. passes.answers h stands.holds.core (tells h stands);
-  takes = λ h stands. record { core = passes.stands h stands.holds.core (tells h stands); aplic = by_refusal h stands (refusal h (lines.Pass source vm number identity)) refl };
+  takes = λ h stands. record {
+    core = passes.stands h stands.holds.core (tells h stands);
+    aplic =
+        by_refusal h stands (refusal h (lines.Pass source vm number identity)) refl;
+  };
 }
   where
-    by_refusal : (h : History) → MachineStands m h → (r : Option Answer) → refusal h (lines.Pass source vm number identity) ≡ r → AplicStands n.wires.aplic (act_taken r h (lines.Pass source vm number identity))
+    by_refusal : (h : History) → MachineStands m h → (r : Option Answer) → refusal h (lines.Pass source vm number identity) ≡ r
+        → AplicStands n.wires.aplic (act_taken r h (lines.Pass source vm number identity))
     by_refusal h stands None e =
         let may = pass_allowed h source vm number identity e in
         let ready = and_from _ _ (source_in h source may.source_there) may.ready in
         one_aim m.wires n.wires (acts_of h) source _ ready stands.holds.aplic (unless_accepted _ _ _ e (aims h stands.holds.core (tells h stands)))
-    by_refusal h stands (Some word) e = subst (λ (w : Wires). AplicStands w.aplic (acts_of h)) (sym (unless_refused _ word _ _ e (aims h stands.holds.core (tells h stands)))) stands.holds.aplic
+    by_refusal h stands (Some word) e = subst (λ (w : Wires). AplicStands w.aplic (acts_of h))
+        (sym (unless_refused _ word _ _ e (aims h stands.holds.core (tells h stands)))) stands.holds.aplic
 
 -- ---- what the core asks of the sources of a machine that stands
 
@@ -209,7 +241,8 @@ pub same_harts_there : (m : Machine) → EngineStandsForSome m → m.core.world.
 same_harts_there m some =
     some.stands.holds.core.harts ∙ sym (same_harts some.past) ∙ sym (harts-stand m.wires.aplic (acts_of some.past) some.stands.holds.aplic)
 
-pub tells_of : (m : Machine) (h : History) (source : ℕ) → ((past : Past) → AplicStands m.wires.aplic past → is_source past source ≡ true) → MachineStands m h → TellsOf (targets_of m.wires.aplic) h source
+pub tells_of : (m : Machine) (h : History) (source : ℕ) → ((past : Past) → AplicStands m.wires.aplic past → is_source past source ≡ true)
+    → MachineStands m h → TellsOf (targets_of m.wires.aplic) h source
 tells_of m h source there stands =
     let is : is_source (acts_of h) source ≡ true = there (acts_of h) stands.holds.aplic in
     record {
@@ -217,7 +250,8 @@ tells_of m h source there stands =
       ready = passable-stands m.wires.aplic (acts_of h) source stands.holds.aplic ∙ ap (λ b. b && is_passable (acts_of h) source) is;
     }
 
-pub may_pass : (m : Machine) (source : ℕ) → ((past : Past) → AplicStands m.wires.aplic past → is_source past source ≡ true) → EngineStandsForSome m → MayPass m.core (targets_of m.wires.aplic) source
+pub may_pass : (m : Machine) (source : ℕ) → ((past : Past) → AplicStands m.wires.aplic past → is_source past source ≡ true)
+    → EngineStandsForSome m → MayPass m.core (targets_of m.wires.aplic) source
 may_pass m source there some = record {
   past = some.past;
   happens = some.stands.happens;
@@ -227,10 +261,12 @@ may_pass m source there some = record {
 
 -- while some source is passed the child domain delivers by MSIs, so a write of its domaincfg keeps
 -- that exactly where it asks for it
-pub keeps_msis : (m : Machine) (h : History) (value : ℕ) → MachineStands m h → has_passes h ≡ true → keeps_delivery (acts_of h) Child value ≡ is_by_msi (domaincfg_kept value)
+pub keeps_msis : (m : Machine) (h : History) (value : ℕ) → MachineStands m h → has_passes h ≡ true
+    → keeps_delivery (acts_of h) Child value ≡ is_by_msi (domaincfg_kept value)
 keeps_msis m h value stands some =
     let first = (passes_stand h stands.happens).pass 0 (ltb-true 0 (length (passes_of h)) some) in
-    let delivers = (and_parts (is_active_in (acts_of h) Child (nth_pass h 0).source) (delivers_by_msis (acts_of h) Child) (and_parts (is_active_in (acts_of h) Child (nth_pass h 0).source && delivers_by_msis (acts_of h) Child) _ first.passable).0).1 in
+    let delivers = (and_parts (is_active_in (acts_of h) Child (nth_pass h 0).source) (delivers_by_msis (acts_of h) Child)
+    (and_parts (is_active_in (acts_of h) Child (nth_pass h 0).source && delivers_by_msis (acts_of h) Child) _ first.passable).0).1 in
     ap (λ b. same_bool b (is_by_msi (domaincfg_kept value))) delivers ∙ same (is_by_msi (domaincfg_kept value))
   where
     same : (b : Bool) → same_bool true b ≡ b

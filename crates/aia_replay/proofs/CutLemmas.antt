@@ -42,11 +42,14 @@ texts_last = last_cut texts_of (record { none = refl; more = λ b bytes. refl })
 -- ---- a line that is kept as far as there is room
 
 -- a part is kept
-pub part_fits : (line part : List ℕ) (room n : ℕ) → length line + room ≡ 129 → n ≡ min (length part) room → line ++ take n part ≡ take 129 (line ++ part)
+pub part_fits : (line part : List ℕ) (room n : ℕ) → length line + room ≡ 129 → n ≡ min (length part) room
+    → line ++ take n part ≡ take 129 (line ++ part)
 part_fits line part room n whole e =
     elim (cases_lt room (length part)) [
-      | inl longer ↦ let n_is : n ≡ room = omega arith in ap (λ k. line ++ take k part) n_is ∙ sym (ap (λ k. take k (line ++ part)) (sym whole) ∙ take-append-add line part room)
-      | inr fits ↦ let n_is : n ≡ length part = omega arith in ap (λ k. line ++ take k part) n_is ∙ ap (λ xs. line ++ xs) (take-length part) ∙ sym (take_all 129 (line ++ part) (omega (arith, length-append line part)))
+      | inl longer ↦ let n_is : n ≡ room = omega arith in ap (λ k. line ++ take k part) n_is
+          ∙ sym (ap (λ k. take k (line ++ part)) (sym whole) ∙ take-append-add line part room)
+      | inr fits ↦ let n_is : n ≡ length part = omega arith in ap (λ k. line ++ take k part) n_is ∙ ap (λ xs. line ++ xs) (take-length part)
+          ∙ sym (take_all 129 (line ++ part) (omega (arith, length-append line part)))
     ]
 
 -- of a line that is kept a part more makes what is kept of the longer line
@@ -54,5 +57,6 @@ pub take_again : (tail part : List ℕ) (n : ℕ) → take n (take n tail ++ par
 take_again tail part n =
     elim (cases_lt (length tail) n) [
       | inl short ↦ ap (λ xs. take n (xs ++ part)) (take_all n tail (omega arith))
-      | inr long ↦ take-append-le n (take n tail) part (omega (arith, length-take n tail)) ∙ take_all n (take n tail) (omega (arith, length-take n tail)) ∙ sym (take-append-le n tail part long)
+      | inr long ↦ take-append-le n (take n tail) part (omega (arith, length-take n tail))
+          ∙ take_all n (take n tail) (omega (arith, length-take n tail)) ∙ sym (take-append-le n tail part long)
     ]

@@ -34,7 +34,8 @@ unfolding notices_sent
 none_sent engine h none stands = sym (ap (λ x. min (notices_sent x) (2 ^ 64 - 1)) (empty_history engine h none stands))
 
 -- a line that is refused where no machine stands
-pub refused_first : (old new : EngineState) (line : Line) (word : Answer) → old ≡ None → new ≡ None → refusal [] line ≡ Some word → Serves old new line word
+pub refused_first : (old new : EngineState) (line : Line) (word : Answer) → old ≡ None → new ≡ None → refusal [] line ≡ Some word
+    → Serves old new line word
 refused_first old new line word was now is = record {
   answers = λ h stands. sym (ap (λ x. answer x line) (empty_history old h was stands) ∙ answered [] line (Some word) is);
   stands = λ h stands. still_none new (after h line) now (ap (λ x. after x line) (empty_history old h was stands) ∙ after_by [] line (Some word) is);
@@ -45,7 +46,8 @@ pub needs_machine : (line : Line) → ((harts guests n sources : ℕ) → line �
 needs_machine (MachineLine harts guests n sources) other = absurd (other harts guests n sources refl)
 needs_machine line other = refl
 
-pub size_refused : (harts guests n sources : ℕ) → is_machine_size harts guests n sources ≡ false → refusal [] (MachineLine harts guests n sources) ≡ Some (Refused Range)
+pub size_refused : (harts guests n sources : ℕ) → is_machine_size harts guests n sources ≡ false
+    → refusal [] (MachineLine harts guests n sources) ≡ Some (Refused Range)
 size_refused harts guests n sources out = machine_refusal [] harts guests n sources ∙ cond-true _ _ _ (ap not out)
 
 -- ---- the machine is made
@@ -53,7 +55,8 @@ size_refused harts guests n sources out = machine_refusal [] harts guests n sour
 made_accepted : (harts guests n sources : ℕ) → is_machine_size harts guests n sources ≡ true → refusal [] (MachineLine harts guests n sources) ≡ None
 made_accepted harts guests n sources size = machine_refusal [] harts guests n sources ∙ cond-false _ _ _ (ap not size)
 
-made_stands : (m : Machine) (harts guests n sources : ℕ) → is_machine_size harts guests n sources ≡ true → MachineHolds m (Accepted (MachineLine harts guests n sources) ∷ []) (Made harts sources ∷ [])
+made_stands : (m : Machine) (harts guests n sources : ℕ) → is_machine_size harts guests n sources ≡ true
+    → MachineHolds m (Accepted (MachineLine harts guests n sources) ∷ []) (Made harts sources ∷ [])
     → MachineStands m (history_after None [] (MachineLine harts guests n sources))
 made_stands m harts guests n sources size holds =
     let line = MachineLine harts guests n sources in
@@ -62,11 +65,15 @@ made_stands m harts guests n sources size holds =
       happens = subst IsHistory (after_by [] line None (made_accepted harts guests n sources size)) (after_happens [] line tt);
     }
 
-pub made_stands_for_some : (m : Machine) (harts guests n sources : ℕ) → is_machine_size harts guests n sources ≡ true → MachineHolds m (Accepted (MachineLine harts guests n sources) ∷ []) (Made harts sources ∷ []) → EngineStandsForSome m
-made_stands_for_some m harts guests n sources size holds = record { past = history_after None [] (MachineLine harts guests n sources); stands = made_stands m harts guests n sources size holds }
+pub made_stands_for_some : (m : Machine) (harts guests n sources : ℕ) → is_machine_size harts guests n sources ≡ true
+    → MachineHolds m (Accepted (MachineLine harts guests n sources) ∷ []) (Made harts sources ∷ []) → EngineStandsForSome m
+made_stands_for_some m harts guests n sources size holds =
+    record { past = history_after None [] (MachineLine harts guests n sources); stands = made_stands m harts guests n sources size holds }
 
-pub machine_made : (old new : EngineState) (m : Machine) (harts guests n sources : ℕ) → old ≡ None → new ≡ Some m → is_machine_size harts guests n sources ≡ true
-    → MachineHolds m (Accepted (MachineLine harts guests n sources) ∷ []) (Made harts sources ∷ []) → Serves old new (MachineLine harts guests n sources) Okay
+pub machine_made : (old new : EngineState) (m : Machine) (harts guests n sources : ℕ) → old ≡ None → new ≡ Some m
+    → is_machine_size harts guests n sources ≡ true
+    → MachineHolds m (Accepted (MachineLine harts guests n sources) ∷ []) (Made harts sources ∷ [])
+    → Serves old new (MachineLine harts guests n sources) Okay
 machine_made old new m harts guests n sources was now size holds =
     let line = MachineLine harts guests n sources in
     let accepted = made_accepted harts guests n sources size in
@@ -74,5 +81,6 @@ machine_made old new m harts guests n sources was now size holds =
     record {
       answers = λ h given. sym (ap (λ x. answer x line) (empty_history old h was given) ∙ answered [] line None accepted);
       stands = λ h given. subst (StandsFor new) (sym (ap (λ x. after x line) (empty_history old h was given) ∙ after_by [] line None accepted))
-          (subst (λ (o : Option Machine). MatchOption o (history_after None [] line ≡ []) (λ m. MachineStands m (history_after None [] line))) (sym now) stands);
+          (subst (λ (o : Option Machine). MatchOption o (history_after None [] line ≡ []) (λ m. MachineStands m (history_after None [] line)))
+          (sym now) stands);
     }

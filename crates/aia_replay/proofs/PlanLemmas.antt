@@ -50,13 +50,16 @@ text_take words (Steps plan) (b ∷ bytes) =
     ]
 
 -- a part was kept of a line, and the line is read then
-pub kept_read : (words : ℕ) (read : PlanRead) (line kept part : List ℕ) → kept ≡ take 129 (line ++ part) → with_text words read kept ≡ with_text words read (line ++ part)
+pub kept_read : (words : ℕ) (read : PlanRead) (line kept part : List ℕ) → kept ≡ take 129 (line ++ part)
+    → with_text words read kept ≡ with_text words read (line ++ part)
 kept_read words read line kept part is = ap (with_text words read) is ∙ text_take words read (line ++ part)
 
 -- the line that is kept is read as the whole tail
-tail_read : (words : ℕ) (read : PlanRead) (line tail part : List ℕ) → line ≡ take 129 tail → with_text words read (line ++ part) ≡ with_text words read (tail ++ part)
+tail_read : (words : ℕ) (read : PlanRead) (line tail part : List ℕ) → line ≡ take 129 tail
+    → with_text words read (line ++ part) ≡ with_text words read (tail ++ part)
 tail_read words read line tail part is =
-    sym (text_take words read (line ++ part)) ∙ ap (with_text words read) (ap (λ xs. take 129 (xs ++ part)) is ∙ take_again tail part 129) ∙ text_take words read (tail ++ part)
+    sym (text_take words read (line ++ part)) ∙ ap (with_text words read) (ap (λ xs. take 129 (xs ++ part)) is ∙ take_again tail part 129)
+    ∙ text_take words read (tail ++ part)
 
 -- ---- a reader after a part, and after a line
 
@@ -69,14 +72,16 @@ begins_holds r words begins = record {
   completes = λ more. ap (λ read. with_texts words read (texts_of more)) begins.read;
 }
 
-plan_part : (old new : PlanReader) (words : ℕ) (bytes part : List ℕ) → NoEnd part → new.line.items ≡ take 129 (old.line.items ++ part) → new.plan ≡ old.plan → HoldsPlan old words bytes → HoldsPlan new words (bytes ++ part)
+plan_part : (old new : PlanReader) (words : ℕ) (bytes part : List ℕ) → NoEnd part → new.line.items ≡ take 129 (old.line.items ++ part)
+    → new.plan ≡ old.plan → HoldsPlan old words bytes → HoldsPlan new words (bytes ++ part)
 plan_part old new words bytes part none line same holds = record {
   tail = holds.tail ++ part;
   width = ap (λ p. p.words) same ∙ holds.width;
   no_end = All-append (λ b. nat_eq b 10 ≡ false) holds.tail part holds.no_end none;
   line = line ∙ ap (λ xs. take 129 (xs ++ part)) holds.line ∙ take_again holds.tail part 129;
   completes = λ more. ap (λ p. with_texts words (plan_read p) (texts_of ((holds.tail ++ part) ++ more))) same
-      ∙ ap (λ xs. with_texts words (plan_read old.plan) (texts_of xs)) (append_assoc holds.tail part more) ∙ holds.completes (part ++ more) ∙ ap (plan_of words) (sym (append_assoc bytes part more));
+      ∙ ap (λ xs. with_texts words (plan_read old.plan) (texts_of xs)) (append_assoc holds.tail part more) ∙ holds.completes (part ++ more)
+      ∙ ap (plan_of words) (sym (append_assoc bytes part more));
 }
 
 -- One reader reads one line more than another, which ends with a part.
@@ -85,19 +90,22 @@ pub record ReadsLine (old new : PlanReader) (part : List ℕ) : Type 0 where
   pub empty : new.line.items ≡ []
   pub words : new.plan.words ≡ old.plan.words
 
-plan_line : (old new : PlanReader) (words : ℕ) (bytes part : List ℕ) → NoEnd part → ReadsLine old new part → HoldsPlan old words bytes → HoldsPlan new words (bytes ++ (part ++ 10 ∷ []))
+plan_line : (old new : PlanReader) (words : ℕ) (bytes part : List ℕ) → NoEnd part → ReadsLine old new part → HoldsPlan old words bytes
+    → HoldsPlan new words (bytes ++ (part ++ 10 ∷ []))
 plan_line old new words bytes part none reads holds =
     let tail = holds.tail ++ part in
     let whole : NoEnd tail = All-append (λ b. nat_eq b 10 ≡ false) holds.tail part holds.no_end none in
     let read : plan_read new.plan ≡ with_text words (plan_read old.plan) tail =
-    reads.read ∙ ap (λ n. with_text n (plan_read old.plan) (old.line.items ++ part)) holds.width ∙ tail_read words (plan_read old.plan) old.line.items holds.tail part holds.line in
+    reads.read ∙ ap (λ n. with_text n (plan_read old.plan) (old.line.items ++ part)) holds.width
+    ∙ tail_read words (plan_read old.plan) old.line.items holds.tail part holds.line in
     record {
       tail = [];
       width = reads.words ∙ holds.width;
       no_end = All-nil (λ b. nat_eq b 10 ≡ false);
       line = reads.empty;
       completes = λ more. ap (λ read. with_texts words read (texts_of more)) read
-          ∙ sym (ap (with_texts words (plan_read old.plan)) (ap texts_of (sym (append_assoc holds.tail part (10 ∷ more))) ∙ texts_front tail more whole))
+          ∙ sym (ap (with_texts words (plan_read old.plan))
+          (ap texts_of (sym (append_assoc holds.tail part (10 ∷ more))) ∙ texts_front tail more whole))
           ∙ holds.completes (part ++ 10 ∷ more)
           ∙ ap (plan_of words) (ap (λ xs. bytes ++ xs) (sym (append_assoc part (10 ∷ []) more)) ∙ sym (append_assoc bytes (part ++ 10 ∷ []) more));
     }
@@ -117,15 +125,18 @@ plan_fed_nothing r piece = record {
   feeds = λ words bytes holds. subst (HoldsPlan r words) (sym (append-nil bytes)) holds;
 }
 
-pub plan_fed_line : (old mid new : PlanReader) (piece rest front more : List ℕ) → FedPlan old mid piece rest → rest ≡ front ++ (10 ∷ more) → NoEnd front → ReadsLine mid new front → FedPlan old new piece more
+pub plan_fed_line : (old mid new : PlanReader) (piece rest front more : List ℕ) → FedPlan old mid piece rest → rest ≡ front ++ (10 ∷ more)
+    → NoEnd front → ReadsLine mid new front → FedPlan old new piece more
 plan_fed_line old mid new piece rest front more fed cut none reads = record {
   done = fed.done ++ (front ++ (10 ∷ []));
-  split = fed.split ∙ ap (λ xs. fed.done ++ xs) (cut ∙ sym (append_assoc front (10 ∷ []) more)) ∙ sym (append_assoc fed.done (front ++ (10 ∷ [])) more);
+  split = fed.split ∙ ap (λ xs. fed.done ++ xs) (cut ∙ sym (append_assoc front (10 ∷ []) more))
+      ∙ sym (append_assoc fed.done (front ++ (10 ∷ [])) more);
   feeds = λ words bytes holds. subst (HoldsPlan new words) (append_assoc bytes fed.done (front ++ (10 ∷ [])))
       (plan_line mid new words (bytes ++ fed.done) front none reads (fed.feeds words bytes holds));
 }
 
-pub plan_fed_rest : (old mid new : PlanReader) (piece rest : List ℕ) → FedPlan old mid piece rest → NoEnd rest → new.line.items ≡ take 129 (mid.line.items ++ rest) → new.plan ≡ mid.plan → FeedsPlan old new piece
+pub plan_fed_rest : (old mid new : PlanReader) (piece rest : List ℕ) → FedPlan old mid piece rest → NoEnd rest
+    → new.line.items ≡ take 129 (mid.line.items ++ rest) → new.plan ≡ mid.plan → FeedsPlan old new piece
 plan_fed_rest old mid new piece rest fed none line same =
     λ words bytes holds. subst (HoldsPlan new words) (append_assoc bytes fed.done rest ∙ ap (λ xs. bytes ++ xs) (sym fed.split))
     (plan_part mid new words (bytes ++ fed.done) rest none line same (fed.feeds words bytes holds))
@@ -135,15 +146,21 @@ plan_fed_rest old mid new piece rest fed none line same =
 -- nothing is left of a line
 pub plan_finished : (r : PlanReader) → length r.line.items ≡ 0 → FinishesPlan r r
 plan_finished r empty = λ words bytes holds.
-    let none : holds.tail ≡ [] = nil_from_length holds.tail (omega (arith, empty, ap length holds.line, length-take 129 holds.tail)) in
-    (holds.width, sym (ap (λ xs. with_texts words (plan_read r.plan) (texts_of (xs ++ []))) none) ∙ holds.completes [] ∙ ap (plan_of words) (append-nil bytes))
+    let none : holds.tail ≡ [] = nil_from_length holds.tail (omega (arith, empty, ap length holds.line, length-take 129 holds.tail)) in (
+      holds.width,
+      sym (ap (λ xs. with_texts words (plan_read r.plan) (texts_of (xs ++ []))) none) ∙ holds.completes []
+          ∙ ap (plan_of words) (append-nil bytes),
+    )
 
 -- a last line is read
 pub plan_finished_line : (old new : PlanReader) → 0 < length old.line.items → ReadsLine old new [] → FinishesPlan old new
 plan_finished_line old new some reads = λ words bytes holds.
-    let one : texts_of (holds.tail ++ []) ≡ (holds.tail ++ []) ∷ [] = ap texts_of (append-nil holds.tail) ∙ one_text holds.tail (omega (arith, ap length holds.line, length-take 129 holds.tail)) holds.no_end ∙ ap (λ xs. xs ∷ []) (sym (append-nil holds.tail)) in (
+    let one : texts_of (holds.tail ++ []) ≡ (holds.tail ++ []) ∷ [] = ap texts_of (append-nil holds.tail)
+    ∙ one_text holds.tail (omega (arith, ap length holds.line, length-take 129 holds.tail)) holds.no_end
+    ∙ ap (λ xs. xs ∷ []) (sym (append-nil holds.tail)) in (
       reads.words ∙ holds.width,
-      reads.read ∙ ap (λ n. with_text n (plan_read old.plan) (old.line.items ++ [])) holds.width ∙ tail_read words (plan_read old.plan) old.line.items holds.tail [] holds.line
+      reads.read ∙ ap (λ n. with_text n (plan_read old.plan) (old.line.items ++ [])) holds.width
+          ∙ tail_read words (plan_read old.plan) old.line.items holds.tail [] holds.line
           ∙ sym (ap (with_texts words (plan_read old.plan)) one) ∙ holds.completes [] ∙ ap (plan_of words) (append-nil bytes),
     )
 
@@ -159,7 +176,9 @@ pub record PlanReadSoFar (r : PlanReader) (words : ℕ) (left rest : Supply) (co
 pub no_plan_read : (r : PlanReader) (words : ℕ) (left : Supply) → BeginsPlan r words → PlanReadSoFar r words left left 0
 no_plan_read r words left begins = record { bytes = []; taken = gives_nothing left; holds = begins_holds r words begins; length = refl }
 
-pub plan_piece_more : {old new : PlanReader} {words : ℕ} {left mid rest : Supply} {count : ℕ} (n : ℕ) (buffer : List ℕ) → PlanReadSoFar old words left mid count → ReadsOn mid rest buffer (reads.Got n) → FeedsPlan old new (take n buffer) → PlanReadSoFar new words left rest (count + n)
+pub plan_piece_more : {old new : PlanReader} {words : ℕ} {left mid rest : Supply} {count : ℕ} (n : ℕ) (buffer : List ℕ)
+    → PlanReadSoFar old words left mid count → ReadsOn mid rest buffer (reads.Got n) → FeedsPlan old new (take n buffer)
+    → PlanReadSoFar new words left rest (count + n)
 plan_piece_more {words = words} {left = left} n buffer so_far took feeds = record {
   bytes = so_far.bytes ++ take n buffer;
   taken = took.1 left so_far.bytes so_far.taken;
@@ -167,7 +186,8 @@ plan_piece_more {words = words} {left = left} n buffer so_far took feeds = recor
   length = length-append so_far.bytes (take n buffer) ∙ omega (arith, so_far.length, took.0);
 }
 
-pub plan_failed : {r : PlanReader} {words : ℕ} {read : PlanRead} {left mid rest : Supply} {count : ℕ} (buffer : List ℕ) → PlanReadSoFar r words left mid count → ReadsOn mid rest buffer reads.Failed → count ≤ SOURCE_BYTES → StreamsPlan ReadFault words read left rest
+pub plan_failed : {r : PlanReader} {words : ℕ} {read : PlanRead} {left mid rest : Supply} {count : ℕ} (buffer : List ℕ)
+    → PlanReadSoFar r words left mid count → ReadsOn mid rest buffer reads.Failed → count ≤ SOURCE_BYTES → StreamsPlan ReadFault words read left rest
 plan_failed {left = left} buffer so_far kept within = record {
   bytes = so_far.bytes;
   taken = kept left so_far.bytes so_far.taken;
@@ -177,7 +197,9 @@ plan_failed {left = left} buffer so_far kept within = record {
   limit = λ other. omega (arith, so_far.length, within);
 }
 
-pub plan_too_long : {r : PlanReader} {words : ℕ} {read : PlanRead} {left mid rest : Supply} {count : ℕ} (n : ℕ) (buffer : List ℕ) → PlanReadSoFar r words left mid count → ReadsOn mid rest buffer (reads.Got n) → n ≡ 1 → count ≡ SOURCE_BYTES → StreamsPlan TooLong words read left rest
+pub plan_too_long : {r : PlanReader} {words : ℕ} {read : PlanRead} {left mid rest : Supply} {count : ℕ} (n : ℕ) (buffer : List ℕ)
+    → PlanReadSoFar r words left mid count → ReadsOn mid rest buffer (reads.Got n) → n ≡ 1 → count ≡ SOURCE_BYTES
+    → StreamsPlan TooLong words read left rest
 plan_too_long {left = left} n buffer so_far took one full = record {
   bytes = so_far.bytes ++ take n buffer;
   taken = took.1 left so_far.bytes so_far.taken;
@@ -187,7 +209,9 @@ plan_too_long {left = left} n buffer so_far took one full = record {
   limit = λ other. absurd (other refl);
 }
 
-pub plan_done : {r : PlanReader} {words : ℕ} {left mid rest : Supply} {count : ℕ} (new : PlanReader) (buffer : List ℕ) → PlanReadSoFar r words left mid count → ReadsOn mid rest buffer reads.End → FinishesPlan r new → count ≤ SOURCE_BYTES → StreamsPlan Done words (plan_read new.plan) left rest
+pub plan_done : {r : PlanReader} {words : ℕ} {left mid rest : Supply} {count : ℕ} (new : PlanReader) (buffer : List ℕ)
+    → PlanReadSoFar r words left mid count → ReadsOn mid rest buffer reads.End → FinishesPlan r new → count ≤ SOURCE_BYTES
+    → StreamsPlan Done words (plan_read new.plan) left rest
 plan_done {words = words} {left = left} new buffer so_far ended finishes within =
     let all = ended left so_far.bytes so_far.taken in
     record {
@@ -201,7 +225,8 @@ plan_done {words = words} {left = left} new buffer so_far ended finishes within 
 
 -- ---- how a run of `audit` ends
 
-few_or_one_more : {status : Status} {words : ℕ} {read : PlanRead} {left rest : Supply} → StreamsPlan status words read left rest → TakesAtMost (SOURCE_BYTES + 1) left rest
+few_or_one_more : {status : Status} {words : ℕ} {read : PlanRead} {left rest : Supply} → StreamsPlan status words read left rest
+    → TakesAtMost (SOURCE_BYTES + 1) left rest
 few_or_one_more streams = (
   streams.bytes,
   streams.taken,
@@ -215,7 +240,8 @@ few_or_one_more streams = (
 )
 
 -- reading ended before the plan did
-pub audit_unread : {kind : Kind} {status : Status} {words : ℕ} {read : PlanRead} {left rest : Supply} {a b : ℕ} (before : Option (List ℕ)) (c : ℕ) → StreamsPlan status words read left rest → status ≢ Done → (status ≡ ReadFault → Rose a b) → a ≤ b
+pub audit_unread : {kind : Kind} {status : Status} {words : ℕ} {read : PlanRead} {left rest : Supply} {a b : ℕ} (before : Option (List ℕ)) (c : ℕ)
+    → StreamsPlan status words read left rest → status ≢ Done → (status ≡ ReadFault → Rose a b) → a ≤ b
     → RunEnds (Some (Audit kind words)) status left rest before before a b c c
 audit_unread {status = status} before c streams other rose later =
     let not_lacking : status ≢ Memory = λ is. elim streams.ends [
@@ -253,17 +279,24 @@ all_taken : {words : ℕ} {read : PlanRead} {left rest : Supply} → StreamsPlan
 all_taken {left = left} {rest = rest} streams ended = (ended, all_of left.to_come rest.to_come streams.bytes streams.taken.0 (streams.whole refl).0)
 
 -- what is printed of the plan that was read is printed of all that the source had left
-of_script : (P : List ℕ → Type 0) (kind : Kind) (words : ℕ) (read : PlanRead) (left : Option (List ℕ)) (bytes text : List ℕ) → IfSome left (λ script. script ≡ bytes) → read ≡ plan_of words bytes → text ≡ read_word kind words read ++ 10 ∷ [] → P text
+of_script : (P : List ℕ → Type 0) (kind : Kind) (words : ℕ) (read : PlanRead) (left : Option (List ℕ)) (bytes text : List ℕ)
+    → IfSome left (λ script. script ≡ bytes) → read ≡ plan_of words bytes → text ≡ read_word kind words read ++ 10 ∷ [] → P text
     → IfSome left (λ plan. P (audit_text kind words plan))
 of_script P kind words read None bytes text whole is told holds = tt
 of_script P kind words read (Some script) bytes text whole is told holds =
     subst P (told ∙ ap (λ r. read_word kind words r ++ 10 ∷ []) is ∙ ap (audit_text kind words) (sym whole)) holds
 
-pub audit_done : {kind : Kind} {words : ℕ} {read : PlanRead} {left rest : Supply} {text : List ℕ} {before now : Option (List ℕ)} {a b c d : ℕ} → StreamsPlan Done words read left rest → Rose left.ends rest.ends → text ≡ read_word kind words read ++ 10 ∷ [] → Appends before now text → a ≤ b → c ≤ d
+pub audit_done : {kind : Kind} {words : ℕ} {read : PlanRead} {left rest : Supply} {text : List ℕ} {before now : Option (List ℕ)} {a b c d : ℕ}
+    → StreamsPlan Done words read left rest → Rose left.ends rest.ends → text ≡ read_word kind words read ++ 10 ∷ [] → Appends before now text
+    → a ≤ b → c ≤ d
     → RunEnds (Some (Audit kind words)) Done left rest before now a b c d
 audit_done {kind} {words} {read} {left} {rest} {text} {before} {now} streams ended told wrote source_later sink_later = record {
   as_asked = record {
-    done = λ e. (of_script (λ xs. Appends before now xs) kind words read left.to_come streams.bytes text (streams.whole refl).0 (streams.whole refl).1 told wrote, all_taken streams ended);
+    done = λ e. (
+      of_script (λ xs. Appends before now xs) kind words read left.to_come streams.bytes text (streams.whole refl).0
+          (streams.whole refl).1 told wrote,
+      all_taken streams ended,
+    );
     write_fault = λ e. absurd (cc);
     unwritten = λ e f. absurd (e refl);
     memory = λ e. absurd (cc);
@@ -278,12 +311,18 @@ audit_done {kind} {words} {read} {left} {rest} {text} {before} {now} streams end
   sink_faults = sink_later;
 }
 
-pub audit_cut : {kind : Kind} {words : ℕ} {read : PlanRead} {left rest : Supply} {text : List ℕ} {before now : Option (List ℕ)} {a b c d : ℕ} → StreamsPlan Done words read left rest → Rose left.ends rest.ends → text ≡ read_word kind words read ++ 10 ∷ [] → CutOff before now text → Rose c d → a ≤ b → c ≤ d
+pub audit_cut : {kind : Kind} {words : ℕ} {read : PlanRead} {left rest : Supply} {text : List ℕ} {before now : Option (List ℕ)} {a b c d : ℕ}
+    → StreamsPlan Done words read left rest → Rose left.ends rest.ends → text ≡ read_word kind words read ++ 10 ∷ [] → CutOff before now text
+    → Rose c d → a ≤ b → c ≤ d
     → RunEnds (Some (Audit kind words)) WriteFault left rest before now a b c d
 audit_cut {kind} {words} {read} {left} {rest} {text} {before} {now} streams ended told cut rose source_later sink_later = record {
   as_asked = record {
     done = λ e. absurd (cc);
-    write_fault = λ e. (of_script (λ xs. CutOff before now xs) kind words read left.to_come streams.bytes text (streams.whole refl).0 (streams.whole refl).1 told cut, all_taken streams ended);
+    write_fault = λ e. (
+      of_script (λ xs. CutOff before now xs) kind words read left.to_come streams.bytes text (streams.whole refl).0
+          (streams.whole refl).1 told cut,
+      all_taken streams ended,
+    );
     unwritten = λ e f. absurd (f refl);
     memory = λ e. absurd (cc);
     bound = few_or_one_more streams;

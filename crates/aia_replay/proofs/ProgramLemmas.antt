@@ -19,7 +19,8 @@ nothing_left : (bytes rest : List ℕ) → bytes ≡ bytes ++ rest → rest ≡ 
 nothing_left bytes [] e = refl
 nothing_left bytes (x ∷ rest) e = absurd (omega (arith, ap length e, length-append bytes (x ∷ rest)))
 
-pub all_of : (left rest : Option (List ℕ)) (bytes : List ℕ) → Consumes left rest bytes → IfSome left (λ script. script ≡ bytes) → IfSome left (λ script. rest ≡ Some [])
+pub all_of : (left rest : Option (List ℕ)) (bytes : List ℕ) → Consumes left rest bytes → IfSome left (λ script. script ≡ bytes)
+    → IfSome left (λ script. rest ≡ Some [])
 all_of None rest bytes took whole = tt
 all_of (Some script) None bytes took whole = absurd took
 all_of (Some script) (Some more) bytes took whole = ap Some (nothing_left bytes more (sym whole ∙ took))
@@ -27,7 +28,8 @@ all_of (Some script) (Some more) bytes took whole = ap Some (nothing_left bytes 
 past_length : (before now : Option (List ℕ)) (bytes : List ℕ) → GoesPast before now bytes → length bytes ≡ SOURCE_BYTES + 1
 past_length before now bytes past = ap length past.split ∙ length-append past.within past.beyond ∙ omega (arith, past.full, past.one)
 
-few_or_past : (status : Status) (before now : Option (List ℕ)) (bytes : List ℕ) → (status ≢ TooLong → length bytes ≤ SOURCE_BYTES) → WrittenFor status before now bytes → length bytes ≤ SOURCE_BYTES + 1
+few_or_past : (status : Status) (before now : Option (List ℕ)) (bytes : List ℕ) → (status ≢ TooLong → length bytes ≤ SOURCE_BYTES)
+    → WrittenFor status before now bytes → length bytes ≤ SOURCE_BYTES + 1
 few_or_past Done before now bytes few written = omega (arith, few (λ e. absurd (cc)))
 few_or_past ReadFault before now bytes few written = omega (arith, few (λ e. absurd (cc)))
 few_or_past TooLong before now bytes few past = omega (arith, past_length before now bytes past)
@@ -40,11 +42,13 @@ one_more left rest few = (few.0, few.1, omega (arith, few.2))
 
 -- ---- what was written
 
-answers_written : (left before now : Option (List ℕ)) (bytes : List ℕ) → IfSome left (λ script. script ≡ bytes) → Appends before now (answers bytes) → IfSome left (λ script. Appends before now (answers script))
+answers_written : (left before now : Option (List ℕ)) (bytes : List ℕ) → IfSome left (λ script. script ≡ bytes)
+    → Appends before now (answers bytes) → IfSome left (λ script. Appends before now (answers script))
 answers_written None before now bytes whole wrote = tt
 answers_written (Some script) before now bytes whole wrote = subst (λ xs. Appends before now (answers xs)) (sym whole) wrote
 
-lines_at_fault : (left rest : Supply) (before now : Option (List ℕ)) (bytes : List ℕ) → Gives left rest bytes → AnswersWhole before now bytes → WritesLines 0 left rest before now
+lines_at_fault : (left rest : Supply) (before now : Option (List ℕ)) (bytes : List ℕ) → Gives left rest bytes → AnswersWhole before now bytes
+    → WritesLines 0 left rest before now
 lines_at_fault left rest before now bytes took read = record {
   bytes = bytes;
   beyond = [];
@@ -53,7 +57,8 @@ lines_at_fault left rest before now bytes took read = record {
   answered = read;
 }
 
-lines_at_limit : (left rest : Supply) (before now : Option (List ℕ)) (bytes : List ℕ) → Gives left rest bytes → GoesPast before now bytes → WritesLines 1 left rest before now
+lines_at_limit : (left rest : Supply) (before now : Option (List ℕ)) (bytes : List ℕ) → Gives left rest bytes → GoesPast before now bytes
+    → WritesLines 1 left rest before now
 lines_at_limit left rest before now bytes took past = record {
   bytes = past.within;
   beyond = past.beyond;
@@ -63,7 +68,8 @@ lines_at_limit left rest before now bytes took past = record {
 }
 
 -- what waits is written, and is all that was answered
-pub stopped : (r : Replayer) (left rest : Supply) (before mid now : Option (List ℕ)) → StreamsStop r left rest before mid → Appends mid now r.out.bytes.items → StopsAtMachine left rest before now
+pub stopped : (r : Replayer) (left rest : Supply) (before mid now : Option (List ℕ)) → StreamsStop r left rest before mid
+    → Appends mid now r.out.bytes.items → StopsAtMachine left rest before now
 stopped r left rest before mid now stop wrote =
     let holds = stop.holds in
     record {
@@ -75,13 +81,18 @@ stopped r left rest before mid now stop wrote =
       no_end = holds.no_end;
       end = elim stop.end [
         | inl goes_on ↦ inl goes_on
-        | inr last ↦ inr (last.0, subst (IsAllLeft left) (holds.split ∙ ap (λ xs. holds.whole ++ xs) (ap (λ xs. holds.text ++ xs) last.0 ∙ append-nil holds.text)) last.1)
+        | inr last ↦ inr (
+          last.0,
+          subst (IsAllLeft left)
+              (holds.split ∙ ap (λ xs. holds.whole ++ xs) (ap (λ xs. holds.text ++ xs) last.0 ∙ append-nil holds.text)) last.1,
+        )
       ];
       asks = holds.asks;
       written = all_written r.out.bytes.items before mid now _ holds.gathered wrote;
     }
 
-pub stopped_front : (r : Replayer) (left rest : Supply) (before mid now : Option (List ℕ)) → StreamsStop r left rest before mid → CutOff mid now r.out.bytes.items → StreamsFront left rest before now
+pub stopped_front : (r : Replayer) (left rest : Supply) (before mid now : Option (List ℕ)) → StreamsStop r left rest before mid
+    → CutOff mid now r.out.bytes.items → StreamsFront left rest before now
 stopped_front r left rest before mid now stop cut =
     let holds = stop.holds in
     let lines : CutsLines before now stop.bytes = record {
@@ -89,7 +100,8 @@ stopped_front r left rest before mid now stop cut =
       more = holds.text ++ stop.more;
       split = holds.split;
       lines = holds.lines;
-      cut = cut_after r.out.bytes.items [] (answers holds.whole) before mid now (answers holds.whole) holds.gathered cut (append-nil (answers holds.whole));
+      cut = cut_after r.out.bytes.items [] (answers holds.whole) before mid now (answers holds.whole) holds.gathered cut
+          (append-nil (answers holds.whole));
     } in
     record {
       front = record { bytes = stop.bytes; taken = stop.taken; cut = inl lines };
@@ -99,11 +111,14 @@ stopped_front r left rest before mid now stop cut =
 -- ---- how a run ends
 
 -- where the reading ended
-pub ends_read : {status : Status} {left rest : Supply} {before now : Option (List ℕ)} {a b c d : ℕ} → Streams status left rest before now → (status ≡ Done → Rose left.ends rest.ends) → (status ≡ ReadFault → Rose a b) → a ≤ b → c ≤ d → RunEnds (Some Replay) status left rest before now a b c d
+pub ends_read : {status : Status} {left rest : Supply} {before now : Option (List ℕ)} {a b c d : ℕ} → Streams status left rest before now
+    → (status ≡ Done → Rose left.ends rest.ends) → (status ≡ ReadFault → Rose a b) → a ≤ b → c ≤ d
+    → RunEnds (Some Replay) status left rest before now a b c d
 ends_read {status} {left} {rest} {before} {now} streams ended rose source_later sink_later =
     let bytes = streams.bytes in
     let took = streams.taken in
-    let wrote = λ (s : Status) (is : status ≡ s). let w : WrittenFor s before now bytes = subst (λ s. WrittenFor s before now bytes) is streams.written in w in
+    let wrote = λ (s : Status) (is : status ≡ s). let w : WrittenFor s before now bytes =
+    subst (λ s. WrittenFor s before now bytes) is streams.written in w in
     record {
       as_asked = record {
         done = λ is. answers_written left.to_come before now bytes (streams.whole is) (wrote Done is);
@@ -123,7 +138,8 @@ ends_read {status} {left} {rest} {before} {now} streams ended rose source_later 
     }
 
 -- where the sink failed
-pub ends_cut : {left rest : Supply} {before now : Option (List ℕ)} {a b c d : ℕ} → StreamsFront left rest before now → Rose c d → a ≤ b → c ≤ d → RunEnds (Some Replay) WriteFault left rest before now a b c d
+pub ends_cut : {left rest : Supply} {before now : Option (List ℕ)} {a b c d : ℕ} → StreamsFront left rest before now → Rose c d → a ≤ b → c ≤ d
+    → RunEnds (Some Replay) WriteFault left rest before now a b c d
 ends_cut {left} {rest} cut rose source_later sink_later = record {
   as_asked = record {
     done = λ e. absurd (cc);
@@ -143,7 +159,8 @@ ends_cut {left} {rest} cut rose source_later sink_later = record {
 }
 
 -- where memory lacked, and what waited is written
-pub ends_stopped : {r : Replayer} {left rest : Supply} {before mid now : Option (List ℕ)} {a b c d : ℕ} → StreamsStop r left rest before mid → Appends mid now r.out.bytes.items → a ≤ b → c ≤ d → RunEnds (Some Replay) Memory left rest before now a b c d
+pub ends_stopped : {r : Replayer} {left rest : Supply} {before mid now : Option (List ℕ)} {a b c d : ℕ} → StreamsStop r left rest before mid
+    → Appends mid now r.out.bytes.items → a ≤ b → c ≤ d → RunEnds (Some Replay) Memory left rest before now a b c d
 ends_stopped {r} {left} {rest} {before} {mid} {now} stop wrote source_later sink_later =
     let few : TakesAtMost SOURCE_BYTES left rest = (stop.bytes, stop.taken, stop.limit) in
     record {
@@ -166,7 +183,8 @@ ends_stopped {r} {left} {rest} {before} {mid} {now} stop wrote source_later sink
 
 -- ---- a generated script
 
-pub generate_usage : {asked : Option Subcommand} {count seed : ℕ} {status : Status} {left rest : Supply} {before now : Option (List ℕ)} {a b c d : ℕ} → asked ≡ Some (Generate count seed) → RunEnds (Some (Generate count seed)) status left rest before now a b c d
+pub generate_usage : {asked : Option Subcommand} {count seed : ℕ} {status : Status} {left rest : Supply} {before now : Option (List ℕ)}
+    {a b c d : ℕ} → asked ≡ Some (Generate count seed) → RunEnds (Some (Generate count seed)) status left rest before now a b c d
     → (status ≡ Usage) ↔ (asked ≡ None)
 generate_usage asks ends = (
   λ is. elim ends.as_asked.ends [
@@ -179,7 +197,8 @@ generate_usage asks ends = (
   λ none. absurd (cc),
 )
 
-pub generate_complete : {count seed : ℕ} {status : Status} {left rest : Supply} {before now : Option (List ℕ)} {a b c d : ℕ} → RunEnds (Some (Generate count seed)) status left rest before now a b c d → (¬ Rose c d) → IsDoneOrMemory status
+pub generate_complete : {count seed : ℕ} {status : Status} {left rest : Supply} {before now : Option (List ℕ)} {a b c d : ℕ}
+    → RunEnds (Some (Generate count seed)) status left rest before now a b c d → (¬ Rose c d) → IsDoneOrMemory status
 generate_complete ends no_fault = elim ends.as_asked.ends [
   | inl done ↦ inl done
   | inr other ↦ elim other [

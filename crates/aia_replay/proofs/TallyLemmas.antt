@@ -18,21 +18,26 @@ use Rattle.aia_replay.specs.declared.program.Status.TheVariants.{Done, WriteFaul
 use Rattle.aia_replay.specs.Runs.{RunEnds}
 use Rattle.aia_replay.specs.Stands.{EngineState, StandsFor, Serves}
 
-pub stands_one_more : (old new : EngineState) (lines : List Line) (line : Line) (given : Answer) → StandsFor old (after_lines [] lines) → Serves old new line given → StandsFor new (after_lines [] (lines ++ line ∷ []))
-stands_one_more old new lines line given stands serves = subst (StandsFor new) (sym (after_lines-append [] lines line)) (serves.stands (after_lines [] lines) stands)
+pub stands_one_more : (old new : EngineState) (lines : List Line) (line : Line) (given : Answer) → StandsFor old (after_lines [] lines)
+    → Serves old new line given → StandsFor new (after_lines [] (lines ++ line ∷ []))
+stands_one_more old new lines line given stands serves =
+    subst (StandsFor new) (sym (after_lines-append [] lines line)) (serves.stands (after_lines [] lines) stands)
 
 -- ---- the summary
 
 -- what is printed of the tally of a generated script, and of its notices, is its summary
-pub is_summary : (t : Tally) (count seed notices : ℕ) → count ≤ 100000 → Tallies t (generated count seed) → notices ≡ min (notices_sent (after_lines [] (generated count seed))) (2 ^ 64 - 1)
+pub is_summary : (t : Tally) (count seed notices : ℕ) → count ≤ 100000 → Tallies t (generated count seed)
+    → notices ≡ min (notices_sent (after_lines [] (generated count seed))) (2 ^ 64 - 1)
     → summary_text t.lines t.claims notices t.sum ≡ summary count seed
 is_summary t count seed notices few tallies counted =
     let lines = generated-length count seed in
     let sent = few_notices (generated count seed) in
-    let exact : min (notices_sent (after_lines [] (generated count seed))) (2 ^ 64 - 1) ≡ notices_sent (after_lines [] (generated count seed)) = omega (arith, lines, sent, few) in
+    let exact : min (notices_sent (after_lines [] (generated count seed))) (2 ^ 64 - 1) ≡ notices_sent (after_lines [] (generated count seed)) =
+    omega (arith, lines, sent, few) in
     generated_told t count seed notices tallies (omega (arith, lines, few)) (counted ∙ exact)
 
-pub summary_written : {count seed : ℕ} {text : List ℕ} {before now : Option (List ℕ)} {a b : ℕ} (left : Supply) (faults : ℕ) → text ≡ summary count seed → Appends before now text → a ≤ b
+pub summary_written : {count seed : ℕ} {text : List ℕ} {before now : Option (List ℕ)} {a b : ℕ} (left : Supply) (faults : ℕ)
+    → text ≡ summary count seed → Appends before now text → a ≤ b
     → RunEnds (Some (Generate count seed)) Done left left before now faults faults a b
 summary_written {before = before} {now = now} left faults told wrote later = record {
   as_asked = record {
@@ -50,7 +55,8 @@ summary_written {before = before} {now = now} left faults told wrote later = rec
   sink_faults = later;
 }
 
-pub summary_cut : {count seed : ℕ} {text : List ℕ} {before now : Option (List ℕ)} {a b : ℕ} (left : Supply) (faults : ℕ) → text ≡ summary count seed → CutOff before now text → Rose a b → a ≤ b
+pub summary_cut : {count seed : ℕ} {text : List ℕ} {before now : Option (List ℕ)} {a b : ℕ} (left : Supply) (faults : ℕ)
+    → text ≡ summary count seed → CutOff before now text → Rose a b → a ≤ b
     → RunEnds (Some (Generate count seed)) WriteFault left left before now faults faults a b
 summary_cut {before = before} {now = now} left faults told cut rose later = record {
   as_asked = record {

@@ -7,12 +7,12 @@ ghost use Rattle.aia_plan.specs.declared.step.Kind.{Kind};
 ghost use Rattle.aia_command.specs.CommandLine.{subcommand_of};
 ghost use Rattle.aia_io.specs.Ends.{Rose, TakesAll};
 ghost use Rattle.aia_replay.specs.Runs.{RunEnds, FitsIn, IsDoneOrMemory, WritesAnswers, WritesVerdict, reads_source};
-ghost use Rattle.aia_io.specs.Words.{AreNoText, AreRefused, asked_by, words_of};
+ghost use Rattle.aia_io.specs.Words.{AreNoText, AreRefused, asked_by};
 ghost use Rattle.aia_replay.specs.Command.{exit_number, exit_numbers};
 
 use crate::program::{Status, run};
 use aia_io::limits::SOURCE_BYTES;
-use aia_io::{Sink, Source, StdSink, StdSource, arguments, refusal, words};
+use aia_io::{Sink, Source, StdSink, StdSource, Unread, arguments, read_arguments};
 use std::alloc::Global;
 use std::io;
 use std::process::ExitCode;
@@ -72,39 +72,37 @@ pub fn command<S: Source, K: Sink>(
         → FitsIn SOURCE_BYTES (S.supply source.old) (S.supply source.new))
         → (exit_status result ≡ 0) ⊎ (exit_status result ≡ 5) }
 {
-    let status = match arguments {
-        Ok(arguments) => run_words(alloc, &arguments, source, sink),
-        Err(error) => refusal(&error, Status::Usage, Status::Memory),
-    };
-    exit_code(status)
+    exit_code(run_arguments(alloc, arguments, source, sink))
 }
 
-/// Runs the command on the words without the program's name.
-fn run_words<S: Source, K: Sink>(
+/// Runs the command that the words of the command line give, the program's name first.
+fn run_arguments<S: Source, K: Sink>(
     alloc: Global,
-    arguments: &[String],
+    arguments: io::Result<Vec<String>>,
     source: &mut S,
     sink: &mut K,
 ) -> Status
-    ensures ends { RunEnds (subcommand_of (words_of arguments.now)) result (S.supply source.old)
+    ensures ends { RunEnds (asked_by subcommand_of arguments) result (S.supply source.old)
         (S.supply source.new) (K.taken sink.old) (K.taken sink.new) (S.faults source.old)
         (S.faults source.new) (K.faults sink.old) (K.faults sink.new) }
     ensures unread { (count seed : ℕ)
-        → subcommand_of (words_of arguments.now) ≡ Some (Generate count seed)
+        → asked_by subcommand_of arguments ≡ Some (Generate count seed)
         → source.new ≡ source.old }
     ensures usage { result ≢ Status.Memory
-        → ((result ≡ Status.Usage) ↔ (subcommand_of (words_of arguments.now) ≡ None)) }
+        → ((result ≡ Status.Usage) ↔ AreRefused subcommand_of arguments) }
+    ensures no_text { AreNoText arguments → result ≡ Status.Usage }
     ensures nothing { result ≡ Status.Usage → (source.new ≡ source.old) × (sink.new ≡ sink.old) }
-    ensures complete { subcommand_of (words_of arguments.now) ≢ None
+    ensures complete { asked_by subcommand_of arguments ≢ None
         → (¬ Rose (S.faults source.old) (S.faults source.new))
         → (¬ Rose (K.faults sink.old) (K.faults sink.new))
-        → (reads_source (subcommand_of (words_of arguments.now)) ≡ true
+        → (reads_source (asked_by subcommand_of arguments) ≡ true
         → FitsIn SOURCE_BYTES (S.supply source.old) (S.supply source.new))
         → IsDoneOrMemory result }
 {
-    match words(alloc, arguments) {
+    match read_arguments(alloc, &arguments) {
         Ok(words) => run(alloc, &words, source, sink),
-        Err(_) => Status::Memory,
+        Err(Unread::NoText) => Status::Usage,
+        Err(Unread::Memory) => Status::Memory,
     }
 }
 

@@ -13,14 +13,17 @@ pub texts_cut : CutsAtEnds texts_of
 texts_cut = record { none = refl; more = λ b bytes. refl }
 
 -- the first text was read, and the others are left
-pub text_more : (old new : FileRead) (rest : List ℕ) (i : ℕ) (all : FileRead) → Some i ≡ position is_end rest → new ≡ with_text old (take i rest) → with_texts old (texts_of rest) ≡ all → with_texts new (texts_of (drop (i + 1) rest)) ≡ all
+pub text_more : (old new : FileRead) (rest : List ℕ) (i : ℕ) (all : FileRead) → Some i ≡ position is_end rest → new ≡ with_text old (take i rest)
+    → with_texts old (texts_of rest) ≡ all → with_texts new (texts_of (drop (i + 1) rest)) ≡ all
 text_more old new rest i all at is so =
     ap (λ r. with_texts r (texts_of (drop (i + 1) rest))) is
-    ∙ sym (ap (with_texts old) (ap texts_of (cut_at_end rest i (sym at)) ∙ front_cut texts_of texts_cut (take i rest) (drop (i + 1) rest) (no_end_before rest i (sym at))))
+    ∙ sym (ap (with_texts old) (ap texts_of (cut_at_end rest i (sym at))
+    ∙ front_cut texts_of texts_cut (take i rest) (drop (i + 1) rest) (no_end_before rest i (sym at))))
     ∙ so
 
 -- what is left has no LF
-pub last_text : (old new : FileRead) (rest : List ℕ) → None ≡ position is_end rest → 0 < length rest → new ≡ with_text old rest → new ≡ with_texts old (texts_of rest)
+pub last_text : (old new : FileRead) (rest : List ℕ) → None ≡ position is_end rest → 0 < length rest → new ≡ with_text old rest
+    → new ≡ with_texts old (texts_of rest)
 last_text old new [] at some is = absurd (omega (arith, some))
 last_text old new (b ∷ bytes) at some is = is ∙ sym (ap (with_texts old) (last_cut texts_of texts_cut b bytes (no_end_at_all (b ∷ bytes) (sym at))))
 

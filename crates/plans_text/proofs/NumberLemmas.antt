@@ -13,7 +13,8 @@ use Rattle.plans_text.specs.Runs.{EndsAsAsked, JudgesAll}
 -- the outcome that a number is of, and that an ending has
 abbrev of_number : ℕ → Option FileOutcome
 of_number number =
-    if nat_eq number 0 then Some Accepted else if nat_eq number 1 then Some Refused else if nat_eq number 7 then Some BadLine else if nat_eq number 8 then Some NoPlan else None
+    if nat_eq number 0 then Some Accepted else if nat_eq number 1 then Some Refused else if nat_eq number 7 then Some BadLine else if nat_eq
+    number 8 then Some NoPlan else None
 
 abbrev of_status : PlansStatus → Option FileOutcome
 of_status (Done outcome) = Some outcome
@@ -50,7 +51,12 @@ unasked status outcome (inl usage) is = cc
 unasked status outcome (inr memory) is = cc
 
 -- where a run of `judge` is done, it judged the whole file
-pub judged_by_number : (asked : Option PlansSubcommand) (status : PlansStatus) (outcome : FileOutcome) (left rest : Supply) (before now : Option (List ℕ)) (a b c d : ℕ) → EndsAsAsked asked status left rest before now a b c d → exit_number status ≡ outcome_number outcome → JudgesAll outcome left rest before now
-judged_by_number None status outcome left rest before now a b c d ends is = absurd (unasked status outcome ends.ends (done status outcome (numbered status outcome is)))
-judged_by_number (Some Judge) status outcome left rest before now a b c d (inl judged) is = judged.done outcome (done status outcome (numbered status outcome is))
-judged_by_number (Some Judge) status outcome left rest before now a b c d (inr ends) is = absurd (unasked status outcome ends.ends (done status outcome (numbered status outcome is)))
+pub judged_by_number : (asked : Option PlansSubcommand) (status : PlansStatus) (outcome : FileOutcome) (left rest : Supply)
+    (before now : Option (List ℕ)) (a b c d : ℕ) → EndsAsAsked asked status left rest before now a b c d
+    → exit_number status ≡ outcome_number outcome → JudgesAll outcome left rest before now
+judged_by_number None status outcome left rest before now a b c d ends is =
+    absurd (unasked status outcome ends.ends (done status outcome (numbered status outcome is)))
+judged_by_number (Some Judge) status outcome left rest before now a b c d (inl judged) is =
+    judged.done outcome (done status outcome (numbered status outcome is))
+judged_by_number (Some Judge) status outcome left rest before now a b c d (inr ends) is =
+    absurd (unasked status outcome ends.ends (done status outcome (numbered status outcome is)))

@@ -51,7 +51,7 @@ pub record StepLine : Type 0 where
   pub text : Text
 
 -- A plan, as far as it is read.
-pub record PlanRead : Type 0 where
+pub record PlanAsRead : Type 0 where
   -- whether any line of it was read
   pub is_begun : Bool
   -- the number of its first bad line, if it has one
@@ -76,7 +76,7 @@ first_terms = record {
 }
 
 -- A plan of which nothing is read.
-abbrev pub no_plan : PlanRead
+abbrev pub no_plan : PlanAsRead
 no_plan = record {
   is_begun = false;
   bad = None;
@@ -87,7 +87,7 @@ no_plan = record {
 }
 
 -- A plan with a bad line.
-abbrev pub bad_at : ℕ → PlanRead → PlanRead
+abbrev pub bad_at : ℕ → PlanAsRead → PlanAsRead
 bad_at line plan = record plan { is_begun = true; bad = Some line }
 
 -- ---- declarations, which stand before the first step
@@ -108,14 +108,14 @@ terms_with (lines.Numbers from to) terms = Some (record terms {
 terms_with line terms = None
 
 -- A plan for which that is declared now, if it is good; a declaration comes before the first step.
-abbrev pub with_terms : ℕ → Option Terms → PlanRead → PlanRead
+abbrev pub with_terms : ℕ → Option Terms → PlanAsRead → PlanAsRead
 with_terms line None plan = bad_at line plan
 with_terms line (Some terms) plan =
     if nat_eq (length plan.steps) 0 then record plan { is_begun = true; terms = terms }
     else bad_at line plan
 
 -- A plan with one producer more, likewise.
-abbrev pub with_producer : ℕ → RouteKind → PlanRead → PlanRead
+abbrev pub with_producer : ℕ → RouteKind → PlanAsRead → PlanAsRead
 with_producer line kind plan =
     if nat_eq (length plan.steps) 0 && nat_lt (length plan.producers) PRODUCERS then record plan {
       is_begun = true;
@@ -137,7 +137,7 @@ is_known words producers (steps.Look w) = nat_lt w words
 is_known words producers step = true
 
 -- A plan with one step more, from this line of the file.
-abbrev pub with_step : ℕ → Text → AnyStep → PlanRead → PlanRead
+abbrev pub with_step : ℕ → Text → AnyStep → PlanAsRead → PlanAsRead
 with_step line text step plan =
     if is_known plan.terms.words (length plan.producers) step && nat_lt (length plan.steps) STEPS
     then record plan {
@@ -147,7 +147,7 @@ with_step line text step plan =
     } else bad_at line plan
 
 -- A plan with one line more, of this number and this text.
-abbrev pub with_line : ℕ → Text → PlanLine → PlanRead → PlanRead
+abbrev pub with_line : ℕ → Text → PlanLine → PlanAsRead → PlanAsRead
 with_line line text (lines.Step step) plan = with_step line text step plan
 with_line line text (lines.Producer kind) plan = with_producer line kind plan
 with_line line text x plan = with_terms line (terms_with x plan.terms) plan
@@ -309,25 +309,25 @@ found_text places producers terms plan verdict =
     verdict_text places (shown_of producers terms plan verdict) verdict
 
 -- What is answered of a plan: its first bad line, or the verdict.
-abbrev pub bad_or_verdict : Option ℕ → PlanRead → Text
+abbrev pub bad_or_verdict : Option ℕ → PlanAsRead → Text
 bad_or_verdict (Some line) plan = codes "bad line " ++ decimal line
 bad_or_verdict None plan =
     found_text plan.places plan.producers plan.terms plan.steps
     (verdict_on (setting_of plan.producers plan.terms) plan.steps)
 
 -- What is answered of a plan that ends, with its LF: nothing, where it did not begin.
-abbrev pub plan_answer : PlanRead → Text
+abbrev pub plan_answer : PlanAsRead → Text
 plan_answer plan =
     if plan.is_begun then bad_or_verdict plan.bad plan ++ 10 ∷ [] else []
 
 -- What comes of a plan that ends: a bad line, or what the verdict says; no plan, where it did not
 -- begin.
-abbrev pub bad_or_outcome : Option ℕ → PlanRead → FileOutcome
+abbrev pub bad_or_outcome : Option ℕ → PlanAsRead → FileOutcome
 bad_or_outcome (Some line) plan = BadLine
 bad_or_outcome None plan =
     outcome_of (verdict_on (setting_of plan.producers plan.terms) plan.steps)
 
-abbrev pub plan_outcome : PlanRead → FileOutcome
+abbrev pub plan_outcome : PlanAsRead → FileOutcome
 plan_outcome plan = if plan.is_begun then bad_or_outcome plan.bad plan else NoPlan
 
 -- ---- a file
@@ -335,7 +335,7 @@ plan_outcome plan = if plan.is_begun then bad_or_outcome plan.bad plan else NoPl
 -- The plan that is being read, how many lines were read, and of the plans before it the answers and
 -- what came of them.
 pub record FileRead : Type 0 where
-  pub plan : PlanRead
+  pub plan : PlanAsRead
   pub lines : ℕ
   pub answers : Text
   pub outcome : FileOutcome
@@ -407,7 +407,7 @@ abbrev pub place_of : Mark → StepLine
 place_of mark = record { line = mark.line; text = mark.text.items }
 
 -- The plan that a draft of the program is.
-abbrev pub plan_of : Draft → PlanRead
+abbrev pub plan_of : Draft → PlanAsRead
 plan_of draft = record {
   is_begun = draft.is_begun;
   bad = draft.bad;

@@ -3,13 +3,13 @@
 ghost use Rattle.std.specs.Prelude.{◌≡◌, ◌≢◌, ◌⊎◌, ◌↔◌, ℕ, Contains, Some, None};
 ghost use Rattle.std.specs.Process.{exit_status};
 ghost use Rattle.plans_text.specs.CommandLine.{subcommand_of};
-ghost use Rattle.aia_io.specs.Words.{AreRefused, asked_by, words_of};
+ghost use Rattle.aia_io.specs.Words.{AreRefused, asked_by};
 ghost use Rattle.plans_text.specs.Command.{exit_number, exit_numbers, outcome_number};
 ghost use Rattle.plans_text.specs.Runs.{EndsAsAsked, JudgesAll};
 
 use crate::outcome::FileOutcome;
 use crate::program::{PlansStatus, run};
-use aia_io::{Sink, Source, StdSink, StdSource, arguments, refusal, words};
+use aia_io::{Sink, Source, StdSink, StdSource, Unread, arguments, read_arguments};
 use std::alloc::Global;
 use std::io;
 use std::process::ExitCode;
@@ -69,30 +69,10 @@ fn run_arguments<S: Source, K: Sink>(
     ensures nothing { result ≡ PlansStatus.Usage
         → (source.new ≡ source.old) × (sink.new ≡ sink.old) }
 {
-    match arguments {
-        Ok(arguments) => run_words(alloc, &arguments, source, sink),
-        Err(error) => refusal(&error, PlansStatus::Usage, PlansStatus::Memory),
-    }
-}
-
-/// Runs the command on the words without the program's name.
-fn run_words<S: Source, K: Sink>(
-    alloc: Global,
-    arguments: &[String],
-    source: &mut S,
-    sink: &mut K,
-) -> PlansStatus
-    ensures ends { EndsAsAsked (subcommand_of (words_of arguments.now)) result
-        (S.supply source.old) (S.supply source.new) (K.taken sink.old) (K.taken sink.new)
-        (S.faults source.old) (S.faults source.new) (K.faults sink.old) (K.faults sink.new) }
-    ensures usage { result ≢ PlansStatus.Memory
-        → ((result ≡ PlansStatus.Usage) ↔ (subcommand_of (words_of arguments.now) ≡ None)) }
-    ensures nothing { result ≡ PlansStatus.Usage
-        → (source.new ≡ source.old) × (sink.new ≡ sink.old) }
-{
-    match words(alloc, arguments) {
+    match read_arguments(alloc, &arguments) {
         Ok(words) => run(alloc, &words, source, sink),
-        Err(_) => PlansStatus::Memory,
+        Err(Unread::NoText) => PlansStatus::Usage,
+        Err(Unread::Memory) => PlansStatus::Memory,
     }
 }
 

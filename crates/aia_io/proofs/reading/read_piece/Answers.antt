@@ -1,7 +1,6 @@
-use Rattle.std.proofs.Common.{◌≡◌, ℕ, arith}
+use Rattle.std.proofs.Common.{◌≡◌, arith}
 use Rattle.aia_io.specs.declared.limits.TheConstants.{PIECE_BYTES}
-use Rattle.aia_io.specs.declared.source.Read.{Read}
-use Rattle.aia_io.specs.declared.source.Read.TheVariants.{Got, End, Failed}
+use Rattle.aia_io.specs.declared.source.Read.TheVariants.{Got}
 use Rattle.aia_io.specs.Ends.{ReadsFront}
 use Rattle.aia_io.specs.Taken.{ReadsOn}
 use Rattle.aia_io.proofs.PieceLemmas.{one_read, reads_more}
@@ -20,4 +19,5 @@ pub returns-in-Got-clause-taken : goal.returns-in-Got-clause-taken
 returns-in-Got-clause-taken g c =
     let n = c.in-Got.field-0 in
     let one : n ≡ 1 = omega (arith, c.in-Got.ensures.bytes.0, c.in-Got.ensures.bytes.1, c.clamp-most.ensures, c.if-taken-eq-SOURCE_BYTES.true) in
-    one_read (λ read. ReadsOn (g.S.Source.supply c.args.source.now) (g.S.Source.supply c.read_front.new.source) c.read_front.new.piece read) n one c.in-Got.ensures.taken
+    one_read (λ read. ReadsOn (g.S.Source.supply c.args.source.now) (g.S.Source.supply c.read_front.new.source) c.read_front.new.piece read) n one
+    c.in-Got.ensures.taken

@@ -15,4 +15,5 @@ loop-at-preserved g c =
     }
 
 pub returns-in-Failed-clause-cut : goal.returns-in-Failed-clause-cut
-returns-in-Failed-clause-cut g c = cut_here (g.K.Sink.taken c.args.sink.now) (g.K.Sink.taken c.loop-at.sink) (g.K.Sink.taken c.write.new.self) c.args.bytes.now c.loop-at.at c.loop-at.invariant.written c.in-Failed.ensures.bytes
+returns-in-Failed-clause-cut g c = cut_here (g.K.Sink.taken c.args.sink.now) (g.K.Sink.taken c.loop-at.sink) (g.K.Sink.taken c.write.new.self)
+    c.args.bytes.now c.loop-at.at c.loop-at.invariant.written c.in-Failed.ensures.bytes

@@ -16,12 +16,14 @@ returns-in-Ok-Some-Replay-clause-ends g c =
 pub returns-in-Ok-Some-Generate-clause-ends : goal.returns-in-Ok-Some-Generate-clause-ends
 returns-in-Ok-Some-Generate-clause-ends g c =
     let taken = c.in-Ok-Some-Generate in
-    rw (sym taken.ensures ∙ (taken.field-0-is ∙ ap Some taken.field-0-0-is)) (c.summarize.ensures (g.S.Source.supply c.args.source.now) (g.S.Source.faults c.args.source.now))
+    rw (sym taken.ensures ∙ (taken.field-0-is ∙ ap Some taken.field-0-0-is))
+    (c.summarize.ensures (g.S.Source.supply c.args.source.now) (g.S.Source.faults c.args.source.now))
 
 pub returns-in-Ok-Some-Generate-clause-usage : goal.returns-in-Ok-Some-Generate-clause-usage
 returns-in-Ok-Some-Generate-clause-usage g c =
     let taken = c.in-Ok-Some-Generate in
-    λ other. generate_usage (sym taken.ensures ∙ (taken.field-0-is ∙ ap Some taken.field-0-0-is)) (c.summarize.ensures (g.S.Source.supply c.args.source.now) (g.S.Source.faults c.args.source.now))
+    λ other. generate_usage (sym taken.ensures ∙ (taken.field-0-is ∙ ap Some taken.field-0-0-is))
+    (c.summarize.ensures (g.S.Source.supply c.args.source.now) (g.S.Source.faults c.args.source.now))
 
 pub returns-in-Ok-Some-Generate-clause-complete : goal.returns-in-Ok-Some-Generate-clause-complete
 returns-in-Ok-Some-Generate-clause-complete g c =

@@ -13,7 +13,8 @@ loop-end-preserved c =
     let left = ap length (all_of_rest c.loop-end.rest.now (c.in-Some.end + 1)) ∙ length-drop (c.in-Some.end + 1) c.loop-end.rest.now in
     record {
       read = ap (λ xs. with_texts (read_of c.add_text.new.self) (texts_of xs)) (all_of_rest c.loop-end.rest.now (c.in-Some.end + 1))
-          ∙ text_more (read_of c.loop-end.file) (read_of c.add_text.new.self) c.loop-end.rest.now c.in-Some.end _ c.in-Some.ensures c.in_ok-add_text.ensures.read c.loop-end.invariant.read;
+          ∙ text_more (read_of c.loop-end.file) (read_of c.add_text.new.self) c.loop-end.rest.now c.in-Some.end _ c.in-Some.ensures
+          c.in_ok-add_text.ensures.read c.loop-end.invariant.read;
       inside = c.in_ok-add_text.ensures.inside;
       lines = omega (arith, within, left, c.in_ok-add_text.ensures.lines, c.loop-end.invariant.lines);
     }
@@ -23,5 +24,6 @@ returns c =
     let read = c.in_ok-add_last.ensures.read (no_end_at_all _ (sym c.in_default.ensures)) ∙ c.loop-end.invariant.read in
     record {
       text = subst (λ (x : Text). IfOk c.finish.result (λ out. out.text.items ≡ x)) (whole c.args.bytes.now _ read) c.finish.ensures.text;
-      outcome = subst (λ (x : FileOutcome). IfOk c.finish.result (λ out. out.outcome ≡ x)) (whole_outcome c.args.bytes.now _ read) c.finish.ensures.outcome;
+      outcome = subst (λ (x : FileOutcome). IfOk c.finish.result (λ out. out.outcome ≡ x)) (whole_outcome c.args.bytes.now _ read)
+          c.finish.ensures.outcome;
     }

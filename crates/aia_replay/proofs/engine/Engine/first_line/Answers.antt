@@ -14,16 +14,20 @@ returns-in_default c = record {
 pub returns-in_default-2-clause-serves : goal.returns-in_default-2-clause-serves
 returns-in_default-2-clause-serves c =
     let line = c.in-Machine in
-    rw c.in-Machine.is (refused_first c.args.self.now _ _ _ c.requires c.requires (size_refused line.harts line.guests line.n line.sources (sym c.in_ok-machine.ensures.size ∙ ap (λ (o : Option Machine). is_some o) c.in_default-2.is)))
+    rw c.in-Machine.is (refused_first c.args.self.now _ _ _ c.requires c.requires
+    (size_refused line.harts line.guests line.n line.sources
+    (sym c.in_ok-machine.ensures.size ∙ ap (λ (o : Option Machine). is_some o) c.in_default-2.is)))
 
 pub returns-clause-serves : goal.returns-clause-serves
 returns-clause-serves c =
     let line = c.in-Machine in
     let fresh = rw c.in-Some.is at c.in_ok-machine.ensures.new in
-    rw c.insert.ensures.value (rw c.in-Machine.is (machine_made c.args.self.now _ c.in-Some.machine line.harts line.guests line.n line.sources c.requires refl (sym c.in_ok-machine.ensures.size ∙ ap (λ (o : Option Machine). is_some o) c.in-Some.is) fresh))
+    rw c.insert.ensures.value (rw c.in-Machine.is (machine_made c.args.self.now _ c.in-Some.machine line.harts line.guests line.n line.sources
+    c.requires refl (sym c.in_ok-machine.ensures.size ∙ ap (λ (o : Option Machine). is_some o) c.in-Some.is) fresh))
 
 pub invariant_of-self : goal.invariant_of-self
 invariant_of-self c =
     let line = c.in-Machine in
     let fresh = rw c.in-Some.is at c.in_ok-machine.ensures.new in
-    rw c.insert.ensures.value (made_stands_for_some c.in-Some.machine line.harts line.guests line.n line.sources (sym c.in_ok-machine.ensures.size ∙ ap (λ (o : Option Machine). is_some o) c.in-Some.is) fresh)
+    rw c.insert.ensures.value (made_stands_for_some c.in-Some.machine line.harts line.guests line.n line.sources
+    (sym c.in_ok-machine.ensures.size ∙ ap (λ (o : Option Machine). is_some o) c.in-Some.is) fresh)

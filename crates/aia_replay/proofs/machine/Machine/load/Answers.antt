@@ -7,4 +7,5 @@ use Rattle.aia_replay.proofs.machine.Machine.load.Goals as goal
 pub returns-in-None : goal.returns-in-None
 returns-in-None c =
     let outside : domain_at c.args.addr ≡ None = sym c.in-None.ensures in
-    rw (answered_by Narrow c.load-given.result c.map_or_else.result c.map_or_else.ensures) (core_line c.args.self.now _ _ _ (load_silent c.args.addr outside) (c.load-given.ensures.takes outside) refl)
+    rw (answered_by Narrow c.load-given.result c.map_or_else.result c.map_or_else.ensures)
+    (core_line c.args.self.now _ _ _ (load_silent c.args.addr outside) (c.load-given.ensures.takes outside) refl)

@@ -9,5 +9,7 @@ use Rattle.aia_replay.proofs.machine.Machine.redirects.Goals as goal
 
 pub returns-in-DomainCfg : goal.returns-in-DomainCfg
 returns-in-DomainCfg c = λ h stands some.
-    ap (λ b. not b) (c.is_by_msi.ensures ∙ ap (λ (v : ℕ). is_by_msi v) c.domaincfg_kept.ensures ∙ sym (keeps_msis c.args.self.now h c.args.value stands some))
-    ∙ sym (ap (λ (d : DomainName). redirects_by h (Some d) c.args.register c.args.value) c.in-Child.is ∙ ap (λ (r : DomainReg). redirects_by h (Some Child) r c.args.value) c.in-DomainCfg.is)
+    ap (λ b. not b) (c.is_by_msi.ensures ∙ ap (λ (v : ℕ). is_by_msi v) c.domaincfg_kept.ensures
+    ∙ sym (keeps_msis c.args.self.now h c.args.value stands some))
+    ∙ sym (ap (λ (d : DomainName). redirects_by h (Some d) c.args.register c.args.value) c.in-Child.is
+    ∙ ap (λ (r : DomainReg). redirects_by h (Some Child) r c.args.value) c.in-DomainCfg.is)

@@ -14,7 +14,8 @@ pub returns-then-redirects : goal.returns-then-redirects
 returns-then-redirects c = register_guarded c.args.self.now c.args.addr c.args.value c.args.name c.if-addr-ne0.false c.requires.named (λ h stands.
     let all = c.passes.ensures.value h stands.holds.core in
     redirected h c.args.addr c.args.value c.passes.result (Some c.args.name) true c.requires.named all c.if-passes-gt0.true
-    (sym c.if-redirects.true ∙ c.redirects.ensures h stands (some_passed h c.passes.result all c.if-passes-gt0.true) ∙ ap (λ (r : DomainReg). redirects_by h (Some c.args.name) r c.args.value) c.domain_reg.ensures))
+    (sym c.if-redirects.true ∙ c.redirects.ensures h stands (some_passed h c.passes.result all c.if-passes-gt0.true)
+    ∙ ap (λ (r : DomainReg). redirects_by h (Some c.args.name) r c.args.value) c.domain_reg.ensures))
 
 pub returns : goal.returns
 returns c = register_stored c.args.self.now _ c.args.addr c.args.value c.args.name c.if-addr-ne0.false c.requires.named refl free c.store.ensures
@@ -24,6 +25,8 @@ returns c = register_stored c.args.self.now _ c.args.addr c.args.value c.args.na
       | else-passes-gt0-via-then-passes-gt0+else-redirects w ↦
           let all = c.passes.ensures.value h stands.holds.core in
           redirected h c.args.addr c.args.value c.passes.result (Some c.args.name) false c.requires.named all w.if-passes-gt0.true
-          (sym w.if-redirects.false ∙ w.redirects.ensures h stands (some_passed h c.passes.result all w.if-passes-gt0.true) ∙ ap (λ (r : DomainReg). redirects_by h (Some c.args.name) r c.args.value) w.domain_reg.ensures)
-      | else-passes-gt0-via-else-passes-gt0 w ↦ none_redirected h c.args.addr c.args.value c.passes.result (c.passes.ensures.value h stands.holds.core) w.if-passes-gt0.false
+          (sym w.if-redirects.false ∙ w.redirects.ensures h stands (some_passed h c.passes.result all w.if-passes-gt0.true)
+          ∙ ap (λ (r : DomainReg). redirects_by h (Some c.args.name) r c.args.value) w.domain_reg.ensures)
+      | else-passes-gt0-via-else-passes-gt0 w ↦ none_redirected h c.args.addr c.args.value c.passes.result
+          (c.passes.ensures.value h stands.holds.core) w.if-passes-gt0.false
     ]

@@ -22,4 +22,5 @@ loop-end-preserved c =
 
 pub returns-clause-feeds : goal.returns-clause-feeds
 returns-clause-feeds c =
-    plan_fed_rest c.args.self.now c.loop-end.self _ c.args.piece.now c.loop-end.rest.now c.loop-end.invariant.fed (no_end_at_all c.loop-end.rest.now (sym c.in_default.ensures)) c.keep.ensures refl
+    plan_fed_rest c.args.self.now c.loop-end.self _ c.args.piece.now c.loop-end.rest.now c.loop-end.invariant.fed
+    (no_end_at_all c.loop-end.rest.now (sym c.in_default.ensures)) c.keep.ensures refl

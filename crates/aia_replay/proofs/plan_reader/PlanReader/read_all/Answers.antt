@@ -26,13 +26,16 @@ returns-in-TooLong-clause-streams g c =
     plan_too_long 1 c.read_piece.new.piece c.loop-n.invariant.so_far c.in-TooLong.ensures.taken refl c.in-TooLong.ensures.limit
 
 pub returns-in-End-clause-streams : goal.returns-in-End-clause-streams
-returns-in-End-clause-streams g c = plan_done c.finish.new.self c.read_piece.new.piece c.loop-n.invariant.so_far c.in-End.ensures.taken c.finish.ensures.finishes c.loop-n.invariant.within
+returns-in-End-clause-streams g c = plan_done c.finish.new.self c.read_piece.new.piece c.loop-n.invariant.so_far c.in-End.ensures.taken
+    c.finish.ensures.finishes c.loop-n.invariant.within
 
 pub returns-in-End-clause-ended : goal.returns-in-End-clause-ended
-returns-in-End-clause-ended g c = λ is. subst (λ n. Rose n (g.S.Source.supply c.read_piece.new.source).ends) c.loop-n.invariant.same_ends c.in-End.ensures.bytes.2
+returns-in-End-clause-ended g c = λ is. subst (λ n. Rose n (g.S.Source.supply c.read_piece.new.source).ends) c.loop-n.invariant.same_ends
+    c.in-End.ensures.bytes.2
 
 pub returns-in-End-clause-words : goal.returns-in-End-clause-words
 returns-in-End-clause-words g c = (c.finish.ensures.finishes _ _ c.loop-n.invariant.so_far.holds).0
 
 pub returns-in-Failed-clause-streams : goal.returns-in-Failed-clause-streams
-returns-in-Failed-clause-streams g c = plan_failed c.read_piece.new.piece c.loop-n.invariant.so_far c.in-Failed.ensures.taken c.loop-n.invariant.within
+returns-in-Failed-clause-streams g c = plan_failed c.read_piece.new.piece c.loop-n.invariant.so_far c.in-Failed.ensures.taken
+    c.loop-n.invariant.within

@@ -9,7 +9,10 @@ on_both_ok (Ok value) f p q = f p q
 on_both_ok (Err error) f p q = tt
 
 pub returns-clause-held : goal.returns-clause-held
-returns-clause-held g c = on_both_ok c.write_out.result (λ wrote empty. writes_out c.args.self.now _ (g.K.Sink.taken c.args.sink.now) (g.K.Sink.taken c.write_out.new.sink) wrote empty refl) c.write_out.ensures.ok c.write_out.ensures.empty
+returns-clause-held g c = on_both_ok c.write_out.result
+    (λ wrote empty. writes_out c.args.self.now _ (g.K.Sink.taken c.args.sink.now) (g.K.Sink.taken c.write_out.new.sink) wrote empty refl)
+    c.write_out.ensures.ok c.write_out.ensures.empty
 
 pub returns-clause-front : goal.returns-clause-front
-returns-clause-front g c = on_err_weaker c.write_out.result (writes_front c.args.self.now (g.K.Sink.taken c.args.sink.now) (g.K.Sink.taken c.write_out.new.sink)) c.write_out.ensures.cut
+returns-clause-front g c = on_err_weaker c.write_out.result
+    (writes_front c.args.self.now (g.K.Sink.taken c.args.sink.now) (g.K.Sink.taken c.write_out.new.sink)) c.write_out.ensures.cut

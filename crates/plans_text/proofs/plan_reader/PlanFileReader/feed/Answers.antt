@@ -12,10 +12,12 @@ loop-end-preserved c =
     let within = end_within c.loop-end.left.now c.in-Some.end (sym c.in-Some.ensures) in
     let left = ap length (all_of_rest c.loop-end.left.now (c.in-Some.end + 1)) ∙ length-drop (c.in-Some.end + 1) c.loop-end.left.now in
     record {
-      fed = fed_line _ _ _ _ c.loop-end.left.now _ c.in-Some.end c.loop-end.invariant.fed c.in-Some.ensures (all_of_rest c.loop-end.left.now (c.in-Some.end + 1)) c.in_ok-read_line.ensures.read;
+      fed = fed_line _ _ _ _ c.loop-end.left.now _ c.in-Some.end c.loop-end.invariant.fed c.in-Some.ensures
+          (all_of_rest c.loop-end.left.now (c.in-Some.end + 1)) c.in_ok-read_line.ensures.read;
       inside = c.in_ok-read_line.ensures.inside;
       few = omega (arith, within, left, c.in_ok-read_line.ensures.lines, c.loop-end.invariant.few);
     }
 
 pub returns : goal.returns
-returns c = kept_on _ c.extend_from_slice.result c.loop-end.self.rest.items c.extend_from_slice.new.self.items c.loop-end.left.now c.extend_from_slice.ensures.items (λ rest. fed_last _ _ _ _ c.loop-end.left.now c.loop-end.invariant.fed c.in_default.ensures refl rest)
+returns c = kept_on _ c.extend_from_slice.result c.loop-end.self.rest.items c.extend_from_slice.new.self.items c.loop-end.left.now
+    c.extend_from_slice.ensures.items (λ rest. fed_last _ _ _ _ c.loop-end.left.now c.loop-end.invariant.fed c.in_default.ensures refl rest)
