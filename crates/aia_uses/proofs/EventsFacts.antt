@@ -3,7 +3,7 @@ use Rattle.std.proofs.Common.{◌≡◌, ℕ, Bool, false, ◌∷◌, nat_eq, co
 use Rattle.aia_vcpu.specs.Vms.{Vcpu}
 use Rattle.aia_model.specs.declared.line.Line.TheVariants as lines
 use Rattle.aia_model.specs.Event.{History}
-use Rattle.aia_model.specs.Event.Event.{Accepted, Began, Stepped}
+use Rattle.aia_model.specs.Event.Event.{Accepted, Began, Stepped, Landed}
 use Rattle.aia_model.specs.Move.{WantedMove}
 use Rattle.aia_isolation.specs.Said.{with_any}
 use Rattle.aia_isolation.specs.Concerns.{events_for}
@@ -32,3 +32,7 @@ pub other_unseen : (v : ℕ) (h : History) (vm addr value : ℕ) → nat_eq vm v
     → events_for v (Accepted (lines.Msi vm addr value) ∷ h) ≡ events_for v h
 unfolding events_for
 other_unseen v h vm addr value e = ap (λ is. with_any (cond is (Some (Accepted (lines.Msi vm addr value))) None) (events_for v h)) e
+
+pub landing_unseen : (v : ℕ) (h : History) (vm k : ℕ) → nat_eq vm v ≡ false → events_for v (Landed vm k ∷ h) ≡ events_for v h
+unfolding events_for
+landing_unseen v h vm k e = ap (λ is. with_any (cond is (Some (Landed vm k)) None) (events_for v h)) e

@@ -3,9 +3,11 @@
 ghost use Rattle.std.specs.Prelude.{◌≡◌, ◌∷◌, ℕ, Bool, false, List, [], reverse, nat_eq};
 ghost use Rattle.std.specs.List.{filter};
 ghost use Rattle.aia_vcpu.specs.Vms.{Vcpu};
+ghost use Rattle.aia_model.specs.declared.line.Line.{Line};
 ghost use Rattle.aia_model.specs.declared.line.Line.TheVariants as lines;
+ghost use Rattle.aia_model.specs.declared.parsed.Parsed.TheVariants as parsed;
 ghost use Rattle.aia_model.specs.Event.{History};
-ghost use Rattle.aia_model.specs.Event.Event.{Accepted, Began, Stepped};
+ghost use Rattle.aia_model.specs.Event.Event.{Accepted, Began, Stepped, Landed};
 ghost use Rattle.aia_model.specs.Move.{WantedMove};
 ghost use Rattle.aia_model.specs.MajorOf.{majors_of};
 ghost use Rattle.aia_model.specs.GuestFile.{guest_file, guest_select};
@@ -57,9 +59,17 @@ pub fn what_is_not_seen()
         → guest_file (Accepted (lines.Wire source level) ∷ h) g ≡ guest_file h g }
     ensures others { (h : History) (vm addr value : ℕ) (g : Vcpu) → nat_eq vm g.vm ≡ false
         → guest_file (Accepted (lines.Msi vm addr value) ∷ h) g ≡ guest_file h g }
+    ensures landed { (h : History) (vm k : ℕ) (g : Vcpu) → nat_eq vm g.vm ≡ false
+        → guest_file (Landed vm k ∷ h) g ≡ guest_file h g }
 {
     moves_and_others_are_not_seen();
 }
+
+/// A text that is skipped, or bad, passes no test. This stands by itself, on the definition.
+pub fn what_is_no_line()
+    ensures skipped { (test : Line → Bool) → is_line_of test parsed.Skip ≡ false }
+    ensures bad { (test : Line → Bool) → is_line_of test parsed.Bad ≡ false }
+{}
 
 /// What a VM is answered, by the texts that concern it alone.
 pub fn what_a_vm_is_answered()

@@ -1,6 +1,6 @@
 //! What is said to a virtual hart, and what it is and is answered by that.
 
-ghost use Rattle.std.specs.Prelude.{◌≡◌, ℕ, Bool, true, nat_eq, if◌then◌else◌, ◌∷◌, Some, None};
+ghost use Rattle.std.specs.Prelude.{◌≡◌, ℕ, Bool, true, false, nat_eq, if◌then◌else◌, ◌∷◌, Some, None};
 ghost use Rattle.aia_regs.specs.declared.access.Csr.{Csr};
 ghost use Rattle.aia_regs.specs.declared.access.Op.{Op};
 ghost use Rattle.aia_regs.specs.declared.access.Op.TheVariants.{Read};
@@ -104,7 +104,8 @@ pub fn what_a_guest_is_answered()
     a_guest_is_answered_by_what_was_said_to_it();
 }
 
-/// What may be left out of a history, as the beginning of a move and a wire.
+/// What may be left out of a history, as the beginning of a move, a wire, and stores of other VMs
+/// that are sent and land.
 pub fn what_may_be_left_out()
     ensures said { (h : History) (g : Vcpu) → said (purged h g) g ≡ said h g }
     ensures guest { (h : History) (g : Vcpu) → guest_file (purged h g) g ≡ guest_file h g }
@@ -113,6 +114,11 @@ pub fn what_may_be_left_out()
         → state_of (purged h g) g ≡ state_of (Began move ∷ h) g }
     ensures wired { (h : History) (source : ℕ) (level : Bool) (g : Vcpu)
         → replies (purged h g) g ≡ replies (Accepted (lines.Wire source level) ∷ h) g }
+    ensures sent { (h : History) (vm addr value : ℕ) (g : Vcpu) → nat_eq vm g.vm ≡ false
+        → guest_file (purged h g) g ≡ guest_file (Accepted (lines.Send vm addr value) ∷ h) g }
+    ensures landed { (h : History) (vm k : ℕ) (g : Vcpu) → nat_eq vm g.vm ≡ false
+        → said_by g h (Landed vm k) ≡ None
+        → guest_file (purged h g) g ≡ guest_file (Landed vm k ∷ h) g }
 {
     what_does_not_speak_to_a_guest_may_be_left_out();
 }

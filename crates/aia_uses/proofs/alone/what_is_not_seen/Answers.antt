@@ -1,7 +1,7 @@
 use Rattle.std.proofs.Common.{ap, ◌∷◌}
 use Rattle.aia_model.specs.declared.line.Line.TheVariants as lines
-use Rattle.aia_model.specs.Event.Event.{Accepted, Began, Stepped}
-use Rattle.aia_uses.proofs.EventsFacts.{began_unseen, step_unseen, enter_unseen, save_unseen, wire_unseen, other_unseen}
+use Rattle.aia_model.specs.Event.Event.{Accepted, Began, Stepped, Landed}
+use Rattle.aia_uses.proofs.EventsFacts.{began_unseen, step_unseen, enter_unseen, save_unseen, wire_unseen, other_unseen, landing_unseen}
 use Rattle.aia_uses.proofs.alone.what_is_not_seen.Goals as goal
 
 pub returns-clause-guest : goal.returns-clause-guest
@@ -41,3 +41,7 @@ pub returns-clause-others : goal.returns-clause-others
 returns-clause-others c = λ h vm addr value g other.
     ap (λ state. state.file)
     (c.moves_and_others_are_not_seen.ensures.guest (Accepted (lines.Msi vm addr value) ∷ h) h g (other_unseen g.vm h vm addr value other))
+
+pub returns-clause-landed : goal.returns-clause-landed
+returns-clause-landed c = λ h vm k g other.
+    ap (λ state. state.file) (c.moves_and_others_are_not_seen.ensures.guest (Landed vm k ∷ h) h g (landing_unseen g.vm h vm k other))
