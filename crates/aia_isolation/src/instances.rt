@@ -3,7 +3,7 @@
 //! Each function does nothing: its clauses are what was proved, by computing.
 #![tactic(auto, unfolding(aia_word::specs::Sets::word_of, aia_word::specs::Sets::least_of, aia_word::specs::Packed::packed, aia_word::specs::Packed::ones, aia_model::specs::Reading::number_at, aia_model::specs::Reading::n32_at, aia_model::specs::Reading::flag_at, aia_model::specs::Reading::csr_at, aia_model::specs::Reading::line_at, aia_model::specs::Reading::reading, aia_model::specs::FileAfter::select_by, aia_model::specs::FileAfter::file_by, aia_model::specs::MajorOf::majors_of, aia_model::specs::HomeOf::home, aia_model::specs::Flight::flight, aia_model::specs::Passes::passes_of, aia_model::specs::ReachOf::in_force_of, aia_model::specs::ReachOf::stage_in_force_of, aia_model::specs::Notice::look_saw, aia_regs::specs::DomainRegisters::domain_register_of, aia_model::specs::Act::newest, aia_model::specs::SourceOf::wire_of, aia_model::specs::SourceOf::enabled, aia_model::specs::SourceOf::target, aia_model::specs::SourceOf::pending, aia_model::specs::AddressOf::addresses_of, aia_model::specs::SourceOf::genmsi_waits, aia_model::specs::Sent::all_senders, aia_model::specs::Answer::answer, aia_model::specs::Answer::after, aia_model::specs::AnswerText::hex_digits, aia_model::specs::Answer::answer_text, crate::specs::Said::said, crate::specs::Guest::guest_by, crate::specs::Replies::replies, crate::specs::Replies::replies_by, crate::specs::Replies::purged, crate::specs::Images::said_after, crate::specs::Concerns::events_for, crate::specs::Reach::deeds_of, crate::specs::Reach::host_by, aia_laws::specs::Newest::newest, aia_laws::specs::Told::told_since))]
 
-ghost use Rattle.std.specs.Prelude.{◌≡◌, true, [], ◌∷◌, ◌++◌, length, Some};
+ghost use Rattle.std.specs.Prelude.{◌≡◌, true, false, [], ◌∷◌, ◌++◌, length, Some};
 ghost use Rattle.aia_regs.specs.declared.access.Csr.TheVariants.{Select, Reg, Topei, Sip};
 ghost use Rattle.aia_regs.specs.declared.access.Op.TheVariants.{Read, Write};
 ghost use Rattle.aia_regs.specs.BitUpdate.BitUpdate.{Ask, Clear};
@@ -29,6 +29,10 @@ ghost use Rattle.aia_isolation.specs.Replies.{replies_by, script_replies, purged
 ghost use Rattle.aia_isolation.specs.Concerns.{concerns, is_of_machine_level, events_for};
 ghost use Rattle.aia_isolation.specs.Parts.{texts_that_pass, answers_to};
 ghost use Rattle.aia_isolation.specs.Reach.{deeds_of};
+ghost use Rattle.aia_model.specs.declared.line.Line.TheVariants.{Wire};
+ghost use Rattle.aia_model.specs.Sent.{msis_sent_by};
+ghost use Rattle.aia_model.specs.Answer.{after};
+ghost use Rattle.aia_model.specs.Passes.{nth_pass, passed_by};
 
 /// Virtual hart 0 of VM 0 enables 5 and 6, gets 5, is moved, claims 5, is parked, and gets 6, of
 /// which the host is told; beside it the machine level, the host and another VM do things.
@@ -219,6 +223,22 @@ pass 1 0 0 5
 wire 1 1
 g 0 0 csrrw stopei 0
 ld 0x0c00b004
+";
+
+/// The same up to the wire, when nothing has asked for 5 yet.
+pub const READY: &str = "machine 1 1 63 8
+st 0x0c000004 0x400
+st 0x0c008004 4
+st 0x0c008000 0x104
+st 0x0c001bc4 0x2000
+st 0x0c001bc8 0x28000
+st 0x0c001bcc 0x500000
+st 0x0c009edc 1
+vm 1 0x8 0
+arrive 0 0 0
+g 0 0 csrrw siselect 0xc0
+g 0 0 csrrw sireg 0x20
+pass 1 0 0 5
 ";
 
 /// It is forwarded while the virtual hart is away, and given on by the host.
@@ -450,6 +470,22 @@ pub fn a_passed_source_is_heard_the_same_wherever_its_guest_is()
         ≡ Wide 0 ∷ Wide 0 ∷ Wide 0x50005 ∷ [] }
     ensures deeds { deeds_of (history_of PASSED_AWAY.now) (SupervisorFile 0)
         ≡ Relays 33 (Some 1) ∷ Stores 0 33 ∷ Makes 63 ∷ [] }
+{}
+
+/// A line of a wire adds the identity that it forwards, which nothing asked for, and no other one;
+/// and with that it adds nothing at a virtual hart to which the source is not passed.
+pub fn a_wire_adds_what_it_forwards()
+    ensures stands { has_machine (history_of READY.now) ≡ true }
+    ensures before { (guest_file (history_of READY.now) (vcpu 0 0)).pending 5 ≡ false }
+    ensures after { (guest_file (after (history_of READY.now) (Wire 1 true)) (vcpu 0 0)).pending 5
+        ≡ true }
+    ensures other { (guest_file (after (history_of READY.now) (Wire 1 true)) (vcpu 0 0)).pending 6
+        ≡ false }
+    ensures sent { msis_sent_by (history_of READY.now) (Wire 1 true)
+        ≡ record { address = 0x28001000; value = 5; source = Some 1 } ∷ [] }
+    ensures passed { passed_by (history_of READY.now) (Some 1) ≡ Some 0 }
+    ensures pass { nth_pass (history_of READY.now) 0
+        ≡ record { source = 1; to = vcpu 0 0; identity = 5 } }
 {}
 
 /// Where a source is passed, neither its VM nor the machine level is answered as if it were alone:
