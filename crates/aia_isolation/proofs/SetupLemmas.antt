@@ -31,7 +31,7 @@ use Rattle.aia_regs.specs.declared.address_map.TheConstants.{PAGE}
 abbrev pub SameSetup : History → History → Type 0
 SameSetup h k = (machine_of h ≡ machine_of k) × (vms_of h ≡ vms_of k) × (passes_of h ≡ passes_of k)
 
-both_setup : (event : Event) (h k : History) → SameSetup h k → SameSetup (event ∷ h) (event ∷ k)
+pub both_setup : (event : Event) (h k : History) → SameSetup h k → SameSetup (event ∷ h) (event ∷ k)
 unfolding passes_of
 both_setup (Accepted (Machine harts guests n sources)) h k same = (refl, same.1, same.2)
 both_setup (Accepted (lines.Vm vcpus mask hart)) h k same =

@@ -7,7 +7,6 @@ use Rattle.std.proofs.lemmas.Bool.{cases_Bool, eqb-true, false≢true}
 use Rattle.aia_word.specs.Sets.{least_of}
 use Rattle.aia_regs.specs.Request.{requested, request_said}
 use Rattle.aia_regs.specs.BitUpdate.{settle, names}
-use Rattle.aia_regs.specs.BitUpdate.BitUpdate.{Ask, Nothing}
 use Rattle.aia_regs.proofs.ListLemmas.{here, later, nowhere}
 use Rattle.aia_file.specs.InterruptFile.{InterruptFile}
 use Rattle.aia_vcpu.specs.Vms.{Vcpu, is_vcpu}
@@ -17,7 +16,7 @@ use Rattle.aia_model.specs.declared.line.Line.TheVariants.{Machine, Wire, Load, 
 use Rattle.aia_model.specs.declared.msi.Msi.{Msi}
 use Rattle.aia_model.specs.Move.{line_deed}
 use Rattle.aia_model.specs.Event.{History, has_machine}
-use Rattle.aia_model.specs.Event.Event.{Accepted, Delivered, Relayed}
+use Rattle.aia_model.specs.Event.Event.{Delivered, Relayed}
 use Rattle.aia_model.specs.Passes.{PassedSource, no_pass, passes_of, nth_pass, passed_by}
 use Rattle.aia_model.specs.Aim.{pass_reach}
 use Rattle.aia_model.specs.FileAfter.{select_by, file_by}
