@@ -23,7 +23,7 @@ use Rattle.aia_isolation.specs.Beside.{is_about_sources, concerns_by_sources}
 use Rattle.aia_isolation.specs.Parts.{texts_that_pass, answers_to}
 use Rattle.aia_isolation.proofs.UnpassedLemmas.{passes_source}
 use Rattle.aia_isolation.proofs.AlikeLemmas.{Alike, itself, alike_then, alike_back, alike_event, alike_taken, same_setting}
-use Rattle.aia_isolation.proofs.RefusalLemmas.{same_refusal, same_accepted}
+use Rattle.aia_isolation.proofs.RefusalLemmas.{looks, same_refusal, same_accepted}
 use Rattle.aia_isolation.proofs.ConcernLemmas.{one_taken}
 use Rattle.aia_isolation.proofs.PartLemmas.{KeepsAlike, both_by, one_by, answers_alike}
 use Rattle.aia_isolation.proofs.BelowLemmas.{quiet_acts}
@@ -59,10 +59,10 @@ by_either v line its of_vm of_sources = elim (cases_Bool (concerns v line)) [
 ]
 
 same_refused : (line : Line) (v : ℕ) (h k : History) → concerns_by_sources v line ≡ true → Beside v h k → refusal h line ≡ refusal k line
-same_refused line v h k its a = by_either v line its (λ own. same_refusal line v h k own a.alike) (λ own. source_refusal line h k own (aims v h k a))
+same_refused line v h k its a = by_either v line its (λ own. same_refusal line v h k own (looks v h k a.alike)) (λ own. source_refusal line h k own (aims v h k a))
 
 same_told : (line : Line) (v : ℕ) (h k : History) → concerns_by_sources v line ≡ true → Beside v h k → accepted_answer h line ≡ accepted_answer k line
-same_told line v h k its a = by_either v line its (λ own. same_accepted line v h k own a.alike) (λ own. source_accepted line h k own (aims v h k a))
+same_told line v h k its a = by_either v line its (λ own. same_accepted line v h k own (looks v h k a.alike)) (λ own. source_accepted line h k own (aims v h k a))
 
 same_answer : (line : Line) (v : ℕ) (h k : History) → concerns_by_sources v line ≡ true → Beside v h k → answer h line ≡ answer k line
 same_answer line v h k its a =
