@@ -109,53 +109,76 @@ aims_event event h k a = record { setting = setting_both event h k a.setting; ac
 pub same_sent : (line : Line) (h k : History) → SameAims h k → msis_sent_by h line ≡ msis_sent_by k line
 same_sent line h k a = waits_both waiting_msis line h k a
 
--- ---- a landing is nothing to them
+-- ---- a line in both, where landings are nothing
 
-aims_landing : (vm n : ℕ) (h : History) → SameAims (Landed vm n ∷ h) h
-unfolding passes_of home
-aims_landing vm n h = record { setting = refl; acts = refl }
+-- What keeps two histories alike that give the same aims, event by event.
+pub record KeptByEvents (IsAlike : History → History → Type 0) : Type 0 where
+  pub aims : (h k : History) → IsAlike h k → SameAims h k
+  pub event : (event : Event) (h k : History) → IsAlike h k → IsAlike (event ∷ h) (event ∷ k)
 
-aims_landed : (count vm : ℕ) (h : History) → SameAims (oldest_landed count vm h) h
-aims_landed zero vm h = record { setting = refl; acts = refl }
-aims_landed (suc count) vm h = aims_then _ (Landed vm 0 ∷ h) h (aims_landed count vm (Landed vm 0 ∷ h)) (aims_landing vm 0 h)
+-- The same where a store that lands in one of them is nothing to it.
+pub record IsUnlanded (IsAlike : History → History → Type 0) : Type 0 where
+  pub kept : KeptByEvents IsAlike
+  pub itself : (h : History) → IsAlike h h
+  pub joined : (h k l : History) → IsAlike h k → IsAlike k l → IsAlike h l
+  pub back : (h k : History) → IsAlike h k → IsAlike k h
+  pub landing : (vm n : ℕ) (h : History) → IsAlike (Landed vm n ∷ h) h
 
-aims_first : (x : Vcpu) (h : History) → SameAims (landed_first x h) h
-aims_first x h = by_fence (is_at_fence (home h x))
+landed_alike : (IsAlike : History → History → Type 0) → IsUnlanded IsAlike → (count vm : ℕ) (h : History) → IsAlike (oldest_landed count vm h) h
+landed_alike IsAlike keeps zero vm h = keeps.itself h
+landed_alike IsAlike keeps (suc count) vm h =
+    keeps.joined _ (Landed vm 0 ∷ h) h (landed_alike IsAlike keeps count vm (Landed vm 0 ∷ h)) (keeps.landing vm 0 h)
+
+first_alike : (IsAlike : History → History → Type 0) → IsUnlanded IsAlike → (x : Vcpu) (h : History) → IsAlike (landed_first x h) h
+first_alike IsAlike keeps x h = by_fence (is_at_fence (home h x))
   where
-    by_fence : (b : Bool) → SameAims (cond b (oldest_landed (length (flight h x.vm)) x.vm h) h) h
-    by_fence true = aims_landed (length (flight h x.vm)) x.vm h
-    by_fence false = record { setting = refl; acts = refl }
+    by_fence : (b : Bool) → IsAlike (cond b (oldest_landed (length (flight h x.vm)) x.vm h) h) h
+    by_fence true = landed_alike IsAlike keeps (length (flight h x.vm)) x.vm h
+    by_fence false = keeps.itself h
 
--- ---- a line in both
+step_both : (IsAlike : History → History → Type 0) → IsUnlanded IsAlike → (x : Vcpu) (h k : History) → IsAlike h k
+    → IsAlike (step_taken x h) (step_taken x k)
+step_both IsAlike keeps x h k a =
+    keeps.kept.event (Stepped x) (landed_first x h) (landed_first x k)
+    (keeps.joined _ h _ (first_alike IsAlike keeps x h) (keeps.joined h k _ a (keeps.back _ k (first_alike IsAlike keeps x k))))
 
-aims_step : (x : Vcpu) (h k : History) → SameAims h k → SameAims (step_taken x h) (step_taken x k)
-aims_step x h k a = aims_event (Stepped x) (landed_first x h) (landed_first x k)
-    (aims_then _ h _ (aims_first x h) (aims_then h k _ a (aims_back _ k (aims_first x k))))
-
-aims_steps : (count : ℕ) (x : Vcpu) (h k : History) → SameAims h k → SameAims (steps_taken count x h) (steps_taken count x k)
-aims_steps zero x h k a = a
-aims_steps (suc count) x h k a = aims_steps count x (step_taken x h) (step_taken x k) (aims_step x h k a)
+steps_both : (IsAlike : History → History → Type 0) → IsUnlanded IsAlike → (count : ℕ) (x : Vcpu) (h k : History) → IsAlike h k
+    → IsAlike (steps_taken count x h) (steps_taken count x k)
+steps_both IsAlike keeps zero x h k a = a
+steps_both IsAlike keeps (suc count) x h k a = steps_both IsAlike keeps count x (step_taken x h) (step_taken x k) (step_both IsAlike keeps x h k a)
 
 same_count : (move : WantedMove) (h k : History) → SameAims h k
     → steps_of (file_words h) move + passes_for h (mover move) ≡ steps_of (file_words k) move + passes_for k (mover move)
 same_count move h k a = ap (λ (s : Setting). steps_of (words_in s) move + passes_to (mover move) s.passes) a.setting
 
+pub taken_both : (IsAlike : History → History → Type 0) → IsUnlanded IsAlike → (line : Line) (deed : LineDeed) (h k : History) → IsAlike h k
+    → IsAlike (deed_taken h line deed) (deed_taken k line deed)
+taken_both IsAlike keeps line NoMove h k a = keeps.kept.event (Accepted line) h k a
+taken_both IsAlike keeps line (Whole move) h k a =
+    subst (λ count. IsAlike (deed_taken h line (Whole move)) (steps_taken count (mover move) (Began move ∷ k)))
+    (same_count move h k (keeps.kept.aims h k a))
+    (steps_both IsAlike keeps (steps_of (file_words h) move + passes_for h (mover move)) (mover move) (Began move ∷ h) (Began move ∷ k)
+    (keeps.kept.event (Began move) h k a))
+taken_both IsAlike keeps line (Begins move) h k a = keeps.kept.event (Began move) h k a
+taken_both IsAlike keeps line (Steps x) h k a = step_both IsAlike keeps x h k a
+taken_both IsAlike keeps line (Lands vm n) h k a = keeps.kept.event (Landed vm n) h k a
+
+-- so the same aims stay the same
+pub aims_landing : (vm n : ℕ) (h : History) → SameAims (Landed vm n ∷ h) h
+unfolding passes_of home
+aims_landing vm n h = record { setting = refl; acts = refl }
+
+aims_unlanded : IsUnlanded SameAims
+aims_unlanded = record {
+  kept = record { aims = λ h k a. a; event = aims_event };
+  itself = λ h. record { setting = refl; acts = refl };
+  joined = aims_then;
+  back = aims_back;
+  landing = aims_landing;
+}
+
 pub aims_taken : (line : Line) (deed : LineDeed) (h k : History) → SameAims h k → SameAims (deed_taken h line deed) (deed_taken k line deed)
-aims_taken line NoMove h k a = aims_event (Accepted line) h k a
-aims_taken line (Whole move) h k a =
-    subst_count (steps_of (file_words h) move + passes_for h (mover move)) (steps_of (file_words k) move + passes_for k (mover move))
-    (same_count move h k a)
-  where
-    subst_count : (m n : ℕ) → m ≡ n → SameAims (steps_taken m (mover move) (Began move ∷ h)) (steps_taken n (mover move) (Began move ∷ k))
-    subst_count m n e = aims_then _ (steps_taken m (mover move) (Began move ∷ k)) _
-        (aims_steps m (mover move) (Began move ∷ h) (Began move ∷ k) (aims_event (Began move) h k a))
-        (record {
-          setting = ap (λ count. setting_of (steps_taken count (mover move) (Began move ∷ k))) e;
-          acts = ap (λ count. acts_of (steps_taken count (mover move) (Began move ∷ k))) e;
-        })
-aims_taken line (Begins move) h k a = aims_event (Began move) h k a
-aims_taken line (Steps x) h k a = aims_step x h k a
-aims_taken line (Lands vm n) h k a = aims_event (Landed vm n) h k a
+aims_taken line deed h k a = taken_both SameAims aims_unlanded line deed h k a
 
 -- ---- the MSIs that it sends
 
@@ -165,11 +188,6 @@ same_pass h k o a = same_number h k o (ap (λ (s : Setting). s.passes) a.setting
 same_reach : (h k : History) (p : ℕ) → SameAims h k → pass_reach h p ≡ pass_reach k p
 same_reach h k p a = ap (λ (s : Setting). pass_reaches (passes_to (slice_index_or s.passes p no_pass).to (take p s.passes))
     (s.homes (slice_index_or s.passes p no_pass).to)) a.setting
-
--- What keeps two histories alike that give the same aims, event by event.
-pub record KeptByEvents (IsAlike : History → History → Type 0) : Type 0 where
-  pub aims : (h k : History) → IsAlike h k → SameAims h k
-  pub event : (event : Event) (h k : History) → IsAlike h k → IsAlike (event ∷ h) (event ∷ k)
 
 given_both : (IsAlike : History → History → Type 0) → KeptByEvents IsAlike → (o : Option ℕ) (h k : History) → IsAlike h k
     → IsAlike (given_on o h) (given_on o k)
@@ -236,7 +254,22 @@ pass_word source vm number identity s acts =
     (cond (is_some (least_of (λ p. nat_eq (slice_index_or s.passes p no_pass).source source) 0 (length s.passes))) (Some (Refused Passed))
     (cond (not (is_passable acts source)) (Some (Refused Unready)) None)))))
 
-pub source_refusal : (line : Line) (h k : History) → is_about_sources line ≡ true → SameAims h k → refusal h line ≡ refusal k line
+-- Whether a line drives a wire, loads or stores, wherever that leads, or passes a source.
+abbrev pub is_of_sources : Line → Bool
+is_of_sources (Wire source level) = true
+is_of_sources (Load addr) = true
+is_of_sources (Store addr value) = true
+is_of_sources (lines.Pass source vm number identity) = true
+is_of_sources line = false
+
+pub of_sources : (line : Line) → is_about_sources line ≡ true → is_of_sources line ≡ true
+of_sources (Wire source level) its = refl
+of_sources (Load addr) its = refl
+of_sources (Store addr value) its = refl
+of_sources (lines.Pass source vm number identity) its = refl
+of_sources line its = absurd (cc)
+
+pub source_refusal : (line : Line) (h k : History) → is_of_sources line ≡ true → SameAims h k → refusal h line ≡ refusal k line
 source_refusal (Wire source level) h k its a =
     ap (λ (s : Setting). cond (not (is_some s.machine)) (Some NoMachine)
     (cond (not (is_in_range 1 (option_map_or (λ (m : MachineSize). m.sources) s.machine 0) source)) (Some (Refused Range)) None)) a.setting
@@ -247,7 +280,7 @@ source_refusal (lines.Pass source vm number identity) h k its a =
     ap (λ s. pass_word source vm number identity s (acts_of h)) a.setting ∙ ap (pass_word source vm number identity (setting_of k)) a.acts
 source_refusal line h k its a = absurd (cc)
 
-pub source_accepted : (line : Line) (h k : History) → is_about_sources line ≡ true → SameAims h k → accepted_answer h line ≡ accepted_answer k line
+pub source_accepted : (line : Line) (h k : History) → is_of_sources line ≡ true → SameAims h k → accepted_answer h line ≡ accepted_answer k line
 source_accepted (Load addr) h k its a = ap (λ (acts : Past). Narrow
     (option_map_or (λ d. register_read acts d (register_at addr)) (domain_at addr) 0)) a.acts
 source_accepted (Wire source level) h k its a = refl

@@ -27,7 +27,7 @@ use Rattle.aia_isolation.proofs.RefusalLemmas.{looks, same_refusal, same_accepte
 use Rattle.aia_isolation.proofs.ConcernLemmas.{one_taken}
 use Rattle.aia_isolation.proofs.PartLemmas.{KeepsAlike, both_by, one_by, answers_alike}
 use Rattle.aia_isolation.proofs.BelowLemmas.{quiet_acts}
-use Rattle.aia_isolation.proofs.AimsLemmas.{SameAims, aims_event, aims_taken, same_sent, KeptByEvents, msis_both, quiet_sends, source_refusal, source_accepted}
+use Rattle.aia_isolation.proofs.AimsLemmas.{SameAims, aims_event, aims_taken, same_sent, KeptByEvents, msis_both, quiet_sends, of_sources, source_refusal, source_accepted}
 
 -- Two histories are alike to a VM, and the same happened to the APLIC.
 record Beside (v : ℕ) (h k : History) : Type 0 where
@@ -59,10 +59,10 @@ by_either v line its of_vm of_sources = elim (cases_Bool (concerns v line)) [
 ]
 
 same_refused : (line : Line) (v : ℕ) (h k : History) → concerns_by_sources v line ≡ true → Beside v h k → refusal h line ≡ refusal k line
-same_refused line v h k its a = by_either v line its (λ own. same_refusal line v h k own (looks v h k a.alike)) (λ own. source_refusal line h k own (aims v h k a))
+same_refused line v h k its a = by_either v line its (λ own. same_refusal line v h k own (looks v h k a.alike)) (λ own. source_refusal line h k (of_sources line own) (aims v h k a))
 
 same_told : (line : Line) (v : ℕ) (h k : History) → concerns_by_sources v line ≡ true → Beside v h k → accepted_answer h line ≡ accepted_answer k line
-same_told line v h k its a = by_either v line its (λ own. same_accepted line v h k own (looks v h k a.alike)) (λ own. source_accepted line h k own (aims v h k a))
+same_told line v h k its a = by_either v line its (λ own. same_accepted line v h k own (looks v h k a.alike)) (λ own. source_accepted line h k (of_sources line own) (aims v h k a))
 
 same_answer : (line : Line) (v : ℕ) (h k : History) → concerns_by_sources v line ≡ true → Beside v h k → answer h line ≡ answer k line
 same_answer line v h k its a =
@@ -116,7 +116,7 @@ one_accepted line v h e =
 
 -- ---- a script
 
-abbrev Anything : History → Type 0
+abbrev pub Anything : History → Type 0
 Anything h = Unit {0}
 
 keeps : (v : ℕ) → KeepsAlike (concerns_by_sources v) Anything (Beside v)

@@ -45,7 +45,7 @@ both_setup (Delivered msi) h k same = same
 both_setup (Relayed p) h k same = same
 both_setup (Landed vm n) h k same = same
 
-left_setup : (event : Event) (h : History) → sets_up event ≡ false → SameSetup h (event ∷ h)
+pub left_setup : (event : Event) (h : History) → sets_up event ≡ false → SameSetup h (event ∷ h)
 unfolding passes_of
 left_setup (Accepted (Machine harts guests n sources)) h e = absurd (cc)
 left_setup (Accepted (lines.Vm vcpus mask hart)) h e = absurd (cc)

@@ -13,7 +13,7 @@ use Rattle.aia_model.specs.Vms.{vms_of}
 use Rattle.aia_model.specs.Flight.{flight}
 use Rattle.aia_model.specs.HomeOf.{home}
 use Rattle.aia_model.specs.StateOf.{state_of}
-use Rattle.aia_isolation.specs.Concerns.{concerns}
+use Rattle.aia_isolation.specs.Concerns.{concerns, is_about_homes, is_of_machine_level}
 
 -- Whether a line decides what the APLIC sends: it drives a wire, loads or stores in a control
 -- region, or passes a source, to whichever virtual hart.
@@ -28,6 +28,13 @@ is_about_sources line = false
 -- the APLIC sends.
 abbrev pub concerns_by_sources : ℕ → Line → Bool
 concerns_by_sources v line = concerns v line || is_about_sources line
+
+-- Whether a line concerns the machine level where sources may be passed: it does where none is,
+-- makes a VM, is about where virtual harts are, or passes a source.
+abbrev pub is_of_machine_level_by_sources : Line → Bool
+is_of_machine_level_by_sources (lines.Vm vcpus mask hart) = true
+is_of_machine_level_by_sources (lines.Pass source vm number identity) = true
+is_of_machine_level_by_sources line = is_of_machine_level line || is_about_homes line
 
 -- ---- what a pass tells
 
