@@ -1,25 +1,22 @@
 -- What a script answers to the texts that concern the machine level, make VMs, are about where
 -- virtual harts are, or pass sources, is what it answers where all others are left out.
-use Rattle.std.proofs.Common.{◌≡◌, ℕ, Bool, true, false, not, ◌||◌, cond, is_some, List, [], ◌∷◌, Option, Some, None, inl, inr, unwrap_or, if◌then◌else◌, refl, sym, ap, subst, ◌∙◌}
-use Rattle.std.proofs.lemmas.Bool.{cases_Bool, or_parts, false≢true}
-use Rattle.aia_file.specs.InterruptFile.{InterruptFile}
+use Rattle.std.proofs.Common.{◌≡◌, ℕ, true, false, not, ◌||◌, cond, is_some, List, [], ◌∷◌, Some, None, unwrap_or, if◌then◌else◌, refl, sym, ap, subst, ◌∙◌}
+use Rattle.std.proofs.lemmas.Bool.{or_parts, false≢true}
 use Rattle.aia_vcpu.specs.Vms.{Vcpu, vcpu}
 use Rattle.aia_vcpu.specs.Plans.{is_at_last}
 use Rattle.aia_model.specs.declared.line.Line.{Line}
 use Rattle.aia_model.specs.declared.line.Line.TheVariants.{Machine, Wire, Load, Store, MachineCsr, Step, Land, Enter, Exit}
 use Rattle.aia_model.specs.declared.line.Line.TheVariants as lines
-use Rattle.aia_model.specs.declared.want.Want.TheVariants as wants
-use Rattle.aia_model.specs.declared.answer.Answer.{Answer}
-use Rattle.aia_model.specs.declared.answer.Answer.TheVariants.{Again, Refused, Wide, Moving, Done}
+use Rattle.aia_model.specs.declared.answer.Answer.TheVariants.{Again, Refused, Moving, Done}
 use Rattle.aia_model.specs.declared.refusal.Refusal.TheVariants.{Range}
 use Rattle.aia_model.specs.Move.{line_deed}
 use Rattle.aia_model.specs.Event.{Event, History}
-use Rattle.aia_model.specs.Event.Event.{Accepted, Landed}
-use Rattle.aia_model.specs.FileOf.{MachineFile, select_of, file_of}
+use Rattle.aia_model.specs.Event.Event.{Accepted}
+use Rattle.aia_model.specs.FileOf.{MachineFile, select_of}
 use Rattle.aia_model.specs.HomeOf.{home, moved, rest_after}
 use Rattle.aia_model.specs.Sent.{msis_sent_by}
 use Rattle.aia_model.specs.Refusal.{refusal, is_machine_size}
-use Rattle.aia_model.specs.Answer.{answer, accepted_answer, csr_shown, line_taken, after_accepted, delivered}
+use Rattle.aia_model.specs.Answer.{answer, accepted_answer, line_taken, after_accepted, delivered}
 use Rattle.aia_model.specs.Text.{texts_of}
 use Rattle.aia_model.specs.Script.{answers_from, answers}
 use Rattle.aia_model.proofs.AnswerLemmas.{answered}
@@ -34,7 +31,7 @@ use Rattle.aia_isolation.proofs.SetupLemmas.{left_setup}
 use Rattle.aia_isolation.proofs.AlikeLemmas.{Setting, setting_of, words_in}
 use Rattle.aia_isolation.proofs.RefusalLemmas.{unpassing, home_refusal, vm_refusal}
 use Rattle.aia_isolation.proofs.PartLemmas.{KeepsAlike, both_by, one_by, answers_alike}
-use Rattle.aia_isolation.proofs.BelowLemmas.{SameFiles, files_then, files_both, files_less, files_landing, no_act, line_rests, csr_word, quiet_acts}
+use Rattle.aia_isolation.proofs.BelowLemmas.{SameFiles, files_then, files_both, files_less, files_landing, no_act, line_rests, csr_word, files_shown, quiet_acts}
 use Rattle.aia_isolation.proofs.AimsLemmas.{SameAims, aims_then, aims_back, aims_event, aims_landing, same_sent, KeptByEvents, IsUnlanded, taken_both, msis_both, quiet_sends, source_refusal, source_accepted}
 use Rattle.aia_isolation.proofs.BesideLemmas.{Anything}
 
@@ -96,9 +93,7 @@ same_refusal line h k its a = home_refusal line h k its (settings h k a)
 
 same_accepted : (line : Line) (h k : History) → is_of_machine_level_by_sources line ≡ true → Ground h k → accepted_answer h line ≡ accepted_answer k line
 same_accepted (Load addr) h k its a = source_accepted (Load addr) h k refl a.aims
-same_accepted (MachineCsr hart csr op) h k its a =
-    ap (λ select. Wide (csr_shown select (file_of h (MachineFile hart)) csr)) (a.hosts.selects hart)
-    ∙ ap (λ (file : InterruptFile). Wide (csr_shown (select_of k (MachineFile hart)) file csr)) (a.hosts.files hart)
+same_accepted (MachineCsr hart csr op) h k its a = files_shown hart csr h k a.hosts
 same_accepted (Step vm number) h k its a =
     ap (λ (s : Setting). if is_at_last (words_in s) (s.homes (vcpu vm number)) then Done else Moving) a.aims.setting
 same_accepted (Machine harts guests n sources) h k its a = refl

@@ -3,14 +3,13 @@ use Rattle.std.proofs.Common.{◌≡◌, ◌⊎◌, ℕ, Bool, true, false, not,
 use Rattle.std.specs.Int.{is_in_range}
 use Rattle.std.specs.Option.{option_map_or}
 use Rattle.aia_regs.specs.declared.limits.TheConstants.{PASSES}
-use Rattle.aia_vcpu.specs.declared.vm.Vm.{Vm}
 use Rattle.aia_vcpu.specs.Vms.{vcpu, is_vcpu_in}
 use Rattle.aia_vcpu.specs.Home.{is_moving}
 use Rattle.aia_model.specs.declared.answer.Answer.{Answer}
-use Rattle.aia_model.specs.declared.answer.Answer.TheVariants.{Okay, NoMachine, Refused}
+use Rattle.aia_model.specs.declared.answer.Answer.TheVariants.{NoMachine, Refused}
 use Rattle.aia_model.specs.declared.refusal.Refusal.TheVariants.{Range, Full, Busy, Passed, Unready}
 use Rattle.aia_model.specs.declared.line.Line.TheVariants.{Pass}
-use Rattle.aia_model.specs.Event.{History, MachineSize, machine_of, has_machine, sources_of, greatest_identity_of}
+use Rattle.aia_model.specs.Event.{History, MachineSize, has_machine, sources_of, greatest_identity_of}
 use Rattle.aia_model.specs.Vms.{has_vcpu}
 use Rattle.aia_model.specs.HomeOf.{home}
 use Rattle.aia_model.specs.Passes.{passes_of, is_passed}

@@ -37,20 +37,16 @@ use Rattle.aia_isolation.specs.Forwarded.{ForwardsAs, AddsBy}
 
 -- ---- what one MSI of a pass asks for
 
-names_one : (o : Option ℕ) (i : ℕ) → names o i ≡ true → o ≡ Some i
-names_one None i e = absurd (cc)
-names_one (Some x) i e = ap Some (eqb-true x i e)
-
 -- a store of an identity asks for no other one
 stored_itself : (n x i : ℕ) → settle (request_said n 0 x i) false ≡ true → x ≡ i
 stored_itself n x i e = elim (cases_Bool (names (requested n 0 x) i)) [
-  | inl it ↦ by_range (is_in_range 1 n x) (names_one (requested n 0 x) i it)
+  | inl it ↦ by_range (is_in_range 1 n x) it
   | inr other ↦ absurd (false≢true (rw other at e))
 ]
   where
-    by_range : (b : Bool) → cond b (Some x) None ≡ Some i → x ≡ i
-    by_range true e = cc
-    by_range false e = absurd (cc)
+    by_range : (b : Bool) → names (cond b (Some x) None) i ≡ true → x ≡ i
+    by_range true e = eqb-true x i e
+    by_range false e = absurd (false≢true e)
 
 -- A pass is to a virtual hart as identity i.
 abbrev IsPassAs : List PassedSource → ℕ → Vcpu → ℕ → Type 0
@@ -99,16 +95,14 @@ relayed_passes : (p : ℕ) (h : History) → passes_of (Relayed p ∷ h) ≡ pas
 unfolding passes_of
 relayed_passes p h = refl
 
-given_passes : (o : Option ℕ) (h : History) → passes_of (given_on o h) ≡ passes_of h
-given_passes None h = refl
-given_passes (Some p) h = either (is_none (pass_reach h p))
+-- one MSI, whatever pass it is of, passes none
+given_passes : (o : Option ℕ) (msi : Msi) (h : History) → passes_of (given_on o (Delivered msi ∷ h)) ≡ passes_of h
+given_passes None msi h = delivered_passes msi h
+given_passes (Some p) msi h = either (is_none (pass_reach (Delivered msi ∷ h) p))
   where
-    either : (b : Bool) → passes_of (cond b (Relayed p ∷ h) h) ≡ passes_of h
-    either true = relayed_passes p h
-    either false = refl
-
-taken_passes : (msi : Msi) (h : History) → passes_of (msi_taken msi h) ≡ passes_of h
-taken_passes msi h = given_passes (passed_by h msi.source) (Delivered msi ∷ h) ∙ delivered_passes msi h
+    either : (b : Bool) → passes_of (cond b (Relayed p ∷ Delivered msi ∷ h) (Delivered msi ∷ h)) ≡ passes_of h
+    either true = relayed_passes p (Delivered msi ∷ h) ∙ delivered_passes msi h
+    either false = delivered_passes msi h
 
 -- the number of a source's pass turns on the passes alone
 pub same_number : (h k : History) (o : Option ℕ) → passes_of h ≡ passes_of k → passed_by h o ≡ passed_by k o
@@ -161,8 +155,8 @@ delivered_adds (msi ∷ rest) h g i was now = by_first ((guest_file (msi_taken m
           msi = one.msi;
           p = one.p;
           sent = later msi one.msi rest one.sent;
-          passed = sym (same_number (msi_taken msi h) h one.msi.source (taken_passes msi h)) ∙ one.passed;
-          is = subst (λ xs. IsPassAs xs one.p g i) (taken_passes msi h) one.is;
+          passed = sym (same_number (msi_taken msi h) h one.msi.source (given_passes (passed_by h msi.source) msi h)) ∙ one.passed;
+          is = subst (λ xs. IsPassAs xs one.p g i) (given_passes (passed_by h msi.source) msi h) one.is;
         }
 
 -- ---- a line
