@@ -275,7 +275,8 @@ source_refusal (Wire source level) h k its a =
     (cond (not (is_in_range 1 (option_map_or (λ (m : MachineSize). m.sources) s.machine 0) source)) (Some (Refused Range)) None)) a.setting
 source_refusal (Load addr) h k its a = ap (λ (s : Setting). place_word addr s.machine) a.setting
 source_refusal (Store addr value) h k its a =
-    ap (store_word addr (machine_of h)) (same_store addr value h k a) ∙ ap (λ (s : Setting). store_word addr s.machine (redirects k addr value)) a.setting
+    ap (store_word addr (machine_of h)) (same_store addr value h k a)
+    ∙ ap (λ (s : Setting). store_word addr s.machine (redirects k addr value)) a.setting
 source_refusal (lines.Pass source vm number identity) h k its a =
     ap (λ s. pass_word source vm number identity s (acts_of h)) a.setting ∙ ap (pass_word source vm number identity (setting_of k)) a.acts
 source_refusal line h k its a = absurd (cc)

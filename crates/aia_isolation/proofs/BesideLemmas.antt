@@ -59,10 +59,12 @@ by_either v line its of_vm of_sources = elim (cases_Bool (concerns v line)) [
 ]
 
 same_refused : (line : Line) (v : ℕ) (h k : History) → concerns_by_sources v line ≡ true → Beside v h k → refusal h line ≡ refusal k line
-same_refused line v h k its a = by_either v line its (λ own. same_refusal line v h k own (looks v h k a.alike)) (λ own. source_refusal line h k (of_sources line own) (aims v h k a))
+same_refused line v h k its a = by_either v line its (λ own. same_refusal line v h k own (looks v h k a.alike))
+    (λ own. source_refusal line h k (of_sources line own) (aims v h k a))
 
 same_told : (line : Line) (v : ℕ) (h k : History) → concerns_by_sources v line ≡ true → Beside v h k → accepted_answer h line ≡ accepted_answer k line
-same_told line v h k its a = by_either v line its (λ own. same_accepted line v h k own (looks v h k a.alike)) (λ own. source_accepted line h k (of_sources line own) (aims v h k a))
+same_told line v h k its a = by_either v line its (λ own. same_accepted line v h k own (looks v h k a.alike))
+    (λ own. source_accepted line h k (of_sources line own) (aims v h k a))
 
 same_answer : (line : Line) (v : ℕ) (h k : History) → concerns_by_sources v line ≡ true → Beside v h k → answer h line ≡ answer k line
 same_answer line v h k its a =
@@ -128,7 +130,8 @@ keeps v = record {
   earlier = λ h texts any. tt;
 }
 
-pub left_out : (v : ℕ) (script : List ℕ) → answers_to (concerns_by_sources v) script ≡ answers_from [] (texts_that_pass (concerns_by_sources v) script)
+pub left_out : (v : ℕ) (script : List ℕ)
+    → answers_to (concerns_by_sources v) script ≡ answers_from [] (texts_that_pass (concerns_by_sources v) script)
 left_out v script = answers_alike (concerns_by_sources v) Anything (Beside v) (keeps v) (texts_of script) [] [] tt
     (record { alike = itself v []; acts = refl })
 

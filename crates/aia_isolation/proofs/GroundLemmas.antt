@@ -91,7 +91,8 @@ same_refusal (MachineCsr hart csr op) h k its a =
     ∙ ap (λ select. csr_word hart csr op (setting_of k).machine select) (a.hosts.selects hart)
 same_refusal line h k its a = home_refusal line h k its (settings h k a)
 
-same_accepted : (line : Line) (h k : History) → is_of_machine_level_by_sources line ≡ true → Ground h k → accepted_answer h line ≡ accepted_answer k line
+same_accepted : (line : Line) (h k : History) → is_of_machine_level_by_sources line ≡ true → Ground h k
+    → accepted_answer h line ≡ accepted_answer k line
 same_accepted (Load addr) h k its a = source_accepted (Load addr) h k refl a.aims
 same_accepted (MachineCsr hart csr op) h k its a = files_shown hart csr h k a.hosts
 same_accepted (Step vm number) h k its a =
