@@ -31,7 +31,7 @@ use Rattle.aia_regs.specs.declared.address_map.TheConstants.{PAGE}
 abbrev pub SameSetup : History → History → Type 0
 SameSetup h k = (machine_of h ≡ machine_of k) × (vms_of h ≡ vms_of k) × (passes_of h ≡ passes_of k)
 
-both_setup : (event : Event) (h k : History) → SameSetup h k → SameSetup (event ∷ h) (event ∷ k)
+pub both_setup : (event : Event) (h k : History) → SameSetup h k → SameSetup (event ∷ h) (event ∷ k)
 unfolding passes_of
 both_setup (Accepted (Machine harts guests n sources)) h k same = (refl, same.1, same.2)
 both_setup (Accepted (lines.Vm vcpus mask hart)) h k same =
@@ -45,7 +45,7 @@ both_setup (Delivered msi) h k same = same
 both_setup (Relayed p) h k same = same
 both_setup (Landed vm n) h k same = same
 
-left_setup : (event : Event) (h : History) → sets_up event ≡ false → SameSetup h (event ∷ h)
+pub left_setup : (event : Event) (h : History) → sets_up event ≡ false → SameSetup h (event ∷ h)
 unfolding passes_of
 left_setup (Accepted (Machine harts guests n sources)) h e = absurd (cc)
 left_setup (Accepted (lines.Vm vcpus mask hart)) h e = absurd (cc)
