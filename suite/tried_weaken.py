@@ -184,8 +184,10 @@ def weaken_tells(trial):
     tree.sees(0, [f"low {NAMES[0]}: noticed: using_it::a_use\n", f"low {NAMES[4]}\n", "12 plants"],
               "--list")
     tree.write("crates/low_uses/proofs/Facts.antt", "pub fact : Unit {0}\nfact = other\n")
-    tree.sees(1, said, "--kind", "narrower,wider", "--at-once", "2", "low", "Seen", "Owned",
-              "Missed")
+    # Two side by side are told as they end.
+    beside = tree.sees(1, [], "--kind", "narrower,wider", "--at-once", "2", "low", "Seen", "Owned",
+                       "Missed")
+    trial.sees(all(line in beside for line in said), f"weaken, two at once, tells of {beside}")
     trial.sees(len(tree.given()) == 6, "weaken does not try anew what changed")
     stands = (tree.folder / "crates/low/specs/Words.antt").read_text(encoding="utf-8") == WORDS
     trial.sees(stands and not (tree.folder / "crates/low/src/use_using_it.rt").exists(),

@@ -2,7 +2,8 @@
 a copy, so that one check tells of a law and of its uses.
 
 A use is a function of another crate that calls a law, so that its answer may name a clause of it,
-as `c.LAW.ensures.CLAUSE`. A crate of uses is one whose name ends in `_uses`."""
+as `c.LAW.ensures.CLAUSE`. A crate of uses is one whose name ends in `_uses`, or that has a module
+`uses`."""
 
 import re
 from functools import cache
@@ -34,7 +35,8 @@ def all_below(crate):
 
 def crates_of_uses():
     """Lists the crates of uses."""
-    return [name for name in below() if name.endswith("_uses")]
+    return [name for name in below() if name.endswith("_uses")
+            or (TOP / "crates" / name / "src/uses.rt").is_file()]
 
 
 @cache
