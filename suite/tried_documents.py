@@ -1,6 +1,6 @@
 """Tries what docs/make sees of sentences and what they stand for, as suite/tools does: each
 function takes its Trial. A crate of its own, with a page that has it in words, has faults planted
-one after the other, each taken back."""
+one after the other, each taken back; so has the order of the definitions."""
 
 import sys
 
@@ -8,7 +8,8 @@ from running import TOP
 
 sys.path.append(str(TOP / "docs/make"))
 
-import claims  # noqa: E402: the way to it stands above
+import believed  # noqa: E402: the way to it stands above
+import claims  # noqa: E402: likewise
 import functions  # noqa: E402: likewise
 import statements  # noqa: E402: likewise
 
@@ -221,4 +222,34 @@ def statements_drift(trial):
         trial.sees(not tree.told(), f"of pages made anew is told {tree.told()}")
 
 
-PARTS = (told_claims, accepted_claims, statements_drift)
+def told_beliefs(trial, *said, placed=believed.placed, proved=believed.proved):
+    """Sees that of an order of definitions, and of what carries README's sentences, this is
+    told."""
+    stood = believed.placed, believed.proved
+    believed.placed, believed.proved = placed, proved
+    for cached in (believed.shown, believed.passed):
+        cached.cache_clear()
+    found = list(believed.drifts())
+    believed.placed, believed.proved = stood
+    trial.sees(bool(found) == bool(said) and all(any(s in line for line in found) for s in said),
+               f"{said} is not told: {found[:3]}")
+
+
+def lacks_beliefs(trial):
+    """What README's sentences rest on, taken out of part I of docs/DEFINITIONS.md."""
+    real, rows = believed.placed, believed.proved()
+    told_beliefs(trial)
+    for left, said in ((("aia_model", "Script"), "lacks"), (("plans_rules", "Safe"), "lacks"),
+                       (("aia_c", "Codes"), "'The model is also a library', by"),
+                       (("aia_word", "src/nosuch.rt"), ""),
+                       (("aia_model", "src/answer.rt", "Answer"), "Answer of aia_model src/answer"),
+                       (("aia_replay", "Stands"), "aia_replay Stands, which")):
+        told_beliefs(trial, *[said] * bool(said), placed=lambda kind, left=left: [
+            at for at in real(kind) if left not in (at, at[2:])])
+    words = next(iter(rows))
+    for other, said in (({**rows, words: [("aia_laws", "nosuch")]}, "which is not there"),
+                        (dict(list(rows.items())[1:]), "has nothing that carries")):
+        told_beliefs(trial, said, proved=lambda other=other: other)
+
+
+PARTS = (told_claims, accepted_claims, statements_drift, lacks_beliefs)

@@ -8,6 +8,7 @@
 import sys
 import traceback
 
+import believed
 import checks
 import claims
 import definitions
@@ -23,7 +24,7 @@ def main():
         return 0
     if sys.argv[1] == "claims":
         return claims.accept(sys.argv[2:])
-    parts = (definitions, pictures, strength, statements, claims, checks)
+    parts = (definitions, believed, pictures, strength, statements, claims, checks)
     found = list(dict.fromkeys(line for part in parts for line in part.drifts()))
     for line in checks.aged():
         print(f"note: {line}")
