@@ -1,6 +1,7 @@
 """Tries what docs/make sees of sentences and what they stand for, as suite/tools does: each
 function takes its Trial. A crate of its own, with a page that has it in words, has faults planted
-one after the other, each taken back; so has the order of the definitions."""
+one after the other, each taken back; so have the order of the definitions and the
+header of the library for C."""
 
 import sys
 
@@ -11,6 +12,7 @@ sys.path.append(str(TOP / "docs/make"))
 import believed  # noqa: E402: the way to it stands above
 import claims  # noqa: E402: likewise
 import functions  # noqa: E402: likewise
+import header  # noqa: E402: likewise
 import statements  # noqa: E402: likewise
 
 PAGE = f"{claims.PAGES}words.md"
@@ -252,4 +254,41 @@ def lacks_beliefs(trial):
         told_beliefs(trial, said, proved=lambda other=other: other)
 
 
-PARTS = (told_claims, accepted_claims, statements_drift, lacks_beliefs)
+# What is planted into the header of the library for C, and what has to be told of it.
+HEADERS = [
+    ("int32_t aia_vm(", "int32_t aia_vms(", "has the call aia_vms, which"),
+    ("int32_t aia_vm(", "int32_t aia_vms(", "lacks the call aia_vm, which"),
+    ("int32_t aia_refetch(", "int64_t aia_refetch(", "has the call aia_refetch as int64_t"),
+    ("uint64_t addr, uint32_t value", "uint64_t addr, uint64_t value", "has the call aia_store as"),
+    ("aia_load(struct aia **handle, uint64_t addr, uint32_t *value)",
+     "aia_load(struct aia **handle, uint32_t *value, uint64_t addr)", "has the call aia_load as"),
+    ("uint64_t source, bool level", "uint64_t source", "has the call aia_wire as"),
+    ("const uint8_t *text", "uint8_t *text", "has the call aia_line as"),
+    ("void aia_close(struct aia **handle)", "void aia_close(struct aia *handle)", "aia_close as"),
+    ("AIA_FULL = 33", "AIA_FULL = 34", "has the code FULL as 34"),
+    ("AIA_HOME = 35,       /* home */", "AIA_HOME = 35, /* busy */", "the answer of HOME as busy"),
+    ("    AIA_OPEN = 3, ", "", "lacks the code OPEN"),
+    ("AIA_CSRRS = 2", "AIA_CSRRS = 3", "has the instruction CSRRS as 3"),
+    ("AIA_SIP = 0x144", "AIA_SIP = 0x104", "has the CSR SIP as 260"),
+    ("AIA_ANSWER 64", "AIA_ANSWER 63", "has the constant ANSWER as 63"),
+    ("AIA_VERSION 10000", "AIA_VERSION 10001", "says the version 10001"),
+]
+
+
+def header_drifts(trial):
+    """The header of the library for C, with something changed in it."""
+    stood, text = header.read, header.read()
+    trial.sees(not list(header.drifts()), f"of the header is told {list(header.drifts())}")
+    for old, new, said in HEADERS:
+        trial.sees(old in text, f"the header has no {old!r}, where a fault was to be planted")
+        header.read = lambda old=old, new=new: text.replace(old, new, 1)
+        found = list(header.drifts())
+        trial.sees(any(said in line for line in found), f"of {new!r} is told {found}")
+    header.read = stood
+    for given, wanted in (("&mut [u8]", ["uint8_t *at", "size_t room"]), ("Global", []),
+                          ("&[u8]", ["const uint8_t *at", "size_t length"]),
+                          ("u32", ["uint32_t at"]), ("&mut Handle", ["struct aia **at"])):
+        trial.sees(header.in_c("at", given) == wanted, f"{given} is {header.in_c('at', given)}")
+
+
+PARTS = (told_claims, accepted_claims, statements_drift, lacks_beliefs, header_drifts)

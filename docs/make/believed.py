@@ -1,9 +1,10 @@
-"""Sees that part I of docs/DEFINITIONS.md has all that README's sentences on what is proved rest on.
+"""Sees that part I of docs/DEFINITIONS.md has all that README's sentences on what is proved rest
+on.
 
-docs/make/proved.txt says which laws, clauses and definitions carry a sentence; of the library for C,
-which README says is proved call by call, each of its calls and laws does. All definitions that these
-name, and that those name in turn, down to names of libraries, have to stand in part I. Where it says
-in words what a module has (`@passed` in docs/make/definitions.order) they need not.
+docs/make/proved.txt says which laws, clauses and definitions carry a sentence; of the library for
+C, which README says is proved call by call, each of its calls and laws does. All definitions that
+these name, and that those name in turn, down to names of libraries, have to stand in part I. Where
+it says in words what a module has (`@passed` in docs/make/definitions.order) they need not.
 """
 
 from functools import cache
@@ -78,8 +79,8 @@ def lacking(what, crate, keys):
 
 
 def of_sentences():
-    """Says what part I lacks of what carries README's sentences, and which sentence has nothing that
-    carries it."""
+    """Says what part I lacks of what carries README's sentences, and which sentence nothing
+    carries."""
     for sentence in claims():
         if not any(sentence.removeprefix("- ").startswith(words) for words in proved()):
             yield f"README.md: docs/make/proved.txt has nothing that carries '{sentence[:40]}'"

@@ -12,6 +12,7 @@ import believed
 import checks
 import claims
 import definitions
+import header
 import pictures
 import statements
 import strength
@@ -24,7 +25,7 @@ def main():
         return 0
     if sys.argv[1] == "claims":
         return claims.accept(sys.argv[2:])
-    parts = (definitions, believed, pictures, strength, statements, claims, checks)
+    parts = (definitions, believed, pictures, strength, statements, claims, header, checks)
     found = list(dict.fromkeys(line for part in parts for line in part.drifts()))
     for line in checks.aged():
         print(f"note: {line}")
