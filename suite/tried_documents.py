@@ -208,6 +208,22 @@ def accepted_claims(trial):
             trial.sees(tree.accepted(word) == 2, f"the function {word!r} is accepted")
 
 
+def shows_before(trial):
+    """The statement that was accepted, as a commit has it, and none where no commit has it."""
+    said = {"log": "c1\n", "grep": "c1:crates/bits/src/lib.rt\n", "show": SOURCE}
+    real = claims.git
+    with Tree(trial) as tree:
+        tree.accepted("count", "none_is_lost")
+        key = ("bits", "Bits::count", "few")
+        accepted = claims.ledger()[key]
+        for text, wanted in ((SOURCE, "c1"), (SOURCE.replace(*FEW), "")):
+            claims.git = lambda command, *_, text=text: {**said, "show": text}[command]
+            found, commit = claims.before(key, accepted)
+            trial.sees(commit == wanted and (FEW[0] in found) == bool(wanted),
+                       f"of the statement before is said {found!r}, at {commit!r}")
+        claims.git = real
+
+
 def statements_drift(trial):
     """A page of statements that is changed by hand, and one that stands for no page."""
     with Tree(trial) as tree:
@@ -291,4 +307,5 @@ def header_drifts(trial):
         trial.sees(header.in_c("at", given) == wanted, f"{given} is {header.in_c('at', given)}")
 
 
-PARTS = (told_claims, accepted_claims, statements_drift, lacks_beliefs, header_drifts)
+PARTS = (told_claims, accepted_claims, shows_before, statements_drift, lacks_beliefs,
+         header_drifts)
