@@ -210,7 +210,7 @@ def accepted_claims(trial):
 
 def shows_before(trial):
     """The statement that was accepted, as a commit has it, and none where no commit has it."""
-    said = {"log": "c1\n", "grep": "c1:crates/bits/src/lib.rt\n", "show": SOURCE}
+    said = {"log": "c1\n", "grep": "c1:crates/bits/src/lib.rt\n"}
     real = claims.git
     with Tree(trial) as tree:
         tree.accepted("count", "none_is_lost")
