@@ -139,7 +139,9 @@ def reasons(trial):
                    f"{' '.join(map(str, words))} says {ran.errors}")
     for words, said in ((["statuses", NO_PROGRAM], f"statuses: there is no program {NO_PROGRAM}"),
                         (["c-library", "/nosuch"], "c-library: there is no folder /nosuch"),
-                        (["documents", "mak"], "documents: there is no command 'mak': there is make"),
+                        (["documents", "mak"],
+                         "documents: there is no command 'mak': there are make and claims"),
+                        (["documents", "claims"], "documents: claims wants at least one FUNCTION"),
                         (["step-numbers", "tri"],
                          "step-numbers: there is no command 'tri': there is try"),
                         (["make", "a", "b"], "make: one FOLDER at most is wanted, and not 2 words"),

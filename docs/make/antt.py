@@ -70,7 +70,7 @@ def imports(uses):
     """Lists what a module imports of the repository, as (crate, module or src/file.rt, names)."""
     found = []
     for use in uses:
-        match = re.match(r"use Rattle\.(aia\w*)\.specs\.(.*)", use)
+        match = re.match(r"use Rattle\.((?:aia|plans)\w*)\.specs\.(.*)", use)
         if not match:
             continue
         crate, rest = match.groups()

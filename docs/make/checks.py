@@ -5,6 +5,7 @@ import subprocess
 from functools import cache
 
 from antt import TOP, clauses
+from claims import pages, sections
 from constants import limit
 from markdown import anchors, documents, read, rows, section, sentences, spoken, words
 from pictures import address
@@ -303,7 +304,7 @@ def crates():
     table = rows(section("docs/CRATES.md", "The crates"))
     stands = [name for cells in table for name in ticked(cells[0])]
     yield from differ("docs/CRATES.md, The crates,", stands, wanted)
-    promises = " ".join(read(n) for n in documents() if "PROMISES" in n or "/promises/" in n)
+    promises = " ".join(read(name) for name in ["docs/PROMISES.md", *pages()])
     for crate in wanted:
         if not re.search(rf"\b{crate}\b", promises):
             yield f"docs/PROMISES.md says nothing of {crate}"
@@ -320,10 +321,8 @@ def crates():
 
 def promised():
     """Sees that docs/promises names functions and clauses that are there, and each law."""
-    for name in documents():
-        if not name.startswith("docs/promises/"):
-            continue
-        for heading, body in re.findall(r"(?ms)^## `(\w+)`.*?\n(.*?)(?=^## |\Z)", read(name)):
+    for name in pages():
+        for heading, body in sections(name):
             text = source(heading)
             if text is None:
                 yield f"{name} speaks of {heading}, which is no crate"

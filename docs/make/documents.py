@@ -1,20 +1,31 @@
-"""Checks the documents, or makes anew what is made of the tree."""
+"""Checks the documents, makes anew what is made of the tree, or accepts statements.
+
+    documents.py check
+    documents.py make
+    documents.py claims FUNCTION..
+"""
 
 import sys
 import traceback
 
+import believed
 import checks
+import claims
 import definitions
+import header
 import pictures
+import statements
 import strength
 
 
 def main():
     if sys.argv[1] == "make":
-        for maker in (definitions, pictures, strength):
+        for maker in (definitions, pictures, strength, statements):
             maker.make()
         return 0
-    parts = (definitions, pictures, strength, checks)
+    if sys.argv[1] == "claims":
+        return claims.accept(sys.argv[2:])
+    parts = (definitions, believed, pictures, strength, statements, claims, header, checks)
     found = list(dict.fromkeys(line for part in parts for line in part.drifts()))
     for line in checks.aged():
         print(f"note: {line}")

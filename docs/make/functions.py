@@ -131,7 +131,11 @@ def comment_above(lines, at):
 
 def functions(crate, file):
     """Lists the functions of a source file that others see or that are part of a trait."""
-    lines = source_lines(crate, file)
+    return functions_in(crate, file, source_lines(crate, file))
+
+
+def functions_in(crate, file, lines):
+    """Lists those of a source file with these lines."""
     laws = set(LAW.findall("\n".join(lines)))
     found, owner, is_trait = [], "", False
     for at, line in enumerate(lines):
