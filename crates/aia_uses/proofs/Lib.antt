@@ -8,3 +8,4 @@ mod HearingFacts
 mod ReachedFacts
 mod EventsFacts
 mod CarryingFacts
+mod PassedFacts

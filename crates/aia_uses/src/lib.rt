@@ -13,6 +13,7 @@ pub mod hosts;
 pub mod images;
 pub mod moves;
 pub mod notices;
+pub mod passed;
 pub mod requests;
 pub mod serving;
 pub mod told;
