@@ -9,3 +9,4 @@ mod ReachedFacts
 mod EventsFacts
 mod CarryingFacts
 mod PassedFacts
+mod BesideFacts

@@ -5,6 +5,7 @@
 #![tactic(auto)]
 
 pub mod alone;
+pub mod beside;
 pub mod carrying;
 pub mod claims;
 pub mod forwards;
