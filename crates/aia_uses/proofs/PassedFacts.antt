@@ -44,6 +44,10 @@ told_or_lands h line g i (inl void) = absurd void
 told_or_lands h line g i (inr (inl is)) = inl (told h line g i is)
 told_or_lands h line g i (inr (inr lands)) = inr lands
 
+pub told_or_asked : {F B : Type 0} → F ⊎ ((true ≡ true) × B) → F ⊎ B
+told_or_asked (inl is) = inl is
+told_or_asked (inr lands) = inr lands.1
+
 pub comes : {B : Type 0} (h : History) (line : Line) (g : Vcpu) (i : ℕ) → IsForwarded h line g i ⊎ ((false ≡ true) × B) → IsForwarded h line g i
 comes h line g i (inl is) = is
 comes h line g i (inr lands) = absurd (false≢true lands.0)

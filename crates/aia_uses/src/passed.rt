@@ -14,6 +14,7 @@ ghost use Rattle.aia_vcpu.specs.Routes.{is_at_fence};
 ghost use Rattle.aia_model.specs.declared.line.Line.{Line};
 ghost use Rattle.aia_model.specs.declared.line.Line.TheVariants as lines;
 ghost use Rattle.aia_model.specs.declared.msi.Msi.{Msi};
+ghost use Rattle.aia_model.specs.declared.want.Want.TheVariants.{Leave};
 ghost use Rattle.aia_model.specs.Event.{History, has_machine, greatest_identity_of};
 ghost use Rattle.aia_model.specs.Flight.{flight};
 ghost use Rattle.aia_model.specs.HomeOf.{home};
@@ -65,7 +66,8 @@ pub fn what_comes_is_asked_for_or_forwarded()
 }
 
 /// What becomes pending within a step of a move was forwarded, or asked for by a store in flight of
-/// the VM, and the step is the fence; within a whole move too, whose fence is among its steps.
+/// the VM, and the step is the fence; within a whole leave too, whose fence is among its steps. No
+/// store in flight lands within a line of a wire.
 pub fn what_comes_within_a_move()
     ensures step { (h : History) (x g : Vcpu) (i : ℕ) → has_machine h ≡ true
         → (guest_file h g).pending i ≡ false
@@ -76,6 +78,14 @@ pub fn what_comes_within_a_move()
         × (list_any (λ s. is_vcpu g (sent_to x.vm s)
         && names (requested (greatest_identity_of h) (s.addr % PAGE) s.value) i)
         (flight h x.vm) ≡ true))) }
+    ensures leave { (h : History) (x g : Vcpu) (i : ℕ) → has_machine h ≡ true
+        → (guest_file h g).pending i ≡ false
+        → (guest_file (after h (lines.Move x.vm x.number Leave)) g).pending i ≡ true
+        → (refusal h (lines.Move x.vm x.number Leave) ≡ None)
+        × (IsForwarded h (lines.Move x.vm x.number Leave) g i
+        ⊎ (list_any (λ s. is_vcpu g (sent_to x.vm s)
+        && names (requested (greatest_identity_of h) (s.addr % PAGE) s.value) i)
+        (flight h x.vm) ≡ true)) }
     ensures wire { (h : History) (source : ℕ) (level : Bool) (g : Vcpu) (i : ℕ)
         → has_machine h ≡ true → (guest_file h g).pending i ≡ false
         → (guest_file (after h (lines.Wire source level)) g).pending i ≡ true
