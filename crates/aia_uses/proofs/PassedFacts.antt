@@ -1,5 +1,5 @@
 -- What a forward is, spelled out; and what the worked script has pending before and after one.
-use Rattle.std.proofs.Common.{◌≡◌, ◌⊎◌, ℕ, true, false, refl, inl, inr}
+use Rattle.std.proofs.Common.{◌≡◌, ◌≢◌, ◌⊎◌, ◌∙◌, ℕ, true, false, Option, Some, None, is_some, refl, sym, ap, inl, inr}
 use Rattle.std.proofs.lemmas.Bool.{false≢true}
 use Rattle.aia_word.specs.Sets.{word_of, least_of}
 use Rattle.aia_word.specs.Packed.{packed, ones}
@@ -15,7 +15,7 @@ use Rattle.aia_model.specs.MajorOf.{majors_of}
 use Rattle.aia_model.specs.HomeOf.{home}
 use Rattle.aia_model.specs.ReachOf.{in_force_of, stage_in_force_of}
 use Rattle.aia_model.specs.Flight.{flight}
-use Rattle.aia_model.specs.Passes.{passes_of}
+use Rattle.aia_model.specs.Passes.{passes_of, passed_by}
 use Rattle.aia_model.specs.Notice.{look_saw}
 use Rattle.aia_model.specs.Act.{newest}
 use Rattle.aia_model.specs.SourceOf.{wire_of, enabled, target, pending, genmsi_waits}
@@ -27,6 +27,7 @@ use Rattle.aia_model.specs.Script.{history_of}
 use Rattle.aia_isolation.specs.Forwarded.{ForwardsAs}
 use Rattle.aia_uses.specs.declared.forwards.TheConstants.{PASSED}
 use Rattle.aia_uses.specs.Passed.{IsForwarded}
+use Rattle.aia_uses.specs.Worked.{in_flight}
 
 pub told : (h : History) (line : Line) (g : Vcpu) (i : ℕ) → ForwardsAs h line g i → IsForwarded h line g i
 told h line g i is = (is.msi, is.p, is.sent, is.passed, is.to, is.identity)
@@ -68,3 +69,16 @@ unfolding word_of least_of packed ones number_at n32_at flag_at csr_at line_at r
     stage_in_force_of flight passes_of look_saw domain_register_of newest wire_of enabled target pending least_pair addresses_of genmsi_waits
     all_senders after
 is_asked = refl
+
+none≢some : {p : ℕ} → None ≢ Some p
+none≢some e = false≢true (ap is_some e)
+
+none_passed : (source : Option ℕ) → passed_by in_flight source ≡ None
+unfolding passes_of least_of
+none_passed None = refl
+none_passed (Some s) = refl
+
+-- no source is passed in the history before the fence, so none is forwarded
+pub lands_there : {L : Type 0} (line : Line) (g : Vcpu) (i : ℕ) → IsForwarded in_flight line g i ⊎ L → L
+lands_there line g i (inl is) = absurd (none≢some (sym (none_passed is.0.source) ∙ is.3))
+lands_there line g i (inr lands) = lands

@@ -27,6 +27,7 @@ ghost use Rattle.aia_model.specs.Histories.{IsHistory};
 ghost use Rattle.aia_model.specs.Script.{history_of};
 ghost use Rattle.aia_uses.specs.declared.forwards.TheConstants.{PASSED};
 ghost use Rattle.aia_uses.specs.Passed.{IsForwarded};
+ghost use Rattle.aia_uses.specs.Worked.{in_flight};
 
 use aia_isolation::guests::none_comes_unasked_where_sources_are_passed;
 
@@ -110,6 +111,13 @@ pub fn one_comes_by_a_wire()
     ensures every_line { (p : ℕ) × ((nth_pass (history_of PASSED.now) p).identity ≡ 5) }
     ensures forwarded { (guest_file (after (history_of PASSED.now) (lines.Wire 1 true))
         (vcpu 0 0)).pending 5 ≡ true }
+{
+    none_comes_unasked_where_sources_are_passed();
+}
+
+/// One that comes at the fence of a leave, of a store that was in flight.
+pub fn one_comes_at_a_fence()
+    ensures { is_at_fence (home in_flight (vcpu 0 0)) ≡ true }
 {
     none_comes_unasked_where_sources_are_passed();
 }
