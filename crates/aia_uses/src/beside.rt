@@ -76,11 +76,28 @@ pub fn what_the_machine_level_is_answered_beside_passes()
     the_machine_level_is_answered_by_its_lines_and_by_passes();
 }
 
-/// One script that passes a source, beside what is left of it for VM 0 and for the machine level.
+/// The host loads and stores at its own file, while the hypervisor injects an interrupt.
+pub const HOST_AT_ITS_FILE: &str = "machine 1 2 63 8
+vm 1 0x8 0
+ld 0x24000000
+st 0x24000000 3
+inject 0 0 5 1
+";
+
+/// What is left of it for the VM.
+pub const INJECTED: &str = "machine 1 2 63 8
+vm 1 0x8 0
+inject 0 0 5 1
+";
+
+/// One script that passes a source, beside what is left of it for VM 0 and for the machine level;
+/// and one where the host loads and stores at its file, which nothing for the VM turns on.
 pub fn one_script_beside_its_parts()
     ensures vm { answers_to (concerns_by_sources 0) BESIDE.now ≡ answers BESIDE_VM.now }
     ensures vm_in_two { answers_to (concerns_by_sources 0) BESIDE.now
         ≡ answers_to (concerns_by_sources 0) BESIDE_VM.now }
+    ensures host { answers_to (concerns_by_sources 0) HOST_AT_ITS_FILE.now
+        ≡ answers INJECTED.now }
     ensures machine { answers_to is_of_machine_level_by_sources BESIDE.now
         ≡ answers BESIDE_MACHINE.now }
     ensures machine_in_two { answers_to is_of_machine_level_by_sources BESIDE.now
