@@ -8,3 +8,5 @@ mod HearingFacts
 mod ReachedFacts
 mod EventsFacts
 mod CarryingFacts
+mod PassedFacts
+mod BesideFacts

@@ -1,3 +1,4 @@
 pub mod Worked
 pub mod Since
 pub mod Reached
+pub mod Passed

@@ -5,6 +5,7 @@
 #![tactic(auto)]
 
 pub mod alone;
+pub mod beside;
 pub mod carrying;
 pub mod claims;
 pub mod forwards;
@@ -13,6 +14,7 @@ pub mod hosts;
 pub mod images;
 pub mod moves;
 pub mod notices;
+pub mod passed;
 pub mod requests;
 pub mod serving;
 pub mod told;
