@@ -16,7 +16,8 @@ use Rattle.aia_model.specs.StateOf.{state_of}
 use Rattle.aia_isolation.specs.Concerns.{concerns, is_about_homes, is_of_machine_level}
 
 -- Whether a line decides what the APLIC sends, beside those about where virtual harts are: it
--- drives a wire, loads or stores in a control region, or passes a source, to whichever virtual hart.
+-- drives a wire, loads or stores in a control region, or passes a source, to whichever virtual
+-- hart.
 abbrev pub is_about_sources : Line → Bool
 is_about_sources (Wire source level) = true
 is_about_sources (Load addr) = is_some (domain_at addr)
