@@ -1,13 +1,12 @@
 """Tries suite/weaken, as suite/tools does, in a tree of its own with an rt that only pretends, and
 which plants it finds in the crates of laws: each function takes its Trial."""
 
-import os
 import shutil
 import signal
 import sys
 from pathlib import Path
 
-import answers
+import pretended
 import using
 import weakening
 from running import TOP
@@ -102,14 +101,13 @@ NAMES = ("narrower Words: Seen, never : ⊥", "wider Words: Seen, is : Unit {0}"
          "narrower Words: is_low zero = false", "narrower Words: is_low n = false")
 
 
-class Tree:
+class Tree(pretended.Tree):
     """A tree with a crate of laws, `low`, one of uses, one below both, and an rt."""
 
+    TOOL, FILES, RT = "weaken", FILES, RT
+
     def __init__(self, trial, name):
-        self.trial, self.folder = trial, trial.folder / f"weaken-{name}"
-        self.kept, self.noted = self.folder / "kept", self.folder / "noted"
-        for file in FILES:
-            self.write(file, (TOP / file).read_text(encoding="utf-8"))
+        super().__init__(trial, name)
         self.write("crates.txt", "# Crates\nbase:\nlow:\nlow_uses: low base\n")
         for file, text in (("base/src/lib.rt", "pub fn one() -> u32 {\n    1\n}\n"),
                            ("low/src/lib.rt", "pub mod laws;\n"), ("low/src/laws.rt", LAWS),
@@ -121,43 +119,6 @@ class Tree:
                            ("low_uses/proofs/Facts.antt", "pub fact : Unit {0}\nfact = tt\n"),
                            ("low_uses/proofs/using_it/a_use/Answers.antt", ANSWERS)):
             self.write(f"crates/{file}", text)
-        self.write("bin/rt", RT.replace("@FOLDER@", str(self.folder)))
-        for file in ("suite/weaken", "bin/rt"):
-            (self.folder / file).chmod(0o755)
-
-    def write(self, file, text):
-        """Writes a file of the tree."""
-        path = self.folder / file
-        path.parent.mkdir(parents=True, exist_ok=True)
-        path.write_text(text, encoding="utf-8")
-
-    def given(self):
-        """Gives what rt was given since the last time."""
-        lines = self.noted.read_text(encoding="utf-8").split("\n") if self.noted.exists() else []
-        self.noted.unlink(missing_ok=True)
-        return [line.strip() for line in lines if line]
-
-    def run(self, *words, path=None, before=()):
-        """Runs the tool with words, by a command before it; gives how it ended."""
-        temporary = self.folder / "tmp"
-        temporary.mkdir(exist_ok=True)
-        path = path or f"{self.folder}/bin:{os.environ['PATH']}"
-        ran = self.trial.run("env", f"PATH={path}", f"TMPDIR={temporary}", *before, self.folder
-                             / "suite/weaken", "--kept", self.kept, *words, seconds=40)
-        self.trial.sees(not any(temporary.iterdir()), f"weaken {words} leaves a folder")
-        return ran
-
-    def sees(self, status, texts, *words):
-        """Sees that it ends with a status, and that it prints these texts, in this order."""
-        ran = self.run(*words)
-        said, at = answers.shown(ran.output), 0
-        for text in texts:
-            found = said.find(text, at)
-            self.trial.sees(found >= 0, f"weaken {words} prints no {text!r} there: {said}")
-            at = max(at, found)
-        self.trial.sees(ran.status == status,
-                        f"weaken {words} ends with {ran.status}: {ran.errors}")
-        return said
 
 
 def weaken_tells(trial):
@@ -234,7 +195,7 @@ def weaken_is_bounded(trial):
     tree.write("slow", "")
     tree.sees(2, [f"low {NAMES[5]}: not tried: it took too long"], "--seconds", "2", "low",
               "is_low")
-    sees_no_rt(trial, tree)
+    tree.sees_no_rt()
     tree.given()
     tree.sees(2, ["0 UNNOTICED, 0 not tried, 2 left for another run"], "--minutes", "0", "low",
               "Seen")
@@ -242,16 +203,7 @@ def weaken_is_bounded(trial):
     ran = tree.run("low", "is_low", before=("timeout", "--preserve-status", "-s", "TERM", "6"))
     trial.sees(ran.status == 128 + signal.SIGTERM and NAMES[5].encode() not in ran.output,
                f"weaken, stopped by a signal, ends with {ran.status}: {ran.output}")
-    sees_no_rt(trial, tree)
-
-
-def sees_no_rt(trial, tree):
-    """Sees that the rt that takes long was ended, if it was started."""
-    path = tree.folder / "pid"
-    if path.exists():
-        pid = path.read_text(encoding="ascii").strip()
-        trial.sees(not Path(f"/proc/{pid}").exists(), "weaken leaves rt behind")
-        path.unlink()
+    tree.sees_no_rt()
 
 
 def places_in_laws(trial):

@@ -1,13 +1,12 @@
 """Tries suite/wider, as suite/tools does, in a tree of its own with an rt that only pretends, and
 what docs/make/strength.py tells of edits: each function takes its Trial."""
 
-import os
 import shutil
 import signal
 import sys
 from pathlib import Path
 
-import answers
+import pretended
 from running import TOP
 
 sys.path.append(str(TOP / "docs/make"))
@@ -41,28 +40,18 @@ exit 1
 """
 
 
-class Tree:
+class Tree(pretended.Tree):
     """A tree with two crates, `low` and `high`, a wider set and an rt."""
 
+    TOOL, FILES, RT = "wider", FILES, RT
+
     def __init__(self, trial, name):
-        self.trial, self.folder = trial, trial.folder / f"wider-{name}"
-        self.kept, self.noted = self.folder / "kept", self.folder / "noted"
-        for file in FILES:
-            self.write(file, (TOP / file).read_text(encoding="utf-8"))
+        super().__init__(trial, name)
         self.write("crates.txt", "# Crates\nlow:\nhigh: low\n")
         for crate in ("low", "high"):
             self.write(f"crates/{crate}/src/lib.rt", SOURCE)
             self.write(f"crates/{crate}/must-fail/tried_by_the_gate.edit",
                        EDIT.format(old="1", new="3"))
-        self.write("bin/rt", RT.replace("@FOLDER@", str(self.folder)))
-        for file in ("suite/wider", "bin/rt"):
-            (self.folder / file).chmod(0o755)
-
-    def write(self, file, text):
-        """Writes a file of the tree."""
-        path = self.folder / file
-        path.parent.mkdir(parents=True, exist_ok=True)
-        path.write_text(text, encoding="utf-8")
 
     def plant(self, *names, crate="low", old="1"):
         """Writes edits of the wider set, each another one."""
@@ -70,33 +59,9 @@ class Tree:
             self.write(f"crates/{crate}/more-fail/{name}.edit",
                        EDIT.format(old=old, new=f"{at + 7}"))
 
-    def given(self):
+    def edits(self):
         """Gives the edits that rt was given since the last time."""
-        lines = self.noted.read_text(encoding="utf-8").split("\n") if self.noted.exists() else []
-        self.noted.unlink(missing_ok=True)
-        return [line.split()[0] for line in lines if line]
-
-    def run(self, *words, path=None, before=()):
-        """Runs the tool with words, by a command before it; gives how it ended."""
-        temporary = self.folder / "tmp"
-        temporary.mkdir(exist_ok=True)
-        path = path or f"{self.folder}/bin:{os.environ['PATH']}"
-        ran = self.trial.run("env", f"PATH={path}", f"TMPDIR={temporary}", *before, self.folder
-                             / "suite/wider", "--kept", self.kept, *words, seconds=40)
-        self.trial.sees(not any(temporary.iterdir()), f"wider {words} leaves a folder")
-        return ran
-
-    def sees(self, status, texts, *words):
-        """Sees that it ends with a status, and that it prints these texts, in this order."""
-        ran = self.run(*words)
-        said, at = answers.shown(ran.output), 0
-        for text in texts:
-            found = said.find(text, at)
-            self.trial.sees(found >= 0, f"wider {words} prints no {text!r} there: {said}")
-            at = max(at, found)
-        self.trial.sees(ran.status == status,
-                        f"wider {words} ends with {ran.status}: {ran.errors}")
-        return said
+        return [line.split()[0] for line in self.given()]
 
 
 def wider_goes_on(trial):
@@ -108,19 +73,19 @@ def wider_goes_on(trial):
     said = tree.sees(0, ["low/one: refused: src/lib.rt:2:5 (`returns`)\n", "low/two: refused",
                          "high/three: refused", "3 refused, 0 LET THROUGH, 0 not tried\n"])
     trial.sees(said.count("\n") == 4, f"wider prints {said}")
-    trial.sees(tree.given() == ["low/one", "low/two", "high/three"], "wider gives rt other edits")
+    trial.sees(tree.edits() == ["low/one", "low/two", "high/three"], "wider gives rt other edits")
     tree.sees(0, ["low: 2 edits refused before\nhigh: 1 edit refused before\n3 refused"])
-    trial.sees(not tree.given(), "wider tries again what was refused")
+    trial.sees(not tree.edits(), "wider tries again what was refused")
     tree.sees(0, ["low/one: can be made, refused before\n", "3 edits, of which 0 can't"], "--list")
     tree.write("crates/high/src/lib.rt", SOURCE + "\n")
     tree.sees(0, ["low: 2 edits refused before\nhigh/three: refused: "])
-    trial.sees(tree.given() == ["high/three"], "wider tries other crates than what changed")
+    trial.sees(tree.edits() == ["high/three"], "wider tries other crates than what changed")
     tree.plant("two")
     tree.sees(0, ["low: 1 edit refused before\nlow/two: refused: "], "low")
-    trial.sees(tree.given() == ["low/two"], "wider tries other edits than what changed")
+    trial.sees(tree.edits() == ["low/two"], "wider tries other edits than what changed")
     tree.sees(0, ["low/one: ", "low/two: ", "2 refused"], "--anew", "--jobs", "3", "--at-once", "1",
               "low")
-    trial.sees(tree.given() == ["low/one", "low/two"], "wider --anew tries others")
+    trial.sees(tree.edits() == ["low/one", "low/two"], "wider --anew tries others")
     gate = (tree.folder / "crates/low/must-fail/tried_by_the_gate.edit").is_file()
     trial.sees(gate and not (tree.folder / "crates/low/must-fail/one.edit").exists(),
                "wider changes must-fail/ of the repository")
@@ -139,7 +104,7 @@ def wider_takes_words(trial):
                          (["./crates/high/"], ["high/four"]),
                          (["low", "crates/low/more-fail/two.edit"], ["low/two"])):
         tree.sees(0, [f"{len(given)} refused, 0 LET"], "--anew", *words)
-        got = tree.given()
+        got = tree.edits()
         trial.sees(got == given, f"wider {words} gives rt {got}")
     for words, said in ((["nosuch"], "there is no crate 'nosuch'"),
                         (["bare"], "crate bare has no edit in crates/bare/more-fail"),
@@ -150,7 +115,7 @@ def wider_takes_words(trial):
         ran = tree.run(*words)
         trial.sees(ran.status == 2 and not ran.output and said in ran.errors,
                    f"wider {words} ends with {ran.status}: {ran.errors!r}")
-    trial.sees(not tree.given(), "wider with a wrong name runs rt")
+    trial.sees(not tree.edits(), "wider with a wrong name runs rt")
 
 
 def wider_tells(trial):
@@ -159,9 +124,9 @@ def wider_tells(trial):
     tree.plant("fine", "is_proved")
     tree.sees(1, ["low/fine: refused: ", "low/is_proved: LET THROUGH: ",
                   "1 refused, 1 LET THROUGH, 0 not tried"])
-    tree.given()
+    tree.edits()
     tree.sees(1, ["low/is_proved: LET THROUGH: ", "low: 1 edit refused before\n"])
-    trial.sees(not tree.given(), "wider tries again what was let through")
+    trial.sees(not tree.edits(), "wider tries again what was let through")
     tree = Tree(trial, "untried")
     tree.plant("fine", "is_bad", "is_gone", "is_killed", "is_silent")
     tree.plant("has_no_place", crate="high", old="nosuch")
@@ -172,7 +137,7 @@ def wider_tells(trial):
                       " rt: the end\n",
                       "high/has_no_place: not tried: its old text stands 0 times",
                       "2 refused, 0 LET THROUGH, 4 not tried\n"])
-    trial.sees(tree.given() == ["low/fine", "low/is_bad", "low/is_gone", "low/is_killed",
+    trial.sees(tree.edits() == ["low/fine", "low/is_bad", "low/is_gone", "low/is_killed",
                                 "low/is_silent", "low/is_bad", "low/is_killed", "low/is_silent"],
                "wider tries others than what is left")
     tree.sees(2, ["high/has_no_place: can't be made: its old text", "of which 1 can't"], "--list",
@@ -186,23 +151,14 @@ def wider_is_bounded(trial):
     tree.plant("fine", "takes_long")
     tree.sees(2, ["low/fine: refused: ", "low/takes_long: not tried: it took too long",
                   "1 refused, 0 LET THROUGH, 1 not tried\n"], "--seconds", "2", "--at-once", "1")
-    sees_no_rt(trial, tree)
-    tree.given()
+    tree.sees_no_rt()
+    tree.edits()
     tree.sees(2, ["0 LET THROUGH, 0 not tried, 1 left for another run"], "--minutes", "0")
-    trial.sees(not tree.given(), "wider begins a call though the minutes are over")
+    trial.sees(not tree.edits(), "wider begins a call though the minutes are over")
     ran = tree.run(before=("timeout", "--preserve-status", "-s", "TERM", "5"))
     trial.sees(ran.status == 128 + signal.SIGTERM and b"takes_long" not in ran.output,
                f"wider, stopped by a signal, ends with {ran.status}: {ran.output}")
-    sees_no_rt(trial, tree)
-
-
-def sees_no_rt(trial, tree):
-    """Sees that the rt that takes long was ended, if it was started."""
-    path = tree.folder / "pid"
-    if path.exists():
-        pid = path.read_text(encoding="ascii").strip()
-        trial.sees(not Path(f"/proc/{pid}").exists(), "wider leaves rt behind")
-        path.unlink()
+    tree.sees_no_rt()
 
 
 def wider_refuses_words(trial):
@@ -220,7 +176,7 @@ def wider_refuses_words(trial):
         ran = tree.run(path=path)
         trial.sees(ran.status == 2 and "there is no rt" in ran.errors,
                    f"wider without rt ends with {ran.status}: {ran.errors}")
-    trial.sees(not tree.given(), "wider with wrong words runs rt")
+    trial.sees(not tree.edits(), "wider with wrong words runs rt")
 
 
 def planted_bugs(trial):
