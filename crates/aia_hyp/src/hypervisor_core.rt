@@ -36,13 +36,10 @@ use aia_model::Refusal;
 use aia_move::Plan;
 use aia_pool::Pool;
 use aia_regs::address_map::{PAGE, is_in_memory};
-use aia_regs::limits::{GUEST_FILES, HARTS, VCPUS, VM_VCPUS, VMS};
+use aia_regs::limits::{GUEST_FILES, HARTS, SELECT_NUMBERS, VCPUS, VM_VCPUS, VMS};
 use aia_regs::{Csr, FileReg, Level, Op};
 use std::alloc::{AllocError, Global};
 use std::marker::Model;
-
-/// The select numbers that a select CSR keeps are below this.
-const SELECT_NUMBERS: u64 = 0x1000;
 
 /// Two select numbers for each hart.
 const SELECTS: usize = 2 * HARTS as usize;

@@ -84,7 +84,8 @@ impl Core {
         requires { self.old.world.imsic.harts ≡ (T.map targets.old).harts }
         ensures takes { CoreTakes self.old self.new (Step vm number)
             (answer_by step_answer result) }
-        ensures one { (plan : PlanState) → (record_of self.old (vcpu vm number)).stay ≡ Stay.Moving plan
+        ensures one { (plan : PlanState)
+            → (record_of self.old (vcpu vm number)).stay ≡ Stay.Moving plan
             → OnOk result (MakesOne self.old.world (moving_of plan) self.new.world) }
         ensures aims { (h : History) → CoreStands self.old h
             → UnlessRefused (refusal h (Step vm number))

@@ -53,7 +53,8 @@ guest_pending_said past event g i =
     pending_said (guest_select past g) (guest_file past g) (guest_deed g past event) i
 
 abbrev pub host_pending_said : History → Event → FileName → ℕ → BitUpdate
-host_pending_said past event f n = pending_said (select_of past f) (file_of past f) (deed_at f past event) n
+host_pending_said past event f n =
+    pending_said (select_of past f) (file_of past f) (deed_at f past event) n
 
 -- ---- since the newest request, and since the newest leave
 
@@ -65,7 +66,8 @@ begins_leave past event g = false
 -- Whether the host is to be told anew, after an event, of identity i at a virtual hart: the event
 -- asks for it there, or begins a leave of the virtual hart.
 abbrev pub is_to_be_told : History → Event → Vcpu → ℕ → Bool
-is_to_be_told past event g i = begins_leave past event g || is_ask (guest_pending_said past event g i)
+is_to_be_told past event g i =
+    begins_leave past event g || is_ask (guest_pending_said past event g i)
 
 -- Whether a virtual hart, where there is one, is g.
 abbrev pub names_vcpu : Option Vcpu → Vcpu → Bool

@@ -92,8 +92,8 @@ impl Plan {
         }
     }
 
-    /// Makes the next step of the plan where it lies, unless that is the last one, and tells whether
-    /// it made one; where it made none, nothing is changed.
+    /// Makes the next step of the plan where it lies, unless that is the last one, and tells
+    /// whether it made one; where it made none, nothing is changed.
     pub fn step_in_place<T: Targets>(&mut self, fabric: &mut Fabric, targets: &mut T) -> bool
         requires fits { MoveFits fabric.old (moving_of self.old) }
         requires phase { IsInPhase (width fabric.old) self.old }
@@ -134,8 +134,8 @@ impl Plan {
         self.stage
     }
 
-    /// Gives the move as the state of the phase that it is in. An arrival and a shift have no looks,
-    /// and are never in that phase.
+    /// Gives the move as the state of the phase that it is in. An arrival and a shift have no
+    /// looks, and are never in that phase.
     pub fn into_state(self) -> State
         ensures same { moving_of (plan_of result) ≡ moving_of self }
         ensures phase { (words : ℕ) → IsInPhase words self → plan_of result ≡ self }

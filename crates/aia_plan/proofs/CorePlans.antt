@@ -3,6 +3,7 @@
 use Rattle.std.proofs.Common.{◌≡◌, ℕ, zero, suc, ◌+◌, ◌<◌, ◌≤◌, Bool, true, false, [], ◌∷◌, ◌++◌, None, inl, inr, refl, sym, subst, arith}
 use Rattle.std.proofs.lemmas.Bool.{and_parts}
 use Rattle.std.specs.List.{All, AllByRecursion, list_all}
+use Rattle.aia_regs.specs.declared.limits.TheConstants.{FILE_WORDS}
 use Rattle.aia_plan.specs.declared.step.Kind.{Kind}
 use Rattle.aia_plan.specs.declared.step.Kind.TheVariants.{Leave, Arrive, Shift}
 use Rattle.aia_plan.specs.declared.step.Step.{Step}
@@ -12,7 +13,7 @@ use Rattle.aia_plan.specs.Rule.{failing}
 use Rattle.aia_plan.proofs.Throughout.{by_place}
 
 -- what holds of the six numbers of words holds of each
-pub of_width : (P : ℕ → Type 0) → P 1 → P 2 → P 4 → P 8 → P 16 → P 32 → (words : ℕ) → IsWidth words → P words
+pub of_width : (P : ℕ → Type 0) → P 1 → P 2 → P 4 → P 8 → P 16 → P FILE_WORDS → (words : ℕ) → IsWidth words → P words
 of_width P p1 p2 p4 p8 p16 p32 words (inl e) = subst P (sym e) p1
 of_width P p1 p2 p4 p8 p16 p32 words (inr (inl e)) = subst P (sym e) p2
 of_width P p1 p2 p4 p8 p16 p32 words (inr (inr (inl e))) = subst P (sym e) p4

@@ -1,5 +1,6 @@
 -- Plans of moves as lists of steps, and those that the hypervisor's core makes. Profile.
 use Rattle.std.specs.Prelude.{◌≡◌, ℕ, zero, suc, ◌<◌, ◌⊎◌, ⊤, Bool, true, false, nat_eq, List, [], ◌∷◌, ◌++◌}
+use Rattle.aia_regs.specs.declared.limits.TheConstants.{FILE_WORDS}
 use Rattle.aia_plan.specs.declared.step.Kind.{Kind}
 use Rattle.aia_plan.specs.declared.step.Kind.TheVariants as kinds
 use Rattle.aia_plan.specs.declared.step.Step.{Step}
@@ -36,7 +37,8 @@ is_step step other = false
 -- Profile: the powers of two.
 abbrev pub IsWidth : ℕ → Type 0
 IsWidth words =
-    (words ≡ 1) ⊎ ((words ≡ 2) ⊎ ((words ≡ 4) ⊎ ((words ≡ 8) ⊎ ((words ≡ 16) ⊎ (words ≡ 32)))))
+    (words ≡ 1)
+    ⊎ ((words ≡ 2) ⊎ ((words ≡ 4) ⊎ ((words ≡ 8) ⊎ ((words ≡ 16) ⊎ (words ≡ FILE_WORDS)))))
 
 -- A step names no word, or one below so many.
 abbrev pub IsInside : ℕ → Step → Type 0

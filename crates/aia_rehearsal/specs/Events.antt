@@ -90,11 +90,14 @@ landing_seen w p k (Some store) = landing_by (side_of w.imsic p store.entry)
 abbrev pub seen : RehearsedEvent → World → Passage → List Happening
 seen (Steps step) w p = happenings.Does step ∷ []
 seen (DeviceStores vm addr value) w p =
-    if is_for_moved w p vm addr then happenings.Stores (identity_asked (addr % PAGE) value) ∷ [] else []
+    if is_for_moved w p vm addr then happenings.Stores (identity_asked (addr % PAGE) value) ∷ []
+    else []
 seen (PeerStores vm to value) w p =
-    if is_vcpu (vcpu vm to) (mover_of p) then happenings.PeerStores (identity_asked 0 value) ∷ [] else []
+    if is_vcpu (vcpu vm to) (mover_of p) then happenings.PeerStores (identity_asked 0 value) ∷ []
+    else []
 seen (DeviceSends vm addr value) w p =
-    if is_for_moved w p vm addr then happenings.Sends (identity_asked (addr % PAGE) value) ∷ [] else []
+    if is_for_moved w p vm addr then happenings.Sends (identity_asked (addr % PAGE) value) ∷ []
+    else []
 seen (StoreLands vm k) w p =
     if nat_eq vm p.who.found.vm then landing_seen w p k (slice_get (flight_of w vm) k) else []
 seen (EntryRead vm file) w p =

@@ -1,5 +1,5 @@
-//! The forms of lines, as a table in parts: the keyword, the kinds of the fields in their order, the
-//! line. Lines are read and printed by its rows.
+//! The forms of lines, as a table in parts: the keyword, the kinds of the fields in their order,
+//! the line. Lines are read and printed by its rows.
 //!
 //! Those that end with a CSR instruction or a part of an image, `begin`, and those that have a word
 //! of their own behind a hart or a virtual hart, have functions beside it.
