@@ -66,8 +66,8 @@ fn guest_csr(csr: u32) -> Option<Csr>
 }
 
 /// Gives the line of an instruction of a virtual hart, `None` where a number names none.
-pub fn guest_access(vm: u64, number: u64, csr: u32, funct: u32, operand: u64) -> Option<Line>
-    ensures line { result ≡ guest_access vm number csr funct operand }
+pub fn guest_access(vm: u64, vcpu: u64, csr: u32, funct: u32, operand: u64) -> Option<Line>
+    ensures line { result ≡ guest_access vm vcpu csr funct operand }
     ensures listed { IfSome result IsListed }
     ensures plain { IfSome result (λ line. makes_machine [] line ≡ false) }
 {
@@ -75,7 +75,7 @@ pub fn guest_access(vm: u64, number: u64, csr: u32, funct: u32, operand: u64) ->
     let op = op_of(funct, operand)?;
     Some(Line::GuestCsr {
         vm,
-        number,
+        vcpu,
         csr,
         op,
     })

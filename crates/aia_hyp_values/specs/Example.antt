@@ -13,7 +13,7 @@ use Rattle.aia_file.specs.Imsic.{ImsicState}
 use Rattle.aia_entry.specs.declared.entry.Entry.TheVariants.{NotValid}
 use Rattle.aia_entry.specs.Tables.{TableState}
 use Rattle.aia_vcpu.specs.declared.place.GuestPlace.{GuestPlace}
-use Rattle.aia_vcpu.specs.Vms.{Vcpu, vcpu}
+use Rattle.aia_vcpu.specs.Vms.{Vcpu, vcpu_of}
 use Rattle.aia_vcpu.specs.Home.{Progress}
 use Rattle.aia_vcpu.specs.Home.Home.{OnWay}
 use Rattle.aia_vcpu.specs.Home.Way.{Outward}
@@ -56,10 +56,10 @@ moved_whole aims h move =
 
 -- The virtual hart that is resident, and the one that leaves.
 abbrev pub stayer : Vcpu
-stayer = vcpu 0 0
+stayer = vcpu_of 0 0
 
 abbrev pub leaver : Vcpu
-leaver = vcpu 0 1
+leaver = vcpu_of 0 1
 
 -- Stores that make a source passable: the child domain has it, as an edge, and delivers by MSIs;
 -- and the registers of MSI addresses make these reach the files of the map.
@@ -182,7 +182,7 @@ example_world = record (new_world example_files 63) {
 abbrev pub leave_under_way : Moving
 leave_under_way = record {
   who = record {
-    found = record { vm = 0; number = 1; slot = 1; notice = 0 };
+    found = record { vm = 0; vcpu = 1; slot = 1; notice = 0 };
     passes = record { items = record { source = 1; identity = 5; number = 0 } ∷ [] };
   };
   home = OnWay (Outward leaver_file) so_far;

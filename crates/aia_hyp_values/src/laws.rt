@@ -73,7 +73,7 @@ pub fn stores_reach_files_that_are_held()
         → is_out x.leases p ≡ false → sent_into v s ≢ Some p }
     ensures in_force { (x : CoreState) (h : History) (g : Vcpu) → CoreStands x h
         → has_vcpu h g ≡ true
-        → (entry_in_force (table_of x.world.tables g.vm) g.number
+        → (entry_in_force (table_of x.world.tables g.vm) g.vcpu
         ≡ leads_to (slot_of (vms_of h) g) (notice_hart (vms_of h) g) (in_force_of h g))
         × ((stage_of x.world g).in_force ≡ peers_reach (home h g)) }
     ensures own { (x : CoreState) (h : History) (v : ℕ) → CoreStands x h → has_vm h v ≡ true

@@ -4,7 +4,7 @@
 
 pub mod laws;
 mod passed;
-mod vcpu;
+mod vcpu_of;
 
 pub use passed::Passed;
 pub use vcpu::{Stay, VcpuRecord};

@@ -56,4 +56,4 @@ loaded_all x (k ∷ earlier) was = part_loaded (part_of x k) (loaded_all x earli
 abbrev pub load_text : Vcpu → List ℕ → List ℕ
 load_text x printed =
     join_with_byte 32
-    (codes "load" ∷ decimal_text x.vm ∷ decimal_text x.number ∷ printed ∷ [])
+    (codes "load" ∷ decimal_text x.vm ∷ decimal_text x.vcpu ∷ printed ∷ [])

@@ -2,7 +2,7 @@
 use Rattle.std.specs.Prelude.{◌≡◌, ℕ, Bool, true, false, not, ◌&&◌, ◌||◌, [], ◌∷◌, Option, Some, None, ◌%◌}
 use Rattle.aia_regs.specs.BitUpdate.{BitUpdate}
 use Rattle.aia_regs.specs.BitUpdate.BitUpdate.{Ask, Clear}
-use Rattle.aia_vcpu.specs.Vms.{Vcpu, vcpu, is_vcpu, notice_hart, notice_identity}
+use Rattle.aia_vcpu.specs.Vms.{Vcpu, vcpu_of, is_vcpu, notice_hart, notice_identity}
 use Rattle.aia_vcpu.specs.Home.{is_resident}
 use Rattle.aia_model.specs.Move.WantedMove.{Leaves}
 use Rattle.aia_model.specs.declared.line.Line.{Line}
@@ -146,9 +146,9 @@ pub record LoadsDeliverable (past : History) (part : Part) (x g : Vcpu) : Type 0
 
 -- An event is the cause of a notice for a virtual hart.
 abbrev pub IsCause : History → Event → Vcpu → Type 0
-IsCause past (Accepted (Exit vm number)) g = ExitsDeliverable past (vcpu vm number) g
-IsCause past (Accepted (LoadPart vm number part)) g =
-    LoadsDeliverable past part (vcpu vm number) g
+IsCause past (Accepted (Exit vm vcpu)) g = ExitsDeliverable past (vcpu_of vm vcpu) g
+IsCause past (Accepted (LoadPart vm vcpu part)) g =
+    LoadsDeliverable past part (vcpu_of vm vcpu) g
 IsCause past (Accepted line) g = AsksForEnabled past line g
 IsCause past (Stepped x) g = EndsLeave past x g
 IsCause past (Landed vm k) g = LandsForEnabled past vm k g

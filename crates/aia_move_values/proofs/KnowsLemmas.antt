@@ -135,13 +135,13 @@ module _ (w u : World) (plan : PlanState) (reach : Option GuestPlace) (file : In
       (subst (λ (o : Option ℕ). StoresInSlot w u o (page_spot w.imsic (supervisor_page (notice_hart w.vms (mover mv)) / PAGE))
       (slot_of w.vms (mover mv) + 1) offset value) (slot_found (slot_of w.vms (mover mv)) (slot_low w (mover mv) whole knows.fits.there)) reaches)
 
-  entry_is : entry_in_force (table_of w.tables mv.who.found.vm) mv.who.found.number ≡ leads_to (slot_of w.vms (mover mv))
+  entry_is : entry_in_force (table_of w.tables mv.who.found.vm) mv.who.found.vcpu ≡ leads_to (slot_of w.vms (mover mv))
       (notice_hart w.vms (mover mv)) reach
   entry_is = knows.holds.routes.in_force ∙ ap (λ q. leads_to q mv.who.found.notice reach) knows.fits.slot
       ∙ ap (λ hart. leads_to (slot_of w.vms (mover mv)) hart reach) knows.fits.notice
 
   pub device_knows : (addr : ℕ) → is_msi_address (table_of w.tables mv.who.found.vm).mask addr ≡ true
-      → file_number (table_of w.tables mv.who.found.vm).mask addr ≡ mv.who.found.number
+      → file_number (table_of w.tables mv.who.found.vm).mask addr ≡ mv.who.found.vcpu
       → Reaches (route_of (table_of w.tables mv.who.found.vm) addr) w u offset value → Knows u plan reach (landed offset value file) saw
   device_knows addr is names reaches =
       let may = reach_lands (width w) mv.home reach knows.holds.routes.may in

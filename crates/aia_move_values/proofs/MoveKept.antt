@@ -4,7 +4,7 @@ use Rattle.aia_file.specs.InterruptFile.{InterruptFile, empty_file}
 use Rattle.aia_file.specs.FileState.{shown}
 use Rattle.aia_file.specs.Imsic.{IsThere, file_at}
 use Rattle.aia_vcpu.specs.declared.place.GuestPlace.{GuestPlace}
-use Rattle.aia_vcpu.specs.Vms.{Vcpu, vcpu}
+use Rattle.aia_vcpu.specs.Vms.{Vcpu, vcpu_of}
 use Rattle.aia_vcpu.specs.Home.{Home, ended, one_more}
 use Rattle.aia_vcpu.specs.Home.Home.{OnWay}
 use Rattle.aia_vcpu.specs.Home.Way.{Outward, Across}
@@ -88,7 +88,7 @@ module _ (w u : World) (m : Moving) (whole : IsWhole w) (fits : MoveFits w m) (a
       subst (λ (v : Places). Holds (width w) m.who.found.slot m.who.found.notice (reach_stepped m.home reach) v (one_more m.home) t.hand file
       (saw || sees (width w) m.home file)) (sym (further u (mover m) m.home)) kept in
       subst (λ (who : Who). Holds (width w) who.found.slot who.found.notice (reach_stepped m.home reach)
-      (places_of u (vcpu who.found.vm who.found.number) t.home) t.home t.hand file (saw || sees (width w) m.home file)) (sym goes.same_who)
+      (places_of u (vcpu_of who.found.vm who.found.vcpu) t.home) t.home t.hand file (saw || sees (width w) m.home file)) (sym goes.same_who)
       (subst (λ (there : Home). Holds (width w) m.who.found.slot m.who.found.notice (reach_stepped m.home reach) (places_of u (mover m) there)
       there t.hand file (saw || sees (width w) m.home file)) (sym goes.home) same)
 
