@@ -8,8 +8,8 @@ overflow_cast-vm c =
     (sym c.has_vcpu.ensures.value ∙ c.if-not-has_vcpu.false)).1 in
     omega (arith, few)
 
-pub overflow_cast-number : goal.overflow_cast-number
-overflow_cast-number c =
+pub overflow_cast-vcpu : goal.overflow_cast-vcpu
+overflow_cast-vcpu c =
     let few = (vcpu_entry c.args.self.now c.args.vm c.args.vcpu c.has_vcpu.ensures.whole
     (sym c.has_vcpu.ensures.value ∙ c.if-not-has_vcpu.false)).2 in
     omega (arith, few)
