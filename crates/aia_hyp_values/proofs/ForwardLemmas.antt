@@ -281,7 +281,7 @@ relayed_too x y z number msi spot c host lands relays = λ h stands may.
     let low = subst (λ (ps : List PassedSource). number < length ps) (sym (none_heard h msi)) (number_found h msi.source number of.is) in
     subst (λ (o : Option ℕ). CoreStands z (given_on o (Delivered msi ∷ h))) (sym of.is)
     (subst (CoreStands z) (sym (cond-true _ _ _ memory))
-    (relays (Delivered msi ∷ h) (lands h stands may) (low, is_none_then (pass_reach (Delivered msi ∷ h) vcpu) memory)))
+    (relays (Delivered msi ∷ h) (lands h stands may) (low, is_none_then (pass_reach (Delivered msi ∷ h) number) memory)))
 
 pub landed_alone : (x y : CoreState) (number : ℕ) (msi : Msi) (spot : Spot) → IsForwarding x number msi spot → is_host_spot spot ≡ false
     → CoreGoes x y (Delivered msi) → CoreHears x y msi

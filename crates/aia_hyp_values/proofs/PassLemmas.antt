@@ -250,7 +250,7 @@ pub pass_is_quiet : (h : History) (source vm vcpu identity : ℕ) → is_moving 
 unfolding passes_of
 pass_is_quiet h source vm vcpu identity rests = record {
   stays = stays_line h (lines.Pass source vm vcpu identity) refl refl (λ g. refl) (λ g. refl)
-      (λ g moves. other_own 0 g (record { source = source; to = vcpu_of vm number; identity = identity }) (passes_of h)
+      (λ g moves. other_own 0 g (record { source = source; to = vcpu_of vm vcpu; identity = identity }) (passes_of h)
       (is_another (vcpu_of vm vcpu) g (λ e. false≢true (sym rests ∙ ap (λ z. is_moving (home h z)) e ∙ moves))));
   plain = refl;
 }

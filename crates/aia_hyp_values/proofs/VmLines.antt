@@ -174,7 +174,7 @@ same_file h vm g = file_by_step (guest_deed g) (made_line vm) h
 
 -- its number in its VM is small
 small : (x y : CoreState) (h : History) (vm : Vm) (g : Vcpu) → HasMade x y h vm → has_vcpu h g ≡ true → g.vcpu < ENTRIES
-small x y h vm g c there = (vcpu_entry x.world g.vm g.number c.whole (subst (λ (vs : List Vm). is_vcpu_in vs g ≡ true) (sym c.stands.vms) there)).2
+small x y h vm g c there = (vcpu_entry x.world g.vm g.vcpu c.whole (subst (λ (vs : List Vm). is_vcpu_in vs g ≡ true) (sym c.stands.vms) there)).2
 
 old_shows : (x y : CoreState) (h : History) (vm : Vm) (g : Vcpu) → HasMade x y h vm → g.vm < length (vms_of h) → has_vcpu h g ≡ true
     → SameFor x.world y.world g (home h g)
@@ -198,8 +198,8 @@ old_shows x y h vm g c low there =
             enabled =
                 λ i. enabled_stays x.world y.world vm (slot_of x.world.vms g) i c.makes q k;
           });
-      word0 = c.makes.elsewhere (entry_word_place g.vm g.number) (inl (omega (arith, low, number, table)));
-      word1 = c.makes.elsewhere (entry_word_place g.vm g.number + 1) (inl (omega (arith, low, number, table)));
+      word0 = c.makes.elsewhere (entry_word_place g.vm g.vcpu) (inl (omega (arith, low, number, table)));
+      word1 = c.makes.elsewhere (entry_word_place g.vm g.vcpu + 1) (inl (omega (arith, low, number, table)));
       in_force = ap (λ (t : TableState). entry_in_force t g.vcpu) (c.makes.others g.vm (omega (arith, low, table)));
       stage = (λ k. get_or ((c.makes.rest k).stages) (slot k) no_stage);
     }

@@ -4,7 +4,7 @@
 
 pub mod laws;
 mod passed;
-mod vcpu_of;
+mod vcpu;
 
 pub use passed::Passed;
 pub use vcpu::{Stay, VcpuRecord};

@@ -2,8 +2,8 @@
 //! in one, or shifts to another one. Profile: all plans.
 #![tactic(auto)]
 
+mod direction;
 mod hand;
-mod kind;
 pub mod laws;
 mod moves;
 pub mod phase;
@@ -12,7 +12,7 @@ mod targets;
 
 pub use aia_move_values::{Closed, KeptNumbers, Next, Outcome, Pass, Turn, Who};
 pub use aia_vcpu::Access;
+pub use direction::{Arrive, Leave, Shift, spot};
 pub use hand::Hand;
-pub use kind::{Arrive, Leave, Shift, spot};
 pub use plan::{Plan, State};
 pub use targets::Targets;

@@ -30,14 +30,14 @@ pub host_access : (hart : ℕ) (ws : Words) → read (instruction levels.Host)
     ws ≡ (read (instruction levels.Host) (access levels.Host) ws >>= λ a. Some (lines.HostCsr hart a.0 a.1))
 host_access hart ws = read_made (λ (a : Csr × Op). lines.HostCsr hart a.0 a.1) (instruction levels.Host) (access levels.Host) ws
 
-pub guest_access : (vm number : ℕ) (ws : Words)
-    → read (instruction levels.Guest) (λ v. lines.GuestCsr vm number (access levels.Guest v).0 (access levels.Guest v).1)
-    ws ≡ (read (instruction levels.Guest) (access levels.Guest) ws >>= λ a. Some (lines.GuestCsr vm number a.0 a.1))
-guest_access vm number ws = read_made (λ (a : Csr × Op). lines.GuestCsr vm number a.0 a.1) (instruction levels.Guest) (access levels.Guest) ws
+pub guest_access : (vm vcpu : ℕ) (ws : Words)
+    → read (instruction levels.Guest) (λ v. lines.GuestCsr vm vcpu (access levels.Guest v).0 (access levels.Guest v).1)
+    ws ≡ (read (instruction levels.Guest) (access levels.Guest) ws >>= λ a. Some (lines.GuestCsr vm vcpu a.0 a.1))
+guest_access vm vcpu ws = read_made (λ (a : Csr × Op). lines.GuestCsr vm vcpu a.0 a.1) (instruction levels.Guest) (access levels.Guest) ws
 
-pub loaded_part : (vm number : ℕ) (ws : Words)
-    → read part_shape (λ v. lines.LoadPart vm number (part v)) ws ≡ (read part_shape part ws >>= λ x. Some (lines.LoadPart vm number x))
-loaded_part vm number ws = read_made (lines.LoadPart vm number) part_shape part ws
+pub loaded_part : (vm vcpu : ℕ) (ws : Words)
+    → read part_shape (λ v. lines.LoadPart vm vcpu (part v)) ws ≡ (read part_shape part ws >>= λ x. Some (lines.LoadPart vm vcpu x))
+loaded_part vm vcpu ws = read_made (lines.LoadPart vm vcpu) part_shape part ws
 
 -- each mnemonic begins with the same bytes
 pub other_mnemonics : (text : List ℕ) → starts_with nat_eq text (codes "csrr") ≡ false → (m : Mnemonic)
