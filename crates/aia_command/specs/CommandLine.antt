@@ -80,7 +80,8 @@ kind_at rows = option_and_then kind_named (one_of (codes "KIND") rows)
 -- How many words of 64 identities the sets of an interrupt file have, where a number is that.
 abbrev pub width_of : ℕ → Option ℕ
 width_of number =
-    if list_any (λ width. nat_eq number width) (1 ∷ 2 ∷ 4 ∷ 8 ∷ 16 ∷ FILE_WORDS ∷ []) then Some number
+    if list_any (λ width. nat_eq number width) (1 ∷ 2 ∷ 4 ∷ 8 ∷ 16 ∷ FILE_WORDS ∷ [])
+    then Some number
     else None
 
 -- The number of words that was found.

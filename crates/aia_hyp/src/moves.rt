@@ -75,12 +75,7 @@ impl Core {
     /// passed source at the new place; other targets stay. `true` says that it was the last one,
     /// and that the move is at its end. `Err` is `Range` where the virtual hart isn't there, `Idle`
     /// where it is not being moved; nothing is changed then. Profile.
-    pub fn step<T: Targets>(
-        &mut self,
-        vm: u64,
-        vcpu: u64,
-        targets: &mut T,
-    ) -> Result<bool, Refusal>
+    pub fn step<T: Targets>(&mut self, vm: u64, vcpu: u64, targets: &mut T) -> Result<bool, Refusal>
         requires { self.old.world.imsic.harts ≡ (T.map targets.old).harts }
         ensures takes { CoreTakes self.old self.new (Step vm vcpu)
             (answer_by step_answer result) }
@@ -128,7 +123,8 @@ impl Core {
     /// was the last one.
     fn step_of<T: Targets>(&mut self, found: Found, targets: &mut T) -> bool
         requires found { IsFound self.old.world found }
-        requires moving { is_moving (home_in (record_of self.old (vcpu_of found.vm found.vcpu)).stay)
+        requires moving { is_moving
+            (home_in (record_of self.old (vcpu_of found.vm found.vcpu)).stay)
             ≡ true }
         requires harts { self.old.world.imsic.harts ≡ (T.map targets.old).harts }
         ensures goes { MoveGoes self.old self.new (vcpu_of found.vm found.vcpu) result }
@@ -149,7 +145,8 @@ impl Core {
     /// of the move; tells whether it made one.
     fn step_in_place<T: Targets>(&mut self, found: Found, targets: &mut T) -> bool
         requires found { IsFound self.old.world found }
-        requires moving { is_moving (home_in (record_of self.old (vcpu_of found.vm found.vcpu)).stay)
+        requires moving { is_moving
+            (home_in (record_of self.old (vcpu_of found.vm found.vcpu)).stay)
             ≡ true }
         requires harts { self.old.world.imsic.harts ≡ (T.map targets.old).harts }
         ensures makes { MoveInPlace self.old self.new (vcpu_of found.vm found.vcpu) result }
@@ -169,7 +166,8 @@ impl Core {
     /// Makes the last step of the move of a virtual hart, and puts it where the move leads.
     fn finish_move(&mut self, found: Found)
         requires found { IsFound self.old.world found }
-        requires moving { is_moving (home_in (record_of self.old (vcpu_of found.vm found.vcpu)).stay)
+        requires moving { is_moving
+            (home_in (record_of self.old (vcpu_of found.vm found.vcpu)).stay)
             ≡ true }
         requires last { IsAtItsLast self.old (vcpu_of found.vm found.vcpu) }
         ensures goes { MoveGoes self.old self.new (vcpu_of found.vm found.vcpu) true }

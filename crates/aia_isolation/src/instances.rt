@@ -616,7 +616,8 @@ pub fn the_host_is_told_of_what_is_pending()
     ensures pending { (guest_file (history_of BUSY.now) (vcpu_of 0 0)).pending 6 ≡ true }
     ensures parked { home (history_of BUSY.now) (vcpu_of 0 0) ≡ InMemory Parked }
     ensures deliverable { is_deliverable (history_of BUSY.now) (vcpu_of 0 0) 6 ≡ true }
-    ensures told { told_since (history_of BUSY.now) (notice_file (history_of BUSY.now) (vcpu_of 0 0))
+    ensures told { told_since (history_of BUSY.now)
+        (notice_file (history_of BUSY.now) (vcpu_of 0 0))
         (notice_number (history_of BUSY.now) (vcpu_of 0 0)) (vcpu_of 0 0) 6 ≡ true }
     ensures seen { (file_of (history_of BUSY.now) (SupervisorFile 0)).pending 1 ≡ true }
     ensures deeds { deeds_of (history_of BUSY.now) (SupervisorFile 0)

@@ -10,7 +10,7 @@ use Rattle.aia_fabric_values.specs.declared.flying.Flying.{Flying}
 use Rattle.aia_fabric_values.specs.World.{World, flight_of}
 use Rattle.aia_fabric_values.specs.Whole.{IsWhole}
 use Rattle.aia_move_values.specs.Move.{width}
-use Rattle.aia_plan.specs.Plan.{Plan}
+use Rattle.aia_plan.specs.Plan.{WrittenPlan}
 use Rattle.aia_plan.specs.declared.step.Step.TheVariants as steps
 use Rattle.aia_plan.specs.Transit.{TransitSide, Flight, Transit, is_identity}
 use Rattle.aia_plan.specs.Transit.TransitSide.{Old, New}
@@ -28,7 +28,7 @@ Runs (event ∷ later) w r u t = (x : World) × (y : Rehearsed) × IsWhole w
     × Happens event w r x y × Runs later x y u t
 
 -- The steps of the plan among them.
-abbrev pub steps_in : List RehearsedEvent → Plan
+abbrev pub steps_in : List RehearsedEvent → WrittenPlan
 steps_in [] = []
 steps_in (Steps step ∷ later) = step ∷ steps_in later
 steps_in (event ∷ later) = steps_in later

@@ -106,12 +106,7 @@ impl Machine {
             Line::MachineCsr { hart, csr, op } => self.access(Level::Machine, hart, csr, op),
             Line::HostCsr { hart, csr, op } => self.access(Level::Host, hart, csr, op),
             Line::Hgeip { hart } => self.hgeip(hart),
-            Line::GuestCsr {
-                vm,
-                vcpu,
-                csr,
-                op,
-            } => self.guest(vm, vcpu, csr, op),
+            Line::GuestCsr { vm, vcpu, csr, op } => self.guest(vm, vcpu, csr, op),
             Line::Ipi {
                 vm,
                 vcpu,

@@ -146,12 +146,7 @@ fn guest_at(words: &mut Words<'_>) -> Option<Line>
         );
     }
     let (csr, op) = instruction_of(Level::Guest, text)?;
-    Some(Line::GuestCsr {
-        vm,
-        vcpu,
-        csr,
-        op,
-    })
+    Some(Line::GuestCsr { vm, vcpu, csr, op })
 }
 
 /// Reads the line that the words after `begin` spell; `None` where they spell none.

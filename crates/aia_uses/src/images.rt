@@ -53,7 +53,8 @@ pub fn what_a_state_always_is()
         × ((state_of h g).majors.enabled j ≡ true → is_major j ≡ true)
         × (fits_hviprio1 (state_of h g).majors.hviprio1 ≡ true)
         × (fits_hvictl (state_of h g).majors.hvictl ≡ true) }
-    ensures one { is_greatest_identity (state_of (history_of TOLD.now) (vcpu_of 0 0)).file.n ≡ true }
+    ensures one { is_greatest_identity (state_of (history_of TOLD.now) (vcpu_of 0 0)).file.n
+        ≡ true }
 {
     every_virtual_hart_has_a_state();
 }
@@ -155,7 +156,8 @@ pub fn what_is_saved()
 
 /// The last part that the script [`TOLD`] saves.
 pub fn what_one_line_saves()
-    ensures parts { is_loadable 63 (part_of (state_of (history_of TOLD.now) (vcpu_of 0 0)) 3) ≡ true }
+    ensures parts { is_loadable 63 (part_of (state_of (history_of TOLD.now) (vcpu_of 0 0)) 3)
+        ≡ true }
     ensures answered { answer (history_of TOLD.now) (Save 0 0 3)
         ≡ answers.Part (parts.Word 0 2 2) }
     ensures saved { is_loadable 63 (parts.Word 0 2 2) ≡ true }
