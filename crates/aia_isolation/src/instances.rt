@@ -667,9 +667,11 @@ pub fn a_passed_source_is_heard_the_same_wherever_its_guest_is()
 pub fn a_wire_adds_what_it_forwards()
     ensures stands { has_machine (history_of READY.now) ≡ true }
     ensures before { (guest_file (history_of READY.now) (vcpu_of 0 0)).pending 5 ≡ false }
-    ensures after { (guest_file (after (history_of READY.now) (Wire 1 true)) (vcpu_of 0 0)).pending 5
+    ensures after { (guest_file (after (history_of READY.now) (Wire 1 true))
+        (vcpu_of 0 0)).pending 5
         ≡ true }
-    ensures other { (guest_file (after (history_of READY.now) (Wire 1 true)) (vcpu_of 0 0)).pending 6
+    ensures other { (guest_file (after (history_of READY.now) (Wire 1 true))
+        (vcpu_of 0 0)).pending 6
         ≡ false }
     ensures sent { msis_sent_by (history_of READY.now) (Wire 1 true)
         ≡ record { address = 0x28001000; value = 5; source = Some 1 } ∷ [] }

@@ -56,7 +56,8 @@ pub fn what_a_claim_takes()
 /// A claim takes the one identity that may be claimed; and where none is, it takes nothing.
 pub fn a_claim_takes_the_first()
     ensures answered { answer asked (GuestCsr 0 0 Topei (Write 0)) ≡ Wide 0x10001 }
-    ensures cleared { (guest_file (after asked (GuestCsr 0 0 Topei (Write 0))) (vcpu_of 0 0)).pending 1
+    ensures cleared { (guest_file (after asked (GuestCsr 0 0 Topei (Write 0)))
+        (vcpu_of 0 0)).pending 1
         ≡ false }
     ensures nothing { answer enabled (GuestCsr 0 0 Topei (Write 0)) ≡ Wide 0 }
 {

@@ -128,7 +128,8 @@ pub fn what_a_line_loads()
 
 /// One part of an image is loaded, into its virtual hart alone.
 pub fn one_part_is_loaded()
-    ensures own { (guest_file (after made (LoadPart 0 1 (parts.Word 0 2 2))) (vcpu_of 0 1)).pending 1
+    ensures own { (guest_file (after made (LoadPart 0 1 (parts.Word 0 2 2)))
+        (vcpu_of 0 1)).pending 1
         ≡ true }
     ensures others { (guest_file (after made (LoadPart 0 1 (parts.Word 0 2 2)))
         (vcpu_of 0 0)).pending 1 ≡ false }
