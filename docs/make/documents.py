@@ -14,6 +14,7 @@ import claims
 import definitions
 import header
 import pictures
+import registers
 import statements
 import strength
 
@@ -25,7 +26,8 @@ def main():
         return 0
     if sys.argv[1] == "claims":
         return claims.accept(sys.argv[2:])
-    parts = (definitions, believed, pictures, strength, statements, claims, header, checks)
+    parts = (definitions, believed, pictures, strength, statements, claims, header, registers,
+             checks)
     found = list(dict.fromkeys(line for part in parts for line in part.drifts()))
     for line in checks.aged():
         print(f"note: {line}")
