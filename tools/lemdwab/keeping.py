@@ -75,6 +75,21 @@ def kept_folder(given, name):
     return Path(caches) / name
 
 
+def bounds_of(given: dict[str, str], at_once: str, most: int, seconds: str) -> dict[str, int]:
+    """Reads how many plants are tried at once, for how many minutes, and for how many seconds each;
+    `at_once` and `seconds` are what they are where they are not given."""
+    return {name: running.number(given.get(name, usual), f"--{name}", least, greatest)
+            for name, usual, least, greatest in (("at-once", at_once, 1, most),
+                                                 ("minutes", "60", 0, 10_000),
+                                                 ("seconds", seconds, 1, 86_400))}
+
+
+def check_rt() -> None:
+    """Ends the tool where there is no rt."""
+    if not shutil.which("rt"):
+        running.fail("there is no rt on the path, which proves and refuses")
+
+
 def crate_named(word, every):
     """Gives the crate of these that a word names, or None; a folder is one."""
     name = word.rstrip("/").removeprefix("./").removeprefix("crates/")

@@ -1,6 +1,8 @@
 """A tree of crates with an rt that only pretends, in which a tool that runs rt is tried."""
 
 import os
+import shutil
+import sys
 from pathlib import Path
 
 from lemdwab import answers
@@ -61,6 +63,21 @@ class Tree:
         self.trial.sees(ran.status == status,
                         f"{self.TOOL} {words} ends with {ran.status}: {ran.errors}")
         return said
+
+    def refuses(self, said: str, *words: str) -> None:
+        """Sees that words are refused with status 2, and a message that says this."""
+        ran = self.run(*words)
+        self.trial.sees(ran.status == 2 and not ran.output and ran.errors and said in ran.errors,
+                        f"{self.TOOL} {words} ends with {ran.status}: {ran.errors!r}")
+
+    def refuses_without_rt(self) -> None:
+        """Sees that it says so where there is no rt, and that no refused words ran one."""
+        path = f"{Path(sys.executable).parent}:/usr/bin:/bin"
+        if not shutil.which("rt", path=path):
+            ran = self.run(path=path)
+            self.trial.sees(ran.status == 2 and "there is no rt" in ran.errors,
+                            f"{self.TOOL} without rt ends with {ran.status}: {ran.errors}")
+        self.trial.sees(not self.given(), f"{self.TOOL} with wrong words runs rt")
 
     def sees_no_rt(self):
         """Sees that an rt that takes long, whose number stands in `pid`, was ended."""

@@ -156,6 +156,16 @@ def write_below(folder, files):
         path.write_text(text, encoding="utf-8")
 
 
+def numbers_given(*kinds: tuple[str, int, int, int]) -> list[int]:
+    """Gives the numbers that the words are, each with its name, what it is where it is not given, and
+    its least and its greatest value."""
+    _, rest, _ = words("")
+    if len(rest) > len(kinds):
+        usage(f"{' and '.join(kind[0] for kind in kinds)} at most are wanted")
+    return [number(rest[at], name, least, most) if at < len(rest) else usual
+            for at, (name, usual, least, most) in enumerate(kinds)]
+
+
 def counted(number_, word):
     """Says how many there are of something, as 1 line, 2 lines."""
     return f"{number_} {word}" + ("" if number_ == 1 else "s")

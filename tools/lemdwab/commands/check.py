@@ -13,10 +13,11 @@ write, and which script has not one row, and one class, in suite/classes.txt. A 
 and there it does not.
 
 Ends with status 1 where anything differs, and 2 where words are wrong or nothing could be run. A
-script may take a minute. Needs Python 3.10 or later, and bash and awk for the files.
+script may take a minute. Needs Python 3.10 or later.
 """
 
 import tempfile
+from collections.abc import Iterator
 from pathlib import Path
 
 from lemdwab import answers, classes, comparing, running
@@ -28,22 +29,26 @@ MAKING, SAID = 600, 1 << 20
 FOLDERS = ("examples", "crates/aia_script_tests/data/examples", "crates/aia_script_tests/data/suite")
 
 
-def drifts(workers, folder):
-    """Says which files are not what the rows and the two tables make."""
+def make(workers: running.Workers, folder: Path) -> None:
+    """Makes all that is made of the rows and the two tables, in a folder."""
     for maker in MAKERS:
-        ran = workers.submit(running.run, [str(TOP / "suite" / maker), folder], b"", MAKING,
+        ran = workers.submit(running.run, [str(TOP / "suite" / maker), str(folder)], b"", MAKING,
                              SAID).result()
         if ran.fault():
             running.fail(f"suite/{maker} could not make its files: {ran.fault()}")
-    made = {path.relative_to(folder) for path in Path(folder).rglob("*") if path.is_file()}
+
+
+def drifts(top: Path, folder: Path) -> Iterator[str]:
+    """Says which files of a repository are not those that were made in a folder."""
+    made = {path.relative_to(folder) for path in folder.rglob("*") if path.is_file()}
     for path in sorted(made):
-        stands = TOP / path
+        stands = top / path
         if not stands.exists() or stands.read_bytes() != (folder / path).read_bytes():
             yield f"{path} is not what the scripts of suite make"
     for name in FOLDERS:
-        for path in sorted((TOP / name).iterdir()):
-            if path.suffix in (".script", ".out") and path.relative_to(TOP) not in made:
-                yield f"{path.relative_to(TOP)} is of no row"
+        for path in sorted((top / name).iterdir()):
+            if path.suffix in (".script", ".out") and path.relative_to(top) not in made:
+                yield f"{path.relative_to(top)} is of no row"
 
 
 def check():
@@ -58,7 +63,8 @@ def check():
         if not options.pattern and (TOP / "suite/rows").is_dir():
             unsorted = list(classes.drifts())
             with tempfile.TemporaryDirectory() as folder:
-                found = list(drifts(workers, Path(folder)))
+                make(workers, Path(folder))
+                found = list(drifts(TOP, Path(folder)))
     if not is_same:
         print(f"above, `model` is what the rows have, and `mine` what {command[0]} answers")
     for line in [*unsorted, *found]:

@@ -67,11 +67,7 @@ def differences(seed: int, told: dict[str, list[tuple[str, str]]]) -> list[str]:
 
 
 def main() -> int:
-    _, rest, _ = running.words("")
-    if len(rest) > 2:
-        running.usage("GUESTS and SEED at most are wanted")
-    count = running.number(rest[0] if rest else "10000", "GUESTS", 1, 999_999)
-    seed = running.number(rest[1] if rest[1:] else "1", "SEED", 0, 999_999)
+    count, seed = running.numbers_given(("GUESTS", 10_000, 1, 999_999), ("SEED", 1, 0, 999_999))
     counts, wrong, looked = Counts(), 0, 0
     with running.Workers(1) as workers:
         program = replaying.Program(workers)

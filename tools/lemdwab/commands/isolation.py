@@ -103,11 +103,7 @@ class Looks:
 
 
 def main() -> int:
-    _, rest, _ = running.words("")
-    if len(rest) > 2:
-        running.usage("PAIRS and LEAK at most are wanted")
-    pairs = running.number(rest[0] if rest else "2000", "PAIRS", 1, 999_999)
-    leak = running.number(rest[1] if rest[1:] else "0", "LEAK", 0, isolating.LEAKS)
+    pairs, leak = running.numbers_given(("PAIRS", 2000, 1, 999_999), ("LEAK", 0, 0, isolating.LEAKS))
     with running.Workers(1) as workers:
         looks = Looks(replaying.Program(workers), leak)
         looks.whole()

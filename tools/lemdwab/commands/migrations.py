@@ -82,11 +82,7 @@ class Looks:
 
 
 def main() -> int:
-    _, rest, _ = running.words("")
-    if len(rest) > 2:
-        running.usage("GUESTS and SEED at most are wanted")
-    count = running.number(rest[0] if rest else "1000", "GUESTS", 1, 999_999)
-    seed = running.number(rest[1] if rest[1:] else "1", "SEED", 0, 999_999)
+    count, seed = running.numbers_given(("GUESTS", 1000, 1, 999_999), ("SEED", 1, 0, 999_999))
     with running.Workers(1) as workers:
         looks = Looks(workers)
         for at, size in replaying.pieces(count, guests.MOST):

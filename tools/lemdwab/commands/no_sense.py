@@ -88,15 +88,11 @@ class Looks:
 
 
 def main() -> int:
-    _, rest, _ = running.words("")
-    if len(rest) > 2:
-        running.usage("LINES and SEED at most are wanted")
-    count = running.number(rest[0] if rest else "100000", "LINES", 1, 999_999_999)
-    seed = running.number(rest[1] if rest[1:] else "1", "SEED", 0, 999_999_999)
+    count, seed = running.numbers_given(("LINES", MOST, 1, 999_999_999), ("SEED", 1, 0, 999_999_999))
     with running.Workers(1) as workers:
         looks = Looks(replaying.Program(workers))
         for at, size in replaying.pieces(count, MOST):
             looks.look(seed + at, size)
     for word, number in sorted({**looks.counts, "lines": count}.items()):
-        print(word, number)
+        print(printable(word), number)
     return 0 if looks.is_right else 1

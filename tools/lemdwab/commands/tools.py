@@ -25,6 +25,9 @@
     tools [--jobs N] hunts    suite/hunt over 20 errors planted in the model written apart, one
                               after the other: each has to be found within 2,000 scripts, and shrunk
                               to 15 lines or fewer; takes some seven minutes; N scripts at a time
+    tools bugs                plants 25 bugs into the tools, one a tool, one after the other in a copy
+                              of the tree: the tool's own test has to fail with each, and not without;
+                              takes some eight minutes
 
 The program is that of the variable PROGRAM, else ./aia of this repository, which is proved and
 built first where it is older than its sources: an hour and more the first time. In `compare`,
@@ -50,8 +53,8 @@ from xml.etree import ElementTree
 from lemdwab import answers, comparing, running
 from lemdwab.apart import generated
 from lemdwab.running import TOP
-from lemdwab.trials import (classes, documents, edges, hunts, launchers, lint, release, site,
-                            weaken, wider)
+from lemdwab.trials import (bugs, classes, documents, edges, hunts, launchers, lint, release,
+                            site, weaken, wider)
 
 SUITE, EXAMPLES, APART = TOP / "suite", TOP / "examples", TOP / "peers/apart"
 TOOLS = [SUITE / name for name in ("compare", "check", "random", "gen-script", "hunt", "tools")]
@@ -535,13 +538,16 @@ def main():
     given, rest, _ = running.words("", "jobs=")
     jobs = running.number(given.get("jobs", "1"), "--jobs", 1, 64)
     unknown = [word for word in rest if word not in PARTS]
-    if rest != ["hunts"] and (unknown or given):
-        running.usage(f"there is no part {unknown[0]!r}" if unknown else "--jobs is for hunts alone")
+    if rest not in (["hunts"], ["bugs"]) and unknown or given and rest != ["hunts"]:
+        running.usage(f"there is no part {unknown[0]!r}" if unknown and not given
+                      else "--jobs is for hunts alone")
     with running.Workers(1) as workers, tempfile.TemporaryDirectory() as folder:
         program = os.environ["PROGRAM"] = program_for(workers, rest)
         trial = Trial(workers, program, Path(folder))
         if rest == ["hunts"]:
             hunts.all_plants(trial, jobs)
+        elif rest == ["bugs"]:
+            bugs.all_bugs(trial)
         else:
             try_parts(trial, rest)
         print(f"{trial.right} things are as they should be, {trial.wrong} are not")

@@ -40,7 +40,6 @@ the crate is not proved with nothing planted, or one was not tried. Needs Python
 
 import hashlib
 import re
-import shutil
 import tempfile
 import time
 from concurrent.futures import FIRST_COMPLETED, wait
@@ -48,7 +47,8 @@ from pathlib import Path
 from typing import NamedTuple
 
 from lemdwab import running, using, weakening
-from lemdwab.keeping import Kept, UNTRIED, Verdict, copied, crate_named, kept_folder
+from lemdwab.keeping import (UNTRIED, Kept, Verdict, bounds_of, check_rt, copied, crate_named,
+                             kept_folder)
 from lemdwab.running import TOP
 
 ALWAYS = ("aia_laws", "aia_isolation", "plans_rules")
@@ -308,16 +308,12 @@ def list_all(crates, kept):
 def main():
     given, names, _ = running.words("", "list", "anew", "kept=", "kind=", "at-once=", "minutes=",
                                     "seconds=")
-    bounds = {name: running.number(given.get(name, default), f"--{name}", least, most)
-              for name, default, least, most in (("at-once", "1", 1, 64),
-                                                 ("minutes", "60", 0, 10_000),
-                                                 ("seconds", "900", 1, 86_400))}
+    bounds = bounds_of(given, "1", 64, "900")
     crates = chosen(names, read_kinds(given))
     kept = Kept(kept_folder(given, "lemdwab-weaken"), "anew" in given, KINDS)
     if "list" in given:
         return list_all(crates, kept)
-    needs_rt = any(not plant.clause for _, plants in crates for plant in plants)
-    if needs_rt and not shutil.which("rt"):
-        running.fail("there is no rt on the path, which proves and refuses")
+    if any(not plant.clause for _, plants in crates for plant in plants):
+        check_rt()
     plan = Plan(bounds["at-once"], time.monotonic() + 60 * bounds["minutes"], bounds["seconds"])
     return try_all(crates, kept, plan)

@@ -37,7 +37,8 @@ from typing import NamedTuple
 
 from lemdwab import running
 from lemdwab.documents import strength
-from lemdwab.keeping import Kept, UNTRIED, Verdict, copied, crate_named, kept_folder
+from lemdwab.keeping import (UNTRIED, Kept, Verdict, bounds_of, check_rt, copied, crate_named,
+                             kept_folder)
 from lemdwab.running import TOP
 
 PARTS = ("src", "specs", "proofs")
@@ -236,10 +237,7 @@ def told(counts, late):
 def main():
     given, names, _ = running.words("", "list", "anew", "kept=", "at-once=", "jobs=", "minutes=",
                                     "seconds=")
-    bounds = {name: running.number(given.get(name, default), f"--{name}", least, most)
-              for name, default, least, most in (("at-once", "8", 1, 100),
-                                                 ("minutes", "60", 0, 10_000),
-                                                 ("seconds", "3600", 1, 86_400))}
+    bounds = bounds_of(given, "8", 100, "3600")
     jobs = given.get("jobs", "")
     if "jobs" in given:
         running.number(jobs, "--jobs", 1, 64)
@@ -247,8 +245,7 @@ def main():
     kept = Kept(kept_folder(given, "lemdwab-wider"), "anew" in given, (REFUSED, THROUGH))
     if "list" in given:
         return list_all(crates, kept)
-    if not shutil.which("rt"):
-        running.fail("there is no rt on the path, which proves and refuses")
+    check_rt()
     plan = Plan(bounds["at-once"], jobs, time.monotonic() + 60 * bounds["minutes"],
                 bounds["seconds"])
     with running.Workers(1) as workers, tempfile.TemporaryDirectory(prefix="wider-") as folder:

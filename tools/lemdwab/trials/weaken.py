@@ -1,10 +1,7 @@
 """Tries suite/weaken, as suite/tools does, in a tree of its own with an rt that only pretends, and
 which plants it finds in the crates of laws: each function takes its Trial."""
 
-import shutil
 import signal
-import sys
-from pathlib import Path
 
 from lemdwab import pretended, using, weakening
 from lemdwab.running import TOP
@@ -170,15 +167,8 @@ def weaken_takes_words(trial):
                         (["--kind", ""], "no kind ''"), (["--x"], "--x"),
                         (["--at-once", "0"], "--at-once"), (["--minutes", "-1"], "--minutes"),
                         (["--seconds", "x"], "--seconds"), (["--kept", ""], "a FOLDER")):
-        ran = tree.run(*words)
-        trial.sees(ran.status == 2 and not ran.output and said in ran.errors,
-                   f"weaken {words} ends with {ran.status}: {ran.errors!r}")
-    path = f"{Path(sys.executable).parent}:/usr/bin:/bin"
-    if not shutil.which("rt", path=path):
-        ran = tree.run(path=path)
-        trial.sees(ran.status == 2 and "there is no rt" in ran.errors,
-                   f"weaken without rt ends with {ran.status}: {ran.errors}")
-    trial.sees(not tree.given(), "weaken with wrong words runs rt")
+        tree.refuses(said, *words)
+    tree.refuses_without_rt()
 
 
 def weaken_is_bounded(trial):

@@ -1,10 +1,7 @@
 """Tries suite/wider, as suite/tools does, in a tree of its own with an rt that only pretends, and
 what lemdwab.documents.strength tells of edits: each function takes its Trial."""
 
-import shutil
 import signal
-import sys
-from pathlib import Path
 
 from lemdwab import pretended
 from lemdwab.documents import strength
@@ -165,15 +162,8 @@ def wider_refuses_words(trial):
     for words in (["nosuch"], ["high"], ["--x"], ["--jobs", "0"], ["--jobs", ""],
                   ["--at-once", "x"], ["--seconds", "0"], ["--minutes", "-1"], ["--kept", ""],
                   ["low", "nosuch"], ["--list", "nosuch"]):
-        ran = tree.run(*words)
-        trial.sees(ran.status == 2 and ran.errors and not ran.output,
-                   f"wider {words} ends with {ran.status}: {ran.errors[:80]!r}")
-    path = f"{Path(sys.executable).parent}:/usr/bin:/bin"
-    if not shutil.which("rt", path=path):
-        ran = tree.run(path=path)
-        trial.sees(ran.status == 2 and "there is no rt" in ran.errors,
-                   f"wider without rt ends with {ran.status}: {ran.errors}")
-    trial.sees(not tree.edits(), "wider with wrong words runs rt")
+        tree.refuses("", *words)
+    tree.refuses_without_rt()
 
 
 def planted_bugs(trial):
