@@ -4,26 +4,24 @@
 
     fixed-machine.py [CHOICE..] < script > answers
 
-It reads lines and prints answers. The machine is that of peers/apart/fixed.py: two harts, seven
-guest files each, the identities 1 to 255, 96 wired sources, and a map of its own. Put yours in its
-place: what it wants is in the class Bridge, which has a method for each form of line. So its
+It reads lines and prints answers. The machine is that of tools/lemdwab/apart/fixed.py: two harts,
+seven guest files each, the identities 1 to 255, 96 wired sources, and a map of its own. Put yours
+in its place: what it wants is in the class Bridge, which has a method for each form of line. So its
 answers are held against the model's, over the scripts that every right machine answers alike:
 
     suite/compare --only-standard --machine '2 7 255 96' -- examples/fixed-machine.py
 
 Where the standard leaves a choice the machine does what the model does; a CHOICE, one of those of
-peers/apart/choices.py, makes it do otherwise, and `all` takes all of them that go together. `-h`
-lists them. Ends with status 2 and a message at a line of which the machine has nothing, or where
-words are wrong.
+tools/lemdwab/apart/choices.py, makes it do otherwise, and `all` takes all of them that go together.
+`-h` lists them. Ends with status 2 and a message at a line of which the machine has nothing, or
+where words are wrong.
 """
 
 import sys
 from pathlib import Path
 
-sys.path.append(str(Path(__file__).resolve().parent.parent / "peers/apart"))
-
-import choices  # noqa: E402: the way to both stands above
-import fixed  # noqa: E402
+sys.path.insert(0, str(Path(__file__).resolve().parents[1] / "tools"))
+from lemdwab.apart import choices, fixed
 
 # Our map, as docs/REFERENCE.md has it.
 ROOT, CHILD, REGION_BYTES = 0x0c000000, 0x0c008000, 0x8000

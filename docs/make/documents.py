@@ -1,44 +1,10 @@
-"""Checks the documents, makes anew what is made of the tree, or accepts statements.
-
-    documents.py check
-    documents.py make
-    documents.py claims FUNCTION..
-"""
+#!/usr/bin/env -S python3 -B
+"""documents.py check|make|claims: starts lemdwab.documents.documents of tools/."""
 
 import sys
-import traceback
+from pathlib import Path
 
-import believed
-import checks
-import claims
-import definitions
-import header
-import pictures
-import registers
-import statements
-import strength
+sys.path.insert(0, str(Path(__file__).resolve().parents[2] / "tools"))
+from lemdwab.documents import documents
 
-
-def main():
-    if sys.argv[1] == "make":
-        for maker in (definitions, pictures, strength, statements):
-            maker.make()
-        return 0
-    if sys.argv[1] == "claims":
-        return claims.accept(sys.argv[2:])
-    parts = (definitions, believed, pictures, strength, statements, claims, header, registers,
-             checks)
-    found = list(dict.fromkeys(line for part in parts for line in part.drifts()))
-    for line in checks.aged():
-        print(f"note: {line}")
-    print("\n".join(found) if found else "in step")
-    return 1 if found else 0
-
-
-try:
-    STATUS = main()
-except Exception:
-    # Nothing has drifted that could be seen: 1 would say that something had.
-    traceback.print_exc()
-    STATUS = 2
-sys.exit(STATUS)
+sys.exit(documents.main())

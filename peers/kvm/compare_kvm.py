@@ -8,12 +8,13 @@ come within it, on KVM's side.
 import sys
 from pathlib import Path
 
-HERE = Path(__file__).resolve().parent
-sys.path[:0] = [str(HERE.parent), str(HERE.parent / "apart")]
-
-import held
+sys.path.insert(0, str(Path(__file__).resolve().parents[2] / "tools"))
 import rules
 from scripts import SUBJECTS, random_script
+
+from lemdwab import held
+
+HERE = Path(__file__).resolve().parent
 
 
 def told(_, script):

@@ -10,15 +10,12 @@ SUBJECT is files, aplic or moves; SEED is a number, and COUNT how many lines the
 import sys
 from pathlib import Path
 
+sys.path.insert(0, str(Path(__file__).resolve().parents[2] / "tools"))
+from lemdwab import held
+from lemdwab.apart import model, reading, vocabulary as say
+from lemdwab.apart.random_scripts import Generator
+
 HERE = Path(__file__).resolve().parent
-sys.path[:0] = [str(HERE.parent), str(HERE.parent / "apart")]
-
-import held
-import model
-import reading
-import vocabulary as say
-from random_scripts import Generator
-
 ROOT, CHILD, REGION_BYTES = 0x0c000000, 0x0c008000, 0x8000
 FILES = 0x28000000
 DELIVERY_BY_MSI = 4

@@ -13,12 +13,13 @@ import sys
 from collections import Counter
 from pathlib import Path
 
-HERE = Path(__file__).resolve().parent
-sys.path.insert(0, str(HERE.parent))
-
-import held
-from answers import Known
+sys.path.insert(0, str(Path(__file__).resolve().parents[2] / "tools"))
 from telling import NOT_SHOWN, fits
+
+from lemdwab import held
+from lemdwab.answers import Known
+
+HERE = Path(__file__).resolve().parent
 
 held.TIME_LIMIT, held.OUTPUT_LIMIT = 900, 64 << 20
 MOST = 20

@@ -13,18 +13,16 @@ import subprocess
 import sys
 from pathlib import Path
 
+sys.path.insert(0, str(Path(__file__).resolve().parents[2] / "tools"))
+from lemdwab.apart import model, plants
+from lemdwab.apart.aplic import Aplic
+from lemdwab.apart.interrupt_file import InterruptFile
+from lemdwab.apart.majors import Majors
+from lemdwab.apart.model import Machine
+from lemdwab.apart.plants import around
+from lemdwab.apart.words import fail, main
+
 HERE = Path(__file__).resolve().parent
-sys.path.insert(0, str(HERE.parent / "apart"))
-
-import model
-import plants
-from aplic import Aplic
-from interrupt_file import InterruptFile
-from majors import Majors
-from model import Machine
-from plants import around
-from words import fail, main
-
 ERRORS = {}
 
 

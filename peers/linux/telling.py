@@ -10,13 +10,12 @@ import sys
 from collections import Counter
 from pathlib import Path
 
-HERE = Path(__file__).resolve().parent
-sys.path.insert(0, str(HERE.parent / "apart"))
+from lemdwab.apart import reading
+from lemdwab.apart.model import Machine
+from lemdwab.apart.moves import ENTERED
+from lemdwab.apart.refusals import Refused
 
-import reading
-from model import Machine
-from moves import ENTERED
-from refusals import Refused
+HERE = Path(__file__).resolve().parent
 
 
 def rules_of(peer):

@@ -7,14 +7,15 @@ SCRIPTS of each subject, from the number SEED on.
 import sys
 from pathlib import Path
 
-HERE = Path(__file__).resolve().parent
-sys.path[:0] = [str(HERE.parent), str(HERE.parent / "apart")]
-
-import held
+sys.path.insert(0, str(Path(__file__).resolve().parents[2] / "tools"))
 import rules
 from bridge import Bridge, Untold
 from machine import Failed
 from scripts import SUBJECTS, random_script
+
+from lemdwab import held
+
+HERE = Path(__file__).resolve().parent
 
 
 def told(subject, script):

@@ -4,11 +4,12 @@ QEMU has no IOMMU of RISC-V, and what a hypervisor does is software. So these ar
 written apart; but guest files, and all that reaches one, are QEMU's.
 """
 
-from interrupt_file import requested
 from machine import GUEST, MACHINE_LEVEL, instruction
-from model import Machine, wide
-from moves import RESIDENT
-from refusals import unless
+
+from lemdwab.apart.interrupt_file import requested
+from lemdwab.apart.model import Machine, wide
+from lemdwab.apart.moves import RESIDENT
+from lemdwab.apart.refusals import unless
 
 HSTATUS, HVIP, HVICTL, HVIPRIO1 = 0x600, 0x645, 0x609, 0x646
 VSIE, VSISELECT, VSIREG = 0x204, 0x250, 0x251

@@ -12,15 +12,14 @@ import random
 import sys
 from pathlib import Path
 
-HERE = Path(__file__).resolve().parent
-sys.path[:0] = [str(HERE.parent), str(HERE.parent / "apart")]
-
-import held
-import reading
-import vocabulary as say
+sys.path.insert(0, str(Path(__file__).resolve().parents[2] / "tools"))
 from bridge import CHILD, GREATEST, REGION_BYTES, ROOT, SOURCES
-from random_scripts import Generator
 
+from lemdwab import held
+from lemdwab.apart import reading, vocabulary as say
+from lemdwab.apart.random_scripts import Generator
+
+HERE = Path(__file__).resolve().parent
 # What each subject is about, as a mood of the generator; `addresses` has scripts of its own.
 SUBJECTS = {"files": "files", "msi": "aplic", "direct": "aplic", "moves": "moves",
             "running": "running", "images": "images",

@@ -1,0 +1,427 @@
+"""any_plans.py PROGRAM COUNT SEED: random plans, judged by a program and tried by this machine.
+
+The machine, told a second time from docs/ANY-PLAN.md: two places, a hand, producers with routes. A
+plan is one of a hypervisor's with some edits. It is tried with one store, or one in flight, at every
+place, from several starts; and where the program shows a run, that run is made: one that loses
+something, or, of a plan that the rule on notices alone refuses, one that leaves the host untold.
+Prints how many accepted plans had a bad run, how many refused ones had none, and how many runs that
+were shown were good or missing, and ends with 1 if any was, and with 2 if the words are wrong or
+PROGRAM can't be run. A plan into memory that heeds its numbers may be refused by the rule on
+notices though no run of it leaves the host untold: none is shown then. Where notices are declared
+unset, no store tells the host before the plan writes where they go.
+"""
+import random
+import re
+import subprocess
+
+from lemdwab.apart import words as command_line
+
+class Setting:
+    """What is declared: kinds of producers, words, and what the new place is."""
+
+    def __init__(self, producers, words, fresh, memory, heeds, start, end, unset=False):
+        self.producers, self.words = producers, words
+        self.fresh, self.memory, self.heeds = fresh, memory, heeds
+        self.start, self.end, self.unset = start, end, unset
+
+    def lines(self):
+        """The declarations, as lines of a plan file."""
+        out = ['plan', f'words {self.words}', f'numbers {self.start} {self.end}']
+        out += [f'producer {kind}' for kind in self.producers]
+        for name in ('fresh', 'memory', 'heeds'):
+            if getattr(self, name):
+                out.append(name)
+        return out + ['notices unset'] * self.unset
+
+
+def both_sets(words, verb):
+    return [(verb, bank, w) for w in range(words) for bank in ('pending', 'enabled')]
+
+
+def hypervisors(words):
+    """The plans from which random ones are made, each with its setting."""
+    lead = [('route', 0), ('fence', 0), ('route', 1), ('fence', 1)]
+    core = [(v, b, w) for b in ('pending', 'enabled') for w in range(words) for v in ('take', 'join')]
+    zeroed = [('zero', 'new', 'delivery'), ('zero', 'new', 'threshold')]
+    zeroed += [('zero', 'new', b, w) for w in range(words) for b in ('pending', 'enabled')]
+    swapped = [('take', 'delivery'), ('take', 'threshold')] + both_sets(words, 'take')
+    joined = both_sets(words, 'join')
+    put = [('put', 'threshold'), ('put', 'delivery')]
+    routed, host = ['routed', 'routed'], ['switched', 'routed']
+    yield (Setting(routed, words, True, True, False, 'old', 'hand', True),
+           [('take', 'delivery'), ('write', 'notice')] + lead + core
+           + [('look', w) for w in range(words)] + [('take', 'threshold'), ('post',), ('free',)])
+    yield Setting(routed, words, True, False, False, 'hand', 'new'), lead + core + put
+    yield (Setting(routed, words, True, False, False, 'old', 'new'),
+           [('take', 'delivery')] + lead + core + [('take', 'threshold')] + put + [('free',)])
+    kvm = [('route', 1), ('fence', 1), ('switch', 0)]
+    yield (Setting(host, words, False, False, False, 'old', 'new'),
+           zeroed + kvm + swapped + joined + put)
+    yield (Setting(host, words, False, False, False, 'old', 'new'),
+           zeroed + kvm + swapped + [('free',)] + joined + put)
+    yield (Setting(host, words, True, True, True, 'old', 'new'),
+           [('switch', 0), ('route', 1), ('fence', 1)] + swapped
+           + [('put', 'delivery'), ('put', 'threshold')] + joined + [('tell',), ('free',)])
+    yield (Setting(host, words, True, True, True, 'old', 'new', True),
+           [('switch', 0), ('route', 1), ('fence', 1)] + swapped
+           + [('put', 'delivery'), ('put', 'threshold')] + joined
+           + [('write', 'notice'), ('tell',), ('free',)])
+
+
+def all_steps(setting):
+    """Every step that a plan of a setting may have."""
+    out = [('post',), ('tell',), ('write', 'notice'), ('free',)]
+    for p in range(len(setting.producers)):
+        out += [('route', p), ('fence', p), ('switch', p)]
+    for w in range(setting.words):
+        out.append(('look', w))
+        for bank in ('pending', 'enabled'):
+            out += [(verb, bank, w) for verb in ('take', 'join', 'put')]
+            out += [('zero', place, bank, w) for place in ('old', 'new')]
+    for number in ('threshold', 'delivery'):
+        out += [('take', number), ('put', number)]
+        out += [('zero', place, number) for place in ('old', 'new')]
+    return out
+
+
+def edited(setting, plan, rng):
+    """A plan with one to three steps taken out, moved, added or replaced."""
+    plan = list(plan)
+    for _ in range(rng.choice((1, 1, 2, 3))):
+        chance = rng.random()
+        if chance < 0.3 and plan:
+            plan.pop(rng.randrange(len(plan)))
+        elif chance < 0.7 and plan:
+            step = plan.pop(rng.randrange(len(plan)))
+            plan.insert(rng.randrange(len(plan) + 1), step)
+        elif chance < 0.85 or not plan:
+            plan.insert(rng.randrange(len(plan) + 1), rng.choice(all_steps(setting)))
+        else:
+            plan[rng.randrange(len(plan))] = rng.choice(all_steps(setting))
+    return plan
+
+
+class Machine:
+    """One run: sets are sets of (word, identity)."""
+
+    def __init__(self, setting, pending, enabled):
+        self.s = setting
+        left = set() if setting.fresh else {(w, 7) for w in range(setting.words)}
+        every = lambda ids: {(w, i) for w in range(setting.words) for i in ids}
+        self.old = {'pending': every(pending), 'enabled': every(enabled)}
+        self.new = {'pending': set(left), 'enabled': set(left)}
+        self.hand = {'pending': set(), 'enabled': set()}
+        self.due = every(pending)
+        self.first_enabled = every(enabled)
+        self.number = {'old': {'threshold': 66, 'delivery': 67}, 'hand': {'threshold': 77, 'delivery': 78},
+                       'new': {'threshold': 1, 'delivery': 0}}
+        self.number[setting.start] = {'threshold': 9, 'delivery': 1}
+        self.written = ['old'] * len(setting.producers)
+        self.force = ['old'] * len(setting.producers)
+        self.flights = []
+        self.freed = self.strayed = self.seen = self.told = False
+        self.notices_reach_the_host = not setting.unset
+
+    def lets_out(self, identity):
+        if not self.s.heeds:
+            return True
+        number = self.number['new']
+        return number['delivery'] == 1 and (number['threshold'] == 0 or identity < number['threshold'])
+
+    def out(self, word):
+        both = self.new['pending'] & self.new['enabled']
+        return any(w == word and self.lets_out(i) for w, i in both)
+
+    def land(self, place, what):
+        if place == 'old':
+            self.strayed |= self.freed
+            self.old['pending'].add(what)
+        else:
+            if self.notices_reach_the_host and what in self.new['enabled']:
+                self.told |= self.lets_out(what[1])
+            self.new['pending'].add(what)
+        self.due.add(what)
+
+    def store(self, producer, by_written, what):
+        self.land((self.written if by_written else self.force)[producer], what)
+
+    def send(self, producer, by_written, what):
+        self.flights.append((producer, (self.written if by_written else self.force)[producer], what))
+
+    def land_first(self):
+        if self.flights:
+            _, place, what = self.flights.pop(0)
+            self.land(place, what)
+
+    def step(self, step):
+        getattr(self, 'do_' + step[0])(*step[1:])
+
+    def do_route(self, p):
+        self.written[p] = 'new'
+
+    def do_switch(self, p):
+        self.written[p] = self.force[p] = 'new'
+
+    def do_fence(self, p):
+        for q, place, what in self.flights:
+            if q == p:
+                self.land(place, what)
+        self.flights = [f for f in self.flights if f[0] != p]
+        self.force[p] = self.written[p]
+
+    @staticmethod
+    def of_word(bits, word):
+        return {b for b in bits if b[0] == word}
+
+    def do_zero(self, place, what, word=None):
+        if place == 'old':
+            self.strayed |= self.freed
+        if word is None:
+            self.number[place][what] = 0
+        else:
+            sets = self.old if place == 'old' else self.new
+            sets[what] -= self.of_word(sets[what], word)
+
+    def do_take(self, what, word=None):
+        self.strayed |= self.freed
+        if word is None:
+            self.number['hand'][what] = self.number['old'][what]
+            self.number['old'][what] = 0
+        else:
+            taken = self.of_word(self.old[what], word)
+            self.hand[what] -= self.of_word(self.hand[what], word)
+            self.hand[what] |= taken
+            self.old[what] -= taken
+
+    def do_join(self, bank, word):
+        held = self.of_word(self.hand[bank], word)
+        self.new[bank] |= held
+        self.hand[bank] -= held
+
+    def do_put(self, what, word=None):
+        if word is None:
+            self.number['new'][what] = self.number['hand'][what]
+        else:
+            self.new[what] -= self.of_word(self.new[what], word)
+            self.do_join(what, word)
+
+    def do_look(self, word):
+        self.seen |= self.out(word)
+
+    def do_post(self):
+        self.told |= self.seen
+
+    def do_tell(self):
+        self.told |= any(self.out(w) for w in range(self.s.words))
+
+    def do_write(self, what):
+        self.notices_reach_the_host = True
+
+    def do_free(self):
+        self.freed = True
+
+    def is_untold(self):
+        """Whether something stands out in the new place, and the host was not told."""
+        return not self.told and any(self.out(w) for w in range(self.s.words))
+
+    def is_bad(self):
+        """Whether a run that ends so loses, doubles, or leaves something behind, or untold."""
+        return (self.new['pending'] != self.due or self.new['enabled'] != self.first_enabled
+                or self.old['pending'] or self.old['enabled'] or self.strayed
+                or self.number[self.s.end] != {'threshold': 9, 'delivery': 1}
+                or 'old' in self.written or 'old' in self.force
+                or any(place == 'old' for _, place, _ in self.flights)
+                or (self.s.memory and self.is_untold()))
+
+
+def is_bad_run(setting, plan, start, events):
+    """Whether the run with these events, each with so many steps before it, is bad."""
+    return is_bad_end(Machine(setting, *start), plan, events)
+
+
+def is_bad_end(machine, plan, events):
+    """Whether a machine ends badly after the steps of a plan with these events between them."""
+    run(machine, plan, events)
+    return machine.is_bad()
+
+
+def run(machine, plan, events):
+    """Makes the steps of a plan on a machine, with these events between them."""
+    for at, step in enumerate(list(plan) + [None]):
+        for before, act in events:
+            if before == at:
+                act(machine)
+        if step:
+            machine.step(step)
+
+
+def runs(setting, plan):
+    """The events of every run that is tried: none, one store, one in flight."""
+    yield []
+    for p, kind in enumerate(setting.producers):
+        for at in range(len(plan) + 1):
+            for by_written in (False, True):
+                for w in range(setting.words):
+                    for identity in (3, 4):
+                        yield [(at, lambda m, a=(p, by_written, (w, identity)): m.store(*a))]
+                    if kind == 'routed':
+                        send = (at, lambda m, a=(p, by_written, (w, 3)): m.send(*a))
+                        yield [send]
+                        if at == 0:
+                            for landing in range(at, len(plan) + 1):
+                                yield [send, (landing, lambda m: m.land_first())]
+
+
+def has_bad_run(setting, plan):
+    starts = (((2,), (0, 1, 3)), ((0, 2), (0, 1, 3)))
+    return any(is_bad_run(setting, plan, start, events) for start in starts for events in runs(setting, plan))
+
+
+SHOWN = re.compile(
+    r'  run: identity (\d+) is (pending|enabled) (nowhere|in the old place|in the new place) at the start'
+    r'(?:; producer (\d+) stores it (before the first step|behind line (\d+)) by its (written route|route in force)'
+    r'|; a store of producer (\d+) for it is in flight, and lands(?: before the first step| behind line (\d+)| (at its fence))'
+    r'|; a store of producer (\d+) for it is sent(?: before the first step| behind line (\d+)), and lands no sooner than it is fenced)?')
+
+
+def is_bad_shown(setting, plan, first_line, text):
+    """Whether a run that a program shows, of a plan whose first step is on a line, is one and is bad."""
+    found = SHOWN.fullmatch(text)
+    identity, bank, begin, storer, _, behind, route, flier, landing, at_fence, sender, sent = found.groups()
+    what = (int(identity) // 64, int(identity) % 64)
+    machine = Machine(setting, (), ())
+    machine.new = {'pending': set(), 'enabled': set()}
+    if begin == 'in the old place':
+        machine.old[bank].add(what)
+        if bank == 'pending':
+            machine.due.add(what)
+        else:
+            machine.first_enabled.add(what)
+    if begin == 'in the new place':
+        if setting.fresh:
+            return False
+        machine.new[bank].add(what)
+    events = []
+    if storer:
+        before = int(behind) - first_line + 1 if behind else 0
+        events.append((before, lambda m: m.store(int(storer), route == 'written route', what)))
+    if flier:
+        if setting.producers[int(flier)] != 'routed':
+            return False
+        machine.send(int(flier), False, what)
+        if not at_fence:
+            before = int(landing) - first_line + 1 if landing else 0
+            events.append((before, lambda m: m.land_first()))
+    if sender:
+        if setting.producers[int(sender)] != 'routed':
+            return False
+        before = int(sent) - first_line + 1 if sent else 0
+        events.append((before, lambda m: m.send(int(sender), False, what)))
+    return is_bad_end(machine, plan, events)
+
+
+SPOT = r'in the (old place|hand|new place)'
+UNTOLD = re.compile(
+    r'  run: identity (\d+) is enabled in the old place at the start'
+    r'(?:(, and pending there)'
+    r'|; producer (\d+) stores it (?:before the first step|behind line (\d+)) by its (written route|route in force))'
+    r'(; at the start delivery is 1 ' + SPOT + r' and 0 elsewhere, and the threshold is '
+    r'(?:1 everywhere|0 ' + SPOT + r' and 1 elsewhere))?'
+    r'; in the end it is pending(?:, enabled and let through| and enabled) in the new place, and the host was not told')
+NONE = re.compile(r'  run: none was found with one store at most(; the rule asks for more than that the host is told)?')
+
+
+def is_untold_shown(setting, plan, first_line, text):
+    """Whether a run that a program shows, of a plan whose first step is on a line, is one, and leaves the host untold."""
+    found = UNTOLD.fullmatch(text)
+    identity, there, storer, behind, route, numbers, delivery, threshold = found.groups()
+    what = (int(identity) // 64, int(identity) % 64)
+    if bool(numbers) != setting.heeds or what[0] >= setting.words:
+        return False
+    machine = Machine(setting, (), ())
+    machine.new = {'pending': set(), 'enabled': set()}
+    machine.old['enabled'].add(what)
+    if there:
+        machine.old['pending'].add(what)
+        machine.due.add(what)
+    for name in ('old', 'hand', 'new'):
+        is_spot = lambda words: (words or '').startswith(name)
+        machine.number[name] = {'threshold': 0 if is_spot(threshold) else 1, 'delivery': int(is_spot(delivery))}
+    events = []
+    if storer:
+        if int(storer) >= len(setting.producers):
+            return False
+        before = int(behind) - first_line + 1 if behind else 0
+        events.append((before, lambda m: m.store(int(storer), route == 'written route', what)))
+    run(machine, plan, events)
+    return machine.is_untold() and all(what in machine.new[bank] for bank in ('pending', 'enabled'))
+
+
+def shown_of(setting, plan, first_line, verdict, text):
+    """What is shown of a plan: a run that is what its verdict asks for, or is not; or that none was found."""
+    is_notice = verdict == 'refused notice'
+    none = NONE.fullmatch(text)
+    if none:
+        return 'none found' if bool(none.group(1)) == is_notice else 'wrongly shown'
+    is_right_run = is_untold_shown if is_notice else is_bad_shown
+    return 'shown' if is_right_run(setting, plan, first_line, text) else 'wrongly shown'
+
+
+def verdicts(program, plans):
+    """What a program answers of each plan: the first two words, and what is shown."""
+    text, firsts, line = [], [], 1
+    for setting, plan in plans:
+        text += setting.lines() + [' '.join(map(str, step)) for step in plan]
+        firsts.append(line + len(setting.lines()))
+        line = len(text) + 1
+    done = subprocess.run([program, 'judge'], input='\n'.join(text) + '\n', capture_output=True,
+                          text=True)
+    if done.returncode not in (0, 1):  # 1 where it refuses a plan
+        command_line.fail(f'{program} ended with status {done.returncode}')
+    answers = []
+    for answer in done.stdout.splitlines():
+        if answer.startswith(' '):
+            setting, plan = plans[len(answers) - 1]
+            verdict = answers[-1][0]
+            answers[-1] = (verdict, shown_of(setting, plan, firsts[len(answers) - 1], verdict, answer))
+        else:
+            answers.append((' '.join(answer.split()[:2]), 'none shown'))
+    if len(answers) != len(plans):
+        command_line.fail(f'{program} judges {len(answers)} of {len(plans)} plans')
+    return answers
+
+
+def main():
+    program, count, seed = command_line.given(
+        __doc__, lambda given: len(given) == 3 and command_line.are_numbers(given[1:]))
+    count, rng = int(count), random.Random(int(seed))
+    seeds = [list(hypervisors(words)) for words in (1, 2)]
+    tally = {}
+    for begin in range(0, count, 500):
+        plans = []
+        for _ in range(min(500, count - begin)):
+            setting, plan = rng.choice(rng.choice(seeds))
+            plans.append((setting, edited(setting, plan, rng)))
+        for (setting, plan), (verdict, shown) in zip(plans, verdicts(program, plans), strict=True):
+            bad = has_bad_run(setting, plan)
+            key = (verdict, 'a bad run' if bad else 'no bad run', shown)
+            if setting.memory and setting.heeds and key == ('refused notice', 'no bad run', 'none found'):
+                key = ('refused notice', 'no bad run, with numbers that are heeded', 'none found')
+            tally[key] = tally.get(key, 0) + 1
+            if not is_right(key):
+                print(key, setting.lines(), plan)
+    for key in sorted(tally):
+        print(*key, tally[key])
+    return 0 if all(map(is_right, tally)) else 1
+
+
+def is_right(key):
+    """Whether a verdict, what this machine found, and what was shown agree."""
+    verdict, found, shown = key
+    if verdict == 'accepted':
+        return (found, shown) == ('no bad run', 'none shown')
+    if verdict == 'refused notice':
+        # Where numbers are heeded the rule on notices asks for more than that the host is told; and
+        # a run that is shown may begin with other numbers than those that are tried here.
+        return shown == 'shown' or (found.startswith('no bad run, with') and shown == 'none found')
+    return verdict.startswith('refused') and (found, shown) == ('a bad run', 'shown')

@@ -1,0 +1,213 @@
+"""The pages of the site on definitions: a page a module, a page for the items of each crate, the
+definitions by chapters, and an index of names."""
+
+from html import escape
+
+from lemdwab.documents.antt import all_modules, read_module
+from lemdwab.documents.definitions import (CONTENTS, FULL, ITEM as PLACED_ITEM, PASSED, TABLE,
+                                           order_lines, prose)
+from lemdwab.documents.markdown import anchor
+from lemdwab.documents.naming import (all_definitions, blocks, code_page, crates, defined,
+                                      item_blocks, items, meaning_of, meaning_of_file,
+                                      meaning_of_module, rests_on, spec_page)
+from lemdwab.documents.site_pages import (Prose, first_sentence, link, linked_code, pandoc,
+                                          shown_file)
+
+DEFINITIONS = "docs/DEFINITIONS.html"
+
+
+def comments():
+    """Lists all comments that are prose of pages here."""
+    for crate, module in all_modules():
+        head, groups, _ = read_module(crate, module)
+        yield "\n".join(head)
+        for group in groups:
+            yield "\n".join(prose(group.comment))
+    for crate in crates():
+        for one in items(crate):
+            yield "\n".join(one.comment)
+
+
+def links(page, keys):
+    """Gives keys of definitions and of names of libraries as links, the latter in words."""
+    found, leaves = [], {}
+    definitions = all_definitions()
+    for key in keys:
+        if key in definitions:
+            one = definitions[key]
+            found.append(link(page, one.place, escape(one.name)))
+        else:
+            of, _, name = key.partition(" ")
+            leaves.setdefault(of, []).append(escape(name))
+    for of, names in leaves.items():
+        found.append(f'<span class="leaves">{library_words(of)}: {" ".join(names)}</span>')
+    return ", ".join(found)
+
+
+def library_words(of):
+    """Says in words what a name comes from that is no definition here."""
+    return "the standard library" if of == "std" else f"the library {escape(of)}"
+
+
+def around(page, one, namers):
+    """Gives what a definition names and what names it, folded."""
+    parts = []
+    for words, keys in (("rests on", rests_on(one.key)), ("is named by", namers.get(one.key, ()))):
+        if keys:
+            parts.append(f"<details><summary>{words} {len(keys)}</summary>"
+                         f"<p>{named_by(page, keys)}</p></details>")
+    return f'<div class="around">{"".join(parts)}</div>' if parts else ""
+
+
+def named_by(page, keys):
+    """Gives what names a definition as links: definitions by their keys, laws and calls by their
+    places and names."""
+    others = [link(page, key[0], escape(key[1]), "law") for key in keys if isinstance(key, tuple)]
+    own = links(page, [key for key in keys if not isinstance(key, tuple)])
+    return ", ".join(part for part in (own, *others) if part)
+
+
+def code_of(page, one, ids=True):
+    """Gives a definition's lines with links."""
+    cut = item_blocks(one.lines) if one.is_item else blocks(one.lines)
+    html = "\n".join(linked_code(block, meaning_of(one), page, one.place) for block in cut)
+    name = escape(one.place.partition("#")[2], quote=True)
+    if ids:
+        marks = "".join(f'<a id="{name}.{escape(part)}"></a>' for part in one.members)
+        return f'<pre id="{name}">{marks}{html.rstrip()}</pre>'
+    return f"<pre>{html.rstrip()}</pre>"
+
+
+def module_page(site, crate, module, namers):
+    """Writes the page of a module."""
+    page = spec_page(crate, module)
+    head, groups, _ = read_module(crate, module)
+    meaning = meaning_of_module(crate, module)
+    by_head = {one.lines[0]: one for one in defined(crate, module)}
+    source = link(page, f"docs/DEFINITIONS.html#{anchor(f'{module} ({crate})')}", "Definitions")
+    body = [f'<p class="path">{source} / {crate}</p>', f"<h1>{module}</h1>",
+            Prose.of("\n".join(head), page, meaning)]
+    for group in groups:
+        body.append(Prose.of("\n".join(prose(group.comment)), page, meaning))
+        for line in group.code:
+            if line in by_head:
+                one = by_head[line]
+                body += ['<section class="one">', code_of(page, one),
+                         around(page, one, namers), "</section>"]
+            elif line.startswith("infix"):
+                body.append(f"<pre>{escape(line)}</pre>")
+    site.write(page, f"{module} of {crate}", "\n".join(body), DEFINITIONS)
+
+
+def items_page(site, crate, namers):
+    """Writes the page of the items of a crate, folded by file."""
+    page = code_page(crate)
+    body = [f'<p class="path">{link(page, DEFINITIONS, "Definitions")} / {crate}</p>',
+            f"<h1>Enums, structs, constants and traits of {crate}</h1>",
+            "<p>What definitions and contracts name of the code, as it stands in <code>src/</code>,"
+            " in Rattle. Of a struct that contracts see by a model, the model stands below it.</p>"]
+    for file in dict.fromkeys(one.module for one in items(crate)):
+        stem = shown_file(crate, file).partition("#")[2]
+        own = [one for one in items(crate) if one.module == file]
+        body.append(f'<details open id="{stem}"><summary>{file}</summary>')
+        for one in own:
+            body += ['<section class="one">',
+                     Prose.of("\n".join(one.comment), page, meaning_of_file(crate, file)),
+                     code_of(page, one), around(page, one, namers), "</section>"]
+        body.append("</details>")
+    site.write(page, f"Items of {crate}", "\n".join(body), DEFINITIONS)
+
+
+# ---- by chapters
+
+def folded(crate, module):
+    """Gives a module as one line that unfolds: what its comment says, and its names."""
+    head = read_module(crate, module)[0]
+    page = spec_page(crate, module)
+    names = ", ".join(link(DEFINITIONS, one.place, escape(one.name))
+                      for one in defined(crate, module))
+    return (f'<details class="module" id="{anchor(f"{module} ({crate})")}"><summary>'
+            f"{link(DEFINITIONS, page, module)} <small>{crate}: {escape(first_sentence(head))}"
+            f"</small></summary>{Prose.of(chr(10).join(head))}<p>{names}</p></details>")
+
+
+def placed_items(crate, file, *names):
+    """Gives links to items, and the anchor that the document has for them."""
+    shown = ", ".join(link(DEFINITIONS, f"{shown_file(crate, file)}.{name}", name)
+                      for name in names)
+    of = anchor(", ".join(names) + f" ({crate}, {file})")
+    return f'<p id="{of}">{shown} <small>{crate}, {file}</small></p>'
+
+
+def by_chapters(site):
+    """Writes the definitions by chapters, in the order in which they are read."""
+    body, text = [], []
+
+    def said():
+        html = pandoc("\n".join(text)) if "".join(text).strip() else ""
+        body.append(site.linked(html, "docs/DEFINITIONS.md", DEFINITIONS))
+        text.clear()
+
+    for line in order_lines():
+        for mark, give in ((TABLE, folded), (FULL, folded), (PLACED_ITEM, placed_items)):
+            if line.startswith(mark):
+                said()
+                body.append(give(*line[len(mark):].split()))
+                break
+        else:
+            if not line.startswith(PASSED) and line != CONTENTS:
+                text.append(line)
+    said()
+    code = ", ".join(link(DEFINITIONS, code_page(crate), crate) for crate in crates()
+                     if items(crate))
+    body.append(f"<h2>What stands in the code</h2>\n<p>{code}</p>")
+    site.write(DEFINITIONS, "The definitions", "\n".join(body))
+
+
+# ---- names
+
+def names_page(site, functions):
+    """Writes the index of names, folded by their first letter."""
+    found = []
+    for one in all_definitions().values():
+        found.append((one.name, one.place, one.module if not one.is_item else one.crate))
+        found += [(part, f"{one.place}.{part}", one.name) for part in one.members]
+    found += [(one.called(), place, f"{one.crate}, {'law' if one.is_law else 'call'}")
+              for one, place in functions]
+    letters = {}
+    for name, place, of in sorted(found, key=lambda row: (row[0].lower(), row)):
+        letter = name[0].upper() if name[0].isalpha() else "operators"
+        letters.setdefault(letter, []).append(
+            f'<li>{link("names.html", place, escape(name))} <small>{escape(of)}</small></li>')
+    body = ["<h1>Names</h1>", "<p>Every definition, each part and form of one, each law and each"
+            " public call.</p>", '<p><input id="find" type="search" placeholder="part of a name"'
+            ' aria-label="part of a name"></p>']
+    for letter, rows in letters.items():
+        body.append(f'<details class="letter"><summary>{letter} <small>{len(rows)}</small>'
+                    f'</summary><ul class="names">{"".join(rows)}</ul></details>')
+    site.write("names.html", "Names", "\n".join(body))
+
+
+def namers_of(functions):
+    """Gives what names each definition: keys of definitions, and places and names of functions."""
+    found = {}
+    for key in all_definitions():
+        for named_key in rests_on(key):
+            found.setdefault(named_key, []).append(key)
+    for one, place, keys in functions:
+        for key in keys:
+            found.setdefault(key, []).append((place, one.called()))
+    return found
+
+
+def make(site, functions):
+    """Writes all pages of definitions; functions are the laws and calls, each with its place and
+    the keys of what its clauses name."""
+    namers = namers_of(functions)
+    for crate, module in all_modules():
+        module_page(site, crate, module, namers)
+    for crate in crates():
+        if items(crate):
+            items_page(site, crate, namers)
+    by_chapters(site)
+    names_page(site, [(one, place) for one, place, _ in functions])

@@ -1,0 +1,1 @@
+"""What suite/tools tries of the tools."""
