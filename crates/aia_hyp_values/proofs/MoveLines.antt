@@ -116,7 +116,7 @@ no_step x vm vcpu outside = refused x (Step vm vcpu) (Refused Range) (λ h stand
 
 -- ---- what a plan knows
 
-knows : (x : CoreState) (h : History) (g : Vcpu) (plan : PlanState) → CoreStands x h → has_vcpu h g ≡ true
+pub knows : (x : CoreState) (h : History) (g : Vcpu) (plan : PlanState) → CoreStands x h → has_vcpu h g ≡ true
     → (record_of x g).stay ≡ stays.Moving plan → KnowsIts x h g plan
 knows x h g plan stands there is =
     let stood = stands.vcpus g there in
