@@ -47,3 +47,4 @@ pub mod WordLemmas
 pub mod TargetsLemmas
 pub mod TargetsLines
 pub mod WaysInCore
+pub mod ExampleWays

@@ -11,12 +11,15 @@ use Rattle.aia_model.specs.declared.line.Line.{Line}
 use Rattle.aia_model.specs.declared.line.Line.TheVariants.{Machine}
 use Rattle.aia_model.specs.declared.line.Line.TheVariants as lines
 use Rattle.aia_model.specs.declared.domain_name.DomainName.TheVariants.{Child}
-use Rattle.aia_model.specs.Event.{Event, History, harts_of}
+use Rattle.std.specs.Int.{is_in_range}
+use Rattle.aia_model.specs.Event.{Event, History, harts_of, sources_of}
 use Rattle.aia_model.specs.Event.Event.{Accepted, Began, Stepped, Delivered, Landed, Relayed}
-use Rattle.aia_model.specs.Act.{Act, Past, act_of}
-use Rattle.aia_model.specs.Act.Act.{Aimed}
+use Rattle.aia_model.specs.Act.{Act, Past, act_of, newest}
+use Rattle.aia_model.specs.Act.Act.{Aimed, Sent}
+use Rattle.aia_model.specs.AddressOf.{addresses_of}
+use Rattle.aia_model.specs.declared.sender.Sender.{Sender}
 use Rattle.aia_model.specs.SourceOf.{target}
-use Rattle.aia_model.specs.Sent.{with_act, acts_of}
+use Rattle.aia_model.specs.Sent.{with_act, senders, sent_by, acts_of}
 use Rattle.aia_model.specs.Passes.{PassedSource, no_pass, passes_of, nth_pass, passes_for, own_pass}
 use Rattle.aia_model.specs.Passable.{is_passable}
 use Rattle.aia_model.specs.HomeOf.{home}
@@ -45,6 +48,15 @@ harts_kept (Stepped g) h quiet = refl
 harts_kept (Delivered msi) h quiet = refl
 harts_kept (Landed vm k) h quiet = refl
 harts_kept (Relayed p) h quiet = refl
+
+sources_kept : (event : Event) (h : History) → LeavesTheAplic event → sources_of (event ∷ h) ≡ sources_of h
+sources_kept (Accepted (Machine harts guests n sources)) h quiet = absurd (cc)
+sources_kept (Accepted line) h quiet = refl
+sources_kept (Began move) h quiet = refl
+sources_kept (Stepped g) h quiet = refl
+sources_kept (Delivered msi) h quiet = refl
+sources_kept (Landed vm k) h quiet = refl
+sources_kept (Relayed p) h quiet = refl
 
 -- each pass was one before, or is the one that it makes, whose source it aims
 abbrev Was : History → Event → ℕ → Type 0
@@ -169,6 +181,37 @@ leads_before event h p may good s v is low = elim (each_source event h p low) [
   | inr own ↦ aimed_passable event h (nth_pass (event ∷ h) p).source own.0 may good own.1
 ]
 
+-- of which sources MSIs to guests may be made
+passable_aimed : (past : Past) (t v s : ℕ) → is_passable (Aimed t v ∷ past) s ≡ is_passable past s
+unfolding newest addresses_of
+passable_aimed past t v s = refl
+
+passable_once : (past : Past) (x : Sender) (s : ℕ) → is_passable (Sent x ∷ past) s ≡ is_passable past s
+unfolding newest addresses_of
+passable_once past x s = refl
+
+pub passable_sent : (xs : List Sender) (past : Past) (s : ℕ) → is_passable (sent_by xs past) s ≡ is_passable past s
+passable_sent [] past s = refl
+passable_sent (x ∷ xs) past s = passable_sent xs (Sent x ∷ past) s ∙ passable_once past x s
+
+passable_with : (event : Event) (h : History) (s : ℕ) (o : Option Act) → aimed_by h event ≡ o
+    → is_passable (with_act o (acts_of h)) s ≡ is_passable (acts_of h) s
+passable_with event h s None is = refl
+passable_with event h s (Some (Aimed t v)) is = passable_aimed (acts_of h) t v s
+passable_with event h s (Some a) is = absurd (only_aims event h a is refl)
+
+passable_kept : (event : Event) (h : History) (s : ℕ) → LeavesTheAplic event
+    → is_passable (acts_of (event ∷ h)) s ≡ is_passable (acts_of h) s
+passable_kept (Accepted line) h s quiet =
+    let past = with_act (aimed_by h (Accepted line)) (acts_of h) in
+    passable_sent (senders (with_act (act_of line) past)) (with_act (act_of line) past) s
+    ∙ ap (λ (o : Option Act). is_passable (with_act o past) s) quiet ∙ passable_with (Accepted line) h s (aimed_by h (Accepted line)) refl
+passable_kept (Began move) h s quiet = passable_with (Began move) h s (aimed_by h (Began move)) refl
+passable_kept (Stepped g) h s quiet = passable_with (Stepped g) h s (aimed_by h (Stepped g)) refl
+passable_kept (Delivered msi) h s quiet = passable_with (Delivered msi) h s (aimed_by h (Delivered msi)) refl
+passable_kept (Landed vm k) h s quiet = passable_with (Landed vm k) h s (aimed_by h (Landed vm k)) refl
+passable_kept (Relayed q) h s quiet = passable_with (Relayed q) h s (aimed_by h (Relayed q)) refl
+
 -- ---- the targets after an event
 
 -- of one source: it is ready, and its target is that of some acts
@@ -223,6 +266,8 @@ module _ {T : Type 0} (view : T → TargetMap) (aim : T → ℕ → ℕ → T �
       → AimsBy aim (aimed_by h event) old new → TargetsStand (view old) h → TargetsStand (view new) (event ∷ h)
   event_targets event h old new may good quiet tells made stands = record {
     harts = kept_harts (aimed_by h event) made ∙ stands.harts ∙ sym (harts_kept event h quiet);
+    tells = λ s inside. kept_ready (aimed_by h event) made s
+        ∙ stands.tells s (ap (λ n. is_in_range 1 n s) (sym (sources_kept event h quiet)) ∙ inside) ∙ sym (passable_kept event h s quiet);
     ready = λ p low. (follows_then event h old new p may good tells stands (aimed_by h event) refl made low).ready;
     aimed = λ p low. (follows_then event h old new p may good tells stands (aimed_by h event) refl made low).target
         ∙ (aimed_then event h p may good quiet low).target;
@@ -232,3 +277,8 @@ module _ {T : Type 0} (view : T → TargetMap) (aim : T → ℕ → ℕ → T �
       kept_harts None made = ap (λ (t : T). (view t).harts) made
       kept_harts (Some (Aimed s v)) made = (aims_one old new s v made).harts
       kept_harts (Some a) made = ap (λ (t : T). (view t).harts) made
+
+      kept_ready : (o : Option Act) → AimsBy aim o old new → (s : ℕ) → (view new).ready s ≡ (view old).ready s
+      kept_ready None made s = ap (λ (t : T). (view t).ready s) made
+      kept_ready (Some (Aimed t v)) made s = (aims_one old new t v made).ready s
+      kept_ready (Some a) made s = ap (λ (t : T). (view t).ready s) made

@@ -1,7 +1,7 @@
 -- The targets of sources stand for the history with a line: one that passes a source, a step of a
 -- move, a whole move, and any that aims nothing.
-use Rattle.std.proofs.Common.{◌≡◌, ℕ, zero, suc, ◌+◌, ◌<◌, Bool, true, false, if◌then◌else◌, List, [], ◌∷◌, length, Option, Some, None, refl, sym, ap, subst, ◌∙◌, arith}
-use Rattle.std.proofs.lemmas.Bool.{false≢true}
+use Rattle.std.proofs.Common.{◌≡◌, ℕ, zero, suc, ◌+◌, ◌<◌, Bool, true, false, not, if◌then◌else◌, List, [], ◌∷◌, length, Option, Some, None, refl, sym, ap, subst, ◌∙◌, arith}
+use Rattle.std.proofs.lemmas.Bool.{cond-true, false≢true}
 use Rattle.aia_vcpu.specs.Vms.{Vcpu, vcpu_of}
 use Rattle.aia_vcpu.specs.Home.{Home}
 use Rattle.aia_vcpu.specs.Routes.{is_at_fence}
@@ -9,16 +9,25 @@ use Rattle.aia_vcpu.specs.Aims.{is_aiming, aims_done}
 use Rattle.aia_vcpu.proofs.PassLemmas.{aim_is_no_fence}
 use Rattle.aia_move_values.specs.Targets.{TargetMap, AimsOne}
 use Rattle.aia_model.specs.declared.answer.Answer.{Answer}
+use Rattle.aia_model.specs.declared.answer.Answer.TheVariants.{Refused}
+use Rattle.aia_model.specs.declared.refusal.Refusal.TheVariants.{Idle}
+use Rattle.aia_fabric_values.specs.declared.found.Found.{Found}
+use Rattle.aia_fabric_values.specs.Found.{IsFound}
 use Rattle.aia_model.specs.declared.line.Line.{Line}
-use Rattle.aia_model.specs.declared.line.Line.TheVariants.{Step}
+use Rattle.aia_model.specs.declared.line.Line.TheVariants.{Machine, Step}
 use Rattle.aia_model.specs.declared.line.Line.TheVariants as lines
 use Rattle.aia_model.specs.declared.want.Want.{Want}
-use Rattle.aia_model.specs.Event.{Event, History, file_words}
+use Rattle.std.specs.Int.{is_in_range}
+use Rattle.aia_model.specs.Event.{Event, History, file_words, sources_of}
 use Rattle.aia_model.specs.Event.Event.{Accepted, Began, Stepped, Landed}
-use Rattle.aia_model.specs.Act.{Act}
+use Rattle.aia_model.specs.Act.{Act, newest}
+use Rattle.aia_model.specs.Act.Act.{Made}
+use Rattle.aia_model.specs.AddressOf.{addresses_of}
+use Rattle.aia_model.specs.Sent.{senders, acts_of}
+use Rattle.aia_model.specs.Passable.{is_passable}
 use Rattle.aia_model.specs.Flight.{flight}
 use Rattle.aia_model.specs.Move.{wanted_move}
-use Rattle.aia_model.specs.Passes.{passes_of, passes_for, own_pass}
+use Rattle.aia_model.specs.Passes.{PassedSource, passes_of, passes_for, own_pass}
 use Rattle.aia_model.specs.HomeOf.{home}
 use Rattle.aia_model.specs.Aim.{aim_of, aimed_by}
 use Rattle.aia_model.specs.Answer.{oldest_landed, landed_first, step_taken, steps_taken, steps_of, line_taken}
@@ -29,17 +38,19 @@ use Rattle.aia_model.proofs.FlightLemmas.{home_landed_first}
 use Rattle.aia_model.proofs.RefusalLemmas.{pass_allowed}
 use Rattle.aia_hyp_values.specs.Moves.{UnlessRefused, WholeAims}
 use Rattle.aia_hyp_values.specs.Passes.{AimsBy, StepsAim, TellsOf}
-use Rattle.aia_hyp_values.specs.Stands.{line_served}
-use Rattle.aia_hyp_values.specs.Targets.{TargetsStand, LeavesTheAplic}
+use Rattle.aia_hyp_values.specs.Core.{CoreState, record_of, has_plan}
+use Rattle.aia_hyp_values.specs.Stands.{CoreStands, MayPass, line_served}
+use Rattle.aia_hyp_values.proofs.MoveLines.{by_home}
+use Rattle.aia_hyp_values.specs.Targets.{TargetsStand, StandsWith, LeavesTheAplic}
 use Rattle.aia_hyp_values.proofs.MoveWhole.{one_step_more, whole_line}
-use Rattle.aia_hyp_values.proofs.TargetsLemmas.{TellsReady, event_targets}
+use Rattle.aia_hyp_values.proofs.TargetsLemmas.{TellsReady, passable_sent, event_targets}
 
 -- ---- landings
 
 -- what lands is nothing to targets
 landed_targets : (map : TargetMap) (h : History) (vm k : ℕ) → TargetsStand map h → TargetsStand map (Landed vm k ∷ h)
 unfolding passes_of home
-landed_targets map h vm k s = record { harts = s.harts; ready = s.ready; aimed = s.aimed }
+landed_targets map h vm k s = record { harts = s.harts; tells = s.tells; ready = s.ready; aimed = s.aimed }
 
 oldest_targets : (map : TargetMap) (count vm : ℕ) (h : History) → TargetsStand map h → TargetsStand map (oldest_landed count vm h)
 oldest_targets map zero vm h s = s
@@ -167,3 +178,45 @@ still_targets map h event may good leaves none stands =
     not_passing (Accepted (lines.Pass source vm vcpu identity)) none = absurd (cc)
     not_passing (Accepted line) none = tt
     not_passing event none = tt
+
+-- and a step of one that is not moved
+pub idle_targets : (x : CoreState) (map : TargetMap) (h : History) (who : Found) → CoreStands x h → IsFound x.world who
+    → has_plan (record_of x (vcpu_of who.vm who.vcpu)).stay ≡ false → TargetsStand map h
+    → TargetsStand map (line_served (refusal h (Step who.vm who.vcpu)) h (Step who.vm who.vcpu))
+idle_targets x map h who stands is idle told =
+    let refused : refusal h (Step who.vm who.vcpu) ≡ Some (Refused Idle) = by_home x h who stands is ∙ cond-true _ _ _ (ap not idle) in
+    subst (λ (o : Option Answer). TargetsStand map (line_served o h (Step who.vm who.vcpu))) (sym refused) told
+
+-- a source that is there may be passed
+pub may_pass_there : (x : CoreState) (map : TargetMap) (h : History) (source : ℕ) → IsHistory h → StandsWith x map h
+    → is_in_range 1 (sources_of h) source ≡ true → MayPass x map source
+may_pass_there x map h source good stands inside = record {
+  past = h;
+  happens = good;
+  stands = stands.core;
+  tells = record { there = inside; ready = stands.targets.tells source inside };
+}
+
+-- the machine is made: no source is ready, and nothing is passed
+none_made : (harts sources s : ℕ) → is_passable (Made harts sources ∷ []) s ≡ false
+unfolding newest addresses_of
+none_made harts sources s = refl
+
+none_ready : (harts guests n sources s : ℕ) → is_passable (acts_of (Accepted (Machine harts guests n sources) ∷ [])) s ≡ false
+none_ready harts guests n sources s = passable_sent (senders (Made harts sources ∷ [])) (Made harts sources ∷ []) s ∙ none_made harts sources s
+
+no_pass_yet : (harts guests n sources : ℕ) → passes_of (Accepted (Machine harts guests n sources) ∷ []) ≡ []
+unfolding passes_of
+no_pass_yet harts guests n sources = refl
+
+pub targets_begin : (map : TargetMap) (harts guests n sources : ℕ) → map.harts ≡ harts → ((s : ℕ) → map.ready s ≡ false)
+    → TargetsStand map (Accepted (Machine harts guests n sources) ∷ [])
+targets_begin map harts guests n sources same none = record {
+  harts = same;
+  tells = λ s inside. none s ∙ sym (none_ready harts guests n sources s);
+  ready = λ p low. absurd (nothing p low);
+  aimed = λ p low. absurd (nothing p low);
+}
+  where
+    nothing : (p : ℕ) → p < length (passes_of (Accepted (Machine harts guests n sources) ∷ [])) → ⊥
+    nothing p low = omega (arith, low, ap (λ (xs : List PassedSource). length xs) (no_pass_yet harts guests n sources))

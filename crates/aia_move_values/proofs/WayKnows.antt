@@ -177,7 +177,7 @@ module _ (w : World) (map : TargetMap) (plan : PlanState) (reach : Option GuestP
   own_entry : (g : Vcpu) → g ≡ mover it → entry_of w g ≡ leads_to it.who.found.slot it.who.found.notice reach
   own_entry g own = ap (λ (x : Vcpu). entry_of w x) own ∙ all.places.holds.routes.in_force
 
-  sent_by : (g : Vcpu) (offset value : ℕ) (e : Entry) → e ≡ entry_of w g
+  pub sent_by : (g : Vcpu) (offset value : ℕ) (e : Entry) → e ≡ entry_of w g
       → KnowsAll (with_flight w g.vm (flight_of w g.vm ++ record { entry = e; offset = offset; value = value } ∷ [])) map plan reach file saw
   sent_by g offset value e is = sent_on g.vm offset value e (λ led.
       let own = all.ways.entries g (ap (λ (x : Entry). leads_here it (led_by_entry w x)) (sym is) ∙ led) in
