@@ -1,29 +1,26 @@
 -- The example: its targets stand for the history, and the plan of the leave knows all, with two
 -- stores in flight.
-use Rattle.std.proofs.Common.{◌≡◌, ℕ, zero, suc, ◌+◌, ◌<◌, ◌≤◌, true, false, nat_eq, List, [], ◌∷◌, ◌++◌, length, Option, Some, None, refl, sym, ap, subst, ◌∙◌, arith}
+use Rattle.std.proofs.Common.{◌≡◌, ℕ, ◌<◌, true, false, nat_eq, List, [], ◌∷◌, ◌++◌, length, None, refl, sym, ap, subst, ◌∙◌, arith}
 use Rattle.std.specs.Int.{is_in_range}
-use Rattle.std.proofs.lemmas.Bool.{false≢true}
 use Rattle.std.proofs.lemmas.Bool.Decides.{nat_tests}
 use Rattle.aia_word.specs.Sets.{least_of}
 use Rattle.aia_vcpu.specs.Aims.{target_to}
-use Rattle.aia_move_values.specs.PlanState.{PlanState}
 use Rattle.aia_move_values.specs.Ways.{KnowsAll}
 use Rattle.aia_move_values.proofs.WayKnows.{sent_by}
 use Rattle.aia_model.specs.declared.line.Line.{Line}
-use Rattle.aia_model.specs.Event.{History, harts_of, sources_of}
+use Rattle.aia_model.specs.Event.{History}
 use Rattle.aia_model.specs.Answer.{after, after_lines}
 use Rattle.aia_model.specs.Histories.{IsHistory}
-use Rattle.aia_model.specs.Passes.{PassedSource, no_pass, passes_of, nth_pass}
+use Rattle.aia_model.specs.Passes.{PassedSource, passes_of, nth_pass}
 use Rattle.aia_model.specs.Aim.{pass_reach, target_for}
 use Rattle.aia_model.specs.HomeOf.{home}
 use Rattle.aia_model.specs.Sent.{acts_of}
 use Rattle.aia_model.specs.Passable.{is_passable}
 use Rattle.aia_model.specs.GuestFile.{guest_file}
 use Rattle.aia_model.specs.Notice.{a_look_saw}
-use Rattle.aia_model.specs.ReachOf.{in_force_of}
 use Rattle.aia_model.proofs.HistoryLemmas.{after_happens}
 use Rattle.aia_model.proofs.PassesStandLemmas.{passes_stand}
-use Rattle.aia_hyp_values.specs.Example.{leaver, stayer, leaving_history, earlier_lines, leave_lines, the_pass, leaving_core, leave_plan, sent_to_leaver, sent_to_stayer, example_world, flying_world, example_targets, leaver_interrupts}
+use Rattle.aia_hyp_values.specs.Example.{leaver, stayer, leaving_history, earlier_lines, leave_lines, leaving_core, leave_plan, sent_to_leaver, sent_to_stayer, example_world, flying_world, example_targets, leaver_interrupts}
 use Rattle.aia_hyp_values.specs.Targets.{TargetsStand}
 use Rattle.aia_hyp_values.proofs.ExampleLemmas.{leaving_stands, leaving_whole, leaving_lines, passed_one, leaver_reach, leaver_has, leaver_saw}
 use Rattle.aia_hyp_values.proofs.WaysInCore.{all_in_core}

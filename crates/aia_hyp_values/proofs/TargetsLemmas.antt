@@ -1,13 +1,12 @@
 -- The targets of sources stand for the longer history, whatever event that has: a pass, a step of a
 -- move, or one that aims nothing.
-use Rattle.std.proofs.Common.{◌≡◌, ◌≢◌, ℕ, zero, suc, ◌+◌, ◌<◌, ◌≤◌, Bool, true, false, nat_eq, nat_lt, if◌then◌else◌, List, [], ◌∷◌, ◌++◌, length, slice_index_or, Option, Some, None, ◌⊎◌, inl, inr, refl, sym, ap, subst, ◌∙◌, arith}
+use Rattle.std.proofs.Common.{◌≡◌, ℕ, ◌<◌, Bool, true, false, nat_eq, nat_lt, if◌then◌else◌, List, [], ◌∷◌, ◌++◌, length, slice_index_or, Option, Some, None, ◌⊎◌, inl, inr, refl, sym, ap, subst, ◌∙◌, arith}
 use Rattle.std.proofs.lemmas.Bool.{cases_Bool, cases_lt, eq-eqb, eqb-true, ltb-true, and_parts, false≢true}
 use Rattle.std.proofs.lemmas.List.{get_or_append_left, length-append}
 use Rattle.std.proofs.Math.Seq.{get_or-append_seam}
-use Rattle.aia_vcpu.specs.Vms.{Vcpu, vcpu_of}
+use Rattle.aia_vcpu.specs.Vms.{vcpu_of}
 use Rattle.aia_vcpu.specs.Aims.{is_aiming, aims_done, pass_reaches}
 use Rattle.aia_move_values.specs.Targets.{TargetMap, AimsOne}
-use Rattle.aia_model.specs.declared.line.Line.{Line}
 use Rattle.aia_model.specs.declared.line.Line.TheVariants.{Machine}
 use Rattle.aia_model.specs.declared.line.Line.TheVariants as lines
 use Rattle.aia_model.specs.declared.domain_name.DomainName.TheVariants.{Child}
@@ -23,11 +22,10 @@ use Rattle.aia_model.specs.Sent.{with_act, senders, sent_by, acts_of}
 use Rattle.aia_model.specs.Passes.{PassedSource, no_pass, passes_of, nth_pass, passes_for, own_pass}
 use Rattle.aia_model.specs.Passable.{is_passable}
 use Rattle.aia_model.specs.HomeOf.{home}
-use Rattle.aia_model.specs.Aim.{pass_reach, target_for, aim_of, aimed_by}
+use Rattle.aia_model.specs.Aim.{target_for, aim_of, aimed_by}
 use Rattle.aia_model.specs.Histories.{MayHappen, IsHistory}
-use Rattle.aia_model.specs.PassesStand.{PassStands, AllPassesStand}
 use Rattle.aia_model.proofs.OwnPassLemmas.{own_is}
-use Rattle.aia_model.proofs.PassesStandLemmas.{IsAimedIn, acts_by, line_aimed, passes_stand}
+use Rattle.aia_model.proofs.PassesStandLemmas.{IsAimedIn, line_aimed, passes_stand}
 use Rattle.aia_model.proofs.RefusalLemmas.{pass_allowed}
 use Rattle.aia_model.proofs.TargetLemmas.{passed_stays, aim_gives}
 use Rattle.aia_hyp_values.specs.Passes.{AimsBy}

@@ -3,7 +3,6 @@
 use Rattle.std.proofs.Common.{◌≡◌, ℕ, zero, suc, ◌+◌, ◌<◌, Bool, true, false, not, if◌then◌else◌, List, [], ◌∷◌, length, Option, Some, None, refl, sym, ap, subst, ◌∙◌, arith}
 use Rattle.std.proofs.lemmas.Bool.{cond-true, false≢true}
 use Rattle.aia_vcpu.specs.Vms.{Vcpu, vcpu_of}
-use Rattle.aia_vcpu.specs.Home.{Home}
 use Rattle.aia_vcpu.specs.Routes.{is_at_fence}
 use Rattle.aia_vcpu.specs.Aims.{is_aiming, aims_done}
 use Rattle.aia_vcpu.proofs.PassLemmas.{aim_is_no_fence}
@@ -13,7 +12,6 @@ use Rattle.aia_model.specs.declared.answer.Answer.TheVariants.{Refused}
 use Rattle.aia_model.specs.declared.refusal.Refusal.TheVariants.{Idle}
 use Rattle.aia_fabric_values.specs.declared.found.Found.{Found}
 use Rattle.aia_fabric_values.specs.Found.{IsFound}
-use Rattle.aia_model.specs.declared.line.Line.{Line}
 use Rattle.aia_model.specs.declared.line.Line.TheVariants.{Machine, Step}
 use Rattle.aia_model.specs.declared.line.Line.TheVariants as lines
 use Rattle.aia_model.specs.declared.want.Want.{Want}
@@ -30,7 +28,7 @@ use Rattle.aia_model.specs.Move.{wanted_move}
 use Rattle.aia_model.specs.Passes.{PassedSource, passes_of, passes_for, own_pass}
 use Rattle.aia_model.specs.HomeOf.{home}
 use Rattle.aia_model.specs.Aim.{aim_of, aimed_by}
-use Rattle.aia_model.specs.Answer.{oldest_landed, landed_first, step_taken, steps_taken, steps_of, line_taken}
+use Rattle.aia_model.specs.Answer.{oldest_landed, landed_first, step_taken, steps_taken, steps_of}
 use Rattle.aia_model.specs.Histories.{MayHappen, IsHistory}
 use Rattle.aia_model.specs.Refusal.{refusal}
 use Rattle.aia_model.proofs.HistoryLemmas.{line_happens}

@@ -1,29 +1,28 @@
 -- In a core that stands for a history, with targets that stand for it, the plan of each virtual hart
 -- that is moved knows all: the places, the ways that lead to them, and the targets.
-use Rattle.std.proofs.Common.{◌≡◌, ℕ, ◌+◌, ◌/◌, ◌%◌, ◌<◌, ◌≤◌, Bool, true, false, nat_eq, nat_lt, if◌then◌else◌, List, [], ◌∷◌, length, take, slice_index_or, Option, Some, None, ◌⊎◌, inl, inr, refl, sym, ap, subst, ◌∙◌, arith}
+use Rattle.std.proofs.Common.{◌≡◌, ℕ, ◌+◌, ◌<◌, ◌≤◌, true, false, List, length, take, slice_index_or, Option, Some, None, inl, inr, refl, sym, ap, subst, ◌∙◌, arith}
 use Rattle.std.specs.Prelude.{slice_get, map}
 use Rattle.std.specs.Option.{option_map}
-use Rattle.std.proofs.lemmas.Bool.{cases_Bool, cases_lt, eqb-true, ltb-true, lt-ltb, false≢true}
+use Rattle.std.proofs.lemmas.Bool.{cases_Bool, eqb-true, false≢true}
 use Rattle.std.proofs.lemmas.Bool.Decides.{nat_tests}
 use Rattle.std.proofs.lemmas.List.{get_or_past}
 use Rattle.std.proofs.lemmas.Option.{slice_get-map}
 use Rattle.aia_regs.specs.declared.limits.TheConstants.{HARTS, SLOTS, IDENTITIES, PASSES}
-use Rattle.aia_regs.specs.declared.address_map.TheConstants.{PAGE}
 use Rattle.aia_file.specs.Imsic.{IsThere}
 use Rattle.aia_file.specs.InterruptFile.{is_greatest_identity}
 use Rattle.aia_entry.specs.declared.entry.Entry.{Entry}
 use Rattle.aia_entry.specs.declared.entry.Entry.TheVariants.{NotValid}
-use Rattle.aia_entry.specs.Tables.{TableState, no_table, table_of, entry_in_force}
+use Rattle.aia_entry.specs.Tables.{TableState, no_table, entry_in_force}
 use Rattle.aia_vcpu.specs.declared.place.GuestPlace.{GuestPlace}
 use Rattle.aia_vcpu.specs.declared.vm.Vm.{Vm}
-use Rattle.aia_vcpu.specs.Vms.{Vcpu, vcpu_of, is_vcpu, is_vcpu_in, slot_of, notice_hart}
+use Rattle.aia_vcpu.specs.Vms.{Vcpu, is_vcpu_in, slot_of, notice_hart}
 use Rattle.aia_vcpu.specs.Home.{Home, holds}
 use Rattle.aia_vcpu.specs.Routes.{MayReach, entry_names, stage_names, peers_reach, is_written, is_stage_written}
 use Rattle.aia_vcpu.specs.Aims.{pass_reaches, target_to, AreAimed}
 use Rattle.aia_vcpu.proofs.VmLemmas.{same_slot, same_vcpu}
 use Rattle.aia_vcpu_places.specs.Places.{IsInMap, leads_to}
 use Rattle.aia_fabric_values.specs.declared.flying.Flying.{Flying}
-use Rattle.aia_fabric_values.specs.World.{World, flight_of, stage_of}
+use Rattle.aia_fabric_values.specs.World.{flight_of, stage_of}
 use Rattle.aia_fabric_values.specs.Whole.{IsWhole}
 use Rattle.aia_fabric_values.specs.Changes.{spot_of}
 use Rattle.aia_fabric_values.proofs.WholeLemmas.{notice_hart_there}
@@ -44,7 +43,7 @@ use Rattle.aia_model.specs.ReachOf.{in_force_of, sent_into, MayFly, IsForOne}
 use Rattle.aia_model.specs.HomeOf.{home}
 use Rattle.aia_model.specs.Notice.{a_look_saw}
 use Rattle.aia_model.specs.Histories.{IsHistory}
-use Rattle.aia_model.specs.Passes.{PassedSource, no_pass, passes_of, nth_pass, passes_to, passes_for, pass_of, own_pass, rank_of}
+use Rattle.aia_model.specs.Passes.{PassedSource, passes_of, nth_pass, passes_to, passes_for, pass_of, own_pass, rank_of}
 use Rattle.aia_model.proofs.FlightLemmas.{all_at}
 use Rattle.aia_model.proofs.OwnPassLemmas.{IsOwn, own_is}
 use Rattle.aia_model.proofs.PassesStandLemmas.{passes_stand}

@@ -1,15 +1,12 @@
 -- What is known of ways and targets as a move begins, and as it ends.
-use Rattle.std.proofs.Common.{◌≡◌, ◌≢◌, ℕ, ◌+◌, ◌*◌, ◌/◌, ◌<◌, ◌≤◌, Bool, true, false, ◌||◌, if◌then◌else◌, nat_lt, List, [], ◌∷◌, length, Option, Some, None, ◌⊎◌, inl, inr, refl, sym, ap, ◌∙◌, subst, arith}
-use Rattle.std.specs.Prelude.{slice_get}
-use Rattle.std.proofs.lemmas.Bool.{cases_Bool, false≢true}
+use Rattle.std.proofs.Common.{◌≡◌, ℕ, Bool, true, false, ◌||◌, nat_lt, Option, Some, None, ◌⊎◌, inl, inr, refl, sym, ap, ◌∙◌, subst, arith}
+use Rattle.std.proofs.lemmas.Bool.{false≢true}
 use Rattle.std.proofs.lemmas.Bool.Decides.{nat_tests}
 use Rattle.aia_file.specs.InterruptFile.{InterruptFile}
-use Rattle.aia_file.specs.Imsic.{IsThere}
-use Rattle.aia_file.specs.declared.spot.Spot.{Spot}
 use Rattle.aia_file.specs.declared.spot.Spot.TheVariants.{MachineFile, SupervisorFile, GuestFile, Nowhere}
 use Rattle.aia_vcpu.specs.declared.place.GuestPlace.{GuestPlace}
 use Rattle.aia_vcpu.specs.declared.rest.Rest.{Rest}
-use Rattle.aia_vcpu.specs.Home.{Home, Way, is_place, is_moving, holds, is_end_of, at_first, ended, left, led_to, new_end, old_end}
+use Rattle.aia_vcpu.specs.Home.{Home, Way, is_place, is_moving, at_first, ended, left, led_to}
 use Rattle.aia_vcpu.specs.Home.Home.{InMemory, Resident, OnWay}
 use Rattle.aia_vcpu.specs.Home.Way.{Outward, Inward, Across}
 use Rattle.aia_vcpu.specs.Plans.{is_at_last, steps_done}
@@ -17,33 +14,31 @@ use Rattle.aia_vcpu.specs.Phases.{begins}
 use Rattle.aia_vcpu.specs.Phases.Phase.{DrainPhase}
 use Rattle.aia_vcpu.specs.BySteps.{new_file}
 use Rattle.aia_vcpu.specs.Routes.{origin, entry_names, stage_names, peers_reach, MayReach, reach_stepped}
-use Rattle.aia_vcpu.specs.Aims.{aims_step, pass_reaches, target_to, AreAimed}
+use Rattle.aia_vcpu.specs.Aims.{aims_step, pass_reaches, target_to}
 use Rattle.aia_vcpu.proofs.HomeLemmas.{same_place}
-use Rattle.aia_vcpu.proofs.RouteLemmas.{reach_ended, leaving_reach, arriving_reach, shifting_reach}
+use Rattle.aia_vcpu.proofs.RouteLemmas.{reach_ended, leaving_reach, shifting_reach}
 use Rattle.aia_vcpu.proofs.PassLemmas.{rest_aimed}
 use Rattle.aia_vcpu.proofs.PhaseLemmas.{closed_reach, drain_closed}
-use Rattle.aia_vcpu_places.specs.Holds.{Holds, Hand, IsWithin}
+use Rattle.aia_vcpu_places.specs.Holds.{Hand, IsWithin}
 use Rattle.aia_vcpu_places.specs.Places.{IsInMap, FilesFit, leads_to}
 use Rattle.aia_vcpu_places.specs.Stores.{AreApart}
 use Rattle.aia_fabric_values.specs.declared.at.At.{At}
 use Rattle.aia_fabric_values.specs.declared.at.At.TheVariants.{File, Slot}
-use Rattle.aia_fabric_values.specs.declared.flying.Flying.{Flying}
-use Rattle.aia_fabric_values.specs.World.{World, flight_of, stage_of}
+use Rattle.aia_fabric_values.specs.World.{World, stage_of}
 use Rattle.aia_fabric_values.specs.Whole.{IsWhole}
 use Rattle.aia_fabric_values.specs.Changes.{spot_of}
-use Rattle.aia_move_values.specs.Views.{places_of}
 use Rattle.aia_move_values.specs.declared.who.Who.{Who}
-use Rattle.aia_move_values.specs.Move.{Moving, mover, width, MoveFits, Ends, old_at}
+use Rattle.aia_move_values.specs.Move.{Moving, mover, width, Ends}
 use Rattle.aia_move_values.specs.PlanState.{PlanState, moving_of}
 use Rattle.aia_move_values.specs.Plan.{begun}
-use Rattle.aia_move_values.specs.Targets.{TargetMap, pass_count, pass_in, aims}
-use Rattle.aia_move_values.specs.Touches.{SameMachine, sends}
-use Rattle.aia_move_values.specs.Ways.{led_by_entry, led_by_record, entry_of, written_of, is_its_place, leads_here, IsItsFlight, KnowsWays, KnowsTargets, KnowsAll, NothingLeadsTo, AtItsEnd}
+use Rattle.aia_move_values.specs.Targets.{TargetMap, pass_count, pass_in}
+use Rattle.aia_move_values.specs.Touches.{sends}
+use Rattle.aia_move_values.specs.Ways.{led_by_entry, led_by_record, entry_of, written_of, leads_here, KnowsWays, KnowsTargets, KnowsAll, NothingLeadsTo, AtItsEnd}
 use Rattle.aia_move_values.proofs.MachineLemmas.{machine_touched}
 use Rattle.aia_move_values.proofs.MoveKept.{files_fit, slot_few, notice_low, ends_kept}
 use Rattle.aia_move_values.proofs.PhaseLemmas.{last_aims_none}
 use Rattle.aia_move_values.proofs.TouchLemmas.{step_touches}
-use Rattle.aia_move_values.proofs.WayMoves.{ended_held, ways_stepped, words_say, touched_flights}
+use Rattle.aia_move_values.proofs.WayMoves.{ended_held, ways_stepped, words_say}
 use Rattle.aia_move_values.proofs.WaySteps.{come_further}
 use Rattle.aia_move_values.proofs.WayShut.{HasDrained, le_test, passes_new, targets_shut, nothing_leads}
 

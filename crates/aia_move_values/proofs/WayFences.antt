@@ -1,24 +1,21 @@
 -- An entry that is read again, and one that is fenced, with what lands before, keep what a plan
 -- knows, whosever the entry is.
-use Rattle.std.proofs.Common.{◌≡◌, ◌≢◌, ℕ, zero, suc, ◌+◌, ◌*◌, ◌/◌, ◌%◌, ◌<◌, ◌≤◌, Bool, true, false, cond, nat_eq, List, [], ◌∷◌, ◌++◌, length, Option, Some, None, ◌⊎◌, inl, inr, refl, sym, ap, ◌∙◌, subst, arith}
+use Rattle.std.proofs.Common.{◌≡◌, ◌≢◌, ℕ, zero, suc, ◌+◌, ◌/◌, ◌<◌, ◌≤◌, Bool, true, false, cond, nat_eq, List, [], ◌∷◌, ◌++◌, length, Option, Some, None, ◌⊎◌, inl, inr, refl, sym, ap, ◌∙◌, subst, arith}
 use Rattle.std.specs.Prelude.{remove, slice_get}
-use Rattle.std.specs.Int.{is_in_range}
-use Rattle.std.proofs.lemmas.Bool.{cases_Bool, cases_eq, cases_lt, ne_eqb, eq-eqb, cond-false, false≢true}
+use Rattle.std.proofs.lemmas.Bool.{cases_Bool, cases_eq, ne_eqb, false≢true}
 use Rattle.std.proofs.lemmas.Bool.Decides.{nat_tests}
 use Rattle.std.proofs.lemmas.List.{append_assoc, append-nil, length-append, length-set}
 use Rattle.aia_regs.specs.BitUpdate.{settle, names}
 use Rattle.aia_regs.specs.BitUpdate.BitUpdate.{Ask, Nothing}
-use Rattle.aia_regs.specs.declared.limits.TheConstants.{HARTS, SLOTS}
 use Rattle.aia_regs.specs.Request.{requested}
 use Rattle.aia_regs.proofs.RequestLemmas.{requested_in_range}
 use Rattle.aia_file.specs.InterruptFile.{InterruptFile, landed}
 use Rattle.aia_entry.specs.Format.{decoded}
-use Rattle.aia_entry.specs.Tables.{table_of, entry_in_force}
 use Rattle.aia_entry.proofs.TableLemmas.{fenced_elsewhere}
 use Rattle.aia_vcpu.specs.declared.place.GuestPlace.{GuestPlace}
 use Rattle.aia_vcpu.specs.Vms.{Vcpu, vcpu_of, is_vcpu, is_vcpu_in}
 use Rattle.aia_vcpu.specs.Routes.{entry_names}
-use Rattle.aia_vcpu.proofs.VmLemmas.{same_vcpu, numbered, vm_past}
+use Rattle.aia_vcpu.proofs.VmLemmas.{same_vcpu}
 use Rattle.aia_vcpu_places.specs.Holds.{Holds, IsWithin}
 use Rattle.aia_vcpu_places.specs.Places.{Places}
 use Rattle.aia_vcpu_places.specs.Stores.{AreApart}
@@ -32,7 +29,7 @@ use Rattle.aia_fabric_values.proofs.FlightLemmas.{landed_flight}
 use Rattle.aia_fabric_values.proofs.FrameLemmas.{entry_rest}
 use Rattle.aia_fabric_values.proofs.WholeLemmas.{vcpu_entry}
 use Rattle.aia_move_values.specs.Views.{places_of}
-use Rattle.aia_move_values.specs.Move.{Moving, mover, width, MoveFits}
+use Rattle.aia_move_values.specs.Move.{Moving, mover, width}
 use Rattle.aia_move_values.specs.PlanState.{PlanState, moving_of}
 use Rattle.aia_move_values.specs.Targets.{TargetMap}
 use Rattle.aia_move_values.specs.Touches.{SameMachine}

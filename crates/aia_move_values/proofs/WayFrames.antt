@@ -1,11 +1,9 @@
 -- What a change of the world leaves of the ways by which stores come, and that a plan knows them
 -- then as before.
-use Rattle.std.proofs.Common.{◌≡◌, ◌≢◌, ℕ, zero, suc, ◌+◌, ◌*◌, ◌/◌, ◌<◌, ◌≤◌, Bool, true, false, List, [], ◌∷◌, ◌++◌, length, get_or, Option, Some, None, ◌⊎◌, inl, inr, refl, sym, ap, ◌∙◌, subst, arith}
+use Rattle.std.proofs.Common.{◌≡◌, ℕ, zero, suc, ◌+◌, ◌<◌, true, List, [], ◌∷◌, ◌++◌, length, get_or, Option, Some, None, ◌⊎◌, inl, inr, refl, sym, ap, ◌∙◌, arith}
 use Rattle.std.specs.Prelude.{remove, slice_get, slice_set, slice_index_or}
-use Rattle.std.specs.Option.{option_map}
-use Rattle.std.proofs.lemmas.Bool.{cases_Bool, cases_eq, cases_lt}
+use Rattle.std.proofs.lemmas.Bool.{cases_eq, cases_lt}
 use Rattle.std.proofs.lemmas.List.{get_or-set_same, get_or-set_other, set_past}
-use Rattle.aia_regs.specs.declared.address_map.TheConstants.{PAGE}
 use Rattle.aia_regs.specs.declared.limits.TheConstants.{VCPUS}
 use Rattle.aia_file.specs.declared.spot.Spot.{Spot}
 use Rattle.aia_file.specs.declared.spot.Spot.TheVariants.{MachineFile, SupervisorFile, GuestFile, Nowhere}
@@ -26,10 +24,9 @@ use Rattle.aia_fabric_values.specs.Flights.{with_flight}
 use Rattle.aia_regs.specs.declared.limits.TheConstants.{IDENTITIES}
 use Rattle.aia_regs.specs.Request.{requested}
 use Rattle.aia_file.specs.Mrif.{mrif_in, stored}
-use Rattle.aia_fabric_values.specs.Stores.{StoresIn, StoresInGuestFile, Posts, NoticedAt, NoticedBy, StoresInSlot, ReachesBy, ReachesByRecord, with_store, page_spot, slot_at, named_spot}
-use Rattle.aia_fabric_values.proofs.FrameLemmas.{entry_rest, record_rest}
+use Rattle.aia_fabric_values.specs.Stores.{StoresInGuestFile, NoticedAt, NoticedBy, StoresInSlot, ReachesBy, ReachesByRecord, with_store, page_spot, slot_at, named_spot}
 use Rattle.aia_fabric_values.proofs.PlaceLemmas.{slot_begins}
-use Rattle.aia_move_values.specs.Move.{Moving, mover}
+use Rattle.aia_move_values.specs.Move.{Moving}
 use Rattle.aia_move_values.specs.Touches.{SameMachine}
 use Rattle.aia_move_values.specs.Ways.{led_by_entry, led_by_record, entry_of, written_of, leads_here, IsItsFlight, KnowsWays}
 use Rattle.aia_move_values.proofs.StoreViews.{entry_words_kept}

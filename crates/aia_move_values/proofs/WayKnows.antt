@@ -1,6 +1,6 @@
 -- A store, wherever it is led, keeps what a plan knows; so does one that is sent, that lands, or
 -- that is taken out of those in flight.
-use Rattle.std.proofs.Common.{◌≡◌, ◌≢◌, ℕ, zero, suc, ◌+◌, ◌*◌, ◌/◌, ◌%◌, ◌<◌, ◌≤◌, Bool, true, false, List, [], ◌∷◌, ◌++◌, length, get_or, Option, Some, None, ◌⊎◌, inl, inr, refl, sym, ap, ◌∙◌, subst, arith}
+use Rattle.std.proofs.Common.{◌≡◌, ℕ, ◌%◌, Bool, true, false, List, [], ◌∷◌, ◌++◌, Option, Some, inl, inr, refl, sym, ap, ◌∙◌, subst}
 use Rattle.std.specs.Prelude.{remove, slice_get}
 use Rattle.std.proofs.lemmas.Bool.{cases_Bool, cond-true, cond-false, false≢true}
 use Rattle.aia_regs.specs.declared.address_map.TheConstants.{PAGE}
@@ -14,7 +14,7 @@ use Rattle.aia_entry.specs.Translation.{is_msi_address, file_number}
 use Rattle.aia_vcpu.specs.declared.place.GuestPlace.{GuestPlace}
 use Rattle.aia_vcpu.specs.Vms.{Vcpu, vcpu_of, is_vcpu_in}
 use Rattle.aia_vcpu_places.specs.Holds.{IsWithin}
-use Rattle.aia_vcpu_places.specs.Places.{Places, leads_to}
+use Rattle.aia_vcpu_places.specs.Places.{leads_to}
 use Rattle.aia_vcpu_places.specs.Stores.{AreApart}
 use Rattle.aia_fabric_values.specs.declared.flying.Flying.{Flying}
 use Rattle.aia_fabric_values.specs.World.{World, OnlyStores, flight_of, stage_of}
@@ -28,10 +28,10 @@ use Rattle.aia_move_values.specs.PlanState.{PlanState, moving_of}
 use Rattle.aia_move_values.specs.Targets.{TargetMap}
 use Rattle.aia_move_values.specs.Touches.{SameMachine}
 use Rattle.aia_move_values.specs.Knows.{Knows}
-use Rattle.aia_move_values.specs.Ways.{led_by_entry, led_by_route, led_by_record, entry_of, leads_here, IsItsFlight, KnowsWays, KnowsAll, landed_if}
+use Rattle.aia_move_values.specs.Ways.{led_by_entry, led_by_route, led_by_record, entry_of, leads_here, IsItsFlight, KnowsAll, landed_if}
 use Rattle.aia_move_values.proofs.KnowsLemmas.{knows_by, device_knows, flight_knows, peer_knows}
 use Rattle.aia_move_values.proofs.WayLemmas.{entry_elsewhere, record_elsewhere}
-use Rattle.aia_move_values.proofs.WayFrames.{KeepsWords, KeepsRoutes, words_same, entry_words, record_words, stored_machine, stored_ways, ways_by, taken_was, sent_is, flight_set}
+use Rattle.aia_move_values.proofs.WayFrames.{KeepsWords, words_same, entry_words, record_words, stored_machine, stored_ways, ways_by, taken_was, sent_is, flight_set}
 
 -- an entry that leads somewhere, as a route
 route_leads : (w : World) (e : Entry) → led_by_route w (leads_by e) ≡ led_by_entry w e
@@ -80,9 +80,11 @@ module _ (w u : World) (map : TargetMap) (plan : PlanState) (reach : Option Gues
   own_route v addr led = elim (cases_Bool (is_msi_address (table_of w.tables v).mask addr)) [
     | inl is ↦
         let e = entry_in_force (table_of w.tables v) (file_number (table_of w.tables v).mask addr) in
-        let route : route_of (table_of w.tables v) addr ≡ leads_by e = cond-true _ _ _ is in
-        (is, all.ways.entries (vcpu_of v (file_number (table_of w.tables v).mask addr))
-            (ap (leads_here m) (sym (ap (led_by_route w) route ∙ route_leads w e)) ∙ led))
+        let route : route_of (table_of w.tables v) addr ≡ leads_by e = cond-true _ _ _ is in (
+          is,
+          all.ways.entries (vcpu_of v (file_number (table_of w.tables v).mask addr))
+              (ap (leads_here m) (sym (ap (led_by_route w) route ∙ route_leads w e)) ∙ led),
+        )
     | inr none ↦
         let route : route_of (table_of w.tables v) addr ≡ Other = cond-false _ _ _ none in
         absurd (false≢true (ap (λ r. leads_here m (led_by_route w r)) (sym route) ∙ led))
@@ -105,8 +107,8 @@ module _ (w u : World) (map : TargetMap) (plan : PlanState) (reach : Option Gues
       let words = route_words r (addr % PAGE) value s in
       by_either (leads_here m (led_by_route w r)) (addr % PAGE) value
       (λ led. let own = own_route v addr led in
-          here (landed (addr % PAGE) value file) rest words
-          (device_here v addr value own.0 (ap (λ (g : Vcpu). g.vm) own.1) (ap (λ (g : Vcpu). g.vcpu) own.1) s))
+      here (landed (addr % PAGE) value file) rest words
+      (device_here v addr value own.0 (ap (λ (g : Vcpu). g.vm) own.1) (ap (λ (g : Vcpu). g.vcpu) own.1) s))
       (λ other. elsewhere rest words (route_elsewhere r (addr % PAGE) value other s))
 
   -- a peer's
@@ -117,8 +119,8 @@ module _ (w u : World) (map : TargetMap) (plan : PlanState) (reach : Option Gues
       let words = record_words w u g (stage_of w g).in_force value whole there s in
       by_either (leads_here m (led_by_record w g (stage_of w g).in_force)) 0 value
       (λ led. let own = all.ways.records g there led in
-          here (landed 0 value file) rest words (peer_knows w u plan reach file saw value whole apart within all.places
-          (subst (λ (x : Vcpu). ReachesByRecord (stage_of w x).in_force w u x value) own s)))
+      here (landed 0 value file) rest words (peer_knows w u plan reach file saw value whole apart within all.places
+      (subst (λ (x : Vcpu). ReachesByRecord (stage_of w x).in_force w u x value) own s)))
       (λ other. elsewhere rest words (record_elsewhere w u m value whole all.places.fits g (stage_of w g).in_force there other s))
 
   -- one in flight, where it was led as it was sent
@@ -129,9 +131,9 @@ module _ (w u : World) (map : TargetMap) (plan : PlanState) (reach : Option Gues
       let words = entry_words w u store.offset store.value whole store.entry s in
       by_either (leads_here m (led_by_entry w store.entry)) store.offset store.value
       (λ led. let own = all.ways.flying v k store is led in
-          here (landed store.offset store.value file) rest words
-          (flight_knows w u plan reach own.place file saw store.offset store.value whole apart within all.places own.may
-          (subst (λ (e : Entry). ReachesBy e w u store.offset store.value) own.entry s)))
+      here (landed store.offset store.value file) rest words
+      (flight_knows w u plan reach own.place file saw store.offset store.value whole apart within all.places own.may
+      (subst (λ (e : Entry). ReachesBy e w u store.offset store.value) own.entry s)))
       (λ other. elsewhere rest words (entry_elsewhere w u m store.offset store.value whole all.places.fits store.entry other s))
 
 -- ---- stores in flight

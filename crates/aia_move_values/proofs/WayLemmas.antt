@@ -1,6 +1,6 @@
 -- Where the ways of stores lead, and that a store which is led to none of a move's places leaves
 -- them as they are.
-use Rattle.std.proofs.Common.{◌≡◌, ◌≢◌, ℕ, ◌+◌, ◌*◌, ◌/◌, ◌<◌, ◌≤◌, Bool, true, false, ◌&&◌, nat_eq, nat_lt, List, get_or, Option, Some, None, ◌⊎◌, inl, inr, refl, sym, ap, ◌∙◌, subst, arith, if◌then◌else◌}
+use Rattle.std.proofs.Common.{◌≡◌, ◌≢◌, ℕ, ◌*◌, ◌<◌, true, false, ◌&&◌, nat_eq, nat_lt, Option, Some, None, inl, inr, refl, sym, ap, ◌∙◌, subst, arith, if◌then◌else◌}
 use Rattle.std.specs.Int.{is_in_range}
 use Rattle.std.specs.Option.{option_map}
 use Rattle.std.proofs.lemmas.Bool.{cases_Bool, cond-true, cond-false, eq-eqb, false≢true}
@@ -8,7 +8,7 @@ use Rattle.std.proofs.lemmas.Bool.Decides.{nat_tests}
 use Rattle.aia_regs.specs.declared.address_map.TheConstants.{PAGE}
 use Rattle.aia_regs.specs.declared.limits.TheConstants.{IDENTITIES, VCPUS, SLOTS}
 use Rattle.aia_regs.specs.Request.{requested}
-use Rattle.aia_file.specs.FileState.{FileState, shown}
+use Rattle.aia_file.specs.FileState.{shown}
 use Rattle.aia_file.specs.declared.spot.Spot.{Spot}
 use Rattle.aia_file.specs.declared.spot.Spot.TheVariants.{MachineFile, SupervisorFile, GuestFile, Nowhere}
 use Rattle.aia_file.specs.Imsic.{ImsicState, IsThere, file_at, with_file}
@@ -20,31 +20,26 @@ use Rattle.aia_file.specs.declared.stored.Stored.TheVariants.{Discarded, Quiet, 
 use Rattle.aia_file.specs.Mrif.{mrif_in, stored}
 use Rattle.aia_entry.specs.declared.entry.Entry.{Entry}
 use Rattle.aia_entry.specs.declared.entry.Entry.TheVariants.{Basic, Mrif, NotValid, Custom, Misconfigured}
-use Rattle.aia_entry.specs.Format.{decoded}
-use Rattle.aia_entry.specs.Tables.{table_of, entry_in_force}
 use Rattle.aia_vcpu.specs.declared.place.GuestPlace.{GuestPlace}
 use Rattle.aia_vcpu.specs.Vms.{Vcpu, is_vcpu_in, slot_of, notice_identity, notice_hart}
-use Rattle.aia_vcpu.specs.Home.{Home, is_place, holds}
+use Rattle.aia_vcpu.specs.Home.{is_place, holds}
 use Rattle.aia_vcpu.specs.BySteps.{own_file, next_file}
 use Rattle.aia_vcpu.proofs.HomeLemmas.{same_place, own_is_held, next_is_held}
 use Rattle.aia_vcpu_places.specs.Places.{leads_to}
-use Rattle.aia_fabric_values.specs.declared.at.At.{At}
-use Rattle.aia_fabric_values.specs.declared.at.At.TheVariants.{File, Slot}
-use Rattle.aia_fabric_values.specs.World.{World, OnlyStores, stage_of}
+use Rattle.aia_fabric_values.specs.declared.at.At.TheVariants.{Slot}
+use Rattle.aia_fabric_values.specs.World.{World}
 use Rattle.aia_fabric_values.specs.Whole.{IsWhole}
-use Rattle.aia_fabric_values.specs.Making.{entry_word_place}
-use Rattle.aia_fabric_values.specs.Stores.{StoresIn, StoresInGuestFile, Posts, NoticedAt, NoticedBy, StoresInSlot, ReachesBy, ReachesByRecord, with_store, page_spot, slot_at, named_spot}
+use Rattle.aia_fabric_values.specs.Stores.{StoresIn, StoresInGuestFile, NoticedAt, NoticedBy, StoresInSlot, ReachesBy, ReachesByRecord, with_store, page_spot, slot_at, named_spot}
 use Rattle.aia_fabric_values.specs.Changes.{spot_of, file_in}
-use Rattle.aia_fabric_values.proofs.FrameLemmas.{entry_rest, record_rest}
 use Rattle.aia_fabric_values.proofs.PlaceLemmas.{slot_found, slot_begins, named_guest}
 use Rattle.aia_fabric_values.proofs.WholeLemmas.{notice_hart_there}
 use Rattle.aia_move_values.specs.Views.{places_of}
 use Rattle.aia_move_values.specs.Move.{Moving, mover, MoveFits, place_at}
 use Rattle.aia_move_values.specs.Touches.{SameMachine}
-use Rattle.aia_move_values.specs.Ways.{guest_at, led_by_entry, led_by_record, entry_of, written_of, is_its_place, leads_here}
+use Rattle.aia_move_values.specs.Ways.{guest_at, led_by_entry, led_by_record, leads_here}
 use Rattle.aia_move_values.proofs.OwnLemmas.{guest_spot}
 use Rattle.aia_move_values.proofs.StepLemmas.{fits_still}
-use Rattle.aia_move_values.proofs.StoreViews.{file_store-others, slot_store-others, entry_words_kept}
+use Rattle.aia_move_values.proofs.StoreViews.{file_store-others, slot_store-others}
 use Rattle.aia_move_values.proofs.ViewLemmas.{slot_low}
 
 -- ---- where a way leads

@@ -1,58 +1,51 @@
 -- Accesses of others, and steps of other moves, keep what a plan knows.
-use Rattle.std.proofs.Common.{◌≡◌, ◌≢◌, ℕ, ◌+◌, ◌*◌, ◌/◌, ◌%◌, ◌<◌, ◌≤◌, Bool, true, false, not, ◌||◌, if◌then◌else◌, nat_eq, nat_lt, List, [], ◌∷◌, length, Option, Some, None, ◌⊎◌, inl, inr, refl, sym, ap, ◌∙◌, subst, arith, cond}
+use Rattle.std.proofs.Common.{◌≡◌, ◌≢◌, ℕ, ◌<◌, Bool, true, false, ◌||◌, if◌then◌else◌, nat_eq, Option, Some, None, inl, inr, refl, sym, ap, ◌∙◌, subst, arith}
 use Rattle.std.specs.Prelude.{slice_get, slice_index_or}
-use Rattle.std.proofs.lemmas.Bool.{cases_Bool, cases_eq, ne_eqb, false≢true}
-use Rattle.std.proofs.lemmas.Bool.Decides.{nat_tests}
+use Rattle.std.proofs.lemmas.Bool.{cases_Bool, ne_eqb, false≢true}
 use Rattle.aia_regs.specs.declared.limits.TheConstants.{HARTS, VCPUS, SLOTS}
 use Rattle.aia_file.specs.InterruptFile.{InterruptFile}
-use Rattle.aia_file.specs.FileState.{FileState}
 use Rattle.aia_file.specs.declared.spot.Spot.{Spot}
 use Rattle.aia_file.specs.Imsic.{IsThere, file_at, with_file}
 use Rattle.aia_entry.specs.declared.entry.Entry.{Entry}
 use Rattle.aia_entry.specs.Format.{decoded}
-use Rattle.aia_entry.specs.Tables.{table_of, entry_in_force}
 use Rattle.aia_vcpu.specs.declared.place.GuestPlace.{GuestPlace}
 use Rattle.aia_vcpu.specs.declared.access.Access.{Access}
 use Rattle.aia_vcpu.specs.declared.access.Access.TheVariants.{Fence}
-use Rattle.aia_vcpu.specs.Vms.{Vcpu, vcpu_of, is_vcpu, is_vcpu_in, slot_of}
+use Rattle.aia_vcpu.specs.Vms.{Vcpu, is_vcpu, is_vcpu_in, slot_of}
 use Rattle.aia_vcpu.specs.Home.{Home, is_place, holds, ended, one_more}
 use Rattle.aia_vcpu.specs.Home.Home.{InMemory, Resident, OnWay}
 use Rattle.aia_vcpu.specs.Home.Way.{Outward, Inward, Across}
 use Rattle.aia_vcpu.specs.Plans.{is_at_last}
-use Rattle.aia_vcpu.specs.BySteps.{own_file, next_file, new_file}
+use Rattle.aia_vcpu.specs.BySteps.{new_file}
 use Rattle.aia_vcpu.specs.Routes.{origin, entry_names, stage_names, peers_reach, MayReach, is_at_fence, is_written, is_stage_written, is_stage_closed, reach_stepped}
-use Rattle.aia_vcpu.proofs.HomeLemmas.{is_itself_place, origin_is_held, new_is_held, either_file}
+use Rattle.aia_vcpu.proofs.HomeLemmas.{origin_is_held, new_is_held, either_file}
 use Rattle.aia_vcpu.proofs.RouteLemmas.{is_fence, fence_is_next}
 use Rattle.aia_vcpu.proofs.VmLemmas.{same_vcpu, same_slot}
-use Rattle.aia_vcpu_places.specs.Holds.{Holds, HoldsRoutes, Hand, IsWithin, sees}
-use Rattle.aia_vcpu_places.specs.Places.{Places, IsInMap, leads_to, entry_word, second_word}
+use Rattle.aia_vcpu_places.specs.Holds.{HoldsRoutes, Hand, IsWithin}
+use Rattle.aia_vcpu_places.specs.Places.{IsInMap, leads_to, entry_word, second_word}
 use Rattle.aia_vcpu_places.specs.Stores.{AreApart}
 use Rattle.aia_vcpu_places.proofs.EntryLemmas.{entry_back}
-use Rattle.aia_fabric_values.specs.declared.flying.Flying.{Flying}
 use Rattle.aia_fabric_values.specs.declared.stage.Stage.{Stage}
 use Rattle.aia_fabric_values.specs.World.{World, OnlyStores, flight_of, stage_of, no_stage}
 use Rattle.aia_fabric_values.specs.Whole.{IsWhole}
-use Rattle.aia_fabric_values.specs.Making.{entry_word_place}
 use Rattle.aia_fabric_values.specs.Changes.{spot_of, with_fence}
 use Rattle.aia_fabric_values.specs.Flights.{Fences}
 use Rattle.aia_fabric_values.specs.SlotAccess.{DoneInSlot}
 use Rattle.aia_fabric_values.proofs.FrameLemmas.{by_parts}
 use Rattle.aia_move_values.specs.Views.{places_of}
-use Rattle.aia_move_values.specs.Move.{Moving, mover, width, MoveFits, MakesNext, Makes, Goes, Ends, place_at}
+use Rattle.aia_move_values.specs.Move.{Moving, mover, width, MoveFits, MakesNext, Makes, place_at}
 use Rattle.aia_move_values.specs.PlanState.{PlanState, moving_of}
-use Rattle.aia_move_values.specs.Targets.{TargetMap, AimsOne, pass_count, pass_in}
+use Rattle.aia_move_values.specs.Targets.{TargetMap}
 use Rattle.aia_move_values.specs.Touches.{SameMachine, Touches, sends}
 use Rattle.aia_move_values.specs.Landings.{LandsFirst}
 use Rattle.aia_move_values.specs.Knows.{Knows}
 use Rattle.aia_move_values.specs.Ways.{led_by_entry, led_by_record, entry_of, written_of, leads_here, KnowsWays, KnowsTargets, KnowsAll, landed_before, reach_fetched}
 use Rattle.aia_move_values.specs.Ways as ways
 use Rattle.aia_move_values.proofs.KnowsLemmas.{knows_by}
-use Rattle.aia_move_values.proofs.LandingLemmas.{landed_whole}
 use Rattle.aia_move_values.proofs.MachineLemmas.{machine_touched}
 use Rattle.aia_move_values.proofs.MoveKept.{files_fit, slot_few, notice_low, goes_kept, ends_kept}
 use Rattle.aia_move_values.proofs.SlotViews.{done_entry_words, slot_done-others}
 use Rattle.aia_move_values.proofs.TouchLemmas.{step_touches, view_stays}
-use Rattle.aia_move_values.proofs.ViewLemmas.{slot_low}
 use Rattle.aia_move_values.proofs.WayLemmas.{led_own, led_recorded, led_same, recorded_same, replaced_kept}
 use Rattle.aia_move_values.proofs.WayFrames.{KeepsRoutes, words_same, stored_machine, stored_ways}
 use Rattle.aia_move_values.proofs.WayFences.{fenced_all, no_vcpu}
@@ -148,61 +141,61 @@ pub record RoutesApart (u : World) (plan : PlanState) (o : Moving) : Type 0 wher
 
 module _ (w u : World) (plan : PlanState) (o : Moving) (whole : IsWhole w) (others : (p : GuestPlace) → holds p (moving_of plan).home ≡ true
     → holds p o.home ≡ false) (same : SameMachine w u) (fits : MoveFits w o) (slots : nat_eq o.who.found.slot (moving_of plan).who.found.slot ≡ false)
-    where
-  abbrev it : Moving
-  it = moving_of plan
+  where
+    abbrev it : Moving
+    it = moving_of plan
 
-  abbrev g : Vcpu
-  g = mover o
+    abbrev g : Vcpu
+    g = mover o
 
-  apart_place : (place : Option GuestPlace) → ((p : GuestPlace) → place ≡ Some p → holds p o.home ≡ true)
-      → leads_here it (Some (place_at place o.who.found.slot)) ≡ false
-  apart_place None held = slots
-  apart_place (Some p) held = elim (cases_Bool (holds p it.home)) [
-    | inl is ↦ absurd (false≢true (sym (others p is) ∙ held p refl))
-    | inr none ↦ none
-  ]
+    apart_place : (place : Option GuestPlace) → ((p : GuestPlace) → place ≡ Some p → holds p o.home ≡ true)
+        → leads_here it (Some (place_at place o.who.found.slot)) ≡ false
+    apart_place None held = slots
+    apart_place (Some p) held = elim (cases_Bool (holds p it.home)) [
+      | inl is ↦ absurd (false≢true (sym (others p is) ∙ held p refl))
+      | inr none ↦ none
+    ]
 
-  inside : (place : Option GuestPlace) → ((p : GuestPlace) → place ≡ Some p → holds p o.home ≡ true) → (p : GuestPlace) → place ≡ Some p
-      → IsThere w.imsic (spot_of p)
-  inside place held p e = elim (either_file p o.home (held p e)) [ inl own ↦ fits.own p own | inr next ↦ fits.next p next ]
+    inside : (place : Option GuestPlace) → ((p : GuestPlace) → place ≡ Some p → holds p o.home ≡ true) → (p : GuestPlace) → place ≡ Some p
+        → IsThere w.imsic (spot_of p)
+    inside place held p e = elim (either_file p o.home (held p e)) [ inl own ↦ fits.own p own | inr next ↦ fits.next p next ]
 
-  entry_apart : (place : Option GuestPlace) → ((p : GuestPlace) → place ≡ Some p → holds p o.home ≡ true)
-      → leads_here it (led_by_entry w (leads_to o.who.found.slot o.who.found.notice place)) ≡ false
-  entry_apart place held =
-      ap (leads_here it) (led_own w o.who.found.slot o.who.found.notice place whole (slot_few w o whole fits) (inside place held))
-      ∙ apart_place place held
+    entry_apart : (place : Option GuestPlace) → ((p : GuestPlace) → place ≡ Some p → holds p o.home ≡ true)
+        → leads_here it (led_by_entry w (leads_to o.who.found.slot o.who.found.notice place)) ≡ false
+    entry_apart place held =
+        ap (leads_here it) (led_own w o.who.found.slot o.who.found.notice place whole (slot_few w o whole fits) (inside place held))
+        ∙ apart_place place held
 
-  record_apart : (place : Option GuestPlace) → ((p : GuestPlace) → place ≡ Some p → holds p o.home ≡ true)
-      → leads_here it (led_by_record w g place) ≡ false
-  record_apart place held =
-      ap (leads_here it) (led_recorded w g place (inside place held))
-      ∙ ap (λ q. leads_here it (Some (place_at place q))) (sym fits.slot) ∙ apart_place place held
+    record_apart : (place : Option GuestPlace) → ((p : GuestPlace) → place ≡ Some p → holds p o.home ≡ true)
+        → leads_here it (led_by_record w g place) ≡ false
+    record_apart place held =
+        ap (leads_here it) (led_recorded w g place (inside place held))
+        ∙ ap (λ q. leads_here it (Some (place_at place q))) (sym fits.slot) ∙ apart_place place held
 
-  in_map : (place : Option GuestPlace) → ((p : GuestPlace) → place ≡ Some p → holds p o.home ≡ true) → (p : GuestPlace) → place ≡ Some p → IsInMap p
-  in_map place held p e = let here = inside place held p e in
-      (omega (arith, here.0, whole.harts), omega (arith, here.2, whole.guests), here.1)
+    in_map : (place : Option GuestPlace) → ((p : GuestPlace) → place ≡ Some p → holds p o.home ≡ true) → (p : GuestPlace) → place ≡ Some p → IsInMap p
+    in_map place held p e = let here = inside place held p e in
+        (omega (arith, here.0, whole.harts), omega (arith, here.2, whole.guests), here.1)
 
-  after_step : (there : Home) (reach : Option GuestPlace) → ((p : GuestPlace) → holds p there ≡ true → holds p o.home ≡ true)
-      → HoldsRoutes o.who.found.slot o.who.found.notice reach (places_of u g there) there → RoutesApart u plan o
-  after_step there reach kept routes =
-      let names_held : (p : GuestPlace) → entry_names there ≡ Some p → holds p o.home ≡ true =
-      λ p e. kept p (route_held there (is_written there) (entry_names there) refl p e) in
-      let written : written_of u g ≡ leads_to o.who.found.slot o.who.found.notice (entry_names there) =
-      words_say u g o.who.found.slot o.who.found.notice there (slot_few w o whole fits) (notice_low w o whole fits)
-      (in_map (entry_names there) names_held) routes.word0 routes.word1 in
-      record {
-        entry = ap (leads_here it) (ap (led_by_entry u) routes.in_force
-            ∙ led_same w u same (leads_to o.who.found.slot o.who.found.notice reach))
-            ∙ entry_apart reach (λ p e. kept p (reach_held there reach routes.may p e));
-        written = ap (leads_here it) (ap (led_by_entry u) written
-            ∙ led_same w u same (leads_to o.who.found.slot o.who.found.notice (entry_names there)))
-            ∙ entry_apart (entry_names there) names_held;
-        in_force = ap (leads_here it) (ap (led_by_record u g) routes.stage_in_force ∙ recorded_same w u same g (peers_reach there))
-            ∙ record_apart (peers_reach there) (λ p e. kept p (route_held there (is_stage_closed there) (peers_reach there) refl p e));
-        named = ap (leads_here it) (ap (led_by_record u g) routes.stage ∙ recorded_same w u same g (stage_names there))
-            ∙ record_apart (stage_names there) (λ p e. kept p (route_held there (is_stage_written there) (stage_names there) refl p e));
-      }
+    after_step : (there : Home) (reach : Option GuestPlace) → ((p : GuestPlace) → holds p there ≡ true → holds p o.home ≡ true)
+        → HoldsRoutes o.who.found.slot o.who.found.notice reach (places_of u g there) there → RoutesApart u plan o
+    after_step there reach kept routes =
+        let names_held : (p : GuestPlace) → entry_names there ≡ Some p → holds p o.home ≡ true =
+        λ p e. kept p (route_held there (is_written there) (entry_names there) refl p e) in
+        let written : written_of u g ≡ leads_to o.who.found.slot o.who.found.notice (entry_names there) =
+        words_say u g o.who.found.slot o.who.found.notice there (slot_few w o whole fits) (notice_low w o whole fits)
+        (in_map (entry_names there) names_held) routes.word0 routes.word1 in
+        record {
+          entry = ap (leads_here it) (ap (led_by_entry u) routes.in_force
+              ∙ led_same w u same (leads_to o.who.found.slot o.who.found.notice reach))
+              ∙ entry_apart reach (λ p e. kept p (reach_held there reach routes.may p e));
+          written = ap (leads_here it) (ap (led_by_entry u) written
+              ∙ led_same w u same (leads_to o.who.found.slot o.who.found.notice (entry_names there)))
+              ∙ entry_apart (entry_names there) names_held;
+          in_force = ap (leads_here it) (ap (led_by_record u g) routes.stage_in_force ∙ recorded_same w u same g (peers_reach there))
+              ∙ record_apart (peers_reach there) (λ p e. kept p (route_held there (is_stage_closed there) (peers_reach there) refl p e));
+          named = ap (leads_here it) (ap (led_by_record u g) routes.stage ∙ recorded_same w u same g (stage_names there))
+              ∙ record_apart (stage_names there) (λ p e. kept p (route_held there (is_stage_written there) (stage_names there) refl p e));
+        }
 
 -- the routes of all but the one that is moved stay
 pub kept_by_touch : (sent : Bool) (w u : World) (o : Moving) (x : Vcpu) → MoveFits w o → Touches sent w u o → is_vcpu_in w.vms x ≡ true → x ≢ mover o
@@ -218,66 +211,66 @@ pub touched_flights : (sent : Bool) (w u : World) (o : Moving) (v : ℕ) → Tou
 touched_flights sent w u o v t = ap (λ (x : World). flight_of x v) t.rest
 
 module _ (sent : Bool) (w u : World) (plan : PlanState) (o : Moving) (fits : MoveFits w o) (t : Touches sent w u o) (ways : KnowsWays w (moving_of plan))
-    where
-  abbrev mine : Moving
-  mine = moving_of plan
+  where
+    abbrev mine : Moving
+    mine = moving_of plan
 
-  same : SameMachine w u
-  same = machine_touched sent w u o t
+    same : SameMachine w u
+    same = machine_touched sent w u o t
 
-  was_entry : (e : Entry) → leads_here mine (led_by_entry u e) ≡ true → leads_here mine (led_by_entry w e) ≡ true
-  was_entry e led = ap (leads_here mine) (sym (led_same w u same e)) ∙ led
+    was_entry : (e : Entry) → leads_here mine (led_by_entry u e) ≡ true → leads_here mine (led_by_entry w e) ≡ true
+    was_entry e led = ap (leads_here mine) (sym (led_same w u same e)) ∙ led
 
-  was_record : (x : Vcpu) (place : Option GuestPlace) → leads_here mine (led_by_record u x place) ≡ true
-      → leads_here mine (led_by_record w x place) ≡ true
-  was_record x place led = ap (leads_here mine) (sym (recorded_same w u same x place)) ∙ led
+    was_record : (x : Vcpu) (place : Option GuestPlace) → leads_here mine (led_by_record u x place) ≡ true
+        → leads_here mine (led_by_record w x place) ≡ true
+    was_record x place led = ap (leads_here mine) (sym (recorded_same w u same x place)) ∙ led
 
-  was_there : (x : Vcpu) → is_vcpu_in u.vms x ≡ true → is_vcpu_in w.vms x ≡ true
-  was_there x there = ap (λ vms. is_vcpu_in vms x) (sym same.vms) ∙ there
+    was_there : (x : Vcpu) → is_vcpu_in u.vms x ≡ true → is_vcpu_in w.vms x ≡ true
+    was_there x there = ap (λ vms. is_vcpu_in vms x) (sym same.vms) ∙ there
 
-  -- one is the one that is moved, or another
-  by_whom : (P : Vcpu → Type 0) (x : Vcpu) → P (mover o) → (x ≢ mover o → P x) → P x
-  by_whom P x its others = elim (cases_Bool (is_vcpu x (mover o))) [
-    | inl is ↦ subst P (sym (same_vcpu x (mover o) is)) its
-    | inr none ↦ others (no_vcpu x (mover o) none)
-  ]
+    -- one is the one that is moved, or another
+    by_whom : (P : Vcpu → Type 0) (x : Vcpu) → P (mover o) → (x ≢ mover o → P x) → P x
+    by_whom P x its others = elim (cases_Bool (is_vcpu x (mover o))) [
+      | inl is ↦ subst P (sym (same_vcpu x (mover o) is)) its
+      | inr none ↦ others (no_vcpu x (mover o) none)
+    ]
 
-  -- what is known of the routes of the one that is moved: they are a plan's own where they lead to its places
-  pub record RoutesKnown : Type 0 where
-    pub entry : leads_here mine (led_by_entry u (entry_of u (mover o))) ≡ true → mover o ≡ mover mine
-    pub written : leads_here mine (led_by_entry u (written_of u (mover o))) ≡ true → mover o ≡ mover mine
-    pub in_force : leads_here mine (led_by_record u (mover o) (stage_of u (mover o)).in_force) ≡ true → mover o ≡ mover mine
-    pub named : leads_here mine (led_by_record u (mover o) (stage_of u (mover o)).written) ≡ true → mover o ≡ mover mine
+    -- what is known of the routes of the one that is moved: they are a plan's own where they lead to its places
+    pub record RoutesKnown : Type 0 where
+      pub entry : leads_here mine (led_by_entry u (entry_of u (mover o))) ≡ true → mover o ≡ mover mine
+      pub written : leads_here mine (led_by_entry u (written_of u (mover o))) ≡ true → mover o ≡ mover mine
+      pub in_force : leads_here mine (led_by_record u (mover o) (stage_of u (mover o)).in_force) ≡ true → mover o ≡ mover mine
+      pub named : leads_here mine (led_by_record u (mover o) (stage_of u (mover o)).written) ≡ true → mover o ≡ mover mine
 
-  pub ways_stepped : RoutesKnown → KnowsWays u mine
-  ways_stepped known = record {
-    entries = λ x. by_whom (λ x. leads_here mine (led_by_entry u (entry_of u x)) ≡ true → x ≡ mover mine) x known.entry
-        (λ other led. ways.entries x
-        (ap (λ e. leads_here mine (led_by_entry w e)) (sym (t.in_force x other)) ∙ was_entry (entry_of u x) led));
-    written = λ x there. by_whom (λ x. is_vcpu_in w.vms x ≡ true → leads_here mine (led_by_entry u (written_of u x)) ≡ true → x ≡ mover mine) x
-        (λ there. known.written)
-        (λ other there led. ways.written x there (ap (λ e. leads_here mine (led_by_entry w e)) (sym (kept_by_touch sent w u o x fits t there other).written)
-        ∙ was_entry (written_of u x) led)) (was_there x there);
-    records = λ x there. by_whom (λ x. is_vcpu_in w.vms x ≡ true → leads_here mine (led_by_record u x (stage_of u x).in_force) ≡ true
-        → x ≡ mover mine) x (λ there. known.in_force)
-        (λ other there led. ways.records x there
-        (ap (λ (s : Stage). leads_here mine (led_by_record w x s.in_force)) (sym (kept_by_touch sent w u o x fits t there other).stage)
-        ∙ was_record x (stage_of u x).in_force led)) (was_there x there);
-    named = λ x there. by_whom (λ x. is_vcpu_in w.vms x ≡ true → leads_here mine (led_by_record u x (stage_of u x).written) ≡ true
-        → x ≡ mover mine) x (λ there. known.named)
-        (λ other there led. ways.named x there
-        (ap (λ (s : Stage). leads_here mine (led_by_record w x s.written)) (sym (kept_by_touch sent w u o x fits t there other).stage)
-        ∙ was_record x (stage_of u x).written led)) (was_there x there);
-    flying = λ v k s is led. ways.flying v k s (ap (λ xs. slice_get xs k) (sym (touched_flights sent w u o v t)) ∙ is) (was_entry s.entry led);
-  }
+    pub ways_stepped : RoutesKnown → KnowsWays u mine
+    ways_stepped known = record {
+      entries = λ x. by_whom (λ x. leads_here mine (led_by_entry u (entry_of u x)) ≡ true → x ≡ mover mine) x known.entry
+          (λ other led. ways.entries x
+          (ap (λ e. leads_here mine (led_by_entry w e)) (sym (t.in_force x other)) ∙ was_entry (entry_of u x) led));
+      written = λ x there. by_whom (λ x. is_vcpu_in w.vms x ≡ true → leads_here mine (led_by_entry u (written_of u x)) ≡ true → x ≡ mover mine) x
+          (λ there. known.written)
+          (λ other there led. ways.written x there (ap (λ e. leads_here mine (led_by_entry w e)) (sym (kept_by_touch sent w u o x fits t there other).written)
+          ∙ was_entry (written_of u x) led)) (was_there x there);
+      records = λ x there. by_whom (λ x. is_vcpu_in w.vms x ≡ true → leads_here mine (led_by_record u x (stage_of u x).in_force) ≡ true
+          → x ≡ mover mine) x (λ there. known.in_force)
+          (λ other there led. ways.records x there
+          (ap (λ (s : Stage). leads_here mine (led_by_record w x s.in_force)) (sym (kept_by_touch sent w u o x fits t there other).stage)
+          ∙ was_record x (stage_of u x).in_force led)) (was_there x there);
+      named = λ x there. by_whom (λ x. is_vcpu_in w.vms x ≡ true → leads_here mine (led_by_record u x (stage_of u x).written) ≡ true
+          → x ≡ mover mine) x (λ there. known.named)
+          (λ other there led. ways.named x there
+          (ap (λ (s : Stage). leads_here mine (led_by_record w x s.written)) (sym (kept_by_touch sent w u o x fits t there other).stage)
+          ∙ was_record x (stage_of u x).written led)) (was_there x there);
+      flying = λ v k s is led. ways.flying v k s (ap (λ xs. slice_get xs k) (sym (touched_flights sent w u o v t)) ∙ is) (was_entry s.entry led);
+    }
 
-  pub by_apart : RoutesApart u plan o → RoutesKnown
-  by_apart apart = record {
-    entry = λ led. absurd (false≢true (sym apart.entry ∙ led));
-    written = λ led. absurd (false≢true (sym apart.written ∙ led));
-    in_force = λ led. absurd (false≢true (sym apart.in_force ∙ led));
-    named = λ led. absurd (false≢true (sym apart.named ∙ led));
-  }
+    pub by_apart : RoutesApart u plan o → RoutesKnown
+    by_apart apart = record {
+      entry = λ led. absurd (false≢true (sym apart.entry ∙ led));
+      written = λ led. absurd (false≢true (sym apart.written ∙ led));
+      in_force = λ led. absurd (false≢true (sym apart.in_force ∙ led));
+      named = λ led. absurd (false≢true (sym apart.named ∙ led));
+    }
 
 -- ---- a step of another move
 

@@ -1,34 +1,32 @@
 -- Once a plan is past its aims nothing leads to the old place of its move.
-use Rattle.std.proofs.Common.{◌≡◌, ◌≢◌, ℕ, ◌+◌, ◌*◌, ◌/◌, ◌%◌, ◌^◌, ◌<◌, ◌≤◌, Bool, true, false, not, ◌&&◌, if◌then◌else◌, nat_eq, nat_lt, nat_le, is_none, length, Option, Some, None, ◌⊎◌, inl, inr, refl, sym, ap, ◌∙◌, subst, arith}
-use Rattle.std.specs.Prelude.{slice_get}
-use Rattle.std.proofs.lemmas.Bool.{cases_Bool, cases_eq, cond-false, eq-eqb, ne_eqb, false≢true, lt-ltb, ltb-true}
+use Rattle.std.proofs.Common.{◌≡◌, ◌≢◌, ℕ, ◌+◌, ◌/◌, ◌<◌, ◌≤◌, Bool, true, false, ◌&&◌, if◌then◌else◌, nat_eq, nat_lt, nat_le, is_none, Option, Some, None, inl, inr, refl, sym, ap, ◌∙◌, arith}
+use Rattle.std.proofs.lemmas.Bool.{cases_Bool, cases_eq, cond-false, eq-eqb, ne_eqb, false≢true, lt-ltb}
 use Rattle.std.proofs.lemmas.Bool.Decides.{nat_tests}
 use Rattle.std.proofs.lemmas.List.Elements.{All-get_or}
-use Rattle.aia_regs.specs.declared.limits.TheConstants.{IDENTITIES, PASSES, GUEST_FILES, FIRST_PASS_IDENTITY}
+use Rattle.aia_regs.specs.declared.limits.TheConstants.{IDENTITIES, PASSES, FIRST_PASS_IDENTITY}
 use Rattle.aia_file.specs.InterruptFile.{InterruptFile, is_greatest_identity}
 use Rattle.aia_file.specs.Imsic.{IsThere}
 use Rattle.aia_file.specs.declared.spot.Spot.TheVariants.{GuestFile}
 use Rattle.aia_vcpu.specs.declared.place.GuestPlace.{GuestPlace}
-use Rattle.aia_vcpu.specs.Vms.{Vcpu, is_vcpu_in, slot_of}
-use Rattle.aia_vcpu.specs.Home.{Home, Way, Progress, is_place, is_moving, holds, old_end, new_end, left, led_to}
+use Rattle.aia_vcpu.specs.Vms.{Vcpu}
+use Rattle.aia_vcpu.specs.Home.{Home, is_place, is_moving, holds, old_end, new_end}
 use Rattle.aia_vcpu.specs.Home.Home.{InMemory, Resident, OnWay}
 use Rattle.aia_vcpu.specs.Home.Way.{Outward, Inward, Across}
 use Rattle.aia_vcpu.specs.Plans.{steps_done}
-use Rattle.aia_vcpu.specs.Phases.{Phase, begins, has_come}
+use Rattle.aia_vcpu.specs.Phases.{Phase, begins}
 use Rattle.aia_vcpu.specs.Phases.Phase.{FirstPhase, ClosingPhase, DrainPhase, EnablePhase, LookPhase, LastPhase, AllDone}
 use Rattle.aia_vcpu.specs.BySteps.{new_file}
-use Rattle.aia_vcpu.specs.Routes.{origin, entry_names, stage_names, MayReach, is_closed, is_stage_written, is_stage_closed, peers_reach}
+use Rattle.aia_vcpu.specs.Routes.{origin, entry_names, stage_names, MayReach, is_stage_written, is_stage_closed, peers_reach}
 use Rattle.aia_vcpu.specs.Aims.{aims_done, aims_step, is_aiming, pass_reaches, target_of, target_to, AreAimed}
 use Rattle.aia_vcpu.proofs.HomeLemmas.{is_itself_place, origin_is_held, new_is_held, either_file}
 use Rattle.aia_vcpu.proofs.RouteLemmas.{names_reach}
-use Rattle.aia_vcpu.proofs.PhaseLemmas.{closed_reach, drain_closed, looks_begin, sets_first}
+use Rattle.aia_vcpu.proofs.PhaseLemmas.{closed_reach, drain_closed, looks_begin}
 use Rattle.aia_regs.specs.Top.{hart_of, guest_of}
 use Rattle.aia_vcpu_places.specs.Places.{IsInMap, leads_to}
 use Rattle.aia_vcpu_places.specs.Stores.{AreApart}
 use Rattle.aia_fabric_values.specs.declared.at.At.{At}
-use Rattle.aia_fabric_values.specs.declared.at.At.TheVariants.{File, Slot}
-use Rattle.aia_fabric_values.specs.declared.flying.Flying.{Flying}
-use Rattle.aia_fabric_values.specs.World.{World, flight_of, stage_of}
+use Rattle.aia_fabric_values.specs.declared.at.At.TheVariants.{File}
+use Rattle.aia_fabric_values.specs.World.{World, stage_of}
 use Rattle.aia_fabric_values.specs.Whole.{IsWhole}
 use Rattle.aia_fabric_values.specs.Changes.{spot_of}
 use Rattle.aia_move_values.specs.declared.who.Pass.{Pass}

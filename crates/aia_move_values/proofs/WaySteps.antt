@@ -1,13 +1,10 @@
 -- The steps of its own move keep what a plan knows.
-use Rattle.std.proofs.Common.{◌≡◌, ◌≢◌, ℕ, ◌+◌, ◌/◌, ◌<◌, Bool, true, false, ◌||◌, if◌then◌else◌, List, [], ◌∷◌, length, Option, Some, None, inl, inr, refl, sym, ap, ◌∙◌, subst, arith}
+use Rattle.std.proofs.Common.{◌≡◌, ℕ, ◌+◌, ◌/◌, ◌<◌, Bool, true, false, ◌||◌, if◌then◌else◌, [], length, Option, Some, None, refl, sym, ap, ◌∙◌, subst, arith}
 use Rattle.std.specs.Prelude.{slice_get}
-use Rattle.std.proofs.lemmas.Bool.{false≢true}
 use Rattle.aia_file.specs.InterruptFile.{InterruptFile}
-use Rattle.aia_file.specs.declared.spot.Spot.{Spot}
-use Rattle.aia_file.specs.declared.spot.Spot.TheVariants.{MachineFile, SupervisorFile, GuestFile, Nowhere}
 use Rattle.aia_vcpu.specs.declared.place.GuestPlace.{GuestPlace}
 use Rattle.aia_vcpu.specs.Vms.{vcpu_of}
-use Rattle.aia_vcpu.specs.Home.{Home, holds, one_more}
+use Rattle.aia_vcpu.specs.Home.{Home, one_more}
 use Rattle.aia_vcpu.specs.Home.Home.{InMemory, Resident, OnWay}
 use Rattle.aia_vcpu.specs.Routes.{MayReach, is_at_fence, reach_stepped}
 use Rattle.aia_vcpu.specs.Aims.{aimed}
@@ -17,17 +14,15 @@ use Rattle.aia_vcpu_places.specs.Holds.{Holds, Hand, IsWithin, sees}
 use Rattle.aia_vcpu_places.specs.Places.{leads_to}
 use Rattle.aia_vcpu_places.specs.Stores.{AreApart}
 use Rattle.aia_fabric_values.specs.declared.at.At.{At}
-use Rattle.aia_fabric_values.specs.declared.at.At.TheVariants.{File, Slot}
 use Rattle.aia_fabric_values.specs.declared.flying.Flying.{Flying}
-use Rattle.aia_fabric_values.specs.World.{World, flight_of, stage_of}
+use Rattle.aia_fabric_values.specs.World.{World, flight_of}
 use Rattle.aia_fabric_values.specs.Whole.{IsWhole}
 use Rattle.aia_fabric_values.specs.Changes.{with_fence}
-use Rattle.aia_fabric_values.specs.Flights.{LandsAll}
 use Rattle.aia_fabric_values.proofs.FlightLemmas.{fence_leaves_none}
 use Rattle.aia_fabric_values.proofs.WholeLemmas.{vcpu_entry}
 use Rattle.aia_move_values.specs.Views.{places_of}
 use Rattle.aia_move_values.specs.declared.who.Who.{Who}
-use Rattle.aia_move_values.specs.Move.{Moving, mover, width, MoveFits, MakesNext, Goes}
+use Rattle.aia_move_values.specs.Move.{Moving, mover, width, MoveFits, Goes}
 use Rattle.aia_move_values.specs.PlanState.{PlanState, moving_of}
 use Rattle.aia_move_values.specs.Plan.{IsInPhase, GoesAiming}
 use Rattle.aia_move_values.specs.Targets.{TargetMap, AimsOne, aims, aim_of, one_aimed}
@@ -38,7 +33,6 @@ use Rattle.aia_move_values.specs.Ways as ways
 use Rattle.aia_move_values.proofs.LandingLemmas.{landed_whole}
 use Rattle.aia_move_values.proofs.MachineLemmas.{machine_touched}
 use Rattle.aia_move_values.proofs.MoveKept.{goes_kept, aims_kept}
-use Rattle.aia_move_values.proofs.StepLemmas.{fits_still}
 use Rattle.aia_move_values.proofs.TouchLemmas.{step_touches}
 use Rattle.aia_move_values.proofs.WayFences.{all_land, flight_within}
 use Rattle.aia_move_values.proofs.WayMoves.{ways_stepped, touched_flights}

@@ -1,7 +1,7 @@
 -- What a plan knows of the targets of what is passed, as a source is aimed and as its own move goes
 -- on.
-use Rattle.std.proofs.Common.{◌≡◌, ◌≢◌, ℕ, ◌+◌, ◌*◌, ◌/◌, ◌<◌, ◌≤◌, Bool, true, false, not, ◌&&◌, if◌then◌else◌, nat_eq, nat_lt, length, Option, Some, None, ◌⊎◌, inl, inr, refl, sym, ap, ◌∙◌, subst, arith}
-use Rattle.std.proofs.lemmas.Bool.{cases_Bool, cases_eq, false≢true, lt-ltb, ltb-true}
+use Rattle.std.proofs.Common.{◌≡◌, ◌≢◌, ℕ, ◌+◌, ◌<◌, true, false, if◌then◌else◌, nat_lt, Option, inl, inr, refl, sym, ap, ◌∙◌, subst, arith}
+use Rattle.std.proofs.lemmas.Bool.{cases_eq}
 use Rattle.std.proofs.lemmas.Bool.Decides.{nat_tests}
 use Rattle.aia_vcpu.specs.declared.place.GuestPlace.{GuestPlace}
 use Rattle.aia_vcpu.specs.Home.{Home, ended, one_more}
@@ -12,7 +12,7 @@ use Rattle.aia_vcpu.specs.Aims.{aims_done, is_aiming, aimed, further, pass_reach
 use Rattle.aia_vcpu.proofs.PassLemmas.{further_aimed, further_on}
 use Rattle.aia_move_values.specs.declared.who.Who.{Who}
 use Rattle.aia_move_values.specs.Move.{Moving}
-use Rattle.aia_move_values.specs.Targets.{TargetMap, AimsOne, pass_count, pass_in, aims, aim_of, next_pass, one_aimed}
+use Rattle.aia_move_values.specs.Targets.{TargetMap, AimsOne, pass_count, pass_in, aims, aim_of, one_aimed}
 use Rattle.aia_move_values.specs.Ways.{KnowsTargets}
 
 -- ---- another source is aimed
