@@ -18,7 +18,9 @@ ghost use Rattle.aia_hyp_values.specs.Core.{resident_at};
 ghost use Rattle.aia_fabric_values.specs.Found.{IsFound};
 ghost use Rattle.aia_hyp_values.specs.Moves.{UnlessRefused};
 ghost use Rattle.aia_hyp_values.specs.Passes.{AimsBy, TellsOf, number_of_pass};
-ghost use Rattle.aia_hyp_values.specs.Stands.{CoreStands, CorePasses, CoreHears, CoreGoes, MayPass, RefusesPass, MayGo, answer_by};
+ghost use Rattle.aia_hyp_values.specs.Stands.{CoreStands, CorePasses, CoreHears, CoreGoes, MayPass, RefusesPass, MayGo, answer_by, line_served};
+ghost use Rattle.aia_hyp_values.specs.Targets.{TargetsStand};
+ghost use Rattle.aia_model.specs.Histories.{IsHistory};
 
 use crate::hypervisor_core::{Core, is_host};
 use aia_fabric::Found;
@@ -56,6 +58,11 @@ impl Core {
             → UnlessRefused (refusal h (lines.Pass source vm vcpu identity))
             (AimsBy T.aimed (aimed_by h (Accepted (lines.Pass source vm vcpu identity)))
             targets.old targets.new) (targets.new ≡ targets.old) }
+        ensures targets { (h : History) → IsHistory h → CoreStands self.old h
+            → TellsOf (T.map targets.old) h source
+            → TargetsStand (T.map targets.old) h → TargetsStand (T.map targets.new)
+            (line_served (refusal h (lines.Pass source vm vcpu identity)) h
+            (lines.Pass source vm vcpu identity)) }
     {
         match self.may_pass(source, vm, vcpu, identity, targets) {
             Ok(found) => {

@@ -16,7 +16,9 @@ ghost use Rattle.aia_model.specs.Aim.{aimed_by};
 ghost use Rattle.aia_model.specs.Refusal.{refusal};
 ghost use Rattle.aia_hyp_values.specs.Core.{no_kept, no_record, record_of, home_in, has_plan};
 ghost use Rattle.aia_hyp_values.specs.Passes.{own_passes, AimsBy};
-ghost use Rattle.aia_hyp_values.specs.Stands.{CoreStands, CoreTakes, answer_by};
+ghost use Rattle.aia_hyp_values.specs.Stands.{CoreStands, CoreTakes, answer_by, line_served};
+ghost use Rattle.aia_hyp_values.specs.Targets.{TargetsStand};
+ghost use Rattle.aia_model.specs.Histories.{IsHistory};
 ghost use Rattle.aia_fabric_values.specs.Found.{IsFound};
 ghost use Rattle.aia_hyp_values.specs.Moves.{UnlessRefused, WholeAims, step_answer, MakesOne, WantBegins, LeaveBegins, ArriveBegins, ShiftBegins, MoveBegins, MoveGoes, StaysInPlace, MoveInPlace, IsAtItsLast, stay_after, back_of, with_back, IsOutThere};
 
@@ -50,6 +52,10 @@ impl Core {
             → UnlessRefused (refusal h (lines.Move vm vcpu want))
             (WholeAims T.aimed h vm vcpu want targets.old targets.new)
             (targets.new ≡ targets.old) }
+        ensures targets { (h : History) → IsHistory h → CoreStands self.old h
+            → TargetsStand (T.map targets.old) h → TargetsStand (T.map targets.new)
+            (line_served (refusal h (lines.Move vm vcpu want)) h
+            (lines.Move vm vcpu want)) }
     {
         let Some(found) = self.fabric.find(vm, vcpu) else {
             return Err(Refusal::Range);
@@ -86,6 +92,9 @@ impl Core {
             → UnlessRefused (refusal h (Step vm vcpu))
             (AimsBy T.aimed (aimed_by h (Stepped (vcpu_of vm vcpu))) targets.old targets.new)
             (targets.new ≡ targets.old) }
+        ensures targets { (h : History) → IsHistory h → CoreStands self.old h
+            → TargetsStand (T.map targets.old) h → TargetsStand (T.map targets.new)
+            (line_served (refusal h (Step vm vcpu)) h (Step vm vcpu)) }
     {
         let Some(found) = self.fabric.find(vm, vcpu) else {
             return Err(Refusal::Range);

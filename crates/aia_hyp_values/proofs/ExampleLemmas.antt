@@ -98,7 +98,7 @@ stayer_reach : in_force_of leaving_history stayer ≡ Some stayer_file
 unfolding passes_of in_force_of home least_of
 stayer_reach = refl
 
-leaver_reach : in_force_of leaving_history leaver ≡ None
+pub leaver_reach : in_force_of leaving_history leaver ≡ None
 unfolding passes_of in_force_of home least_of
 leaver_reach = refl
 
@@ -110,7 +110,7 @@ stayer_saw : a_look_saw leaving_history stayer ≡ false
 unfolding passes_of home least_of look_saw
 stayer_saw = refl
 
-leaver_saw : a_look_saw leaving_history leaver ≡ false
+pub leaver_saw : a_look_saw leaving_history leaver ≡ false
 unfolding passes_of home least_of look_saw
 leaver_saw = refl
 
@@ -157,7 +157,7 @@ stayer_has : guest_file leaving_history stayer ≡ empty_file 63
 unfolding file_by select_by
 stayer_has = refl
 
-leaver_has : guest_file leaving_history leaver ≡ lone_file
+pub leaver_has : guest_file leaving_history leaver ≡ lone_file
 unfolding file_by select_by
 leaver_has = same_file _ _ (record { n = refl; pending = asked; enabled = enables; threshold = refl; delivery = refl })
 

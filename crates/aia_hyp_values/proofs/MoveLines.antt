@@ -82,7 +82,7 @@ moving_is x h who stands is =
     let stood = stands.vcpus g (is_there x h who stands is) in
     ap is_moving (sym stood.same_home) ∙ moved_as x g (record_of x g).stay stood.plan
 
-by_home : (x : CoreState) (h : History) (who : Found) → CoreStands x h → IsFound x.world who
+pub by_home : (x : CoreState) (h : History) (who : Found) → CoreStands x h → IsFound x.world who
     → refusal h (Step who.vm who.vcpu) ≡ cond (not (has_plan (record_of x (vcpu_of who.vm who.vcpu)).stay)) (Some (Refused Idle)) None
 by_home x h who stands is =
     step_refusal h who.vm who.vcpu stands.there ∙ cond-false _ _ _ (ap not (is_there x h who stands is))
@@ -116,7 +116,7 @@ no_step x vm vcpu outside = refused x (Step vm vcpu) (Refused Range) (λ h stand
 
 -- ---- what a plan knows
 
-knows : (x : CoreState) (h : History) (g : Vcpu) (plan : PlanState) → CoreStands x h → has_vcpu h g ≡ true
+pub knows : (x : CoreState) (h : History) (g : Vcpu) (plan : PlanState) → CoreStands x h → has_vcpu h g ≡ true
     → (record_of x g).stay ≡ stays.Moving plan → KnowsIts x h g plan
 knows x h g plan stands there is =
     let stood = stands.vcpus g there in

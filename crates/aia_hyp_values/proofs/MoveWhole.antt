@@ -256,7 +256,7 @@ next_step {T} aim told told_now told_later old now later who want so_far goes ai
 
 -- ---- the end
 
-whole_line : (h : History) (vm vcpu : ℕ) (want : Want)
+pub whole_line : (h : History) (vm vcpu : ℕ) (want : Want)
     → line_taken h (lines.Move vm vcpu want) ≡ steps_taken
     (steps_of (file_words h) (wanted_move (vcpu_of vm vcpu) want) + passes_for h (vcpu_of vm vcpu)) (vcpu_of vm vcpu)
     (Began (wanted_move (vcpu_of vm vcpu) want) ∷ h)

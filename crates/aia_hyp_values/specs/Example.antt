@@ -1,6 +1,6 @@
 -- A history in which one virtual hart is resident in a guest file and another one, to which a wired
 -- source is passed, is leaving its own; and the core that stands for it.
-use Rattle.std.specs.Prelude.{ℕ, ◌+◌, ◌-◌, ◌*◌, length, true, false, List, [], ◌∷◌, ◌++◌, replicate, Some, None, zero, suc}
+use Rattle.std.specs.Prelude.{ℕ, nat_eq, ◌+◌, ◌-◌, ◌*◌, length, true, false, List, [], ◌∷◌, ◌++◌, replicate, Some, None, zero, suc}
 use Rattle.aia_vcpu.specs.declared.access.Access.TheVariants.{PutPending}
 use Rattle.aia_vcpu.specs.declared.end.End.TheVariants.{File, Memory}
 use Rattle.aia_vcpu.specs.Plans.{plan_step}
@@ -23,7 +23,12 @@ use Rattle.aia_vcpu_places.specs.Places.{leads_to, entry_word, second_word}
 use Rattle.aia_fabric_values.specs.declared.stage.Stage.{Stage}
 use Rattle.aia_fabric_values.specs.World.{World, no_stage}
 use Rattle.aia_fabric_values.specs.Making.{new_world, table_byte}
+use Rattle.aia_file.specs.InterruptFile.{InterruptFile}
+use Rattle.aia_vcpu.specs.Aims.{target_to}
+use Rattle.aia_fabric_values.specs.declared.flying.Flying.{Flying}
 use Rattle.aia_move_values.specs.Move.{Moving}
+use Rattle.aia_move_values.specs.PlanState.{PlanState}
+use Rattle.aia_move_values.specs.Targets.{TargetMap}
 use Rattle.aia_model.specs.declared.line.Line.{Line}
 use Rattle.aia_model.specs.declared.line.Line.TheVariants as lines
 use Rattle.aia_model.specs.declared.want.Want.TheVariants as wants
@@ -202,4 +207,40 @@ leaving_core = record {
       } ∷ [];
   selects = replicate (2 * HARTS) 0;
   passes = the_pass ∷ [];
+}
+
+-- ---- the ways and the targets then
+
+-- The plan of the leave, which puts its word next.
+abbrev pub leave_plan : PlanState
+leave_plan = record { moving = leave_under_way; phase = Some DrainPhase }
+
+-- Two stores in flight: one of the VM's devices for the one that leaves, which its entry led to the
+-- slot, and one for the other one, led to that one's file.
+abbrev pub sent_to_leaver : Flying
+sent_to_leaver = record { entry = leads_to 1 0 None; offset = 0; value = 3 }
+
+abbrev pub sent_to_stayer : Flying
+sent_to_stayer = record { entry = leads_to 0 0 (Some stayer_file); offset = 0; value = 5 }
+
+abbrev pub flying_world : World
+flying_world =
+    record example_world { flights = (sent_to_leaver ∷ sent_to_stayer ∷ []) ∷ [] }
+
+-- The targets: the one source is ready, and aimed at the notice hart, with the identity of its pass.
+abbrev pub example_targets : TargetMap
+example_targets = record {
+  harts = 1;
+  target = λ s. target_to 0 0 5 None;
+  ready = λ s. nat_eq s 1;
+}
+
+-- The interrupt file of the one that leaves: identity 1 is pending and enabled.
+abbrev pub leaver_interrupts : InterruptFile
+leaver_interrupts = record {
+  n = 63;
+  pending = λ i. nat_eq 1 i;
+  enabled = λ i. nat_eq 1 i;
+  threshold = 0;
+  delivery = 1;
 }

@@ -9,6 +9,7 @@ mod moves;
 pub mod phase;
 mod plan;
 mod targets;
+pub mod ways;
 
 pub use aia_move_values::{Closed, KeptNumbers, Next, Outcome, Pass, Turn, Who};
 pub use aia_vcpu::Access;

@@ -50,7 +50,7 @@ use Rattle.aia_regs.specs.declared.address_map.TheConstants.{PAGE}
 
 -- ---- in a world of the same machine with other places
 
-own_machine : (w u : World) (g : Vcpu) (place : Option GuestPlace) → TouchesOwn w u g place → SameMachine w u
+pub own_machine : (w u : World) (g : Vcpu) (place : Option GuestPlace) → TouchesOwn w u g place → SameMachine w u
 own_machine w u g place t = record {
   n = ap (λ (x : World). x.n) t.rest;
   vms = ap (λ (x : World). x.vms) t.rest;
@@ -62,7 +62,7 @@ module _ (w u : World) (plan : PlanState) (reach : Option GuestPlace) (saw : Boo
   abbrev m : Moving
   m = moving_of plan
 
-  knows_by : (file after : InterruptFile) → Knows w plan reach file saw → (v : Places) → places_of u (mover m) m.home ≡ v
+  pub knows_by : (file after : InterruptFile) → Knows w plan reach file saw → (v : Places) → places_of u (mover m) m.home ≡ v
       → Holds (width w) m.who.found.slot m.who.found.notice reach v m.home m.hand after saw → Knows u plan reach after saw
   knows_by file after knows v seen held = record {
     fits = fits_still w u m same knows.fits;

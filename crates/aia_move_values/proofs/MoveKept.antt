@@ -40,16 +40,16 @@ pub file_in-size : (w : World) (o : Option GuestPlace) → IsWhole w → ((p : G
 file_in-size w None whole there = refl
 file_in-size w (Some p) whole there = width_at w (spot_of p) whole (there p refl)
 
-files_fit : (w : World) (m : Moving) → IsWhole w → MoveFits w m → FilesFit m.home
+pub files_fit : (w : World) (m : Moving) → IsWhole w → MoveFits w m → FilesFit m.home
 files_fit w m whole fits = record {
   own = λ p e. let there = fits.own p e in (omega (arith, there.0, whole.harts), omega (arith, there.2, whole.guests), there.1);
   next = λ p e. let there = fits.next p e in (omega (arith, there.0, whole.harts), omega (arith, there.2, whole.guests), there.1);
 }
 
-notice_low : (w : World) (m : Moving) → IsWhole w → MoveFits w m → m.who.found.notice < HARTS
+pub notice_low : (w : World) (m : Moving) → IsWhole w → MoveFits w m → m.who.found.notice < HARTS
 notice_low w m whole fits = let low = notice_hart_there w (mover m) whole fits.there in omega (arith, low, fits.notice, whole.harts)
 
-slot_few : (w : World) (m : Moving) → IsWhole w → MoveFits w m → m.who.found.slot < SLOTS
+pub slot_few : (w : World) (m : Moving) → IsWhole w → MoveFits w m → m.who.found.slot < SLOTS
 slot_few w m whole fits = let low = slot_low w (mover m) whole fits.there in omega (arith, low, fits.slot)
 
 -- ---- the places are the same ones with a step more

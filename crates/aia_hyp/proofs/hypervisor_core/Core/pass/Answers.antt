@@ -6,6 +6,7 @@ use Rattle.aia_model.specs.Refusal.{refusal}
 use Rattle.aia_hyp_values.specs.Passes.{AimsBy}
 use Rattle.aia_hyp_values.specs.Stands.{CoreStands}
 use Rattle.aia_hyp_values.proofs.PassLemmas.{pass_refused, pass_taken, unless_taken}
+use Rattle.aia_hyp_values.proofs.TargetsLines.{pass_targets}
 use Rattle.aia_hyp.proofs.hypervisor_core.Core.pass.Goals as goal
 
 pub returns-in-Ok-clause-takes : goal.returns-in-Ok-clause-takes
@@ -29,3 +30,8 @@ returns-in-Ok-clause-aims g c = λ h stands tells.
 pub returns-in-Err-clause-takes : goal.returns-in-Err-clause-takes
 returns-in-Err-clause-takes g c = pass_refused c.args.self.now (g.T.Targets.map c.args.targets.now) c.args.source c.args.vm c.args.vcpu
     c.args.identity c.in-Err.word c.in-Err.ensures.refusal
+
+pub returns-in-Ok-clause-targets : goal.returns-in-Ok-clause-targets
+returns-in-Ok-clause-targets g c = λ h good stands tells told.
+    pass_targets g.T.Targets.map g.T.Targets.aimed g.met.T.Targets.aims_one h c.args.source c.args.vm c.args.vcpu c.args.identity c.args.targets.now
+    c.pass_to.new.targets good tells (returns-in-Ok-clause-aims g c h stands tells) told

@@ -15,6 +15,9 @@ use Rattle.aia_model.specs.Aim.{aimed_by}
 use Rattle.aia_model.specs.Refusal.{refusal}
 use Rattle.aia_hyp_values.specs.Passes.{AimsBy}
 use Rattle.aia_hyp_values.specs.Stands.{CoreStands}
+use Rattle.aia_hyp_values.specs.Targets.{TargetsStand}
+use Rattle.aia_hyp_values.specs.Stands.{line_served}
+use Rattle.aia_hyp_values.proofs.TargetsLines.{move_step_targets, idle_targets}
 use Rattle.aia_hyp.proofs.hypervisor_core.Core.step.Goals as goal
 
 pub returns-in_default-clause-takes : goal.returns-in_default-clause-takes
@@ -57,3 +60,17 @@ returns-clause-aims g c =
     (c.step_of.new.targets ≡ c.args.targets.now)) named.1
     (λ h stands. step_unrefused c.args.self.now h c.in-Some.found _ _ stands found (sym c.is_moved.ensures ∙ c.if-not-is_moved.false)
     (c.step_of.ensures.aims h stands)))
+
+pub returns-then-not-is_moved-clause-targets : goal.returns-then-not-is_moved-clause-targets
+returns-then-not-is_moved-clause-targets g c = λ h good stands told.
+    let named = c.in-Some.ensures.named in
+    let who = subst (λ (x : CoreState). IsFound x.world c.in-Some.found) c.self.view_is c.in-Some.ensures.there in
+    let map = g.T.Targets.map c.args.targets.now in
+    subst (λ vm. TargetsStand map (line_served (refusal h (Step vm c.args.vcpu)) h (Step vm c.args.vcpu))) named.0
+    (subst (λ vcpu. TargetsStand map (line_served (refusal h (Step c.in-Some.found.vm vcpu)) h (Step c.in-Some.found.vm vcpu))) named.1
+    (idle_targets c.args.self.now map h c.in-Some.found stands who (sym c.is_moved.ensures ∙ c.if-not-is_moved.true) told))
+
+pub returns-clause-targets : goal.returns-clause-targets
+returns-clause-targets g c = λ h good stands told.
+    move_step_targets g.T.Targets.map g.T.Targets.aimed g.met.T.Targets.aims_one h c.args.vm c.args.vcpu c.args.targets.now c.step_of.new.targets good
+    (returns-clause-aims g c h stands) told

@@ -11,6 +11,7 @@ use Rattle.aia_hyp_values.specs.Moves.{UnlessRefused, WholeAims}
 use Rattle.aia_hyp_values.specs.Stands.{StandsForSome, CoreStands, CoreTakes}
 use Rattle.aia_hyp_values.proofs.BeginCore.{no_move}
 use Rattle.aia_hyp_values.proofs.MoveWhole.{first_step, next_step, all_steps, all_aims, none_aims, refused_whole}
+use Rattle.aia_hyp_values.proofs.TargetsLines.{whole_targets}
 use Rattle.aia_hyp.proofs.hypervisor_core.Core.whole.Goals as goal
 
 pub returns-in_default-clause-takes : goal.returns-in_default-clause-takes
@@ -78,3 +79,13 @@ returns-clause-aims g c =
     (WholeAims g.T.Targets.aimed h c.in-Some.found.vm vcpu c.args.want told c.step_of.new.targets) (c.step_of.new.targets ≡ told)) named.1
     (all_aims g.T.Targets.aimed told c.loop-found.targets c.step_of.new.targets c.args.self.now c.loop-found.self c.step_of.new.self
     c.in-Some.found c.args.want c.loop-found.invariant.0 c.loop-found-test.ensures.goes c.loop-found-test.ensures.aims))
+
+pub returns-in_err-begin_of-clause-targets : goal.returns-in_err-begin_of-clause-targets
+returns-in_err-begin_of-clause-targets g c = λ h good stands told.
+    whole_targets g.T.Targets.map g.T.Targets.aimed g.met.T.Targets.aims_one h c.args.vm c.args.vcpu c.args.want c.args.targets.now c.args.targets.now
+    good (returns-in_err-begin_of-clause-aims g c h stands) told
+
+pub returns-clause-targets : goal.returns-clause-targets
+returns-clause-targets g c = λ h good stands told.
+    whole_targets g.T.Targets.map g.T.Targets.aimed g.met.T.Targets.aims_one h c.args.vm c.args.vcpu c.args.want c.args.targets.now
+    c.step_of.new.targets good (returns-clause-aims g c h stands) told

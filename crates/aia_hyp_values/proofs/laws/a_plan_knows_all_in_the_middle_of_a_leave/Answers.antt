@@ -1,0 +1,8 @@
+use Rattle.aia_hyp_values.proofs.ExampleWays.{flying_known, example_targets_stand}
+use Rattle.aia_hyp_values.proofs.laws.a_plan_knows_all_in_the_middle_of_a_leave.Goals as goal
+
+pub returns-clause-knows : goal.returns-clause-knows
+returns-clause-knows c = flying_known
+
+pub returns-clause-targets : goal.returns-clause-targets
+returns-clause-targets c = example_targets_stand
