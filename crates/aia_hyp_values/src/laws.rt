@@ -26,7 +26,8 @@ ghost use Rattle.aia_model.specs.Aim.{aimed_by};
 ghost use Rattle.aia_model.specs.GuestFile.{guest_file};
 ghost use Rattle.aia_model.specs.Notice.{a_look_saw};
 ghost use Rattle.aia_move_values.specs.Targets.{TargetMap};
-ghost use Rattle.aia_move_values.specs.Ways.{KnowsWays, KnowsAll};
+ghost use Rattle.aia_move_values.specs.Ways.{KnowsWays, KnowsAll, OldPlaceIsShut};
+ghost use Rattle.aia_file.specs.InterruptFile.{landed};
 ghost use Rattle.aia_hyp_values.specs.Targets.{TargetsStand, StandsWith, LeavesTheAplic};
 ghost use Rattle.aia_model.specs.Vms.{vms_of, has_vm, has_vcpu};
 ghost use Rattle.aia_model.specs.Refusal.{refusal};
@@ -43,7 +44,7 @@ ghost use Rattle.aia_model.specs.Answer.{msi_taken, after_lines};
 ghost use Rattle.aia_move_values.specs.PlanState.{PlanState, moving_of};
 ghost use Rattle.aia_hyp_values.specs.Core.{CoreState, record_of};
 ghost use Rattle.aia_hyp_values.specs.Stands.{CoreStands, CoreTakes, CoreHears, MayPass, line_served};
-ghost use Rattle.aia_hyp_values.specs.Example.{stayer, leaver, the_pass, so_far, leaving_history, earlier_lines, leave_lines, stayer_file, leaver_file, leaving_core, leave_plan, flying_world, example_targets, leaver_interrupts};
+ghost use Rattle.aia_hyp_values.specs.Example.{stayer, leaver, the_pass, so_far, leaving_history, earlier_lines, leave_lines, stayer_file, leaver_file, leaving_core, leave_under_way, leave_plan, flying_world, example_targets, leaver_interrupts};
 
 use crate::vcpu::Stay;
 use aia_model::{Answer, Line, Msi};
@@ -166,8 +167,15 @@ pub fn a_plan_in_a_core_knows_all()
 
 /// A plan in the middle of a leave that knows all, in a world with two stores in flight, one for its
 /// virtual hart and one for another one, and with a passed source: what is promised of plans that
-/// know all is not promised of none. The targets stand for the history that leads there.
+/// know all is not promised of none. The targets stand for the history that leads there. Nothing
+/// leads to the guest file that is left; the first of these stores lands in the interrupt file, and
+/// the second one leaves it as it is.
 pub fn a_plan_knows_all_in_the_middle_of_a_leave()
     ensures knows { KnowsAll flying_world example_targets leave_plan None leaver_interrupts false }
     ensures targets { TargetsStand example_targets leaving_history }
+    ensures shut { OldPlaceIsShut flying_world example_targets leave_under_way }
+    ensures own { (u : World) → Lands flying_world u 0 0
+        → KnowsAll u example_targets leave_plan None (landed 0 3 leaver_interrupts) false }
+    ensures other { (u : World) → Lands flying_world u 0 1
+        → KnowsAll u example_targets leave_plan None leaver_interrupts false }
 {}

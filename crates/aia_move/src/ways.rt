@@ -2,10 +2,10 @@
 //! in flight, and the targets of passed sources. Each function does nothing, and its clauses are
 //! what was proved.
 
-ghost use Rattle.std.specs.Prelude.{Option, ◌≡◌, ◌≢◌, Bool, true, false, ◌||◌, ℕ, ◌%◌, ◌<◌, remove};
+ghost use Rattle.std.specs.Prelude.{Option, Some, None, ◌≡◌, ◌≢◌, Bool, true, false, ◌||◌, ℕ, ◌%◌, ◌<◌, remove};
 ghost use Rattle.aia_regs.specs.declared.limits.TheConstants.{VCPUS};
 ghost use Rattle.aia_regs.specs.declared.address_map.TheConstants.{PAGE};
-ghost use Rattle.aia_file.specs.InterruptFile.{InterruptFile};
+ghost use Rattle.aia_file.specs.InterruptFile.{InterruptFile, landed};
 ghost use Rattle.aia_file.specs.declared.spot.Spot.{Spot};
 ghost use Rattle.aia_file.specs.Imsic.{IsThere, file_at, with_file};
 ghost use Rattle.aia_entry.specs.Tables.{table_of, route_of};
@@ -24,7 +24,8 @@ ghost use Rattle.aia_fabric_values.specs.Whole.{IsWhole};
 ghost use Rattle.aia_fabric_values.specs.Changes.{spot_of, with_fence};
 ghost use Rattle.aia_fabric_values.specs.Flights.{Sends, Lands, Fences, with_flight};
 ghost use Rattle.aia_fabric_values.specs.SlotAccess.{DoneInSlot};
-ghost use Rattle.aia_fabric_values.specs.Stores.{Reaches, ReachesByRecord};
+ghost use Rattle.aia_fabric_values.specs.Stores.{StoresIn, Reaches, ReachesByRecord};
+ghost use Rattle.aia_vcpu.specs.Aims.{pass_reaches};
 ghost use Rattle.aia_move_values.specs.declared.who.Who.{Who};
 ghost use Rattle.aia_move_values.specs.Move.{Moving, mover, width, MoveFits, MakesNext, Goes, Ends};
 ghost use Rattle.aia_move_values.specs.PlanState.{PlanState, moving_of, phase_of};
@@ -37,7 +38,8 @@ ghost use Rattle.aia_move_values.specs.Ways.{led_by_entry, led_by_route, led_by_
 /// Whatever store is made, sent or landed keeps what a plan knows. Where it is led to a place of
 /// the move it lands in the interrupt file of its virtual hart; where it is led elsewhere it
 /// changes nothing of that. It is led by a route of whoever it is for, or, in flight, as it was
-/// sent. One that is sent, or taken out of those in flight, changes nothing of the file.
+/// sent. One that is sent, or taken out of those in flight, changes nothing of the file. An MSI of a
+/// source that is passed to the virtual hart lands in its interrupt file where the pass leads.
 pub fn every_store_keeps_what_a_plan_knows()
     ensures device { (w u : World) (map : TargetMap) (plan : PlanState) (reach : Option GuestPlace)
         (file : InterruptFile) (saw : Bool) → IsWhole w → AreApart (moving_of plan).home
@@ -67,6 +69,20 @@ pub fn every_store_keeps_what_a_plan_knows()
         → KnowsAll u map plan reach
         (landed_if (leads_here (moving_of plan) (led_by_entry w landing.store.entry))
         landing.store.offset landing.store.value file) saw }
+    ensures forwarded { (w u : World) (map : TargetMap) (plan : PlanState)
+        (reach : Option GuestPlace) (file : InterruptFile) (saw : Bool) → IsWhole w
+        → AreApart (moving_of plan).home → IsWithin w.n (width w) file
+        → KnowsAll w map plan reach file saw → (r : ℕ) → r < pass_count (moving_of plan).who
+        → (p : GuestPlace) (offset value : ℕ)
+        → pass_reaches r (moving_of plan).home ≡ Some p → StoresIn w u (spot_of p) offset value
+        → KnowsAll u map plan reach (landed offset value file) saw }
+    ensures relayed { (w u : World) (map : TargetMap) (plan : PlanState)
+        (reach : Option GuestPlace) (file : InterruptFile) (saw : Bool) → IsWhole w
+        → AreApart (moving_of plan).home → IsWithin w.n (width w) file
+        → KnowsAll w map plan reach file saw → (r : ℕ) → r < pass_count (moving_of plan).who
+        → (value : ℕ) → pass_reaches r (moving_of plan).home ≡ None
+        → ReachesByRecord None w u (mover (moving_of plan)) value
+        → KnowsAll u map plan reach (landed 0 value file) saw }
     ensures taken { (w : World) (map : TargetMap) (plan : PlanState) (reach : Option GuestPlace)
         (file : InterruptFile) (saw : Bool) → KnowsAll w map plan reach file saw
         → (u : World) (v k : ℕ) → u ≡ with_flight w v (remove (flight_of w v) k)

@@ -75,7 +75,7 @@ module _ (w u : World) (plan : PlanState) (reach : Option GuestPlace) (saw : Boo
 -- ---- a store for the virtual hart that is moved
 
 -- where it lands: in a guest file, or in the slot
-abbrev Lands : World → World → Vcpu → Option GuestPlace → ℕ → ℕ → Type 0
+abbrev pub Lands : World → World → Vcpu → Option GuestPlace → ℕ → ℕ → Type 0
 Lands w u g (Some p) offset value = StoresIn w u (spot_of p) offset value
 Lands w u g None offset value = StoresInSlot w u (Some (slot_of w.vms g)) (SupervisorFile (notice_hart w.vms g)) (notice_identity w.vms g)
     offset value
@@ -112,7 +112,7 @@ module _ (w u : World) (plan : PlanState) (reach : Option GuestPlace) (file : In
     own_machine w u (mover mv) None (touches_slot w u (mover mv) offset value whole knows.fits.there stores),
   )
 
-  lands_knows : (place : Option GuestPlace) → MayLand (width w) mv.home place → Lands w u (mover mv) place offset value
+  pub lands_knows : (place : Option GuestPlace) → MayLand (width w) mv.home place → Lands w u (mover mv) place offset value
       → Knows u plan reach (landed offset value file) saw
   lands_knows place may stores =
       let both = shows place may stores in

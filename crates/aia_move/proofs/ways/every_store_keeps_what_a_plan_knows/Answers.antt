@@ -1,4 +1,5 @@
 use Rattle.aia_move_values.proofs.WayKnows.{device_all, peer_all, sent_all, landed_all, taken_all}
+use Rattle.aia_move_values.proofs.WayForwards.{forward_all, relay_all}
 use Rattle.aia_move.proofs.ways.every_store_keeps_what_a_plan_knows.Goals as goal
 
 pub returns-clause-device : goal.returns-clause-device
@@ -15,3 +16,9 @@ returns-clause-landed c = landed_all
 
 pub returns-clause-taken : goal.returns-clause-taken
 returns-clause-taken c = taken_all
+
+pub returns-clause-forwarded : goal.returns-clause-forwarded
+returns-clause-forwarded c = forward_all
+
+pub returns-clause-relayed : goal.returns-clause-relayed
+returns-clause-relayed c = relay_all
