@@ -227,7 +227,8 @@ abbrev pub flying_world : World
 flying_world =
     record example_world { flights = (sent_to_leaver ∷ sent_to_stayer ∷ []) ∷ [] }
 
--- The targets: the one source is ready, and aimed at the notice hart, with the identity of its pass.
+-- The targets: the one source is ready, and aimed at the notice hart, with the identity of its
+-- pass.
 abbrev pub example_targets : TargetMap
 example_targets = record {
   harts = 1;

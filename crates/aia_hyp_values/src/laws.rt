@@ -137,8 +137,8 @@ pub fn a_plan_knows_it_after_every_call()
 {}
 
 /// Targets of which no source is ready stand for the machine as it is made. Those that stand for a
-/// history stand for it with an event that aims nothing and is nothing to the APLIC, if they stay as
-/// they are; the core's calls that are given them say so of themselves (`targets`). With targets
+/// history stand for it with an event that aims nothing and is nothing to the APLIC, if they stay
+/// as they are; the core's calls that are given them say so of themselves (`targets`). With targets
 /// that stand beside a core, each source that is there may be passed, or refused.
 pub fn targets_stand_as_the_core_goes_on()
     ensures begins { (map : TargetMap) (harts guests n sources : ℕ) → map.harts ≡ harts
@@ -165,11 +165,11 @@ pub fn a_plan_in_a_core_knows_all()
         → KnowsAll x.world map plan (in_force_of h g) (guest_file h g) (a_look_saw h g) }
 {}
 
-/// A plan in the middle of a leave that knows all, in a world with two stores in flight, one for its
-/// virtual hart and one for another one, and with a passed source: what is promised of plans that
-/// know all is not promised of none. The targets stand for the history that leads there. Nothing
-/// leads to the guest file that is left; the first of these stores lands in the interrupt file, and
-/// the second one leaves it as it is.
+/// A plan in the middle of a leave that knows all, in a world with two stores in flight, one for
+/// its virtual hart and one for another one, and with a passed source: what is promised of plans
+/// that know all is not promised of none. The targets stand for the history that leads there.
+/// Nothing leads to the guest file that is left; the first of these stores lands in the interrupt
+/// file, and the second one leaves it as it is.
 pub fn a_plan_knows_all_in_the_middle_of_a_leave()
     ensures knows { KnowsAll flying_world example_targets leave_plan None leaver_interrupts false }
     ensures targets { TargetsStand example_targets leaving_history }

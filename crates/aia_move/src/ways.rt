@@ -38,8 +38,8 @@ ghost use Rattle.aia_move_values.specs.Ways.{led_by_entry, led_by_route, led_by_
 /// Whatever store is made, sent or landed keeps what a plan knows. Where it is led to a place of
 /// the move it lands in the interrupt file of its virtual hart; where it is led elsewhere it
 /// changes nothing of that. It is led by a route of whoever it is for, or, in flight, as it was
-/// sent. One that is sent, or taken out of those in flight, changes nothing of the file. An MSI of a
-/// source that is passed to the virtual hart lands in its interrupt file where the pass leads.
+/// sent. One that is sent, or taken out of those in flight, changes nothing of the file. An MSI of
+/// a source that is passed to the virtual hart lands in its interrupt file where the pass leads.
 pub fn every_store_keeps_what_a_plan_knows()
     ensures device { (w u : World) (map : TargetMap) (plan : PlanState) (reach : Option GuestPlace)
         (file : InterruptFile) (saw : Bool) → IsWhole w → AreApart (moving_of plan).home
@@ -47,7 +47,8 @@ pub fn every_store_keeps_what_a_plan_knows()
         → (v addr value : ℕ)
         → Reaches (route_of (table_of w.tables v) addr) w u (addr % PAGE) value
         → KnowsAll u map plan reach
-        (landed_if (leads_here (moving_of plan) (led_by_route w (route_of (table_of w.tables v) addr)))
+        (landed_if
+        (leads_here (moving_of plan) (led_by_route w (route_of (table_of w.tables v) addr)))
         (addr % PAGE) value file) saw }
     ensures peer { (w u : World) (map : TargetMap) (plan : PlanState) (reach : Option GuestPlace)
         (file : InterruptFile) (saw : Bool) → IsWhole w → AreApart (moving_of plan).home

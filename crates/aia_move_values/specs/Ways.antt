@@ -1,5 +1,5 @@
--- The ways by which stores come to a virtual hart that is moved: entries, G-stage records, stores in
--- flight, and the targets of passed sources; where each leads, and what a plan knows of them.
+-- The ways by which stores come to a virtual hart that is moved: entries, G-stage records, stores
+-- in flight, and the targets of passed sources; where each leads, and what a plan knows of them.
 use Rattle.std.specs.Prelude.{◌≡◌, ◌≢◌, ℕ, ◌+◌, ◌<◌, Bool, true, false, nat_eq, if◌then◌else◌, List, [], ◌∷◌, slice_get, slice_index, Option, Some, None}
 use Rattle.std.specs.Option.{option_map}
 use Rattle.aia_regs.specs.Top.{hart_of, guest_of}
