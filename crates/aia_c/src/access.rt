@@ -73,10 +73,5 @@ pub fn guest_access(vm: u64, vcpu: u64, csr: u32, funct: u32, operand: u64) -> O
 {
     let csr = guest_csr(csr)?;
     let op = op_of(funct, operand)?;
-    Some(Line::GuestCsr {
-        vm,
-        vcpu,
-        csr,
-        op,
-    })
+    Some(Line::GuestCsr { vm, vcpu, csr, op })
 }

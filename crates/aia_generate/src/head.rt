@@ -42,12 +42,7 @@ fn guest_line(vm: u64, vcpu: u64, place: u64) -> Line
         };
     }
     let (csr, op) = ready_access(place - 1);
-    Line::GuestCsr {
-        vm,
-        vcpu,
-        csr,
-        op,
-    }
+    Line::GuestCsr { vm, vcpu, csr, op }
 }
 
 /// Gives a line of the four by which a hart makes its supervisor file ready.
