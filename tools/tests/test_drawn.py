@@ -159,6 +159,12 @@ class NoSense(unittest.TestCase):
                                  (b"wire 1 0x1", True), (b"wire 1 2", False), (b"ld 00", False),
                                  (b"ld 0x10000000000000000", False), (b"ld  0", False)):
             self.assertEqual(nosense.spells(line), is_spelled, line)
+        for digits in (111, 112):
+            # A line of 128 bytes spells one, and one of 129 does not.
+            sizes = [16] * 7 if digits == 112 else [15] + [16] * 6
+            words = [b"0x%0*x" % (size - 2, 1) for size in sizes]
+            line = b" ".join([b"load", *words[:2], b"image", *words[2:]])
+            self.assertEqual((len(line), nosense.spells(line)), (digits + 17, digits == 111))
         self.assertFalse(nosense.is_skipped(b"#" * 129))
         self.assertTrue(nosense.is_skipped(b"#" * 128))
 

@@ -34,8 +34,8 @@ BUGS = (
     Bug("compare", "answers.py", "max(0, spare):]", "0:]", SHARED),
     Bug("check", "commands/check.py", "if not stands.exists() or stands.read_bytes() != (folder / path)"
         ".read_bytes():", "if not stands.exists():", COMMANDS),
-    Bug("random", "scripts.py", "100 * (self.refused + 1) > percent * (self.said + 1)):",
-        "100 * self.refused > percent * (self.said + 9)):", "tools random"),
+    Bug("random", "scripts.py", "if self.draw.only and form not in self.draw.only:",
+        "if self.draw.only and form in self.draw.without:", "tools random"),
     Bug("gen-script", "apart/generated.py", "draw // 80 % 64", "draw // 80 % 63", DRAWN),
     Bug("hunt", "shrinking.py", "before = sum(at < self.target for at in places)", "before = 0",
         SHARED),
