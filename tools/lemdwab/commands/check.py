@@ -16,6 +16,8 @@ Ends with status 1 where anything differs, and 2 where words are wrong or nothin
 script may take a minute. Needs Python 3.10 or later.
 """
 
+from __future__ import annotations
+
 import tempfile
 from collections.abc import Iterator
 from pathlib import Path
@@ -51,7 +53,7 @@ def drifts(top: Path, folder: Path) -> Iterator[str]:
                 yield f"{path.relative_to(top)} is of no row"
 
 
-def check():
+def check() -> int:
     given, rest, _ = running.words("k:")
     if given.get("k") == "":
         running.usage("a PATTERN is wanted behind -k")

@@ -1,13 +1,18 @@
 """Bugs that are planted into the tools, one a tool: the tool's own test, which is right without it, has
 to fail with it. `suite/tools bugs` plants them in a copy of the tree, one after another."""
 
+from __future__ import annotations
+
 import shutil
 import sys
 import time
 from pathlib import Path
-from typing import NamedTuple
+from typing import TYPE_CHECKING, NamedTuple
 
 from lemdwab.running import TOP
+
+if TYPE_CHECKING:
+    from lemdwab.commands.tools import Trial
 
 # What is copied of the tree; what is only read there is linked.
 COPIED = ("suite", "tools", "peers", "examples", "bench", "docs", "include", ".shellcheckrc", "aia",
@@ -80,7 +85,7 @@ BUGS = (
 class Copy:
     """A copy of the tree, in which a bug is planted and taken back."""
 
-    def __init__(self, trial, folder: Path) -> None:
+    def __init__(self, trial: Trial, folder: Path) -> None:
         self.trial, self.folder = trial, folder
         for name in COPIED:
             source, target = TOP / name, folder / name
@@ -115,7 +120,7 @@ class Copy:
             path.write_text(text, encoding="utf-8")
 
 
-def all_bugs(trial) -> None:
+def all_bugs(trial: Trial) -> None:
     """Plants all of them."""
     copy = Copy(trial, trial.folder / "bugs")
     for test in dict.fromkeys(bug.test for bug in BUGS):
