@@ -160,8 +160,8 @@ def write_below(folder: Path, files: dict[str, str]) -> None:
 
 
 def numbers_given(*kinds: tuple[str, int, int, int]) -> list[int]:
-    """Gives the numbers that the words are, each with its name, what it is where it is not given, and
-    its least and its greatest value."""
+    """Gives the numbers that the words are, each with its name, what it is where it is not given,
+    and its least and its greatest value."""
     _, rest, _ = words("")
     if len(rest) > len(kinds):
         usage(f"{' and '.join(kind[0] for kind in kinds)} at most are wanted")

@@ -1,4 +1,5 @@
-"""What scripts are drawn: by which numbers, and that the model written apart takes them as meant."""
+"""What scripts are drawn: by which numbers, and that the model written apart takes them as
+meant."""
 
 import unittest
 from itertools import islice
@@ -94,7 +95,8 @@ class Isolation(unittest.TestCase):
             self.assertNotIn("away", {answer for _, answer in told[0]})
 
     def test_leaks_are_told_by_the_model(self) -> None:
-        """With each leak the virtual hart of some pair is answered otherwise, and with none never."""
+        """With each leak the virtual hart of some pair is answered otherwise, and with none
+        never."""
         pairs = [isolating.pair(seed) for seed in range(1, 41)]
         for leak in range(isolating.LEAKS + 1):
             is_told = any(self.replies(leak, *one) != self.replies(leak, *other)
@@ -109,10 +111,11 @@ class Isolation(unittest.TestCase):
                 if is_own and line.startswith(f"g {who} csr")]
 
     def test_parts_are_answered_the_same(self) -> None:
-        """Of a script of all forms the lines that concern a VM are answered the same alone, and with
-        a leak that reaches other VMs they are not."""
+        """Of a script of all forms the lines that concern a VM are answered the same alone, and
+        with a leak that reaches other VMs they are not."""
         drawn = isolating.of_all_forms(2, 3000)
-        self.assertEqual({form(line) for line in drawn.lines} - {"of"}, set(FORMS) - {"pass", "entry"})
+        self.assertEqual({form(line) for line in drawn.lines} - {"of"},
+                         set(FORMS) - {"pass", "entry"})
         for vm in range(isolating.MACHINE_LEVEL, isolating.VMS):
             kept = [isolating.concerns(line, vm) for line in drawn.lines]
             part = [line for line, is_kept in zip(drawn.lines, kept) if is_kept]

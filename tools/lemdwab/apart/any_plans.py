@@ -1,15 +1,14 @@
 """any_plans.py PROGRAM COUNT SEED: random plans, judged by a program and tried by this machine.
 
 The machine, told a second time from docs/ANY-PLAN.md: two places, a hand, producers with routes. A
-plan is one of a hypervisor's with some edits. It is tried with one store, or one in flight, at every
-place, from several starts; and where the program shows a run, that run is made: one that loses
-something, or, of a plan that the rule on notices alone refuses, one that leaves the host untold.
-Prints how many accepted plans had a bad run, how many refused ones had none, and how many runs that
-were shown were good or missing, and ends with 1 if any was, and with 2 if the words are wrong or
-PROGRAM can't be run. A plan into memory that heeds its numbers may be refused by the rule on
-notices though no run of it leaves the host untold: none is shown then. Where notices are declared
-unset, no store tells the host before the plan writes where they go.
-"""
+plan is one of a hypervisor's with some edits. It is tried with one store, or one in flight, at
+every place, from several starts; and where the program shows a run, that run is made: one that
+loses something, or, of a plan that the rule on notices alone refuses, one that leaves the host
+untold. Prints how many accepted plans had a bad run, how many refused ones had none, and how many
+runs that were shown were good or missing, and ends with 1 if any was, and with 2 if the words are
+wrong or PROGRAM can't be run. A plan into memory that heeds its numbers may be refused by the rule
+on notices though no run of it leaves the host untold: none is shown then. Where notices are
+declared unset, no store tells the host before the plan writes where they go. """
 
 from __future__ import annotations
 
@@ -296,7 +295,8 @@ SHOWN = re.compile(
 
 def is_bad_shown(setting: Setting, plan: list[tuple[int | str, ...]], first_line: int,
                  text: str) -> bool:
-    """Whether a run that a program shows, of a plan whose first step is on a line, is one and is bad."""
+    """Whether a run that a program shows, of a plan whose first step is on a line, is one and is
+    bad."""
     found = SHOWN.fullmatch(text)
     identity, bank, begin, storer, _, behind, route, flier, landing, at_fence, sender, sent = found.groups()
     what = (int(identity) // 64, int(identity) % 64)
@@ -343,7 +343,8 @@ NONE = re.compile(r'  run: none was found with one store at most(; the rule asks
 
 
 def is_untold_shown(setting: Any, plan: Any, first_line: int, text: str) -> bool:
-    """Whether a run that a program shows, of a plan whose first step is on a line, is one, and leaves the host untold."""
+    """Whether a run that a program shows, of a plan whose first step is on a line, is one, and
+    leaves the host untold."""
     found = UNTOLD.fullmatch(text)
     identity, there, storer, behind, route, numbers, delivery, threshold = found.groups()
     what = (int(identity) // 64, int(identity) % 64)
@@ -370,7 +371,8 @@ def is_untold_shown(setting: Any, plan: Any, first_line: int, text: str) -> bool
 
 def shown_of(setting: Setting, plan: list[tuple[int | str, ...]], first_line: int, verdict: str,
              text: str) -> str:
-    """What is shown of a plan: a run that is what its verdict asks for, or is not; or that none was found."""
+    """What is shown of a plan: a run that is what its verdict asks for, or is not; or that none was
+    found."""
     is_notice = verdict == 'refused notice'
     none = NONE.fullmatch(text)
     if none:

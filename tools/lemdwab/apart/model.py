@@ -37,7 +37,8 @@ class Vm:
         self.mask = mask
         self.ones = [place for place in range(15) if mask >> place & 1]
         self.harts = harts
-        self.flight: list[tuple[VirtualHart, tuple[int, int] | None, int, int]] = []  # (virtual hart, place, offset, value), the oldest first
+        # (virtual hart, place, offset, value), the oldest first
+        self.flight: list[tuple[VirtualHart, tuple[int, int] | None, int, int]] = []
 
     def has_address(self, address: int) -> bool:
         return address >> 12 | self.mask == PATTERN | self.mask

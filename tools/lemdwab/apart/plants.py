@@ -14,7 +14,7 @@ import inspect
 import sys
 import textwrap
 from collections.abc import Callable
-from typing import TYPE_CHECKING, Any
+from typing import Any
 
 from lemdwab.apart import aplic, interrupt_file, majors, model, moves, words
 from lemdwab.apart.aplic import Aplic, Domain
@@ -22,9 +22,6 @@ from lemdwab.apart.interrupt_file import InterruptFile
 from lemdwab.apart.majors import Majors
 from lemdwab.apart.model import Machine, Vm
 from lemdwab.apart.moves import ENTERED, LEAVING, SHIFTING, Pass, VirtualHart, word_mask
-
-if TYPE_CHECKING:
-    from lemdwab.apart.fixed import FixedMachine
 
 PLANTS: dict[str, Callable[..., Any]] = {}
 
@@ -45,8 +42,7 @@ def plant(name: str) -> None:
     moves.plan_of.cache_clear()
 
 
-def around(owner: type[Aplic] | type[Domain] | type[FixedMachine] | type[InterruptFile] | type[Machine],
-           name: str, wrapper: Callable[..., Any]) -> None:
+def around(owner: type[Any], name: str, wrapper: Callable[..., Any]) -> None:
     """A method, given the one that stood there."""
     old = getattr(owner, name)
     setattr(owner, name, lambda *given: wrapper(old, *given))

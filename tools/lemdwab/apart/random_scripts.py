@@ -69,7 +69,8 @@ class Generator:
         self.flight: dict[int, int] = {}  # how many stores of a VM seem to be in flight
         self.twin = model.Script() if self.mood == "images" or filter_ else None
         self.saved: list[Any] = []  # parts of images, as they were printed
-        self.fruitless: dict[Callable[..., Any], int] = {}  # how often in a row an action said nothing that the filter keeps
+        # How often in a row an action said nothing that the filter keeps.
+        self.fruitless: dict[Callable[..., Any], int] = {}
 
     # Numbers and choices.
 

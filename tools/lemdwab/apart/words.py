@@ -18,8 +18,8 @@ def fail(message: object) -> None:
 
 
 def given(doc: str, fits: Callable[..., Any]) -> list[str]:
-    """Gives the words where they fit. Else it ends: with status 0 and the head comment where that is
-    asked for; where the words are wrong with 2, the head comment, and last these words."""
+    """Gives the words where they fit. Else it ends: with status 0 and the head comment where that
+    is asked for; where the words are wrong with 2, the head comment, and last these words."""
     words = sys.argv[1:]
     if words[:1] in (["-h"], ["--help"]):
         print(doc.strip())

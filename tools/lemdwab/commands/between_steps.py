@@ -2,11 +2,11 @@
 
     between-steps [FOLDER]
 
-Writes crates/aia_script_tests/data/moves/lines-between-steps below FOLDER, else in this repository: lines
-that stand between two steps of a move of a virtual hart, what each answers there, and what there is
-to see after the move. The program aia_script_tests holds runs to it, between any two steps, and with passed
-sources also before and after the move. Which lines these are stands in lemdwab.between. What they
-answer says the model written apart. Takes about a minute.
+Writes crates/aia_script_tests/data/moves/lines-between-steps below FOLDER, else in this repository:
+lines that stand between two steps of a move of a virtual hart, what each answers there, and what
+there is to see after the move. The program aia_script_tests holds runs to it, between any two
+steps, and with passed sources also before and after the move. Which lines these are stands in
+lemdwab.between. What they answer says the model written apart. Takes about a minute.
 
 Ends with status 2 where the words are wrong, or the file can't be written. Needs Python 3.10 or
 later.

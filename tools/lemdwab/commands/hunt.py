@@ -31,10 +31,10 @@ there which patterns no line fits, if all scripts were tried, or 100.
 
 Ends with status 0 where all are answered the same, 1 where one is not, 2 where it could not look:
 words are wrong, COMMAND can't be started, fails over an empty script or answers - to every line,
-the file of --into can't be written, or the model does not end with status 0. COMMAND and the file are tried before anything is
-built. Where a signal stops it, it says where what is left so far stands, kept as above, and ends
-with 128 and the signal's number: 130 for an interrupt, 143 for SIGTERM. Needs Python 3.10 or later.
-"""
+the file of --into can't be written, or the model does not end with status 0. COMMAND and the file
+are tried before anything is built. Where a signal stops it, it says where what is left so far
+stands, kept as above, and ends with 128 and the signal's number: 130 for an interrupt, 143 for
+SIGTERM. Needs Python 3.10 or later. """
 
 from __future__ import annotations
 

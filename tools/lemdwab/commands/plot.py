@@ -135,4 +135,5 @@ def plot() -> None:
     print("| Script | All | " + " | ".join(titles) + " |")
     print("|---|---|" + "---|" * len(titles))
     for name, parts in rows:
-        print(f"| {name} | {sum(parts):.0f} | " + " | ".join(f"{count:.0f}" for count in parts) + " |")
+        cells = [name, f"{sum(parts):.0f}", *(f"{count:.0f}" for count in parts)]
+        print(f"| {' | '.join(cells)} |")

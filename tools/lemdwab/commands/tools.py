@@ -25,9 +25,9 @@
     tools [--jobs N] hunts    suite/hunt over 20 errors planted in the model written apart, one
                               after the other: each has to be found within 2,000 scripts, and shrunk
                               to 15 lines or fewer; takes some seven minutes; N scripts at a time
-    tools bugs                plants 25 bugs into the tools, one a tool, one after the other in a copy
-                              of the tree: the tool's own test has to fail with each, and not without;
-                              takes some eight minutes
+    tools bugs                plants 25 bugs into the tools, one a tool, one after the other in a
+                              copy of the tree: the tool's own test has to fail with each, and not
+                              without; takes some eight minutes
 
 The program is that of the variable PROGRAM, else ./aia of this repository, which is proved and
 built first where it is older than its sources: an hour and more the first time. In `compare`,

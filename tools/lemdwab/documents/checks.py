@@ -492,8 +492,8 @@ def newest(paths: list[str]) -> tuple[str, str]:
 
 
 def aged() -> Iterator[Any]:
-    """Compares the days of figures with the day on which what they measure last changed. The figures
-    say of which day they are, so that an older one is no drift."""
+    """Compares the days of figures with the day on which what they measure last changed. The
+    figures say of which day they are, so that an older one is no drift."""
     code = [f"crates/{crate}/src" for crate in sorted(below("aia"))]
     where = "docs/PERFORMANCE.md, What was measured,"
     days = re.findall(r"\d{4}-\d\d-\d\d", section("docs/PERFORMANCE.md", "What was measured"))

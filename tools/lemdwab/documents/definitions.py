@@ -167,8 +167,8 @@ def drifts() -> Iterator[Any]:
     if wanted != stands:
         at = next((i for i, (a, b) in enumerate(zip(wanted, stands)) if a != b), len(stands))
         near = next((w[4:] for w in reversed(wanted[: at + 1]) if w.startswith("### ")), "its head")
-        yield (f"docs/DEFINITIONS.md drifts from the definitions, first at line {at + 1}, in {near}:"
-               " suite/documents make writes it anew")
+        yield (f"docs/DEFINITIONS.md drifts from the definitions, first at line {at + 1}, in"
+               f" {near}: suite/documents make writes it anew")
 
 
 def make() -> None:

@@ -5,6 +5,7 @@ from __future__ import annotations
 import re
 from dataclasses import dataclass
 from functools import cache
+from typing import Any
 
 from lemdwab.documents.antt import clauses, has_clauses
 from lemdwab.running import TOP
@@ -30,7 +31,8 @@ STD = {
 
 
 def read_patterns(text: str) -> list[list[str] | str]:
-    """Reads the patterns of a clause: each a name, or a constructor with its patterns, as a list."""
+    """Reads the patterns of a clause: each a name, or a constructor with its patterns, as a
+    list."""
     found = [[]]
     for token in re.findall(r"[()]|[^\s()]+", text):
         if token == "(":
@@ -53,8 +55,8 @@ def definition(name: str) -> list[tuple[list[list[str] | str], str]]:
 
 
 def bound(pattern: list[str] | str,
-          value: dict[str, int] | int | str | tuple[dict[str, int] | int | str | tuple[str, ...], ...]
-         ) -> dict[str, dict[str, int] | int | str | tuple[dict[str, int] | int | str | tuple[str, ...], ...]] | None:
+          value: Any
+         ) -> dict[str, Any] | None:
     """Gives what the names of a pattern stand for, or None where the value is none of it."""
     head, *parts = [pattern] if isinstance(pattern, str) else pattern
     if not head[0].isupper():
@@ -81,7 +83,7 @@ class Reader:
     """Computes an expression of the small part of antt in which the plans are written."""
 
     def __init__(self, text: str,
-                 names: dict[str, dict[str, int] | int | str | tuple[dict[str, int] | int | str | tuple[str, ...], ...]]
+                 names: dict[str, Any]
                 ) -> None:
         self.tokens = TOKEN.findall(text)
         self.at = 0
@@ -138,7 +140,7 @@ class Reader:
         return self.named(head, values)
 
     def atom(self
-            ) -> dict[str, int] | int | str | tuple[dict[str, int] | int | str | tuple[str, ...], ...]:
+            ) -> Any:
         token = self.take()
         if token == "(":
             found = self.value()
@@ -147,8 +149,8 @@ class Reader:
         return int(token) if token.isdigit() else self.named(token, [])
 
     def named(self, head: str,
-              values: list[dict[str, int] | int | str | tuple[dict[str, int] | int | str | tuple[str, ...], ...]]
-             ) -> dict[str, int] | int | str | tuple[dict[str, int] | int | str | tuple[str, ...], ...]:
+              values: list[Any]
+             ) -> Any:
         """Gives what a name stands for, applied to some values."""
         name, _, part = head.partition(".")
         found = self.names.get(name, STD.get(name))

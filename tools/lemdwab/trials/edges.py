@@ -165,14 +165,14 @@ def reasons(trial: Trial) -> None:
                         (["step-numbers", "tri"],
                          "step-numbers: there is no command 'tri': there is try"),
                         (["make", "a", "b"], "make: one FOLDER at most is wanted, and not 2 words"),
-                        (["isolation", "x"], "isolation: PAIRS is a number from 1 to 999999, and not"
-                                             " 'x'"),
-                        (["from-memory", "x"], "from-memory: GUESTS is a number from 1 to 999999, and"
-                                               " not 'x'"),
+                        (["isolation", "x"],
+                         "isolation: PAIRS is a number from 1 to 999999, and not 'x'"),
+                        (["from-memory", "x"],
+                         "from-memory: GUESTS is a number from 1 to 999999, and not 'x'"),
                         (["migrations", "1", "x"], "migrations: SEED is a number from 0 to 999999,"
                                                    " and not 'x'"),
-                        (["no-sense", "x"], "no-sense: LINES is a number from 1 to 999999999, and not"
-                                            " 'x'")):
+                        (["no-sense", "x"],
+                         "no-sense: LINES is a number from 1 to 999999999, and not 'x'")):
         ran = trial.run("env", "-u", "PLANS", TOP / "suite" / words[0], *words[1:])
         trial.sees(ran.status == 2 and ran.errors.splitlines()[:1] == [said],
                    f"{' '.join(words)} says {ran.errors}")
@@ -265,7 +265,7 @@ def same_and_different(trial: Trial) -> None:
             trial.sees(ran.status == status, f"{tool.name} over {one.name if status else one} ends"
                        f" with {ran.status}: {ran.errors[-80:]!r}")
     for leak, status in ((0, 0), (1, 1)):
-        trial.sees(trial.run(suite / "isolation", 3, leak).status == status,
+        trial.sees(trial.run(suite / "isolation", 3, leak, seconds=400).status == status,
                    f"isolation with the leak {leak}")
     plant = ("--plant", "a_claim_clears_a_level_source")
     for words, status in ((["1", "4"], 0), (["1", "40", *plant], 1)):

@@ -245,5 +245,5 @@ def written_proofs(trial: Trial) -> None:
                "what a refusal names first")
 
 
-PARTS = (wider_goes_on, wider_takes_words, wider_tells, wider_is_bounded, wider_refuses_words, planted_bugs,
-         wrong_bodies, rows_of_refusals, written_proofs)
+PARTS = (wider_goes_on, wider_takes_words, wider_tells, wider_is_bounded, wider_refuses_words,
+         planted_bugs, wrong_bodies, rows_of_refusals, written_proofs)
