@@ -169,6 +169,14 @@ def numbers_given(*kinds: tuple[str, int, int, int]) -> list[int]:
             for at, (name, usual, least, most) in enumerate(kinds)]
 
 
+def command_given(*known: str) -> str:
+    """Gives the one word that was given, of those that are known, or nothing."""
+    _, rest, _ = words("")
+    if rest not in ([], *([one] for one in known)):
+        usage("no word is wanted" + "".join(f", or `{one}`" for one in known))
+    return rest[0] if rest else ""
+
+
 def counted(number_: int, word: str) -> str:
     """Says how many there are of something, as 1 line, 2 lines."""
     return f"{number_} {word}" + ("" if number_ == 1 else "s")

@@ -47,7 +47,8 @@ def both_sets(words: int, verb: str) -> list[tuple[str, str, int]]:
 def hypervisors(words: int) -> Iterator[tuple[Setting, list[tuple[int | str, ...]]]]:
     """The plans from which random ones are made, each with its setting."""
     lead = [('route', 0), ('fence', 0), ('route', 1), ('fence', 1)]
-    core = [(v, b, w) for b in ('pending', 'enabled') for w in range(words) for v in ('take', 'join')]
+    core = [(v, b, w) for b in ('pending', 'enabled') for w in range(words)
+            for v in ('take', 'join')]
     zeroed = [('zero', 'new', 'delivery'), ('zero', 'new', 'threshold')]
     zeroed += [('zero', 'new', b, w) for w in range(words) for b in ('pending', 'enabled')]
     swapped = [('take', 'delivery'), ('take', 'threshold')] + both_sets(words, 'take')
@@ -121,7 +122,8 @@ class Machine:
         self.hand = {'pending': set(), 'enabled': set()}
         self.due = every(pending)
         self.first_enabled = every(enabled)
-        self.number = {'old': {'threshold': 66, 'delivery': 67}, 'hand': {'threshold': 77, 'delivery': 78},
+        self.number = {'old': {'threshold': 66, 'delivery': 67},
+                       'hand': {'threshold': 77, 'delivery': 78},
                        'new': {'threshold': 1, 'delivery': 0}}
         self.number[setting.start] = {'threshold': 9, 'delivery': 1}
         self.written = ['old'] * len(setting.producers)
@@ -134,7 +136,8 @@ class Machine:
         if not self.s.heeds:
             return True
         number = self.number['new']
-        return number['delivery'] == 1 and (number['threshold'] == 0 or identity < number['threshold'])
+        threshold = number['threshold']
+        return number['delivery'] == 1 and (threshold == 0 or identity < threshold)
 
     def out(self, word: int) -> bool:
         both = self.new['pending'] & self.new['enabled']
@@ -154,7 +157,8 @@ class Machine:
         self.land((self.written if by_written else self.force)[producer], what)
 
     def send(self, producer: Any, by_written: bool, what: Any) -> None:
-        self.flights.append((producer, (self.written if by_written else self.force)[producer], what))
+        route = (self.written if by_written else self.force)[producer]
+        self.flights.append((producer, route, what))
 
     def land_first(self) -> None:
         if self.flights:
@@ -283,14 +287,18 @@ def runs(setting: Setting, plan: list[tuple[int | str, ...]]) -> Iterator[list[A
 
 def has_bad_run(setting: Setting, plan: list[tuple[int | str, ...]]) -> bool:
     starts = (((2,), (0, 1, 3)), ((0, 2), (0, 1, 3)))
-    return any(is_bad_run(setting, plan, start, events) for start in starts for events in runs(setting, plan))
+    return any(is_bad_run(setting, plan, start, events)
+               for start in starts for events in runs(setting, plan))
 
 
 SHOWN = re.compile(
-    r'  run: identity (\d+) is (pending|enabled) (nowhere|in the old place|in the new place) at the start'
-    r'(?:; producer (\d+) stores it (before the first step|behind line (\d+)) by its (written route|route in force)'
-    r'|; a store of producer (\d+) for it is in flight, and lands(?: before the first step| behind line (\d+)| (at its fence))'
-    r'|; a store of producer (\d+) for it is sent(?: before the first step| behind line (\d+)), and lands no sooner than it is fenced)?')
+    r'  run: identity (\d+) is (pending|enabled) (nowhere|in the old place|in the new place)'
+    r' at the start(?:; producer (\d+) stores it (before the first step|behind line (\d+))'
+    r' by its (written route|route in force)'
+    r'|; a store of producer (\d+) for it is in flight, and lands'
+    r'(?: before the first step| behind line (\d+)| (at its fence))'
+    r'|; a store of producer (\d+) for it is sent'
+    r'(?: before the first step| behind line (\d+)), and lands no sooner than it is fenced)?')
 
 
 def is_bad_shown(setting: Setting, plan: list[tuple[int | str, ...]], first_line: int,
@@ -298,7 +306,8 @@ def is_bad_shown(setting: Setting, plan: list[tuple[int | str, ...]], first_line
     """Whether a run that a program shows, of a plan whose first step is on a line, is one and is
     bad."""
     found = SHOWN.fullmatch(text)
-    identity, bank, begin, storer, _, behind, route, flier, landing, at_fence, sender, sent = found.groups()
+    (identity, bank, begin, storer, _, behind, route, flier, landing, at_fence, sender,
+     sent) = found.groups()
     what = (int(identity) // 64, int(identity) % 64)
     machine = Machine(setting, (), ())
     machine.new = {'pending': set(), 'enabled': set()}
@@ -335,11 +344,14 @@ SPOT = r'in the (old place|hand|new place)'
 UNTOLD = re.compile(
     r'  run: identity (\d+) is enabled in the old place at the start'
     r'(?:(, and pending there)'
-    r'|; producer (\d+) stores it (?:before the first step|behind line (\d+)) by its (written route|route in force))'
+    r'|; producer (\d+) stores it (?:before the first step|behind line (\d+))'
+    r' by its (written route|route in force))'
     r'(; at the start delivery is 1 ' + SPOT + r' and 0 elsewhere, and the threshold is '
     r'(?:1 everywhere|0 ' + SPOT + r' and 1 elsewhere))?'
-    r'; in the end it is pending(?:, enabled and let through| and enabled) in the new place, and the host was not told')
-NONE = re.compile(r'  run: none was found with one store at most(; the rule asks for more than that the host is told)?')
+    r'; in the end it is pending(?:, enabled and let through| and enabled) in the new place,'
+    r' and the host was not told')
+NONE = re.compile(r'  run: none was found with one store at most'
+                  r'(; the rule asks for more than that the host is told)?')
 
 
 def is_untold_shown(setting: Any, plan: Any, first_line: int, text: str) -> bool:
@@ -358,7 +370,8 @@ def is_untold_shown(setting: Any, plan: Any, first_line: int, text: str) -> bool
         machine.due.add(what)
     for name in ('old', 'hand', 'new'):
         is_spot = lambda words: (words or '').startswith(name)
-        machine.number[name] = {'threshold': 0 if is_spot(threshold) else 1, 'delivery': int(is_spot(delivery))}
+        machine.number[name] = {'threshold': 0 if is_spot(threshold) else 1,
+                                'delivery': int(is_spot(delivery))}
     events = []
     if storer:
         if int(storer) >= len(setting.producers):
@@ -398,7 +411,8 @@ def verdicts(program: str,
         if answer.startswith(' '):
             setting, plan = plans[len(answers) - 1]
             verdict = answers[-1][0]
-            answers[-1] = (verdict, shown_of(setting, plan, firsts[len(answers) - 1], verdict, answer))
+            shown = shown_of(setting, plan, firsts[len(answers) - 1], verdict, answer)
+            answers[-1] = (verdict, shown)
         else:
             answers.append((' '.join(answer.split()[:2]), 'none shown'))
     if len(answers) != len(plans):
@@ -420,7 +434,8 @@ def main() -> int:
         for (setting, plan), (verdict, shown) in zip(plans, verdicts(program, plans), strict=True):
             bad = has_bad_run(setting, plan)
             key = (verdict, 'a bad run' if bad else 'no bad run', shown)
-            if setting.memory and setting.heeds and key == ('refused notice', 'no bad run', 'none found'):
+            if (setting.memory and setting.heeds
+                    and key == ('refused notice', 'no bad run', 'none found')):
                 key = ('refused notice', 'no bad run, with numbers that are heeded', 'none found')
             tally[key] = tally.get(key, 0) + 1
             if not is_right(key):

@@ -13,7 +13,6 @@ within ten seconds and prints at most 200 lines.
 from __future__ import annotations
 
 import signal
-import sys
 
 from lemdwab import running
 
@@ -58,11 +57,7 @@ def chains(below: dict[str, list[str]]) -> dict[str, list[str]]:
 
 
 def main() -> int:
-    given = sys.argv[1:]
-    if given in (["-h"], ["--help"]):
-        running.tell_help()
-    if given:
-        running.usage("no word is wanted")
+    running.command_given()
     signal.alarm(LONGEST_RUN)
     below = below_each(running.contents(running.TOP / "crates.txt").decode("utf-8", "replace"))
     longest = chains(below)

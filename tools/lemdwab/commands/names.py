@@ -127,13 +127,9 @@ def see_planted() -> None:
 
 
 def main() -> int:
-    given = sys.argv[1:]
-    if given in (["-h"], ["--help"]):
-        running.tell_help()
-    if given not in ([], ["try"]):
-        running.usage("no word is wanted, or `try`")
+    given = running.command_given("try")
     signal.alarm(LONGEST_RUN)
-    if given == ["try"]:
+    if given == "try":
         see_planted()
     found, kept = types(CRATES), kept_lines()
     said = faults(found, kept)

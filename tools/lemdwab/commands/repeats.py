@@ -292,13 +292,9 @@ def see_planted() -> None:
 
 
 def main() -> int:
-    given = sys.argv[1:]
-    if given in (["-h"], ["--help"]):
-        running.tell_help()
-    if given not in ([], ["all"], ["try"]):
-        running.usage("no word is wanted, or `all`, or `try`")
+    given = running.command_given("all", "try")
     signal.alarm(LONGEST_RUN)
-    if given == ["try"]:
+    if given == "try":
         see_planted()
     lines, used, said, unnamed = named_lines(), [], [], 0
     found = repeats(CRATES)
@@ -306,7 +302,7 @@ def main() -> int:
         by = [words for words in lines if is_named_by(words, repeat)]
         used += by
         unnamed += not by
-        if given == ["all"] or not by:
+        if given == "all" or not by:
             head, where = repeat.shown()
             said.append(f"{head}{', named' if by else ''}{where}")
     said += [f"names nothing: {' '.join(words)}" for words in lines if words not in used]

@@ -29,8 +29,8 @@ WORKED = ("aia_guest_vectors", "aia_vectors")
 # Crates whose laws are of the definitions alone (docs/promises/laws.md).
 FOR_USERS = ("aia_laws", "aia_isolation", "aia_model")
 # What stands at the head of the two lists.
-OF_LAWS = ("Functions that do nothing, whose clauses were proved of the definitions. Each page has a"
-           " law's clauses, and what they rest on. Beside a name stands the first sentence of its"
+OF_LAWS = ("Functions that do nothing, whose clauses were proved of the definitions. Each page has"
+           " a law's clauses, and what they rest on. Beside a name stands the first sentence of its"
            " comment alone: where others bound it, they stand on the page.")
 OF_CALLS = ("What each crate offers to others, with the clauses of its contract. Beside a name"
             " stands the first sentence of its comment alone.")
