@@ -39,12 +39,16 @@ refuse() { # WHAT
 # Gives what reads a file of a plan: a line with a word of plans for `judge` says so; else `audit`
 # does, with the words of its first line, or of the command that was given.
 reader_of_plan() { # FILE COMMAND
-  awk '
-    NR == 1 && /^# audit [a-z]+ [0-9]+$/ { audit = "aia" substr($0, 2) }
-    /^(producer|memory|notices|numbers|heeds|take|put|route|switch|free) / { judge = 1; exit }
-    NR > 1000 { exit }
-    END { print judge ? "plans judge" : given ~ /^aia audit/ ? given : audit ? audit : \
-      "aia audit KIND W" }' given="$2" "$1"
+  local line number=0 audit='aia audit KIND W'
+  while { IFS= read -r line || [ -n "$line" ]; } && [ $((number += 1)) -le 1000 ]; do
+    [[ $number != 1 || ! $line =~ ^'# audit '[a-z]+' '[0-9]+$ ]] || audit=aia${line#'#'}
+    [[ ! $line =~ ^(producer|memory|notices|numbers|heeds|take|put|route|switch|free)' ' ]] || {
+      echo 'plans judge'
+      return
+    }
+  done < "$1"
+  [[ $2 != 'aia audit'* ]] || audit=$2
+  printf '%s\n' "$audit"
 }
 
 # Refuses a word; where it names a file, that file's text was meant, and its ending may say what
@@ -77,19 +81,27 @@ is_number() { # WORD MOST
   [ ${#digits} -lt ${#2} ] || { [ ${#digits} = ${#2} ] && [[ ! $digits > $2 ]]; }
 }
 
+# Prints a crate, if it is one of `uses` and not of `seen`, after those that it uses.
+visit_crate() { # CRATE
+  local other
+  [[ -v uses[$1] && ! -v seen[$1] ]] || return 0
+  seen[$1]=1
+  for other in ${uses[$1]}; do visit_crate "$other"; done
+  printf '%s\n' "$1"
+}
+
 # Prints the crates on which a crate stands, each after those that it uses, and last itself: the
 # order in which rt proves them.
 crates_of() { # CRATE
-  awk -v crate="$1" '
-    function visit(each, uses, count, k) {
-      if (!(each in line) || seen[each]++) return
-      count = split(line[each], uses, " ")
-      for (k = 1; k <= count; k++) visit(uses[k])
-      print each
-    }
-    { sub(/#.*/, "") }
-    /:/ { split($1, first, ":"); each = first[1]; sub(/[^:]*:/, ""); line[each] = $0 }
-    END { visit(crate) }' "$top/crates.txt"
+  local -A uses=() seen=()
+  local line each
+  while IFS= read -r line; do
+    line=${line%%#*}
+    [[ $line = *:* ]] || continue
+    read -r each _ <<< "${line%%:*}"
+    uses[$each]=${line#*:}
+  done < "$top/crates.txt"
+  visit_crate "$1"
 }
 
 # Prints the names of the calls that the library's header declares.
@@ -100,21 +112,25 @@ calls_of_header() {
 # Prints how far a build is by its log: the crate that was named last, among those of a list. None
 # is named while rt looks at what was proved before. On a terminal the first minutes have seconds.
 progress_of() { # LOG LIST
-  local is_terminal=0
-  [ ! -t 2 ] || is_terminal=1
-  awk -v begun="$build_begun" -v now="$SECONDS" -v name="$name" -v is_terminal="$is_terminal" '
-    NR == FNR { place[$1] = ++count; next }
-    /^crate [a-z0-9_]+:/ { sub(/:.*/, "", $2); if ($2 in place) at = place[$2] + 1 }
-    /^rt: chose --jobs [0-9]+ for / { if ($NF in place) at = place[$NF] }
-    END {
-      how = !at ? "looks at what is proved" \
-          : at > count ? "all " count " crates are proved, and it is compiled" \
-                       : "crate " at " of " count
-      past = now - begun
-      printf "%s: %s, %d min", name, how, past / 60
-      if (is_terminal && past < 600) printf " %02d s", past % 60
-      printf " so far"
-    }' "$2" "$1"
+  local -A place=()
+  local crates each line at=0 past=$((SECONDS - build_begun)) how='looks at what is proved'
+  mapfile -t crates < "$2"
+  for each in "${!crates[@]}"; do place[${crates[each]}]=$((each + 1)); done
+  while IFS= read -r line; do
+    [[ $line =~ ^'crate '([a-z0-9_]+): || $line =~ ^'rt: chose --jobs '[0-9]+' for '(.+)$ ]] || continue
+    each=${BASH_REMATCH[1]##* }
+    [[ -v place[$each] ]] || continue
+    at=${place[$each]}
+    [[ $line != crate* ]] || at=$((at + 1)) # that one is proved
+  done < "$1"
+  if [ "$at" -gt ${#crates[@]} ]; then
+    how="all ${#crates[@]} crates are proved, and it is compiled"
+  elif [ "$at" != 0 ]; then
+    how="crate $at of ${#crates[@]}"
+  fi
+  printf '%s: %s, %d min' "$name" "$how" $((past / 60))
+  [ ! -t 2 ] || [ "$past" -ge 600 ] || printf ' %02d s' $((past % 60))
+  printf ' so far'
 }
 
 # Says whether what is built of a crate is missing, or older than a source that it is made of. In a

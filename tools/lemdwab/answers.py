@@ -1,9 +1,13 @@
 """Scripts, their lines and answers: which lines have an answer, what may stand for one, and where
 two tellings of the answers differ."""
 
+from __future__ import annotations
+
 import re
+from collections.abc import Iterator
 from fnmatch import fnmatchcase
 from itertools import zip_longest
+from pathlib import Path
 from typing import NamedTuple
 
 from lemdwab.apart import reading
@@ -46,19 +50,19 @@ class Difference(NamedTuple):
     mine: str
 
 
-def shown(text):
+def shown(text: bytes) -> str:
     """Gives bytes as text; no two are the same."""
     return text.decode(errors="surrogateescape")
 
 
-def printable(text):
+def printable(text: str) -> str:
     """Spells out what a terminal would not show, as the CR at the end of a line."""
     return text if text.isprintable() else "".join(
         one if one.isprintable() else one.encode("unicode_escape", "surrogatepass").decode()
         for one in text)
 
 
-def cut(answer):
+def cut(answer: str) -> str:
     """Cuts an answer that is longer than any of the model's, for a terminal; says of an empty one
     that it is."""
     if len(answer) <= ANSWER_BYTES:
@@ -66,13 +70,13 @@ def cut(answer):
     return f"{answer[:ANSWER_BYTES]}.. ({len(answer)} characters)"
 
 
-def lines(script):
+def lines(script: bytes) -> list[Line]:
     """Lists the lines of a script that have an answer."""
     return [Line(number, shown(text)) for number, text in enumerate(reading.texts(script), 1)
             if not reading.is_skipped(text)]
 
 
-def head_comment(script):
+def head_comment(script: bytes) -> list[str]:
     """Lists the comments with which a script begins."""
     found = []
     for text in reading.texts(script):
@@ -82,19 +86,19 @@ def head_comment(script):
     return found
 
 
-def most_output(script):
+def most_output(script: bytes) -> int:
     """Gives how many bytes of answers a script may have, and some more."""
     return ANSWER_BYTES * (script.count(b"\n") + 2)
 
 
-def form(text):
+def form(text: str) -> str:
     """Gives the form of a line: its first word."""
     return text.split(" ")[0]
 
 
-def spelled_plainly(text):
+def spelled_plainly(text: str) -> str:
     """Spells the great numbers of a line as addresses are, and others in decimal."""
-    def plain(word):
+    def plain(word: str) -> str:
         value = reading.number(word.encode(errors="surrogateescape"))
         if value is None:
             return word
@@ -102,17 +106,17 @@ def spelled_plainly(text):
     return " ".join(map(plain, text.split(" ")))
 
 
-def fits(text, pattern):
+def fits(text: str, pattern: str) -> bool:
     """Says whether a line fits a pattern, as it stands or with its numbers spelled plainly."""
     return fnmatchcase(text, pattern) or fnmatchcase(spelled_plainly(text), pattern)
 
 
-def is_refused(text, answer):
+def is_refused(text: str, answer: str) -> bool:
     """Says whether an answer is a refusal; `notvalid` of an `entry` is none."""
     return answer in REFUSALS and (form(text) != "entry" or answer in MISTAKES)
 
 
-def forms_of(text):
+def forms_of(text: str) -> set[str]:
     """Reads a list of forms, as st,ld,h; a script always has `machine`."""
     forms = text.split(",")
     for one in forms:
@@ -121,7 +125,7 @@ def forms_of(text):
     return {"machine", *forms}
 
 
-def sizes_of(text):
+def sizes_of(text: str) -> tuple[int, int, int, int]:
     """Reads the four numbers of a machine, as '1 7 255 96'."""
     found = text.split()
     if not (len(found) == 4 and all(re.fullmatch("[0-9]{1,4}", word) for word in found)
@@ -130,7 +134,7 @@ def sizes_of(text):
     return tuple(map(int, found))
 
 
-def with_sizes(script, sizes):
+def with_sizes(script: bytes, sizes: tuple[int, int, int, int]) -> bytes:
     """Gives a script whose first machine that may be has other sizes."""
     texts = script.split(b"\n")
     for at, text in enumerate(texts):
@@ -141,24 +145,24 @@ def with_sizes(script, sizes):
     return b"\n".join(texts)
 
 
-def asks_for_none(script):
+def asks_for_none(script: bytes) -> bool:
     """Says whether a script has a `machine` line of sizes that no machine has."""
     found = (reading.read(text) or ("", ()) for text in script.split(b"\n"))
     return any(name == "machine" and not is_machine_size(*fields) for name, fields in found)
 
 
-def is_answer(text):
+def is_answer(text: str) -> bool:
     """Says whether a text has the form of an answer."""
     first = form(text)
     return first in REFUSALS | ANSWERING or bool(re.fullmatch("0x[0-9a-fA-F]+", first))
 
 
-def is_trace(text):
+def is_trace(text: bytes) -> bool:
     """Says whether a text has a line of a script."""
     return any(reading.read(one) not in (None, reading.BAD) for one in reading.texts(text))
 
 
-def answers(text):
+def answers(text: bytes) -> list[str]:
     """Lists the answers of a text; the last one may lack its LF."""
     return [shown(one) for one in reading.texts(text)]
 
@@ -166,28 +170,28 @@ def answers(text):
 class Known:
     """Differences that are known, each with a reason, and how often each was met."""
 
-    def __init__(self, path=None):
+    def __init__(self, path: Path | str | None = None) -> None:
         self.rows = [self.row(path, number, text)
                      for number, text in enumerate(answers(contents(path)) if path else [], 1)
                      if text and not text.startswith("#")]
         self.met = [0] * len(self.rows)
 
     @staticmethod
-    def row(path, number, text):
+    def row(path: Path | str, number: int, text: str) -> list[str]:
         """Reads a row: patterns of the line, the model's answer and mine, and a reason."""
         fields = [field.strip() for field in text.split("|")]
         if len(fields) != 4 or not all(fields):
             fail(f"{path}, line {number}: a row is LINE | MODEL | MINE | REASON")
         return fields
 
-    def row_of(self, line, model, mine):
+    def row_of(self, line: str, model: str, mine: str) -> int | None:
         """Gives the place of the first row that fits a difference; None where none does."""
         for at, (pattern, *patterns, _) in enumerate(self.rows):
             if fits(line, pattern) and all(map(fnmatchcase, (model, mine), patterns)):
                 return at
         return None
 
-    def reason(self, line, model, mine):
+    def reason(self, line: str, model: str, mine: str) -> str | None:
         """Gives the reason of the first row that fits a difference, and counts it; None where none
         does."""
         at = self.row_of(line, model, mine)
@@ -196,23 +200,23 @@ class Known:
         self.met[at] += 1
         return self.rows[at][-1]
 
-    def has(self, line, model, mine):
+    def has(self, line: str, model: str, mine: str) -> bool:
         """Says whether a difference is known, and counts it."""
         return self.reason(line, model, mine) is not None
 
-    def told(self):
+    def told(self) -> Iterator[str]:
         """Says of each row how often it was met."""
         for row, met in zip(self.rows, self.met):
             yield f"known, met {counted(met, 'time')}: {row[3]} ({' | '.join(row[:3])})"
 
 
-def passes(line, want, got, known):
+def passes(line: Line, want: str, got: str, known: Known) -> bool:
     """Says whether an answer is the model's, or passes for it; what is known is not counted."""
     return (want == got or got == NOT_SHOWN and want not in MISTAKES
             or known.row_of(line.text, want, got) is not None)
 
 
-def shift(script, model, mine, known):
+def shift(script: list[Line], model: list[str], mine: list[str], known: Known) -> tuple[int, int]:
     """Gives where answers are missing or spare, and how many are spare, below 0 where they are
     missing. It is where the first differs, if all behind it are then the model's; else the end."""
     spare, end = len(mine) - len(model), min(len(model), len(mine))
@@ -229,11 +233,12 @@ def shift(script, model, mine, known):
 class Verdict:
     """What came of holding answers against those of the model."""
 
-    def __init__(self, script, model, mine, known, is_strict=False):
+    def __init__(self, script: bytes, model: bytes, mine: bytes, known: Known,
+                 is_strict: bool = False) -> None:
         self.script, self.model, self.mine = lines(script), answers(model), answers(mine)
         self.head = head_comment(script)
         self.same = self.known = self.not_shown = self.refused = 0
-        self.differences = []
+        self.differences: list[Difference] = []
         self.place, spare = shift(self.script, self.model, self.mine, known)
         self.missing = max(0, -spare)
         self.spare = self.mine[self.place:self.place + max(0, spare)]
@@ -242,14 +247,14 @@ class Verdict:
         for at, want, got in self.pairs():
             self.look(at, self.script[at], want, got, known, is_strict)
 
-    def pairs(self):
+    def pairs(self) -> Iterator[tuple[int, str, str]]:
         """Lists the places of lines that are answered twice, with the model's answer and mine."""
         mine = self.mine[:self.place] + self.mine[self.place + len(self.spare):]
         for at, want in enumerate(self.model[:len(self.script)]):
             if not self.place <= at < self.place + self.missing:
                 yield at, want, mine[at - (self.missing if at >= self.place else 0)]
 
-    def first(self):
+    def first(self) -> tuple[str, int] | None:
         """Gives the kind of the first difference, and its place; None where there is none. Of its
         kinds `answer` is a line that is answered otherwise, `missing` and `spare` are answers."""
         is_uneven = self.missing or self.spare
@@ -259,11 +264,11 @@ class Verdict:
             return "missing" if self.missing else "spare", self.place
         return None
 
-    def line(self, at):
+    def line(self, at: int) -> Line:
         """Gives the line at a place; a model that is none may have said more than there are."""
         return self.script[at] if at < len(self.script) else Line(len(self.script) + 1, "(no line)")
 
-    def look(self, at, line, want, got, known, is_strict):
+    def look(self, at: int, line: Line, want: str, got: str, known: Known, is_strict: bool) -> None:
         """Looks at one answer of each."""
         if got == NOT_SHOWN and (want not in MISTAKES or self.is_blank):
             self.not_shown += 1
@@ -275,32 +280,32 @@ class Verdict:
         else:
             self.differences.append(Difference(at, line, want, got))
 
-    def compared(self):
+    def compared(self) -> int:
         """Gives how many answers were held against the model's."""
         return self.same + self.known + len(self.differences)
 
-    def is_unseen(self):
+    def is_unseen(self) -> bool:
         """Says whether there were answers to look at, and each was one that is not shown."""
         return self.not_shown > 0 and not self.compared() and not self.count()
 
-    def is_of_no_script(self):
+    def is_of_no_script(self) -> bool:
         """Says whether no line is one of a script: there is none, or the model takes none."""
         return all(answer == "bad" for answer in self.model[:len(self.script)])
 
-    def has_no_machine(self):
+    def has_no_machine(self) -> bool:
         """Says whether the model has no machine at any line."""
         return set(self.model) <= {"bad", "nomachine", "range"}
 
-    def count(self):
+    def count(self) -> int:
         """Gives how many differences there are: answers that are missing, or spare, are one."""
         return len(self.differences) + bool(self.missing) + bool(self.spare)
 
-    def told(self, most, margin=""):
+    def told(self, most: int, margin: str = "") -> Iterator[str]:
         """Says each difference, so many at most, with the three lines before it."""
         for text in self.said(most):
             yield margin + printable(text)
 
-    def said(self, most):
+    def said(self, most: int) -> Iterator[str]:
         """Says them as they are."""
         for text in self.head if self.count() else ():
             yield text
@@ -317,7 +322,7 @@ class Verdict:
             yield f"and {len(self.differences) - most} more that differ"
         yield from self.uneven()
 
-    def uneven(self):
+    def uneven(self) -> Iterator[str]:
         """Says which answers are missing, or spare."""
         if self.missing == 1:
             line = self.line(self.place)
@@ -334,7 +339,7 @@ class Verdict:
             yield (f"{counted(len(self.spare), 'answer')} spare{where}, the first:"
                    f" {cut(self.spare[0])}")
 
-    def summary(self):
+    def summary(self) -> str:
         """Says in one line how many answers are the same, and not."""
         refused = f" ({self.refused} of them refused)" if self.refused else ""
         known = f", {self.known} known" if self.known else ""
@@ -342,7 +347,7 @@ class Verdict:
                 f" {self.count()} differ")
 
 
-def hint(difference):
+def hint(difference: Difference) -> str:
     """Says where the script or the spelling is wrong, and not the machine."""
     _, _, model, mine = difference
     if model == mine:
@@ -354,12 +359,13 @@ def hint(difference):
     return ""
 
 
-def bare(answer):
+def bare(answer: str) -> list[str]:
     """Gives an answer without what may differ in its spelling alone."""
     return [re.sub(r"^0x0+(?=[0-9a-f])", "0x", word) for word in answer.lower().split()]
 
 
-def first_difference(script, model, mine, known):
+def first_difference(script: bytes, model: bytes, mine: bytes, known: Known
+                    ) -> tuple[int, str] | None:
     """Gives the place of the first difference among the lines that have an answer, and what the
     model answers there; None where there is none."""
     for at, (line, want, got) in enumerate(zip_longest(lines(script), answers(model),

@@ -1,4 +1,5 @@
-"""The scripts of the benches, the same ones each time; bench/README.md says what each is for."""
+"""The scripts of the benches, the same ones each time; docs/PERFORMANCE.md says what each is
+for."""
 
 from collections.abc import Callable, Iterable, Iterator
 
@@ -132,9 +133,9 @@ class Sources(Bench):
 
 class Delivery(Bench):
     """Wired sources of the root domain, which rise and fall. All are rising edges and enabled, and
-    aim at the one hart: by an MSI of the source's own number to the machine-level file, or directly,
-    with priority 1. Of 16 lines of its body, on average, 15 change the level of a wire, so half of
-    those are rises, and 1 is a claim.
+    aim at the one hart: by an MSI of the source's own number to the machine-level file, or
+    directly, with priority 1. Of 16 lines of its body, on average, 15 change the level of a wire,
+    so half of those are rises, and 1 is a claim.
 
     By chance each source has a priority from 1 to 255. Then each line changes the level of a wire,
     and a claim follows on nine of ten rises, on average."""
@@ -180,8 +181,8 @@ class Delivery(Bench):
 
 class Stores(Bench):
     """Stores of devices of some VMs, each with four virtual harts, to their slots of memory, in
-    either byte order; or of the host to the supervisor files of four harts at the same addresses, in
-    lines of the same length."""
+    either byte order; or of the host to the supervisor files of four harts at the same addresses,
+    in lines of the same length."""
 
     def __init__(self, vms: int, of_host: bool = False) -> None:
         super().__init__()
@@ -418,7 +419,8 @@ def script(name: str) -> Iterable[str]:
         "devices": lambda: Stores(last // 4).filled(),
         "flights": lambda: whole(Flights(last)),
         "guests": lambda: whole(Guests()),
-        # A virtual hart reads only what is on top of its empty file, in a guest file or from memory.
+        # A virtual hart reads only what is on top of its empty file, in a guest file or from
+        # memory.
         "stopei": lambda: again(800_000, "g 0 0 csrr stopei", *stopei,
                                 "arrive 0 0 0" if "file" in rest else "enter 0 0"),
         "generated": lambda: generated(100_000, 1),

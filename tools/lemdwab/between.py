@@ -1,6 +1,8 @@
 """The lines that suite/between-steps says between two steps of a move, what comes before them, and
 what is looked at after the move."""
 
+from __future__ import annotations
+
 from typing import NamedTuple
 
 from lemdwab.apart import moves
@@ -62,21 +64,22 @@ class Setting(NamedTuple):
     flight: str = ""
 
     @property
-    def greatest(self):
+    def greatest(self) -> int:
         """The greatest identity."""
         return 64 * self.words - 1
 
-    def second(self, two, one):
+    def second(self, two: int | str | tuple[str, str, str, str],
+               one: int | str | tuple[()]) -> int | str | tuple[()]:
         """Gives what differs by whether a file has a second word."""
         return two if self.words == 2 else one
 
 
-def split(*groups):
+def split(*groups: str) -> list[str]:
     """Lists the lines of groups, whose lines are divided by semicolons."""
     return [line for group in groups if group for line in group.split(";")]
 
 
-def registers(who, pairs):
+def registers(who: str, pairs: str) -> list[str]:
     """Lists lines by which a virtual hart writes registers of its file."""
     words = pairs.split(" ")
     return [line for select, value in zip(words[::2], words[1::2])
@@ -86,7 +89,7 @@ def registers(who, pairs):
 
 # ---- before the move
 
-def sources():
+def sources() -> list[str]:
     """Makes the sources 1 to 4 rising edges of domain 1, of which MSIs to guests may be made, and
     enables them."""
     return [*(line for s in range(1, 5) for line in (f"st 0x{0x0c000000 + 4 * s:08x} 0x400",
@@ -95,7 +98,7 @@ def sources():
                    "st 0x0c001bcc 0x500000"), *(f"st 0x0c009edc {s}" for s in range(1, 5))]
 
 
-def passes(setting):
+def passes(setting: Setting) -> list[str]:
     """Passes one source to the virtual hart that is moved, or three; and one to another, so that
     the numbers of all passes are not those of its own. Its identity 9 is not enabled."""
     if setting.passed == 1:
@@ -106,7 +109,7 @@ def passes(setting):
     return []
 
 
-def before(setting):
+def before(setting: Setting) -> list[str]:
     """Lists what comes before a move begins. Enabled are 5, 7 and 40, and of the second word 70 and
     100; pending are 12, which is not enabled, and where an identity is to be deliverable 7, or
     70."""
@@ -128,7 +131,7 @@ def before(setting):
         *split("leave 0 0;h 1 csrrw stopei 0;arrive 0 0 0"), *passes(setting)]
 
 
-def begin(kind, setting, steps):
+def begin(kind: str, setting: Setting, steps: int) -> list[str]:
     """Lists the beginning of a move; and where stores are to be in flight, so many first steps, and
     then the stores."""
     first = {"leave": "begin leave 0 0", "shift": "begin shift 0 0 1",
@@ -143,7 +146,7 @@ def begin(kind, setting, steps):
 
 # ---- after it
 
-def after(kind, setting):
+def after(kind: str, setting: Setting) -> list[str]:
     """Lists the looks after a move."""
     selects = setting.second("0x82 0xc0 0xc2 0x72 0x70", "0xc0 0x72 0x70").split(" ")
     hart = 1 if kind in ("arrive", "resident") else 0
@@ -161,7 +164,7 @@ def after(kind, setting):
 
 # ---- between two steps
 
-def both(identity):
+def both(identity: int) -> tuple[str, str]:
     """An identity that is enabled: by a device and by another virtual hart, each in turn the first
     one."""
     return (f"msi 0 0x28000000 {identity};h 1 csrrw stopei 0;h 0 hgeip;h 1 hgeip;"
@@ -169,7 +172,7 @@ def both(identity):
             f"g 0 1 ipi 0 {identity};h 1 csrrw stopei 0;h 1 csrr stopei")
 
 
-def stores(setting):
+def stores(setting: Setting) -> tuple[str, str, str, str, str, str]:
     """Stores that ask for what is not enabled or pending already, or for nothing."""
     above = setting.greatest + 1
     return (
@@ -242,14 +245,14 @@ LANDINGS = (
 )
 
 
-def landings():
+def landings() -> tuple[str, ...]:
     """Lines where stores are in flight already."""
     return (*(line for k in range(3) for line in (
         f"land 0 {k};h 1 csrrw stopei 0;h 0 csrr sireg",
         f"refetch 0 0;land 0 {k};h 1 csrrw stopei 0;land 0 1")), *LANDINGS)
 
 
-def wire(source):
+def wire(source: int) -> tuple[str, str]:
     """The wire of a source that is passed to the virtual hart rises; then it does so twice."""
     load = f"ld 0x{0x0c00b000 + 4 * source:08x}"
     return (f"wire {source} 1;{load};h 1 csrrw stopei 0;h 1 csrr sireg;h 0 csrr sireg;h 0 hgeip;"
@@ -258,7 +261,7 @@ def wire(source):
             "h 1 csrr sireg")
 
 
-def wires(setting):
+def wires(setting: Setting) -> tuple[str, ...]:
     """Wires of passed sources, of each by itself, of all, and of another virtual hart's; and what
     is refused of them."""
     of_all = (
@@ -273,7 +276,7 @@ def wires(setting):
         "pass 5 0 0 5;pass 1 0 1 5;pass 5 0 1 5;st 0x0c00b004 7;ld 0x0c00b004")
 
 
-def all_lines(setting):
+def all_lines(setting: Setting) -> tuple[str, ...]:
     """Lines of all kinds."""
     second = (*both(70), "msi 0 0x28000004 0x47000000;g 0 1 ipi 0 72;msi 0 0x28000000 127",
               "msi 0 0x28000000 100;h 1 csrrw stopei 0;h 1 csrr sireg")
@@ -281,13 +284,13 @@ def all_lines(setting):
             *stores(setting), *OTHERS, *ENTERED, *FLIGHTS, *MAJORS)
 
 
-def few_lines(setting):
+def few_lines(setting: Setting) -> tuple[str, str, str, str, str]:
     """Those of them that a test has also where an identity is deliverable."""
     return (*both(5), *both(setting.second(70, 7)),
             "msi 0 0x28000000 9;g 0 1 ipi 0 10;h 0 hgeip;h 1 hgeip;h 1 csrrw stopei 0")
 
 
-def lines(setting):
+def lines(setting: Setting) -> tuple[str, ...]:
     """Lists the lines that stand between two steps."""
     if setting.passed:
         return wires(setting)

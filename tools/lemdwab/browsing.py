@@ -1,5 +1,7 @@
 """A browser without a window, told what to do over a pipe, as suite/site looks at pages with it."""
 
+from __future__ import annotations
+
 import base64
 import fcntl
 import json
@@ -8,6 +10,9 @@ import selectors
 import shutil
 import subprocess
 import time
+from collections.abc import Callable, Iterator
+from pathlib import Path
+from typing import Any
 
 from lemdwab import running
 
@@ -21,7 +26,7 @@ OPTIONS = ("--headless=new", "--remote-debugging-pipe", "--disable-gpu", "--no-f
 FAR = 20
 
 
-def installed():
+def installed() -> str | None:
     """Gives the browser's program; None where there is none."""
     return next(filter(None, map(shutil.which, NAMES)), None)
 
@@ -29,9 +34,11 @@ def installed():
 class Browser:
     """A browser with one page."""
 
-    def __init__(self, program, folder):
+    def __init__(self, program: str, folder: Path) -> None:
         commands, reports = os.pipe(), os.pipe()
-        self.said, self.number, self.thrown, self.asked = bytearray(), 0, [], []
+        self.said, self.number = bytearray(), 0
+        self.thrown: list[str] = []
+        self.asked: list[str] = []
         theirs = [fcntl.fcntl(end, fcntl.F_DUPFD, FAR) for end in (commands[0], reports[1])]
         options = [*OPTIONS, f"--user-data-dir={folder}"]
         if os.geteuid() == 0:
@@ -46,16 +53,16 @@ class Browser:
         for end in (commands[0], reports[1], *theirs):
             os.close(end)
         self.to, self.of = commands[1], reports[0]
-        self.session = None
+        self.session: Any = None
         page = self.does("Target.createTarget", url="about:blank")["targetId"]
         self.session = self.does("Target.attachToTarget", targetId=page, flatten=True)["sessionId"]
         for domain in ("Page", "Runtime", "Network"):
             self.does(f"{domain}.enable")
 
-    def __enter__(self):
+    def __enter__(self) -> Browser:
         return self
 
-    def __exit__(self, *_):
+    def __exit__(self, *_: Any) -> None:
         running.kill([self.process])
         self.process.wait()
         with running.State.lock:
@@ -63,7 +70,7 @@ class Browser:
         os.close(self.to)
         os.close(self.of)
 
-    def does(self, method, **how):
+    def does(self, method: str, **how: Any) -> dict[str, Any]:
         """Has the browser do something, and gives what it answers."""
         self.number += 1
         words = {"id": self.number, "method": method, "params": how}
@@ -75,7 +82,7 @@ class Browser:
             raise OSError(f"the browser refuses {method}: {answer['error'].get('message')}")
         return answer.get("result", {})
 
-    def until(self, is_it):
+    def until(self, is_it: Callable[[dict[str, Any]], bool]) -> dict[str, Any]:
         """Reads what the browser says until something is said; gives that."""
         deadline = time.monotonic() + LONGEST
         while True:
@@ -88,7 +95,7 @@ class Browser:
             if is_it(one):
                 return one
 
-    def message(self, deadline):
+    def message(self, deadline: float) -> dict[str, Any]:
         """Gives the next message."""
         with selectors.DefaultSelector() as waits:
             waits.register(self.of, selectors.EVENT_READ)
@@ -103,14 +110,14 @@ class Browser:
         self.said = bytearray(rest)
         return json.loads(text)
 
-    def opens(self, address):
+    def opens(self, address: str) -> int:
         """Opens a page; gives how many milliseconds that took."""
         began = time.monotonic()
         self.does("Page.navigate", url=address)
         self.until(lambda one: one.get("method") == "Page.loadEventFired")
         return int(1000 * (time.monotonic() - began))
 
-    def says(self, expression):
+    def says(self, expression: str) -> Any:
         """Gives the value of an expression on the page."""
         answer = self.does("Runtime.evaluate", expression=expression, returnByValue=True,
                            userGesture=True)
@@ -118,13 +125,13 @@ class Browser:
             self.thrown.append(f"{answer['exceptionDetails'].get('text')} of {expression[:60]}")
         return answer["result"].get("value")
 
-    def clicks(self, selector):
+    def clicks(self, selector: str) -> Any:
         """Clicks on the first thing that a selector finds, where it is seen; gives whether there is
         one."""
         return self.says("(() => { const one = document.querySelector(" + json.dumps(selector)
                          + "); if (one) one.click(); return one !== null; })()")
 
-    def sized(self, width, height, is_dark=False):
+    def sized(self, width: int, height: int, is_dark: bool = False) -> None:
         """Gives the window a size, and its colors."""
         self.does("Emulation.setDeviceMetricsOverride", width=width, height=height,
                   deviceScaleFactor=1, mobile=width < 600)
@@ -132,14 +139,14 @@ class Browser:
         self.does("Emulation.setEmulatedMedia",
                   features=[{"name": "prefers-color-scheme", "value": scheme}])
 
-    def picture(self, path):
+    def picture(self, path: Path) -> None:
         """Writes what is seen as a picture."""
         path.write_bytes(base64.b64decode(self.does("Page.captureScreenshot")["data"]))
 
 
 # ---- the pages of the site that are opened
 
-def start_page(browser, folder, site_laws_page):
+def start_page(browser: Browser, folder: Path, site_laws_page: str) -> Iterator[str]:
     """Opens the start page, and goes by links to a law of README."""
     browser.opens((folder / "index.html").as_uri())
     wanted = "document.querySelector('sup.laws a[href=\"" + site_laws_page + "\"]') !== null"
@@ -153,7 +160,7 @@ def start_page(browser, folder, site_laws_page):
         yield f"a click on a law on the start page leads to {at}"
 
 
-def walked_down(browser, address):
+def walked_down(browser: Browser, address: str) -> Iterator[str]:
     """Unfolds a tree by clicks down to a leaf; says where that fails."""
     browser.opens(address)
     steps = browser.says("""(() => {
@@ -174,7 +181,7 @@ def walked_down(browser, address):
         yield f"{address} does not unfold down to a leaf: {steps}"
 
 
-def slid(browser, address, data):
+def slid(browser: Browser, address: str, data: Any) -> Iterator[str]:
     """Moves a slider by its button and by itself; says where it shows another answer."""
     browser.opens(address)
     at = "Number(document.getElementById('slide').value)"
@@ -195,7 +202,7 @@ def slid(browser, address, data):
         yield f"{address} draws no more of its picture at its end"
 
 
-def fits(browser, address, name):
+def fits(browser: Browser, address: str, name: str) -> Iterator[str]:
     """Says where a page is wider than a small screen, or looks the same in the dark."""
     browser.sized(360, 740)
     browser.opens(address)

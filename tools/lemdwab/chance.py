@@ -1,5 +1,5 @@
-"""Numbers by chance that are the same ones each time, also in another language: the generator of Park
-and Miller. Scripts that are kept, or that the documents count, are drawn by it."""
+"""Numbers by chance that are the same ones each time, also in another language: the generator of
+Park and Miller. Scripts that are kept, or that the documents count, are drawn by it."""
 
 MODULUS, FACTOR = 2147483647, 16807
 

@@ -1,9 +1,16 @@
 """What each script of the suite and of the examples tests, as suite/classes.txt has it, and which
 of them a machine of given sizes can be asked."""
 
-from typing import NamedTuple
+from __future__ import annotations
+
+from collections.abc import Iterator
+from pathlib import Path
+from typing import TYPE_CHECKING, NamedTuple
 
 from lemdwab.running import TOP, fail
+
+if TYPE_CHECKING:
+    from lemdwab.comparing import Options
 
 TABLE = TOP / "suite/classes.txt"
 SUITE, EXAMPLES = TOP / "crates/aia_script_tests/data/suite", TOP / "examples"
@@ -16,11 +23,11 @@ PARTS = ("harts", "guest files", "identities", "sources")
 class Needs(NamedTuple):
     """What a machine has to have at least: its sizes, a delivery or any, the bits of a priority."""
 
-    sizes: tuple
+    sizes: tuple[int, ...]
     delivery: str
     bits: int
 
-    def lacks(self, has):
+    def lacks(self, has: Needs | Options) -> str:
         """Says what a machine that has this lacks; nothing where it has all."""
         for part, wanted, found in zip(PARTS, self.sizes, has.sizes or self.sizes):
             if wanted > found:
@@ -30,7 +37,7 @@ class Needs(NamedTuple):
         return "more bits of priorities" if self.bits > has.bits else ""
 
 
-def needs_of(words):
+def needs_of(words: str) -> Needs | None:
     """Reads what a standard script needs, None where the words say no such thing."""
     words = words.split()
     sizes, rest = words[:4], words[4:]
@@ -41,20 +48,20 @@ def needs_of(words):
     return Needs(tuple(map(int, sizes)), delivery, int(bits[0]))
 
 
-def scripts():
+def scripts() -> dict[str, Path]:
     """Lists all scripts by their names in the table."""
     return {("examples/" if folder is EXAMPLES else "") + path.stem: path
             for folder in (SUITE, EXAMPLES) for path in sorted(folder.glob("*.script"))}
 
 
-def rows(text):
+def rows(text: str) -> Iterator[list[str]]:
     """Lists the rows of the table: a name, a class, and words."""
     for line in text.splitlines():
         if line and not line.startswith("#"):
             yield ([*line.split(None, 2), "", ""])[:3]
 
 
-def drifts(text=None):
+def drifts(text: str | None = None) -> Iterator[None]:
     """Says where the table is wrong: each script has one row, and each row a script, a class and
     words that say why, or what the script needs."""
     names, seen = scripts(), set()
@@ -73,7 +80,7 @@ def drifts(text=None):
             yield f"suite/classes.txt: {name} has no row"
 
 
-def standard():
+def standard() -> dict[Path, Needs]:
     """Gives what each script needs that every right machine answers alike, by its path."""
     for wrong in drifts():
         fail(wrong)

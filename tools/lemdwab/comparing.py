@@ -3,12 +3,20 @@
 What the model answers to these stands in a file beside each. Where a machine's sizes are replaced
 the model answers anew, and scripts that need one of others are left out."""
 
+from __future__ import annotations
+
 from collections import Counter
+from collections.abc import Iterator
 from fnmatch import fnmatchcase
-from typing import NamedTuple
+from pathlib import Path
+from typing import TYPE_CHECKING, NamedTuple
 
 from lemdwab import answers, classes, running
 from lemdwab.running import TOP
+
+if TYPE_CHECKING:
+    from lemdwab.answers import Verdict
+    from lemdwab.running import Ran, Workers
 
 # How long a command may take over one script, in seconds.
 EACH = 60
@@ -28,11 +36,11 @@ class Options(NamedTuple):
     """What a comparison over scripts is told."""
 
     pattern: str = ""
-    only: set = None
-    sizes: tuple = None
+    only: set[str] | None = None
+    sizes: tuple[int, int, int, int] | None = None
     each: int = EACH
     most: int = MOST
-    known: answers.Known = None
+    known: answers.Known | None = None
     is_strict: bool = False
     is_standard: bool = False
     delivery: str = ""
@@ -44,16 +52,18 @@ class Tally:
     how those ended that differ; how many answers were held against the model's, and how many not;
     and how many scripts were left out, by what they need."""
 
-    def __init__(self):
+    def __init__(self) -> None:
         self.same = self.differ = self.known = self.stopped = self.unseen = 0
         self.compared = self.not_shown = 0
-        self.statuses, self.left_out, self.words = set(), Counter(), Counter()
+        self.statuses: set[int] = set()
+        self.left_out: Counter[str] = Counter()
+        self.words: Counter[str] = Counter()
 
-    def take(self, script):
+    def take(self, script: bytes) -> None:
         """Counts the words of a script that was run, each once."""
         self.words.update({word for line in answers.lines(script) for word in line.text.split(" ")})
 
-    def look(self, ran, verdict):
+    def look(self, ran: Ran, verdict: Verdict) -> bool:
         """Counts what came of a script; says whether it differs."""
         self.statuses.add(ran.status)
         self.stopped += bool(ran.stopped)
@@ -69,13 +79,13 @@ class Tally:
             self.known += bool(verdict.known)
         return False
 
-    def told_reach(self):
+    def told_reach(self) -> str:
         """Says in how many of the scripts which word about interrupt files is."""
         had = ", ".join(f"{what} in {self.words[word]}" if self.words[word] else f"no {what}"
                         for word, what in OF_FILES)
         return f"little of an IMSIC was looked at; of these scripts: {had}"
 
-    def told_left_out(self):
+    def told_left_out(self) -> Iterator[str]:
         """Says how many scripts were left out, and what they need; nothing where none was."""
         count = sum(self.left_out.values())
         if count:
@@ -83,7 +93,7 @@ class Tally:
             need = "which needs" if count == 1 else "which need"
             yield f"{running.counted(count, 'script')} left out, {need} {needs}"
 
-    def summary(self):
+    def summary(self) -> Iterator[str]:
         """Says how many scripts and answers are the same, and not, and were not looked at."""
         known = f", {self.known} by what is known alone" if self.known else ""
         unseen = f", {self.unseen} not looked at" if self.unseen else ""
@@ -92,7 +102,7 @@ class Tally:
                f" {self.not_shown} not looked at")
 
 
-def scripts(options):
+def scripts(options: Options) -> list[tuple[Path, bytes]]:
     """Lists the scripts whose names and forms of line are asked for, each with its text."""
     # The pattern is one of a shell's.
     found = [(path, path.read_bytes()) for path in classes.scripts().values()
@@ -107,7 +117,7 @@ def scripts(options):
     return found
 
 
-def asked(options, tally):
+def asked(options: Options, tally: Tally) -> Iterator[tuple[Path, bytes]]:
     """Lists the scripts that the machine can be asked, and counts those that it can't."""
     needs = classes.standard() if options.is_standard else {}
     for path, script in scripts(options):
@@ -121,7 +131,7 @@ def asked(options, tally):
                 yield path, script
 
 
-def wanted(path, script, options, model):
+def wanted(path: Path, script: bytes, options: Options, model: list[str] | None) -> bytes:
     """Gives what the model answers to a script."""
     if not options.sizes:
         stands = path.with_suffix(".out")
@@ -132,7 +142,7 @@ def wanted(path, script, options, model):
     return ran.output
 
 
-def needs_others(path, script, anew):
+def needs_others(path: Path, script: bytes, anew: bytes) -> bool:
     """Says whether a script needs a machine of other sizes: a line that its own takes is refused
     anew, or it asks for sizes that no machine has."""
     if answers.asks_for_none(script):
@@ -142,7 +152,8 @@ def needs_others(path, script, anew):
                for line, old, new in zip(answers.lines(script), own, answers.answers(anew)))
 
 
-def held(path, script, command, options, model):
+def held(path: Path, script: bytes, command: list[str], options: Options,
+         model: list[str] | None) -> tuple[Ran | None, Verdict | str]:
     """Runs a command over one script; gives how it ended, and what came of it, or what the script
     needs that the machine has not."""
     if options.sizes:
@@ -155,7 +166,7 @@ def held(path, script, command, options, model):
     return ran, answers.Verdict(script, answer, ran.output, options.known, options.is_strict)
 
 
-def tell(path, ran, verdict, options):
+def tell(path: Path, ran: Ran, verdict: Verdict, options: Options) -> None:
     """Prints what is wrong with a script's answers."""
     print(f"{path.relative_to(TOP)} differs")
     if ran.fault():
@@ -164,7 +175,8 @@ def tell(path, ran, verdict, options):
         print(line)
 
 
-def over_suite(command, options, workers, model=None):
+def over_suite(command: list[str], options: Options, workers: Workers,
+               model: list[str] | None = None) -> bool:
     """Holds a command against the model over the scripts; prints each that differs. Gives whether
     none does."""
     tally, pace = Tally(), running.Pace()

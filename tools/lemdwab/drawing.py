@@ -4,13 +4,19 @@ each store for it went, and when the host was told.
 The model written apart answers the script, and is watched as it does.
 """
 
+from __future__ import annotations
+
 from itertools import groupby
-from typing import NamedTuple
+from typing import TYPE_CHECKING, NamedTuple
 
 from lemdwab import answers
 from lemdwab.apart import model, moves, reading
 from lemdwab.apart.interrupt_file import requested
 from lemdwab.documents import svg
+
+if TYPE_CHECKING:
+    from lemdwab.apart.moves import VirtualHart
+    from lemdwab.documents.svg import Picture
 
 # The way to the model is in answers.
 
@@ -29,7 +35,7 @@ class Store(NamedTuple):
     """A store for a virtual hart, and the place where it went or was sent to."""
 
     hart: moves.VirtualHart
-    place: tuple
+    place: tuple[int, int] | None
     identity: int
     is_in_flight: bool = False
 
@@ -42,29 +48,31 @@ class Shown(NamedTuple):
     name: str
     hart: moves.VirtualHart
     said: str
-    stores: list
-    told: list
-    homes: dict
+    stores: list[Store]
+    told: list[moves.VirtualHart]
+    homes: dict[moves.VirtualHart, tuple[str, tuple[int, int] | None]]
 
 
 class Watched(model.Machine):
     """The model, which keeps what stores and notices it makes within a line."""
 
-    def __init__(self, *sizes):
+    def __init__(self, *sizes: int) -> None:
         super().__init__(*sizes)
-        self.stores, self.told = [], []
-        self.by_store = None
+        self.stores: list[Store] = []
+        self.told: list[moves.VirtualHart] = []
+        self.by_store: None = None
 
-    def store_for(self, hart, place, offset, value):
+    def store_for(self, hart: VirtualHart, place: tuple[int, int] | None, offset: int,
+                  value: int) -> None:
         if identity := requested(self.greatest, offset, value):
             self.stores.append(Store(hart, place, identity))
         super().store_for(hart, place, offset, value)
 
-    def notify(self, hart):
+    def notify(self, hart: VirtualHart) -> None:
         self.told.append(hart)
         super().notify(hart)
 
-    def deliver_msis(self):
+    def deliver_msis(self) -> None:
         """An MSI of a passed source asks at the guest file without a store of the model's own."""
         before = {one: one.hart.file.pending for one in self.passes if one.reach}
         super().deliver_msis()
@@ -76,13 +84,13 @@ class Watched(model.Machine):
 class Watching(model.Script):
     """A script that is answered and watched."""
 
-    def make(self, *sizes):
+    def make(self, *sizes: int) -> str:
         answer = super().make(*sizes)
         if answer == "ok":
             self.machine = Watched(*sizes)
         return answer
 
-    def shown(self, number, text):
+    def shown(self, number: int, text: bytes) -> Shown | None:
         """Gives what a line did; None where it did nothing that is drawn."""
         name, fields = reading.read(text)
         about = self.about(name, fields)
@@ -103,7 +111,7 @@ class Watching(model.Script):
         return Shown(number, name.replace("_", " "), about if said else None, said, stores, told,
                      homes)
 
-    def about(self, name, fields):
+    def about(self, name: str, fields: list[int | str]) -> VirtualHart | None:
         """Gives the virtual hart that a line names, if it is there."""
         if not self.machine or len(fields) < 2 or not (
                 name in ("step", "enter", "exit", "g", "refetch") or name.split("_")[-1] in MOVES):
@@ -112,7 +120,7 @@ class Watching(model.Script):
         return harts[fields[1]] if fields[1] < len(harts) else None
 
     @staticmethod
-    def said(name, fields, answer):
+    def said(name: str, fields: list[int | str], answer: str) -> str:
         """Says what a line did to its virtual hart."""
         if name == "g":
             _, _, csr, operation, _ = fields
@@ -123,7 +131,7 @@ class Watching(model.Script):
         return ""
 
 
-def step_name(hart):
+def step_name(hart: VirtualHart) -> str:
     """Gives the name of the step that comes next, as docs/MOVES.md has it."""
     if aim := hart.next_aim():
         return f"aim {hart.passes.index(aim)}"
@@ -132,7 +140,7 @@ def step_name(hart):
     return f"{access} {word}" if is_of_word else access
 
 
-def watched(script, first, last):
+def watched(script: bytes, first: int, last: int) -> tuple[list[Shown], dict[VirtualHart, str]]:
     """Lists what the lines of a script did that are drawn, of those from one number to another; and
     names its virtual harts, as 0.1: 1 of VM 0."""
     one = Watching()
@@ -144,7 +152,7 @@ def watched(script, first, last):
     return [shown for shown in found if shown and first <= shown.number <= last], names
 
 
-def harts_of(found):
+def harts_of(found: list[Shown]) -> list[VirtualHart]:
     """Lists the virtual harts that the lines that are drawn are about, in the order of slots."""
     harts = dict.fromkeys(hart for shown in found for hart in shown.homes)
     seen = {hart for shown in found for hart in
@@ -152,12 +160,12 @@ def harts_of(found):
     return [hart for hart in harts if hart in seen]
 
 
-def where(place):
+def where(place: tuple[int, int] | None) -> str:
     """Names a place."""
     return f"file {place[1]} of hart {place[0]}" if place else "memory"
 
 
-def at_home(hart, shown):
+def at_home(hart: VirtualHart, shown: Shown) -> str:
     """Says where a virtual hart is."""
     home, place = shown.homes[hart]
     return f"in {where(place)}" if home == "resident" else HOMES[home]
@@ -165,7 +173,7 @@ def at_home(hart, shown):
 
 # In text: a line of the picture a line of the script, a column a virtual hart.
 
-def cell(hart, shown, before):
+def cell(hart: VirtualHart, shown: Shown, before: Shown | None) -> str:
     """Says what a line did to a virtual hart."""
     parts = [shown.said] if shown.hart is hart else []
     for store in shown.stores:
@@ -177,7 +185,7 @@ def cell(hart, shown, before):
     return ", ".join(parts)
 
 
-def in_text(found, names):
+def in_text(found: list[Shown], names: dict[VirtualHart, str]) -> str:
     """Gives the picture of what was watched in text."""
     harts = harts_of(found)
     rows = [["line", *(names[hart] for hart in harts), "host"]]
@@ -192,7 +200,7 @@ def in_text(found, names):
 
 # As SVG: a row a virtual hart, a column a line of the script.
 
-def bars(picture, hart, found, y):
+def bars(picture: Picture, hart: VirtualHart, found: list[Shown], y: int) -> None:
     """Draws where a virtual hart is, from line to line."""
     places = [at_home(hart, shown) if hart in shown.homes else None for shown in found]
     at = 0
@@ -208,7 +216,7 @@ def bars(picture, hart, found, y):
         at += count
 
 
-def marks(picture, hart, found, y):
+def marks(picture: Picture, hart: VirtualHart, found: list[Shown], y: int) -> None:
     """Draws the stores for a virtual hart under its bar: the identity, in the color of the place
     where the store went, with a frame alone while it is in flight."""
     for at, shown in enumerate(found):
@@ -226,7 +234,7 @@ def marks(picture, hart, found, y):
                          "middle", True)
 
 
-def heads(picture, found, bottom):
+def heads(picture: Picture, found: list[Shown], bottom: int) -> None:
     """Draws what each line is, above, and its number."""
     for at, shown in enumerate(found):
         x = LEFT + at * CELL
@@ -237,7 +245,7 @@ def heads(picture, found, bottom):
     picture.text(LEFT - 10, TOP_EDGE - 8, "line", 11, "#52606d", "end")
 
 
-def legend(picture, y):
+def legend(picture: Picture, y: int) -> None:
     """Draws what colors and marks mean."""
     x = 14
     for color, words in ((svg.GUEST, "in a guest file, or a store that went there"),
@@ -251,7 +259,7 @@ def legend(picture, y):
                  " Numbers are identities.", 11.5, "#52606d")
 
 
-def in_svg(found, names, name):
+def in_svg(found: list[Shown], names: dict[VirtualHart, str], name: str) -> str:
     """Gives the picture of what was watched as SVG, with the script's name."""
     title = f"{name}, lines {found[0].number} to {found[-1].number}"
     harts = harts_of(found)

@@ -1,10 +1,9 @@
-"""What suite/from-memory and suite/migrations draw: lines about guests, which are the same wherever a
-guest is; and the scripts in which they stand.
+"""What suite/from-memory and suite/migrations draw: lines about guests, which are the same wherever
+a guest is; and the scripts in which they stand.
 
-The scripts keep of each guest only which line may follow: whether it is in a guest file, or in which
-of four states. What they are right about is seen by the model written apart: it refuses none of
-these lines but those that the tools mean to be refused.
-"""
+The scripts keep of each guest only which line may follow: whether it is in a guest file, or in
+which of four states. What they are right about is seen by the model written apart: it refuses none
+of these lines but those that the tools mean to be refused. """
 
 from lemdwab.apart.interrupt_file import swapped
 from lemdwab.chance import Chance
@@ -106,8 +105,8 @@ class Lines:
 
 
 class FromMemory(Lines):
-    """Three scripts in which so many virtual harts do the same: in `resident` all are in guest files,
-    in `memory` all run from memory, and in `both` each is now here, now there."""
+    """Three scripts in which so many virtual harts do the same: in `resident` all are in guest
+    files, in `memory` all run from memory, and in `both` each is now here, now there."""
 
     RUNS = ("resident", "memory", "both")
 
@@ -136,8 +135,8 @@ class FromMemory(Lines):
             self.scripts[run].append(line)
 
     def run(self, guest: int) -> None:
-        """Has a guest run in `both`, in a guest file or from memory. A move would land the stores of
-        its VM that are in flight before they land in the other scripts."""
+        """Has a guest run in `both`, in a guest file or from memory. A move would land the stores
+        of its VM that are in flight before they land in the other scripts."""
         if self.at[guest]:
             return
         is_in_file = self.chance.below(2) and not self.flying[guest // 4]
@@ -205,8 +204,8 @@ class FromMemory(Lines):
             self.put(f"g {who(guest)} csrr sireg")
 
     def end(self) -> None:
-        """Each guest reads its file, is moved to the other place, and reads it again. Its moves land
-        what is in flight, so all lands before, in each script."""
+        """Each guest reads its file, is moved to the other place, and reads it again. Its moves
+        land what is in flight, so all lands before, in each script."""
         for vm, count in enumerate(self.flying):
             for _ in range(count):
                 self.put(f"land {vm} 0")
@@ -238,10 +237,10 @@ def who_there(guest: int) -> str:
 
 class Migrations(Lines):
     """The parts of two scripts by which so many virtual harts go from one machine to another:
-    `before` is all that happens on the first machine, up to the saves; `other` makes the second one,
-    on which each guest is another virtual hart; `first` and `second` are what happens after that, the
-    same on both; and `names` has, for each guest, its name on the second machine. Of each image there
-    are so many `parts`."""
+    `before` is all that happens on the first machine, up to the saves; `other` makes the second
+    one, on which each guest is another virtual hart; `first` and `second` are what happens after
+    that, the same on both; and `names` has, for each guest, its name on the second machine. Of each
+    image there are so many `parts`."""
 
     def __init__(self, seed: int, guests: int) -> None:
         super().__init__(seed)

@@ -6,6 +6,8 @@ it and a row of its file of known differences says why, the file that suite/comp
 answer of the program that is wrong is explained by no row.
 """
 
+from __future__ import annotations
+
 import os
 import re
 import selectors
@@ -15,14 +17,12 @@ import time
 from collections import Counter
 from collections.abc import Callable, Iterable
 from pathlib import Path
-from typing import NamedTuple
+from typing import Any, NamedTuple
 
 from lemdwab.answers import Known
 from lemdwab.apart import model, reading, words
 from lemdwab.apart.refusals import Refused
 from lemdwab.running import ending
-
-
 
 ANY = "-"
 LINES = 600  # of a script
@@ -34,7 +34,7 @@ class Stopped(Exception):
     """The comparison can't go on."""
 
 
-def printed(command, script):
+def printed(command: list[str], script: bytes) -> bytes:
     """What a command prints for a script, within limits of time and bytes."""
     source = os.memfd_create("script")
     os.write(source, script)
@@ -56,12 +56,12 @@ def printed(command, script):
     raise Stopped(f"{command[0]} prints too much, or takes more than {TIME_LIMIT} seconds")
 
 
-def lines_of(script):
+def lines_of(script: bytes) -> list[bytes]:
     """The lines of a script that have an answer."""
     return [text for text in reading.texts(script) if reading.read(text) is not None]
 
 
-def answers_of(command, script):
+def answers_of(command: list[str], script: bytes) -> list[str]:
     """What a command answers, line by line."""
     return printed(command, script).decode(errors="backslashreplace").split("\n")[:-1]
 
@@ -69,13 +69,14 @@ def answers_of(command, script):
 class Tally:
     """What was found so far."""
 
-    def __init__(self, known):
+    def __init__(self, known: Known) -> None:
         self.known = known
-        self.subjects = {}
-        self.reasons = Counter()
+        self.subjects: Any = {}
+        self.reasons: Any = Counter()
         self.unexplained = 0
 
-    def script(self, name, subject, script, wanted, told, got):
+    def script(self, name: str, subject: str, script: bytes, wanted: list[str], told: list[str],
+               got: list[str]) -> None:
         """The answers to one script: the program's, those that the rules foresee, the peer's."""
         counts = self.subjects.setdefault(subject, Counter())
         lines = lines_of(script)
@@ -101,7 +102,7 @@ class Tally:
                       + ("" if why is not None else ", and no row fits"))
             return  # what comes later may differ for that alone
 
-    def show(self):
+    def show(self) -> bool:
         """The counts, and whether all is explained."""
         total = Counter()
         for subject, counts in self.subjects.items():
@@ -114,12 +115,12 @@ class Tally:
         return not self.unexplained
 
 
-def counted(counts):
+def counted(counts: Counter[str]) -> str:
     words = ("lines", "same", "not looked at", "differ, explained", "differ, unexplained")
     return "; ".join(f"{counts[word]} {word}" for word in words)
 
 
-def foreseen(script, make):
+def foreseen(script: bytes, make: Callable[..., Any]) -> list[str]:
     """The answers of the rules of a peer to a script that begins with a `machine` line, of whose
     sizes `make` gives a machine."""
     machine, answers = None, []
@@ -136,7 +137,8 @@ def foreseen(script, make):
     return answers
 
 
-def print_script(subjects, make, usage):
+def print_script(subjects: Iterable[str], make: Callable[[str, int, int], bytes], usage: str
+                ) -> int:
     """Prints the random script that the words of the command line name: SUBJECT, SEED, COUNT. Gives
     the exit status."""
     subject, seed, count = words.given(usage, lambda given: len(given) == 3 and (
@@ -156,7 +158,7 @@ class Peer(NamedTuple):
     answers: Callable[[str, str, bytes, int], list[str]]  # its own: by WHAT, subject, script, seed
 
 
-def compared(peer, program, what, seeds):
+def compared(peer: Peer, program: str, what: str, seeds: range) -> bool:
     """Compares over scripts of each subject and seed, and shows the counts. Says whether all is
     explained."""
     tally, deadline = Tally(Known(peer.known)), time.monotonic() + SECONDS
@@ -171,7 +173,7 @@ def compared(peer, program, what, seeds):
     return tally.show()
 
 
-def main(peer, usage):
+def main(peer: Peer, usage: str) -> int:
     """Compares a peer by the words of the command line: PROGRAM, WHAT, SCRIPTS and SEED. Gives the
     exit status."""
     program, what, *numbers = words.given(usage, lambda given: len(given) == 4 and all(

@@ -5,16 +5,24 @@ A command may answer otherwise now and then. So a difference counts only as it w
 shrunk by runs that differed, and what is printed is one of these. If it differs in another way from
 run to run nothing is shrunk: what would be left is of no difference in particular."""
 
+from __future__ import annotations
+
 import math
 import os
 import sys
 import time
+from collections.abc import Callable, Iterator
 from concurrent.futures import wait
 from pathlib import Path
-from typing import NamedTuple
+from typing import TYPE_CHECKING, Any, NamedTuple
 
 from lemdwab import answers, running, scripts
 from lemdwab.shrinking import Shrinker
+
+if TYPE_CHECKING:
+    from lemdwab.answers import Known
+    from lemdwab.running import Pace, Ran
+    from lemdwab.scripts import Draw
 
 # How often a script that differed is run again, where it differs each time, and where not.
 FEW, MANY = 4, 39
@@ -42,7 +50,7 @@ class Found(NamedTuple):
     wanted: bytes
     ran: running.Ran
 
-    def way(self):
+    def way(self) -> tuple[str, int, str]:
         """Gives what is the same of a difference that comes again. How far a command gets until it
         is stopped is not."""
         return self.kind, None if self.ran.stopped else self.at, self.mine
@@ -55,13 +63,13 @@ class Seen(NamedTuple):
     found: Found
     seen: int
     runs: int
-    ways: frozenset
+    ways: frozenset[tuple[str, int | None, str]]
 
-    def changes(self):
+    def changes(self) -> bool:
         """Says whether it differed in more ways than one."""
         return len(self.ways) > 1
 
-    def and_then(self, other):
+    def and_then(self, other: Seen) -> Seen:
         """Gives both together."""
         return Seen(other.found or self.found, self.seen + other.seen, self.runs + other.runs,
                     self.ways | other.ways)
@@ -70,12 +78,13 @@ class Seen(NamedTuple):
 class Hunt:
     """Two commands, and how they are held against each other."""
 
-    def __init__(self, command, model, each, known, begin, pace=None):
+    def __init__(self, command: list[str], model: list[str], each: int, known: Known,
+                 begin: tuple[()], pace: Pace | None = None) -> None:
         self.command, self.model, self.each, self.known = command, model, each, known
         self.begin, self.pace = begin, pace or running.Pace()
         self.last = None, None
 
-    def wanted(self, script):
+    def wanted(self, script: bytes) -> bytes:
         """Gives what the model answers, which is the same each time."""
         if self.last[0] != script:
             ran = running.run(self.model, script, self.each, answers.most_output(script))
@@ -85,11 +94,11 @@ class Hunt:
             self.last = script, ran.output
         return self.last[1]
 
-    def whole(self, script):
+    def whole(self, script: bytes) -> bytes:
         """Gives a script with what each begins with."""
         return scripts.begun(script, self.begin)[0]
 
-    def differs(self, script):
+    def differs(self, script: bytes) -> Found | None:
         """Gives the first difference over a script, None where all is the same. One within the
         lines that each begins with is at the machine's place."""
         whole, before = scripts.begun(script, self.begin)
@@ -108,13 +117,13 @@ class Hunt:
         return Found(kind, max(min(place, before - 1), place - len(self.begin), 0), model, mine,
                      wanted, ran)
 
-    def is_unseen(self, script):
+    def is_unseen(self, script: bytes) -> bool:
         """Says whether the command answers - to each line of a script that the model answers."""
         whole = self.whole(script)
         ran = running.run(self.command, whole, self.each, answers.most_output(whole))
         return answers.Verdict(whole, self.wanted(whole), ran.output, self.known).is_unseen()
 
-    def again(self, script, most):
+    def again(self, script: bytes, most: int) -> Seen:
         """Runs a script so many times, or until that took too long; gives what was seen."""
         seen, deadline = Seen(None, 0, 0, frozenset()), time.monotonic() + LONGEST
         while seen.runs < most and time.monotonic() < deadline:
@@ -124,7 +133,7 @@ class Hunt:
             self.pace.tell(f"run again {running.counted(seen.runs, 'time')} of {most} at most")
         return seen
 
-    def told(self, script, found):
+    def told(self, script: bytes, found: Found) -> Iterator[str]:
         """Says each line with its answers, as a run had them."""
         verdict = answers.Verdict(self.whole(script), found.wanted, found.ran.output, self.known)
         differing = {one.at: answers.cut(one.mine) + answers.hint(one)
@@ -140,7 +149,7 @@ class Hunt:
         if found.ran.fault():
             yield answers.printable(found.ran.fault())
 
-    def uneven(self, script, found):
+    def uneven(self, script: bytes, found: Found) -> list[Any]:
         """Says how many answers to a whole script are missing or spare, if any are."""
         if not found or found.kind == "answer":
             return []
@@ -148,7 +157,7 @@ class Hunt:
         return [answers.printable(f"of its {len(verdict.model)} answers: {line}")
                 for line in verdict.uneven()]
 
-    def search(self, seeds, lines, draw):
+    def search(self, seeds: range, lines: int, draw: Draw) -> int | None:
         """Gives the first of these numbers whose script differs, None where none does."""
         for tried, seed in enumerate(seeds, 1):
             if self.differs(scripts.script_of(seed, lines, draw)):
@@ -157,7 +166,7 @@ class Hunt:
         return None
 
 
-def far(tried, count):
+def far(tried: int, count: int) -> str:
     """Says how far a search is."""
     return f"{tried:,} of {running.counted(count, 'script')}"
 
@@ -177,15 +186,17 @@ class Progress:
     """What is told of a shrinking while it goes on: how far it is, and what is left so far, which
     is kept, so that it is there where the tool is stopped."""
 
-    def __init__(self, into):
+    def __init__(self, into: str | None) -> None:
         self.into = into
-        self.hunt = self.seed = self.left = None
+        self.hunt: Hunt | None = None
+        self.seed: int | None = None
+        self.left: bytes | None = None
 
-    def begin(self, hunt, seed, script):
+    def begin(self, hunt: Hunt, seed: int, script: bytes) -> None:
         """Notes which script differs."""
         self.hunt, self.seed, self.left = hunt, seed, hunt.whole(script)
 
-    def tell_stopped(self):
+    def tell_stopped(self) -> None:
         """Says that the tool was stopped, and where what is left so far stands."""
         said = f"stopped by {running.State.stopped_by}: "
         if self.left is None:
@@ -199,7 +210,7 @@ class Progress:
                      "what is left so far can't be written here")
         print(f"hunt: {said}", file=sys.stderr)
 
-    def tell(self, shrinker):
+    def tell(self, shrinker: Shrinker) -> None:
         """Says how far a shrinking is, now and then, and keeps what is left."""
         self.left = self.hunt.whole(shrinker.seen_script())
         if self.into:
@@ -208,7 +219,8 @@ class Progress:
                             f" {running.counted(shrinker.runs, 'run')}")
 
 
-def left_of(hunt, script, is_machine_fixed, tell, progress):
+def left_of(hunt: Hunt, script: bytes, is_machine_fixed: bool, tell: Callable[..., Any],
+            progress: Progress) -> Left | None:
     """Runs a script that differed once some more, and shrinks it unless the difference comes too
     seldom, or another one comes. Says where it does not come each time."""
     again = hunt.again(script, FEW)
@@ -241,14 +253,14 @@ def left_of(hunt, script, is_machine_fixed, tell, progress):
     return Left(script, None, 0, again.runs, shrinker.runs if shrunk else 0)
 
 
-def times(seen, runs):
+def times(seen: int, runs: int) -> str:
     """Says how often something was seen."""
     return f"once in {runs} runs" if seen == 1 else f"in {seen} of {runs} runs"
 
 
 # ---- more than one process
 
-def units(first, count, jobs):
+def units(first: int, count: int, jobs: int) -> Iterator[tuple[int, int]]:
     """Cuts the numbers that are tried into ranges, each the work of a process: small ones first,
     since most errors are found soon, and small ones last, so that all end at about one time."""
     at, size = first, FIRST_UNIT
@@ -262,7 +274,7 @@ def units(first, count, jobs):
         size = min(2 * size, MOST_UNIT)
 
 
-def searched(tool, words, each, unit):
+def searched(tool: str, words: list[str], each: int, unit: tuple[int, int]) -> Ran:
     """Has a process of its own look through a range; gives how it ended."""
     first, count = unit
     command = [sys.executable, "-B", tool, "--find", "--seed", str(first), "--scripts", str(count),
@@ -270,7 +282,7 @@ def searched(tool, words, each, unit):
     return running.run(command, b"", 60 + count * 2 * (each + 5), 1 << 16)
 
 
-def result_of(one, waiting, tried, pace):
+def result_of(one: Any, waiting: list[Any], tried: list[int], pace: Pace) -> Ran:
     """Waits for a range to be looked through, and says meanwhile how far all are."""
     while not one.done():
         wait([one], min(pace.left(), 60) + 0.1)
@@ -278,7 +290,8 @@ def result_of(one, waiting, tried, pace):
     return one.result()
 
 
-def search_by(jobs, tool, words, each, first, count, pace):
+def search_by(jobs: int, tool: str, words: list[str], each: int, first: int, count: int,
+              pace: Pace) -> str | None:
     """Looks through the numbers by so many processes of a tool; gives what the first of them, in
     the order of the numbers, said that found one, None where none did."""
     ranges = list(units(first, count, jobs))
@@ -300,7 +313,7 @@ def search_by(jobs, tool, words, each, first, count, pace):
     return None
 
 
-def end(waiting):
+def end(waiting: list[Any]) -> None:
     """Ends those that are still at work; the others do not begin."""
     for one in waiting:
         one.cancel()
@@ -310,7 +323,7 @@ def end(waiting):
 
 # ---- files
 
-def check_writable(path):
+def check_writable(path: Path) -> None:
     """Ends the tool where a file can't be written; leaves it as it is."""
     is_there = os.path.lexists(path)
     try:
@@ -322,7 +335,7 @@ def check_writable(path):
         running.fail(f"{path} can't be written: {wrong.strerror}")
 
 
-def keep(script, seed):
+def keep(script: bytes, seed: int) -> Path | None:
     """Writes a script into the folder where the tool was started, under a name that is free; gives
     the name, None where it can't be written."""
     for number in range(1, 100):

@@ -1,10 +1,14 @@
 """A clean root folder into which a package is installed, to be looked at and removed: one made of
 the files of this machine's own Debian packages, with no toolchain in it."""
 
+from __future__ import annotations
+
 import os
 import re
 import shutil
+from collections.abc import Callable
 from pathlib import Path
+from typing import Any
 
 # What is put into the root, with all on which these depend. The first are what every Debian has.
 BASE = ("bash", "dash", "coreutils", "findutils", "grep", "sed", "mawk", "diffutils", "libc-bin")
@@ -24,7 +28,7 @@ class Missing(Exception):
 class Root:
     """A root folder, made in a folder, in which commands are run as in a machine of its own."""
 
-    def __init__(self, run, folder):
+    def __init__(self, run: Callable[..., Any], folder: Path) -> None:
         self.run, self.folder = run, folder
         for command in ("dpkg", "dpkg-query", "tar", "chroot"):
             if not shutil.which(command):
@@ -35,7 +39,7 @@ class Root:
         self.has_python = bool(packages(run, [PYTHON]))
         self.fill()
 
-    def fill(self):
+    def fill(self) -> None:
         """Makes the root of the packages' files, and tells dpkg there that they are installed."""
         names = packages(self.run, [*BASE, PYTHON])
         for name in ("tmp", "dev", "usr/bin", "var/lib/dpkg/info", "var/lib/dpkg/updates",
@@ -63,28 +67,28 @@ class Root:
         if self.run("mknod", "-m", "666", self.folder / "dev/null", "c", "1", "3").fault():
             (self.folder / "dev/null").touch()
 
-    def link(self, name, to):
+    def link(self, name: str, to: Path) -> None:
         """Puts a link into the root where there is nothing."""
         if not (self.folder / name).exists():
             (self.folder / name).symlink_to(to)
 
-    def done(self, *command):
+    def done(self, *command: str | Path) -> bytes:
         """Gives what a command prints that has to do what it says."""
         ran = self.run(*command)
         if ran.fault():
             raise Missing(f"{command[0]} could not do it: {ran.fault()}")
         return ran.output
 
-    def dpkg(self, *words):
+    def dpkg(self, *words: str | Path) -> Any:
         """Runs dpkg on the root."""
         return self.run(*self.before, "env", "LC_ALL=C", "dpkg", f"--root={self.folder}", *words)
 
-    def call(self, *command, text=b"", seconds=100):
+    def call(self, *command: str | Path, text: bytes = b"", seconds: int = 100) -> Any:
         """Runs a command in the root, where no other variable than these is set."""
         return self.run(*self.before, "chroot", self.folder, "/usr/bin/env", "-i", "LC_ALL=C.UTF-8",
                         "PATH=/usr/bin:/bin", *command, text=text, seconds=seconds)
 
-    def paths(self):
+    def paths(self) -> set[str]:
         """Lists what is in the root, but for what dpkg and Python keep for themselves."""
         found = set()
         for folder, folders, files in os.walk(self.folder):
@@ -93,7 +97,7 @@ class Root:
         return {path for path in found if not path.startswith(OF_OTHERS)}
 
 
-def is_wanted(path):
+def is_wanted(path: str) -> bool:
     """Says whether a file of a package goes into the root: it is there, may be read, and is of
     use."""
     return (path.startswith("/") and path != "/." and path[1:] not in MERGED
@@ -101,7 +105,7 @@ def is_wanted(path):
             and (os.path.islink(path) or os.access(path, os.R_OK)))
 
 
-def packages(run, names):
+def packages(run: Callable[..., Any], names: list[str]) -> list[str]:
     """Lists packages that are installed here, with all on which they depend; without those that are
     not installed."""
     said = run("dpkg-query", "-W", "-f",
@@ -122,6 +126,6 @@ def packages(run, names):
     return sorted(found)
 
 
-def plain_names(text):
+def plain_names(text: str) -> list[str]:
     """Lists the packages that a field names, without versions and architectures."""
     return re.findall(r"(?:^|[,|])\s*([a-z0-9][a-z0-9+.-]+)", text)

@@ -113,10 +113,10 @@ def leaks_before(leak: int, line: str) -> Iterator[str]:
 
 
 def leaks_after(leak: int, line: str) -> Iterator[str]:
-    """What it puts after a line: what devices, the hypervisor or a virtual hart do at one VM is done
-    at others too (1 to 4, 10), an arrival enables the timer (6), a claim of the host is one of all
-    virtual harts (7), a wire that rises injects a timer (8), and a step an overflow of a counter
-    (9)."""
+    """What it puts after a line: what devices, the hypervisor or a virtual hart do at one VM is
+    done at others too (1 to 4, 10), an arrival enables the timer (6), a claim of the host is one of
+    all virtual harts (7), a wire that rises injects a timer (8), and a step an overflow of a
+    counter (9)."""
     words = line.split(" ")
     first = words[0]
     if (leak, first) in ((1, "msi"), (2, "inject"), (3, "hviprio"), (4, "hvictl")):
@@ -418,9 +418,9 @@ def rendered(seed: str, greatest: int, said: list[Said]) -> tuple[Drawn, Name]:
 
 
 def pair(seed: int) -> tuple[tuple[Drawn, Name], tuple[Drawn, Name]]:
-    """Gives two scripts that say the same to one virtual hart, and differ in all else: the machine's
-    size but for its identities, the VMs, who asks and how, the host's and other guests' lines, and the
-    moves of all virtual harts, whole and by steps."""
+    """Gives two scripts that say the same to one virtual hart, and differ in all else: the
+    machine's size but for its identities, the VMs, who asks and how, the host's and other guests'
+    lines, and the moves of all virtual harts, whole and by steps."""
     chance = random.Random(f"pair {seed}")
     greatest = chance.choice(WIDTHS)
     said = Drawn(chance, greatest).draw_said(SAID)

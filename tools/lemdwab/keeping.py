@@ -1,15 +1,22 @@
 """What the tools share that have the prover try plants: what came of each, and how it is kept from
 one run to the next."""
 
+from __future__ import annotations
+
 import os
 import re
 import shutil
 import time
+from collections.abc import Iterable
 from pathlib import Path
-from typing import NamedTuple
+from typing import TYPE_CHECKING, NamedTuple
 
 from lemdwab import running
 from lemdwab.running import TOP
+
+if TYPE_CHECKING:
+    from lemdwab.documents.strength import Edit
+    from lemdwab.weakening import Plant
 
 UNTRIED = "not tried"
 # How much of what was named is printed.
@@ -22,17 +29,17 @@ class Verdict(NamedTuple):
     kind: str
     named: str
 
-    def shown(self):
+    def shown(self) -> str:
         """Gives it in words."""
         return f"{self.kind}: {self.named}" if self.named else self.kind
 
-    def shortened(self):
+    def shortened(self) -> str:
         """Gives it in words on one line, cut where it is long."""
         shown = " ".join(self.shown().split())
         return shown if len(shown) <= MOST_NAMED else shown[:MOST_NAMED - 2].rstrip() + ".."
 
 
-def words_of_kept(line, kinds):
+def words_of_kept(line: str, kinds: tuple[str, ...]) -> tuple[str, str, str, Verdict] | None:
     """Reads a line of what was tried: the crate, the plant, the sum, and a verdict of these kinds;
     or nothing."""
     cells = line.split("\t")
@@ -44,18 +51,19 @@ def words_of_kept(line, kinds):
 class Kept:
     """What was tried, in a file of lines."""
 
-    def __init__(self, folder, is_anew, kinds):
-        self.path, self.found = Path(folder) / "tried.txt", {}
+    def __init__(self, folder: Path, is_anew: bool, kinds: tuple[str, ...]) -> None:
+        self.path = Path(folder) / "tried.txt"
+        self.found: dict[tuple[str, str, str], Verdict] = {}
         if self.path.exists() and not is_anew:
             for line in running.contents(self.path).decode(errors="replace").splitlines():
                 if read := words_of_kept(line, kinds):
                     self.found[read[:3]] = read[3]
 
-    def of(self, plant, total):
+    def of(self, plant: Edit | Plant, total: str) -> Verdict | None:
         """Gives what came of a plant before, where all has the same sum; or nothing."""
         return self.found.get((plant.crate, plant.name, total))
 
-    def add(self, plant, total, verdict, seconds):
+    def add(self, plant: Edit | Plant, total: str, verdict: Verdict, seconds: float) -> None:
         """Writes a line of a plant that was tried."""
         if verdict.kind == UNTRIED:
             return
@@ -67,7 +75,7 @@ class Kept:
                                   f"{seconds:.0f}", named)) + "\n")
 
 
-def kept_folder(given, name):
+def kept_folder(given: dict[str, str], name: str) -> Path:
     """Gives the folder where what was tried is kept: the one that is given, or one of a name."""
     if "kept" in given:
         return given["kept"] or running.usage("a FOLDER is wanted behind --kept")
@@ -90,13 +98,13 @@ def check_rt() -> None:
         running.fail("there is no rt on the path, which proves and refuses")
 
 
-def crate_named(word, every):
+def crate_named(word: str, every: Iterable[str]) -> str | None:
     """Gives the crate of these that a word names, or None; a folder is one."""
     name = word.rstrip("/").removeprefix("./").removeprefix("crates/")
     return name if name in every else None
 
 
-def copied(place, only=()):
+def copied(place: Path, only: Iterable[str] = ()) -> None:
     """Copies the crates, or some only, into a folder, without edits and what was built."""
     for crate in sorted(path for path in (TOP / "crates").iterdir() if path.is_dir()):
         if not only or crate.name in only:

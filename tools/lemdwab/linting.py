@@ -5,7 +5,10 @@ of lemdwab.apart.reading, and what is said here of one is true of it; each has o
 that helps.
 """
 
+from __future__ import annotations
+
 import string
+from collections.abc import Sequence
 from difflib import get_close_matches
 from functools import lru_cache
 from typing import NamedTuple
@@ -46,14 +49,14 @@ class Fault(NamedTuple):
 
 
 @lru_cache(1 << 16)
-def nearest(word, known):
+def nearest(word: str, known: tuple[str, ...]) -> str | None:
     """Gives the word among those that are known that one is most like, None where it is like
     none."""
     found = get_close_matches(word.lower(), known, 1) if len(word) <= 24 else []
     return found[0] if found else None
 
 
-def unknown(what, word, known):
+def unknown(what: str, word: str, known: Sequence[str] | set[str]) -> str:
     """Says that a word is none of those that are known, with the one that it is most like."""
     if word.lower() in known:
         return f"capital letters: {word}; {word.lower()}?"
@@ -63,7 +66,7 @@ def unknown(what, word, known):
     return f"unknown {what} {word}" + (f"; {like}?" if like else "")
 
 
-def misspelled(word):
+def misspelled(word: str) -> str | None:
     """Says why a word spells no number below 2^64."""
     hexadecimal = set(word[2:] if word[:2].lower() == "0x" else word) <= set(string.hexdigits)
     if word[:2].lower() == "0x" and hexadecimal:
@@ -84,7 +87,7 @@ def misspelled(word):
     return None
 
 
-def bytes_of_no_text(text):
+def bytes_of_no_text(text: bytes) -> Fault | None:
     """Finds a byte that is in no line, but in comments: a tab, a CR, another that is no text."""
     at = next((at for at, byte in enumerate(text) if byte not in PLAIN), None)
     if at is None:
@@ -97,7 +100,7 @@ def bytes_of_no_text(text):
     return Fault(at + 1, f"a byte that is no text here: 0x{text[at]:02x}")
 
 
-def shape_fault(text):
+def shape_fault(text: bytes) -> Fault | None:
     """Finds what is wrong with a line of a script or a plan for `audit` whatever its words are."""
     if len(text) > LINE_BYTES:
         what = "comment" if text[:1] == b"#" else "line"
@@ -127,7 +130,7 @@ def shape_fault(text):
 class Words:
     """The words of a line, read one after the other by the names of its form."""
 
-    def __init__(self, text):
+    def __init__(self, text: bytes) -> None:
         self.words = answers.shown(text).split(" ")
         self.columns = [1]
         for word in self.words:
@@ -135,23 +138,23 @@ class Words:
         self.at = 1
         self.form = self.words[0]
 
-    def word(self):
+    def word(self) -> str | None:
         """Gives the next word, None where there is none."""
         return self.words[self.at] if self.at < len(self.words) else None
 
-    def fault(self, reason):
+    def fault(self, reason: str) -> Fault:
         """Gives a fault of the next word."""
         return Fault(self.columns[self.at], reason)
 
-    def too_few(self):
+    def too_few(self) -> Fault:
         """Gives the fault that a word is missing."""
         return Fault(self.columns[-1] - 1, f"too few words: `{self.form}`")
 
-    def end(self):
+    def end(self) -> Fault | None:
         """Gives the fault that words are left, None where none is."""
         return None if self.word() is None else self.fault(f"too many words: `{self.form}`")
 
-    def numbers(self, kinds, names):
+    def numbers(self, kinds: str, names: Sequence[str] | str) -> Fault | None:
         """Reads numbers of these kinds; gives the fault of the first that is none."""
         for kind, name in zip(kinds, names):
             word = self.word()
@@ -166,7 +169,7 @@ class Words:
             self.at += 1
         return None
 
-    def one_of(self, what, known):
+    def one_of(self, what: str, known: list[str] | set[str]) -> Fault | None:
         """Reads a word that is one of those that are known; gives the fault that it is none."""
         word = self.word()
         if word is None:
@@ -177,25 +180,25 @@ class Words:
         return None
 
 
-def last_numbers(words, kinds, names):
+def last_numbers(words: Words, kinds: str, names: str) -> Fault:
     """Finds what is wrong with numbers behind which nothing stands."""
     return words.numbers(kinds, names.split()) or words.end()
 
 
-def of_keywords(words, keywords):
+def of_keywords(words: Words, keywords: str) -> Fault:
     """Finds what is wrong with a line of a form that is keywords and numbers."""
     words.form = f"{keywords} {NAMES[keywords]}"
     return last_numbers(words, reading.FORMS[keywords], NAMES[keywords])
 
 
-def of_begin(words):
+def of_begin(words: Words) -> Fault:
     """Finds what is wrong with a line that begins a move."""
     words.form = "begin leave VM C"
     moves = {keywords.split()[1] for keywords in reading.FORMS if keywords.startswith("begin ")}
     return words.one_of("move", moves) or of_keywords(words, f"begin {words.words[1]}")
 
 
-def of_instruction(words, front):
+def of_instruction(words: Words, front: str) -> Fault:
     """Finds what is wrong with a CSR instruction behind the words of a hart or virtual hart."""
     level, mnemonic = words.words[0], words.words[words.at - 1]
     words.form = f"{front} {mnemonic} {MNEMONICS[mnemonic]}"
@@ -206,7 +209,7 @@ def of_instruction(words, front):
     return words.one_of("CSR", known) or last_numbers(words, "n" * (mnemonic != "csrr"), "V")
 
 
-def of_hart(words, kinds, names, others):
+def of_hart(words: Words, kinds: str, names: str, others: dict[str, tuple[str, str]]) -> Fault:
     """Finds what is wrong with a line that begins with a hart or virtual hart: behind it stands a
     CSR instruction, or a word of some others with the kinds and names of what follows it."""
     front = f"{words.words[0]} {names}"
@@ -223,7 +226,7 @@ def of_hart(words, kinds, names, others):
     return last_numbers(words, kinds, names)
 
 
-def of_load(words):
+def of_load(words: Words) -> Fault:
     """Finds what is wrong with a line that loads a part of an image."""
     words.form = "load VM C PART"
     known = {part.decode() for part in reading.PARTS}
@@ -235,7 +238,7 @@ def of_load(words):
     return last_numbers(words, reading.PARTS[part.encode()], NAMES[part])
 
 
-def script_fault(text):
+def script_fault(text: bytes) -> Fault | None:
     """Finds what is wrong with a line of a script; None where it is good or skipped."""
     if reading.read(text) is not reading.BAD:
         return None
@@ -261,7 +264,7 @@ def script_fault(text):
     return fault or Fault(1, "it spells no line")
 
 
-def step_fault(text, width):
+def step_fault(text: bytes, width: int | None) -> Fault | None:
     """Finds what is wrong with a line of a plan for `audit`, of files of so many words, or of as
     many as there may be."""
     if reading.is_skipped(text):
@@ -287,10 +290,10 @@ def step_fault(text, width):
 class Audit:
     """The lines of a plan for `audit`."""
 
-    def __init__(self, width=None):
+    def __init__(self, width: int | None = None) -> None:
         self.width, self.count = width, 0
 
-    def fault(self, text):
+    def fault(self, text: bytes) -> Fault | None:
         """Finds what is wrong with the next line."""
         self.count += not reading.is_skipped(text)
         if self.count == plans.MOST_STEPS + 1 and not reading.is_skipped(text):

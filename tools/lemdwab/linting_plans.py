@@ -1,6 +1,8 @@
 """Why a line of a plan for `judge` is bad, as docs/ANY-PLAN.md has it: it spells nothing, or it
 says what it may not say there."""
 
+from __future__ import annotations
+
 import re
 from typing import NamedTuple
 
@@ -42,16 +44,16 @@ class Said(NamedTuple):
     column."""
 
     name: str
-    numbers: dict
+    numbers: dict[str, int]
 
 
-def cut(text):
+def cut(text: bytes) -> list[tuple[int, str]]:
     """Gives the words before a comment, each with its column; any number of spaces is between."""
     front = answers.shown(text.partition(b"#")[0])
     return [(found.start() + 1, found[0]) for found in re.finditer("[^ ]+", front)]
 
 
-def field_fault(what, column, word, form):
+def field_fault(what: str, column: int, word: str, form: str) -> Fault | None:
     """Finds what is wrong with a word that ought to be of a kind."""
     if what in NAMES:
         return None if NUMERAL.fullmatch(word) else Fault(
@@ -64,7 +66,7 @@ def field_fault(what, column, word, form):
                          f" {' or '.join(CHOICES[what])})")
 
 
-def said_of(text):
+def said_of(text: bytes) -> Fault | Said | None:
     """Gives what a line says, its fault where it spells nothing, None where it is skipped."""
     if len(text) > LINE_BYTES:
         return Fault(LINE_BYTES + 1, f"a line of {len(text)} bytes; it has {LINE_BYTES} at most,"
@@ -99,7 +101,7 @@ def said_of(text):
 TELLING = {"look", "post", "tell", "write", "heeds", "notices"}
 
 
-def warning(names):
+def warning(names: set[str]) -> str:
     """Gives what a plan that says lines of these names leaves undeclared, so that the judge asks
     nothing of it; nothing where a plan says nothing, or leaves out nothing."""
     found = []
@@ -110,7 +112,7 @@ def warning(names):
     return f"declares {'; and '.join(found)}" if found else ""
 
 
-def notes(texts):
+def notes(texts: list[bytes]) -> list[tuple[int, str]] | None:
     """Lists what the judge does not say of a file's plans: that there is none, by None, or of which
     line on a plan leaves what undeclared."""
     plans_, is_any = [(1, set())], False
@@ -130,15 +132,15 @@ class Judged:
     """The lines of a file of plans. After the first bad line of a plan its others are looked at as
     far as they spell nothing alone: what is declared is not known then."""
 
-    def __init__(self):
+    def __init__(self) -> None:
         self.plans = 0
         self.begin()
 
-    def begin(self):
+    def begin(self) -> None:
         """Begins a plan, for which nothing is declared."""
         self.words, self.producers, self.steps, self.is_bad = 1, 0, 0, False
 
-    def fault(self, text):
+    def fault(self, text: bytes) -> Fault | None:
         """Finds what is wrong with the next line."""
         said = said_of(text)
         if isinstance(said, Said):
@@ -151,7 +153,7 @@ class Judged:
         self.is_bad |= said is not None
         return said
 
-    def declared(self, said):
+    def declared(self, said: Said) -> Fault | None:
         """Takes a declaration, or finds what is wrong with it."""
         count, column = said.numbers.get("count", (1, 1))
         if not 1 <= count <= MOST_WORDS:
@@ -165,7 +167,7 @@ class Judged:
         self.words = count if said.name == "words" else self.words
         return None
 
-    def done(self, said):
+    def done(self, said: Said) -> Fault | None:
         """Takes a step, or finds what is wrong with it."""
         producer, column = said.numbers.get("producer", (-1, 1))
         if producer >= self.producers:

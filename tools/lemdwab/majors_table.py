@@ -17,6 +17,12 @@ HEAD = """\
 //!
 //! A set of majors is a number from 0 to 15, whose bits are for the majors 1, 5, 9 and 13.
 """
+OF_PENDING = """\
+What `stopi` reads where VTI is 0: by the set of those pending and enabled, IPRIOM,
+/// `PRIORITIES` and `TOPS`."""
+OF_NAMED = """\
+What `stopi` reads where VTI is 1: by whether the external interrupt is pending and
+/// enabled, DPR, IPRIOM, `NAMES`, `IPRIOS` and `TOPS`."""
 WIDTH, FULL, LONG = 58, 99, 10
 
 
@@ -62,8 +68,8 @@ def named() -> Iterable[int]:
 
 
 def constant(text: str, name: str, values: Iterable[int]) -> str:
-    """Gives a constant as `rt fmt` lays it out: on a line where its numbers have 60 columns at most,
-    else in lines that are full, or one a line where one is long."""
+    """Gives a constant as `rt fmt` lays it out: on a line where its numbers have 60 columns at
+    most, else in lines that are full, or one a line where one is long."""
     numbers = [f"0x{value:x}" for value in values]
     front = f"\n/// {text}\npub const {name}: [u64; {len(numbers)}] = ["
     if len(", ".join(numbers)) <= WIDTH:
@@ -88,7 +94,4 @@ def text() -> str:
         constant("Majors that IID of `hvictl` names.", "NAMES", NAMES),
         constant("Values of IPRIO of `hvictl`.", "IPRIOS", IPRIOS),
         constant("What `sip` or `sie` reads, by the set.", "REGISTERS", registers),
-        constant("What `stopi` reads where VTI is 0: by the set of those pending and enabled, IPRIOM,\n"
-                 "/// `PRIORITIES` and `TOPS`.", "PENDING", pending()),
-        constant("What `stopi` reads where VTI is 1: by whether the external interrupt is pending and\n"
-                 "/// enabled, DPR, IPRIOM, `NAMES`, `IPRIOS` and `TOPS`.", "NAMED", named())))
+        constant(OF_PENDING, "PENDING", pending()), constant(OF_NAMED, "NAMED", named())))

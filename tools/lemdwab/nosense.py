@@ -28,20 +28,20 @@ REFUSED_MACHINE = b"machine 5 0 63 1"
 FEW = b"0;1;2;3;4;0x0;0x1".split(b";")
 NUMBERS = (
     b"5;7;8;9;15;16;17;31;32;33;63;64;127;255;511;1023;2047;2048;0x3f;0x28000000;0x28000004;"
-    b"0x28020000;0x2807f000;0x8000bffc;0x8000c000;0x2800;0x24000000;0x0c000000;0x80000000;0xc0;0x80;"
-    b"0x70;0xffffffff;4294967295;4294967296;0x100000000;0xffffffffffffffff;18446744073709551615;"
-    b"0x0000000000000001;0x000000000000001;0x00000000ffffffff;0x0000000100000000;"
-    b"9999999999999999999;10000000000000000000;18446744073709551599").split(b";")
+    b"0x28020000;0x2807f000;0x8000bffc;0x8000c000;0x2800;0x24000000;0x0c000000;0x80000000;0xc0;"
+    b"0x80;0x70;0xffffffff;4294967295;4294967296;0x100000000;0xffffffffffffffff;"
+    b"18446744073709551615;0x0000000000000001;0x000000000000001;0x00000000ffffffff;"
+    b"0x0000000100000000;9999999999999999999;10000000000000000000;18446744073709551599").split(b";")
 WRONG = (
     b"18446744073709551616;18446744073709551620;0x10000000000000000;0x00000000000000000;"
     b"99999999999999999999;1111111111222222222233333333334444444444;"
-    b"0x1111111111222222222233333333334444444444;00;01;007;0x;0X1;0xA;0xaB;x1;-1;+1;1.0;1e3;1_0;0b1;"
-    b"0x 1;1h;;0x1g;'1';0x-1;36893488147419103233;18446744073709551617").split(b";")
+    b"0x1111111111222222222233333333334444444444;00;01;007;0x;0X1;0xA;0xaB;x1;-1;+1;1.0;1e3;1_0;"
+    b"0b1;0x 1;1h;;0x1g;'1';0x-1;36893488147419103233;18446744073709551617").split(b";")
 WORDS = (
-    b"machine;vm;wire;st;ld;msi;send;land;refetch;arrive;leave;shift;begin;step;enter;exit;save;load;"
-    b"image;majors;prio;word;pass;inject;hvictl;hviprio;g;m;h;hgeip;pins;entry;csrr;csrrw;csrrs;csrrc;"
-    b"csrrwi;siselect;sireg;stopei;stopi;sip;sie;miselect;mireg;mtopei;vstopei;ipi;#;gen;replay;ok;"
-    b"bad;Step;MSI;--help;0;1;0x1").split(b";")
+    b"machine;vm;wire;st;ld;msi;send;land;refetch;arrive;leave;shift;begin;step;enter;exit;save;"
+    b"load;image;majors;prio;word;pass;inject;hvictl;hviprio;g;m;h;hgeip;pins;entry;csrr;csrrw;"
+    b"csrrs;csrrc;csrrwi;siselect;sireg;stopei;stopi;sip;sie;miselect;mireg;mtopei;vstopei;ipi;#;"
+    b"gen;replay;ok;bad;Step;MSI;--help;0;1;0x1").split(b";")
 LEVELS = b"0;1;0x0;0x1;0x0000000000000001;0;1;2;0x2;00".split(b";")
 CHOICES = {b"L": LEVELS, b"M": b"miselect;mireg;mtopei".split(b";"),
            b"H": b"siselect;sireg;stopei".split(b";"),

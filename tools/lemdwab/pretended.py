@@ -1,12 +1,19 @@
 """A tree of crates with an rt that only pretends, in which a tool that runs rt is tried."""
 
+from __future__ import annotations
+
 import os
 import shutil
 import sys
 from pathlib import Path
+from typing import TYPE_CHECKING
 
 from lemdwab import answers
 from lemdwab.running import TOP
+
+if TYPE_CHECKING:
+    from lemdwab.commands.tools import Trial
+    from lemdwab.running import Ran
 
 # What each tool needs.
 SHARED = tuple(f"tools/lemdwab/{name}.py" for name in ("__init__", "running", "commands/__init__"))
@@ -18,10 +25,10 @@ class Tree:
     which `@FOLDER@` is the tree's folder."""
 
     TOOL = ""
-    FILES = ()
+    FILES: tuple[str, ...] = ()
     RT = ""
 
-    def __init__(self, trial, name):
+    def __init__(self, trial: Trial, name: str) -> None:
         self.trial, self.folder = trial, trial.folder / f"{self.TOOL}-{name}"
         self.kept, self.noted = self.folder / "kept", self.folder / "noted"
         for file in (*SHARED, *self.FILES):
@@ -30,19 +37,19 @@ class Tree:
         for file in (f"suite/{self.TOOL}", "bin/rt"):
             (self.folder / file).chmod(0o755)
 
-    def write(self, file, text):
+    def write(self, file: str, text: str) -> None:
         """Writes a file of the tree."""
         path = self.folder / file
         path.parent.mkdir(parents=True, exist_ok=True)
         path.write_text(text, encoding="utf-8")
 
-    def given(self):
+    def given(self) -> list[str]:
         """Gives what rt was given since the last time, a line each."""
         lines = self.noted.read_text(encoding="utf-8").split("\n") if self.noted.exists() else []
         self.noted.unlink(missing_ok=True)
         return [line.strip() for line in lines if line]
 
-    def run(self, *words, path=None, before=()):
+    def run(self, *words: str, path: str | None = None, before: tuple[str, ...] = ()) -> Ran:
         """Runs the tool with words, by a command before it; gives how it ended."""
         temporary = self.folder / "tmp"
         temporary.mkdir(exist_ok=True)
@@ -52,7 +59,7 @@ class Tree:
         self.trial.sees(not any(temporary.iterdir()), f"{self.TOOL} {words} leaves a folder")
         return ran
 
-    def sees(self, status, texts, *words):
+    def sees(self, status: int, texts: list[str], *words: str) -> str:
         """Sees that it ends with a status, and that it prints these texts, in this order."""
         ran = self.run(*words)
         said, at = answers.shown(ran.output), 0
@@ -79,7 +86,7 @@ class Tree:
                             f"{self.TOOL} without rt ends with {ran.status}: {ran.errors}")
         self.trial.sees(not self.given(), f"{self.TOOL} with wrong words runs rt")
 
-    def sees_no_rt(self):
+    def sees_no_rt(self) -> None:
         """Sees that an rt that takes long, whose number stands in `pid`, was ended."""
         path = self.folder / "pid"
         if path.exists():

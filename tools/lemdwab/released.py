@@ -1,10 +1,14 @@
 """What is seen of a release that ./release made: each function looks at one thing, and gives a line
 for each way in which it is not as it should be. `run` runs a command, and gives how it ended."""
 
+from __future__ import annotations
+
 import re
 import shutil
 import tarfile
+from collections.abc import Callable, Iterator
 from pathlib import Path
+from typing import Any
 
 from lemdwab.running import TOP
 
@@ -17,12 +21,12 @@ SONAME = "libaia.so.1"
 BARE_PATH = "/usr/bin:/bin"
 
 
-def files_of(folder):
+def files_of(folder: Path) -> set[Path]:
     """Lists the files of a folder by their paths in it."""
     return {path.relative_to(folder) for path in folder.rglob("*") if path.is_file()}
 
 
-def differing(one, other):
+def differing(one: Path, other: Path) -> Iterator[str]:
     """Compares the bytes of two releases."""
     for name in sorted(files_of(one) ^ files_of(other)):
         yield f"{name} is in one of two releases alone"
@@ -31,7 +35,7 @@ def differing(one, other):
             yield f"{name} differs between two releases of one commit"
 
 
-def sums(run, folder):
+def sums(run: Callable[..., Any], folder: Path) -> Iterator[str]:
     """Sees that SHA256SUMS of a folder has each file that is there, with its sum."""
     ran = run("env", "-C", folder, "sha256sum", "--quiet", "--strict", "-c", "SHA256SUMS")
     if ran.fault():
@@ -43,7 +47,7 @@ def sums(run, folder):
         yield f"{folder.name}/SHA256SUMS and the folder disagree on {name}"
 
 
-def members(archive, seconds):
+def members(archive: Path, seconds: int) -> Iterator[str]:
     """Sees that an archive has its files in order, of nobody's name, day or mode."""
     with tarfile.open(archive) as packed:
         found = packed.getmembers()
@@ -57,7 +61,7 @@ def members(archive, seconds):
             yield f"{archive.name} has mode {each.mode:o} of {each.name}"
 
 
-def library(run, tree):
+def library(run: Callable[..., Any], tree: Path) -> Iterator[str]:
     """Sees which names the shared library has for others, and what it is called itself."""
     shared = tree / "lib" / SONAME
     declared = set(DECLARED.findall((tree / "include/aia.h").read_text(encoding="utf-8")))
@@ -72,7 +76,7 @@ def library(run, tree):
         yield f"libaia.so is no link to {SONAME}"
 
 
-def manuals(run, tree):
+def manuals(run: Callable[..., Any], tree: Path) -> Iterator[str]:
     """Sees that there is a page for each program and each call, and that each is set without a
     warning."""
     calls = DECLARED.findall((tree / "include/aia.h").read_text(encoding="utf-8"))
@@ -93,13 +97,13 @@ def manuals(run, tree):
             yield f"man aia_open finds no page of the calls: {ran.errors}"
 
 
-def claims():
+def claims() -> bytes:
     """Gives what examples/library.c prints, as examples/check-library has it."""
     text = (TOP / "examples/check-library").read_text(encoding="utf-8")
     return re.search(r"(?m)^claims='([^']*)'$", text).group(1).encode() + b"\n"
 
 
-def builds(run, tree, folder):
+def builds(run: Callable[..., Any], tree: Path, folder: Path) -> Iterator[str]:
     """Builds examples/library.c as pkg-config says, with either library, and runs it."""
     source = tree / "share/lemdwab/examples/library.c"
     asked = f"PKG_CONFIG_LIBDIR={tree}/lib/pkgconfig"
@@ -120,7 +124,7 @@ def builds(run, tree, folder):
             yield f"library.c, {name}, prints {ran.output!r}: {ran.fault()}"
 
 
-def proved(tree, commit, given):
+def proved(tree: Path, commit: str, given: bool) -> Iterator[str]:
     """Sees that PROVED names the commit, says what was given, and what is trusted."""
     said = (tree / "share/doc/lemdwab/PROVED").read_text(encoding="utf-8")
     for wanted in (commit, "WHAT IS TRUSTED", "aia_laws", "liblibc_c.a"):

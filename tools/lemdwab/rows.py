@@ -1,5 +1,5 @@
-"""The rows of suite/rows: scripts with their answers, and what suite/make makes of them. suite/README.md
-says how a row is written."""
+"""The rows of suite/rows: scripts with their answers, and what suite/make makes of them.
+suite/README.md says how a row is written."""
 
 import re
 from collections.abc import Iterator
@@ -45,8 +45,9 @@ pub fn {theorem}()
 
 
 class Row(NamedTuple):
-    """A script with its answers: the name of its constant and of its theorem, its files without their
-    ending, whether no line feed ends it, what it shows, and its lines, each with its answer."""
+    """A script with its answers: the name of its constant and of its theorem, its files without
+    their ending, whether no line feed ends it, what it shows, and its lines, each with its
+    answer."""
 
     name: str
     theorem: str
@@ -217,8 +218,8 @@ def module_of(subject: Subject) -> str:
 # ---- the files
 
 def scripts_of(row: Row) -> Iterator[tuple[str, str]]:
-    """Gives the files of a row: its script, below a comment that says what it shows, and its answers.
-    One of examples/ stands there too, and has no such comment."""
+    """Gives the files of a row: its script, below a comment that says what it shows, and its
+    answers. One of examples/ stands there too, and has no such comment."""
     head = wrapped(row.shows, "#") if row.path.startswith("suite/") and row.lines else ""
     script = head + "\n".join(line for line, _ in row.lines)
     script += "" if row.is_unended or not row.lines else "\n"

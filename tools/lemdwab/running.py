@@ -5,6 +5,8 @@ A command is run by a worker thread alone. So a signal, which comes to the main 
 the start of a process in two: it waits for that start, ends all that runs, and ends the tool.
 """
 
+from __future__ import annotations
+
 import getopt
 import os
 import selectors
@@ -14,9 +16,10 @@ import sys
 import tempfile
 import threading
 import time
+from collections.abc import Callable
 from concurrent.futures import ThreadPoolExecutor
 from pathlib import Path
-from typing import NamedTuple
+from typing import Any, NamedTuple, NoReturn
 
 if sys.version_info < (3, 10):
     print(f"{Path(sys.argv[0]).name}: Python 3.10 or later is wanted", file=sys.stderr)
@@ -41,7 +44,7 @@ class Ran(NamedTuple):
     stopped: str
     errors: str
 
-    def fault(self):
+    def fault(self) -> str:
         """Says in words what is wrong with the end, with the line of the command's own that says
         why; nothing where it ended with status 0."""
         if not (self.stopped or self.status):
@@ -55,15 +58,15 @@ class Ran(NamedTuple):
 class Pace:
     """Says on standard error how far a tool is: each ten seconds on a terminal, else a minute."""
 
-    def __init__(self):
+    def __init__(self) -> None:
         self.every = 10 if sys.stderr.isatty() else 60
         self.began = self.last = time.monotonic()
 
-    def left(self):
+    def left(self) -> float:
         """Gives in how many seconds it is time to say something."""
         return max(0, self.last + self.every - time.monotonic())
 
-    def tell(self, how_far):
+    def tell(self, how_far: str) -> None:
         """Says how far the tool is, if it is time to."""
         if not self.left():
             self.last = time.monotonic()
@@ -77,13 +80,13 @@ class State:
 
     manual = ""
     lock = threading.Lock()
-    running = set()
+    running: set[subprocess.Popen[bytes]] = set()
     is_stopping = False
     stopped_by = ""
     grace = GRACE
 
 
-def ending(status):
+def ending(status: int) -> str:
     """Says how a command ended: with a status, or by which signal."""
     if status >= 0:
         return f"ended with status {status}"
@@ -94,26 +97,26 @@ def ending(status):
     return f"was killed by signal {-status}{name}"
 
 
-def fail(message):
+def fail(message: str) -> NoReturn:
     """Ends the tool with status 2 and a message."""
     print(f"{Path(sys.argv[0]).name}: {message}", file=sys.stderr)
     sys.exit(2)
 
 
-def usage(reason):
+def usage(reason: str) -> NoReturn:
     """Ends the tool with status 2, and says what is wrong with the words."""
     name = Path(sys.argv[0]).name
     print(f"{name}: {reason}\n{name} -h says more", file=sys.stderr)
     sys.exit(2)
 
 
-def tell_help():
+def tell_help() -> NoReturn:
     """Prints the tool's head comment, and ends it with status 0."""
     print(State.manual, flush=True)
     sys.exit(0)
 
 
-def words(short, *long):
+def words(short: str, *long: str) -> tuple[dict[str, str], list[str], bool]:
     """Reads the words of the command line: gives the options by their names, with the values of
     those that have one, the other words, and whether `--` stands before these. Where help is asked
     for it is given, and nothing else is done."""
@@ -129,7 +132,7 @@ def words(short, *long):
     return {name.lstrip("-"): value for name, value in options}, rest, is_divided
 
 
-def number(text, what, least, most):
+def number(text: str, what: str, least: int, most: int) -> int:
     """Gives the number that a word spells in decimal, within bounds."""
     if not (text.isascii() and text.isdigit() and len(text) <= 20
             and least <= int(text) <= most):
@@ -137,7 +140,7 @@ def number(text, what, least, most):
     return int(text)
 
 
-def folder_given():
+def folder_given() -> Path:
     """Gives the one folder that the words may name, else the top of this repository."""
     _, rest, _ = words("")
     if len(rest) > 1:
@@ -148,7 +151,7 @@ def folder_given():
     return folder
 
 
-def write_below(folder, files):
+def write_below(folder: Path, files: dict[str, str]) -> None:
     """Writes files, by their names below a folder, with their texts."""
     for name, text in files.items():
         path = folder / name
@@ -157,8 +160,8 @@ def write_below(folder, files):
 
 
 def numbers_given(*kinds: tuple[str, int, int, int]) -> list[int]:
-    """Gives the numbers that the words are, each with its name, what it is where it is not given, and
-    its least and its greatest value."""
+    """Gives the numbers that the words are, each with its name, what it is where it is not given,
+    and its least and its greatest value."""
     _, rest, _ = words("")
     if len(rest) > len(kinds):
         usage(f"{' and '.join(kind[0] for kind in kinds)} at most are wanted")
@@ -166,12 +169,20 @@ def numbers_given(*kinds: tuple[str, int, int, int]) -> list[int]:
             for at, (name, usual, least, most) in enumerate(kinds)]
 
 
-def counted(number_, word):
+def command_given(*known: str) -> str:
+    """Gives the one word that was given, of those that are known, or nothing."""
+    _, rest, _ = words("")
+    if rest not in ([], *([one] for one in known)):
+        usage("no word is wanted" + "".join(f", or `{one}`" for one in known))
+    return rest[0] if rest else ""
+
+
+def counted(number_: int, word: str) -> str:
     """Says how many there are of something, as 1 line, 2 lines."""
     return f"{number_} {word}" + ("" if number_ == 1 else "s")
 
 
-def contents(path):
+def contents(path: Path | str) -> bytes:
     """Gives the bytes of a file."""
     try:
         return Path(path).read_bytes()
@@ -179,7 +190,7 @@ def contents(path):
         fail(f"{path} can't be read: {wrong.strerror}")
 
 
-def tell(process, signal_number):
+def tell(process: subprocess.Popen[bytes], signal_number: Any) -> None:
     """Sends a signal to a command and to all that it has started in its group."""
     try:
         os.killpg(process.pid, signal_number)
@@ -187,7 +198,7 @@ def tell(process, signal_number):
         pass
 
 
-def kill(processes):
+def kill(processes: list[subprocess.Popen[bytes]] | set[subprocess.Popen[bytes]]) -> None:
     """Ends commands and their groups: they are told first, so that they may end what they have
     started, and have one grace together."""
     for process in processes:
@@ -201,7 +212,7 @@ def kill(processes):
         tell(process, signal.SIGKILL)
 
 
-def stop(signal_number, _frame):
+def stop(signal_number: int, _frame: Any) -> NoReturn:
     """Ends all that runs, and the tool with the status that the signal has in a shell."""
     for each in STOPPING:
         signal.signal(each, signal.SIG_IGN)
@@ -211,13 +222,13 @@ def stop(signal_number, _frame):
     sys.exit(128 + signal_number)
 
 
-def end_running():
+def end_running() -> None:
     """Ends all that runs now; the tool goes on."""
     with State.lock:
         kill(State.running)
 
 
-def main(tool):
+def main(tool: Callable[..., Any]) -> None:
     """Runs a tool, a function that gives its exit status, and ends with that. The head comment of
     its module is its help."""
     State.manual = (sys.modules[tool.__module__].__doc__ or "").strip()
@@ -242,12 +253,12 @@ def main(tool):
 class Workers(ThreadPoolExecutor):
     """Threads that run commands, so many at a time; what has not begun by its end is left out."""
 
-    def __exit__(self, *_):
+    def __exit__(self, *_: Any | type[Any] | None) -> bool:
         self.shutdown(wait=True, cancel_futures=True)
         return False
 
 
-def start(command, text, errors):
+def start(command: list[str], text: bytes, errors: int) -> subprocess.Popen[bytes]:
     """Starts a command with a text on its standard input, in a group of its own."""
     with State.lock, tempfile.TemporaryFile() as source:
         source.write(text)
@@ -260,7 +271,8 @@ def start(command, text, errors):
         return process
 
 
-def gather(process, deadline, most):
+def gather(process: subprocess.Popen[bytes], deadline: float,
+           most: int) -> tuple[bytearray, bytearray, str]:
     """Reads what a command writes until it ends; gives its answers, what it said, and why it has
     to be stopped."""
     found, said = bytearray(), bytearray()
@@ -283,7 +295,8 @@ def gather(process, deadline, most):
     return found, said, ""
 
 
-def run(command, text, seconds, most, are_errors_shown=False):
+def run(command: list[str], text: bytes, seconds: int, most: int,
+        are_errors_shown: bool = False) -> Ran:
     """Runs a command with a text on its standard input, for so many seconds and bytes of answers at
     most; called by a worker. Errors that are shown go to the tool's own standard error."""
     deadline = time.monotonic() + seconds
@@ -314,7 +327,7 @@ def run(command, text, seconds, most, are_errors_shown=False):
                said[:KEPT_ERRORS].decode(errors="backslashreplace").strip())
 
 
-def check_started(ran, command):
+def check_started(ran: Ran, command: list[str]) -> None:
     """Ends the tool where a command could not be started."""
     if ran.status in NOT_STARTED and not ran.stopped:
         why = ran.errors.splitlines()[:1]
@@ -324,7 +337,7 @@ def check_started(ran, command):
              + (f": {why[0]}" if why else ""))
 
 
-def tried(workers, command, seconds):
+def tried(workers: Workers, command: list[str], seconds: int) -> Ran:
     """Starts a command over an empty script, for so many seconds at most; gives how it ended. Ends
     the tool where it could not be started."""
     ran = workers.submit(run, command, b"", seconds, 1 << 16).result()
@@ -332,7 +345,7 @@ def tried(workers, command, seconds):
     return ran
 
 
-def model_command(workers):
+def model_command(workers: Workers) -> list[str]:
     """Gives the command of the model: that of the variable PROGRAM, or the program of this
     repository, which is built first where it has to be."""
     program = os.environ.get("PROGRAM")

@@ -1,10 +1,15 @@
 """Random scripts as suite/random and suite/hunt draw them: those of lemdwab.apart.random_scripts,
 with what is not wanted left out."""
 
-from typing import NamedTuple
+from __future__ import annotations
+
+from typing import TYPE_CHECKING, Any, NamedTuple
 
 from lemdwab import answers, running
 from lemdwab.apart import model, random_scripts
+
+if TYPE_CHECKING:
+    from lemdwab.answers import Known
 
 LINES = ("only=", "without=", "machine=", "mood=", "refused=", "begin=")
 SEEDS = (1 << 64) - 1
@@ -16,15 +21,15 @@ LOOKED = 100
 class Draw(NamedTuple):
     """What a random script is told."""
 
-    only: set = None
-    sizes: tuple = None
-    mood: str = None
-    refused: int = None
-    without: tuple = ()
-    begin: tuple = ()
+    only: set[str] | None = None
+    sizes: tuple[int, int, int, int] | None = None
+    mood: str | None = None
+    refused: int | None = None
+    without: tuple[str, ...] = ()
+    begin: tuple[bytes, ...] = ()
 
 
-def draw_of(given):
+def draw_of(given: dict[str, str]) -> Draw:
     """Reads the options of a draw."""
     mood, refused = given.get("mood"), given.get("refused")
     if mood is not None and mood not in random_scripts.MOODS:
@@ -37,13 +42,13 @@ def draw_of(given):
         beginning(given["begin"]) if "begin" in given else ())
 
 
-def beginning(path):
+def beginning(path: str) -> tuple[bytes]:
     """Reads the lines that stand behind the machine of each script."""
     return tuple(text for text in answers.reading.texts(running.contents(path))
                  if not answers.reading.is_skipped(text))
 
 
-def begun(script, begin):
+def begun(script: bytes, begin: tuple[bytes, ...]) -> tuple[bytes, int]:
     """Gives a script with these lines behind its machine, and how many lines that have an answer
     stand before them."""
     texts, before = script.split(b"\n"), 0
@@ -60,12 +65,12 @@ class Filter:
     patterns, but for `machine`, and of those that are refused a share. A line that is refused
     changes nothing, so any may be left out."""
 
-    def __init__(self, draw):
+    def __init__(self, draw: Draw) -> None:
         self.draw = draw
         self.twin = model.Script()
         self.said = self.refused = 0
 
-    def keeps(self, text):
+    def keeps(self, text: bytes) -> tuple[bool, str | None]:
         """Says whether a line is said, and what a model answers."""
         line = answers.shown(text)
         form = answers.form(line)
@@ -85,20 +90,20 @@ class Filter:
         self.refused += is_refused
         return True, answer
 
-    def wants_refused(self):
+    def wants_refused(self) -> bool:
         """Says whether a line that is refused is wanted now, so that the share is kept."""
         percent = self.draw.refused
         return percent is not None and 100 * (self.refused + 1) <= percent * (self.said + 1)
 
 
-def script_of(seed, count, draw):
+def script_of(seed: int, count: int, draw: Draw) -> bytes:
     """Gives the script of a seed, of so many lines, or of fewer where no more are wanted."""
     is_filtered = draw.only or draw.without or draw.refused is not None
     return random_scripts.Generator(seed, count, mood=draw.mood, sizes=draw.sizes,
                                     filter_=Filter(draw) if is_filtered else None).script()
 
 
-def unmet(draw, known, seeds, count):
+def unmet(draw: Draw, known: Known, seeds: range, count: int) -> tuple[list[Any], int]:
     """Lists the forms and patterns of a draw, and those of what is known, that no line fits of the
     first of these scripts, with what each is of; and gives how many scripts these are."""
     left = [*(("only", form) for form in sorted((draw.only or set()) - {"machine"})),

@@ -1,8 +1,15 @@
 """Shrinks a script that two programs answer differently to the fewest lines that still are."""
 
+from __future__ import annotations
+
 import time
+from collections.abc import Callable
+from typing import TYPE_CHECKING, Any
 
 from lemdwab import answers
+
+if TYPE_CHECKING:
+    from lemdwab.hunting import Found
 
 # The most runs of a command, and the most seconds, that a shrinking takes.
 MOST_RUNS = 2000
@@ -13,7 +20,7 @@ NEAR = 8
 SMALLER = ((1, 2, 3), (0, 1, 2), (63, 127, 255, 511, 1023), (1, 8, 32))
 
 
-def script_of(texts):
+def script_of(texts: list[bytes]) -> bytes:
     """Gives lines as a script."""
     return b"".join(text + b"\n" for text in texts)
 
@@ -30,35 +37,37 @@ class Shrinker:
     without a run, unless the first time shows that it is wanted; so `seen` keeps the lines of the
     last run that differed. `tell` is called with the shrinker each time that lines are taken."""
 
-    def __init__(self, script, try_, is_machine_fixed=False, times=1, tell=None):
+    def __init__(self, script: bytes, try_: Callable[..., Any], is_machine_fixed: bool = False,
+                 times: int = 1, tell: Callable[..., Any] | None = None) -> None:
         self.try_, self.is_machine_fixed, self.times = try_, is_machine_fixed, times
         self.tell = tell or (lambda _: None)
         self.runs, self.deadline = 0, time.monotonic() + LONGEST
-        self.allowed, self.kind, self.cuts = answers.MISTAKES, None, True
+        self.allowed, self.cuts = answers.MISTAKES, True
+        self.kind: str | None = None
         # The place of the line whose answer differs.
-        self.target = None
+        self.target: int | None = None
         self.texts = [text for text in answers.reading.texts(script)
                       if not answers.reading.is_skipped(text)]
         self.seen = self.texts
 
-    def script(self):
+    def script(self) -> bytes:
         """Gives the lines that are left, as a script."""
         return script_of(self.texts)
 
-    def seen_script(self):
+    def seen_script(self) -> bytes:
         """Gives the lines over which a difference was last seen, as a script."""
         return script_of(self.seen)
 
-    def read(self, at):
+    def read(self, at: int) -> tuple[str, list[int]]:
         """Gives the form and the fields of a line."""
         return answers.reading.read(self.texts[at])
 
-    def is_kept(self, found, target):
+    def is_kept(self, found: Found, target: int | None) -> bool:
         """Says whether a difference is of the kind that is kept, and of the line at this place."""
         return (self.kind in (None, found.kind) and (self.kind != "answer" or found.at == target)
                 and found.model not in answers.MISTAKES - self.allowed)
 
-    def tried(self, texts, target=None):
+    def tried(self, texts: list[bytes], target: int | None = None) -> Found | None:
         """Gives the first difference over these lines, if it is one to be kept, by some of the runs
         that are left; None where none came."""
         for _ in range(self.times):
@@ -70,7 +79,7 @@ class Shrinker:
                 return found
         return None
 
-    def takes(self, texts, target):
+    def takes(self, texts: list[bytes], target: int | None) -> bool:
         """Takes these lines, up to the first difference, if it is one to be kept; `target` is the
         place that the line whose answer differs has among them."""
         found = self.tried(texts, target)
@@ -82,18 +91,18 @@ class Shrinker:
         self.tell(self)
         return True
 
-    def kept(self):
+    def kept(self) -> set[int]:
         """Gives the place of the line that stays, if there is one."""
         return {self.target} if self.kind == "answer" else set()
 
-    def takes_without(self, places):
+    def takes_without(self, places: set[int]) -> bool:
         """Takes the lines but for those at these places, and the one that stays."""
         places = places - self.kept()
         before = sum(at < self.target for at in places)
         return bool(places) and self.takes(
             [text for at, text in enumerate(self.texts) if at not in places], self.target - before)
 
-    def begin(self):
+    def begin(self) -> bool:
         """Cuts off what stands behind the first difference, and settles the kind that is kept: that
         without these lines, which may differ in other ways; or that of the whole, where they are
         wanted. Says whether a difference came."""
@@ -108,7 +117,7 @@ class Shrinker:
             self.kind, self.target = found.kind, found.at
         return bool(found)
 
-    def leave_out(self):
+    def leave_out(self) -> bool:
         """Leaves out runs of lines, ever shorter ones, from the end on; then two near each other.
         Says whether that made the script shorter."""
         before = len(self.texts)
@@ -129,7 +138,7 @@ class Shrinker:
             first = min(first, len(self.texts)) - 1
         return len(self.texts) < before
 
-    def make_smaller(self):
+    def make_smaller(self) -> bool:
         """Gives the machine less of each of its numbers, unless they are fixed. Says whether it
         took less."""
         if self.is_machine_fixed:
@@ -147,7 +156,7 @@ class Shrinker:
                     break
         return list(sizes) != before
 
-    def make_whole(self):
+    def make_whole(self) -> bool:
         """Makes whole moves of those by steps. Says whether that made the script shorter."""
         before = len(self.texts)
         for at in range(before - 1, -1, -1):
@@ -157,7 +166,7 @@ class Shrinker:
                 self.takes_whole(at, fields[:2])
         return len(self.texts) < before
 
-    def takes_whole(self, at, mover):
+    def takes_whole(self, at: int, mover: Any) -> bool:
         """Takes a whole move in the place of one by steps that begins at a place."""
         rest = [place for place in range(at + 1, len(self.texts))
                 if answers.reading.read(self.texts[place]) != ("step", mover)]
@@ -170,16 +179,16 @@ class Shrinker:
             if self.takes(texts, target):
                 return
 
-    def spell(self):
+    def spell(self) -> None:
         """Spells great numbers as addresses are, and others without zeros in front."""
-        def plain(word):
+        def plain(word: bytes) -> bytes:
             value = answers.reading.number(word)
             if value is None or word.isdigit() and value < answers.GREAT:
                 return word
             return b"0x%x" % value
         self.takes([b" ".join(map(plain, text.split(b" "))) for text in self.texts], self.target)
 
-    def shrink(self):
+    def shrink(self) -> bool:
         """Makes the script as short as it gets; says whether a difference came at first."""
         if not self.begin():
             return False

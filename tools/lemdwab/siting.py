@@ -1,11 +1,15 @@
 """What suite/site looks for in a site: links that lead somewhere, laws that are reached, trees that
 end, and answers that are the program's."""
 
+from __future__ import annotations
+
 import json
 import posixpath
 import re
+from collections.abc import Iterator
 from html import unescape
 from pathlib import Path
+from typing import TYPE_CHECKING, Any
 from urllib.parse import unquote
 
 from lemdwab import answers, running
@@ -13,6 +17,9 @@ from lemdwab.documents import site_documents, site_laws, site_scripts
 from lemdwab.documents.antt import all_modules, module_path
 from lemdwab.documents.functions import dedented
 from lemdwab.documents.naming import spec_page
+
+if TYPE_CHECKING:
+    from lemdwab.running import Workers
 
 TAG = re.compile(r"<(\w+)((?:\s+[\w-]+(?:=\"[^\"]*\")?)*)\s*/?>")
 VALUE = re.compile(r"([\w-]+)=\"([^\"]*)\"")
@@ -25,9 +32,11 @@ MOST = 10
 class Page:
     """A page: its anchors, and its links as (tag, place, anchor), outer ones apart."""
 
-    def __init__(self, place, text):
+    def __init__(self, place: str, text: str) -> None:
         self.place, self.text = place, text
-        self.anchors, self.links, self.outer = set(), [], []
+        self.anchors: set[str] = set()
+        self.links: list[tuple[str, str, str]] = []
+        self.outer: list[tuple[str, str]] = []
         for tag, rest in TAG.findall(text):
             values = dict(VALUE.findall(rest))
             if "id" in values:
@@ -36,7 +45,7 @@ class Page:
             if link is not None:
                 self.take(tag, unescape(link))
 
-    def take(self, tag, link):
+    def take(self, tag: str, link: str) -> None:
         """Takes a link, by the place to which it leads."""
         if re.match(r"[a-z]+:|//", link):
             self.outer.append((tag, link))
@@ -50,23 +59,23 @@ class Page:
 class Pages:
     """A site in a folder, which is read once."""
 
-    def __init__(self, folder):
+    def __init__(self, folder: Path) -> None:
         self.folder = Path(folder)
         self.files = {str(path.relative_to(self.folder)) for path in self.folder.rglob("*")
                       if path.is_file()}
-        self.pages = {}
+        self.pages: dict[str, Page] = {}
         for place in sorted(self.files):
             if place.endswith(".html"):
                 self.read(place)
         self.seen = self.reached()
         self.code, self.owner = codes(self)
 
-    def read(self, place):
+    def read(self, place: str) -> None:
         """Reads a page."""
         text = (self.folder / place).read_text(encoding="utf-8")
         self.pages[place] = Page(place, text)
 
-    def reached(self):
+    def reached(self) -> set[str]:
         """Gives the places to which links lead from the start page."""
         seen, open_ = {FIRST}, [FIRST]
         while open_:
@@ -80,7 +89,7 @@ class Pages:
 
 # ---- links
 
-def dead_links(site):
+def dead_links(site: Pages) -> Iterator[Any]:
     """Says which links lead to no file or no anchor, and which want a network."""
     for page in site.pages.values():
         for tag, place, anchor in page.links:
@@ -93,7 +102,7 @@ def dead_links(site):
                 yield f"{page.place} loads {link}"
 
 
-def out_of_reach(site):
+def out_of_reach(site: Pages) -> Iterator[Any]:
     """Says which pages no links lead to from the start page."""
     for place in sorted(set(site.pages) - site.seen):
         yield f"no links lead from the start page to {place}"
@@ -101,7 +110,7 @@ def out_of_reach(site):
 
 # ---- laws
 
-def laws(site):
+def laws(site: Pages) -> Iterator[Any]:
     """Says which sentence of README has no law, and which law is not reached from the start
     page."""
     claims, rows = site_documents.claims(), site_documents.proved()
@@ -122,7 +131,7 @@ def laws(site):
             yield from stands(site, site_laws.place_of(one), f"the law {one.name} of {one.crate}")
 
 
-def stands(site, place, what):
+def stands(site: Pages, place: str, what: str) -> Iterator[Any]:
     """Says where a place is not there, or no links lead to its page."""
     page, _, anchor = place.partition("#")
     if page not in site.pages or anchor and anchor not in site.pages[page].anchors:
@@ -131,7 +140,7 @@ def stands(site, place, what):
         yield f"{what} is not reached from the start page"
 
 
-def linked_sentences(site):
+def linked_sentences(site: Pages) -> Iterator[Any]:
     """Says which sentence of README has no link to what carries it on the start page."""
     marks = "".join(re.findall(r'(?s)<sup class="laws">.*?</sup>', site.pages[FIRST].text))
     there = {(place, anchor) for _, place, anchor in Page(FIRST, marks).links}
@@ -145,13 +154,13 @@ def linked_sentences(site):
 
 # ---- lines
 
-def shown_lines(page):
+def shown_lines(page: Page) -> list[str]:
     """Gives the blocks of code of a page as text."""
     blocks = re.findall(r"(?s)<pre[^>]*>(.*?)</pre>", page.text)
     return [unescape(re.sub(r"<[^>]*>", "", block)) for block in blocks]
 
 
-def whole_modules(site):
+def whole_modules(site: Pages) -> Iterator[Any]:
     """Says which module's page lacks a line of its definitions."""
     for crate, module in all_modules():
         page = site.pages.get(spec_page(crate, module))
@@ -161,7 +170,7 @@ def whole_modules(site):
                 yield f"{spec_page(crate, module)} does not show the line {line}"
 
 
-def whole_contracts(site):
+def whole_contracts(site: Pages) -> Iterator[Any]:
     """Says which law or public call does not stand in the site as in its source."""
     shown = {}
     for one in site_laws.all_functions():
@@ -174,12 +183,12 @@ def whole_contracts(site):
 
 # ---- trees
 
-def tree_of(page):
+def tree_of(page: Page) -> str:
     """Gives the part of a page that is a tree; nothing where there is none."""
     return page.text.partition('<ul class="tree">')[2].partition("</main>")[0]
 
 
-def is_ended(text):
+def is_ended(text: str) -> bool:
     """Says whether each list of a tree has something in it, and each fold ends."""
     depth, empty = [], 0
     for end, tag in re.findall(r"<(/?)(ul|li|details)\b", '<ul class="tree">' + text):
@@ -200,12 +209,12 @@ def is_ended(text):
     return not depth and not empty and folds == ends
 
 
-def definitions_of(text):
+def definitions_of(text: str) -> list[str]:
     """Gives the definitions that the rows of a tree unfold, by their places."""
     return re.findall(r'<summary><a href="([^"]+)">', text)
 
 
-def trees(site):
+def trees(site: Pages) -> Iterator[Any]:
     """Says which law has no tree, or one that does not end or lacks what its lines name."""
     for page in site.pages.values():
         is_row = re.fullmatch(r"laws/aia_\w+\.html", page.place)
@@ -222,7 +231,7 @@ def trees(site):
         yield from () if is_row else left_out(site, page, text)
 
 
-def left_out(site, page, text):
+def left_out(site: Pages, page: Page, text: str) -> Iterator[Any]:
     """Says what a tree leaves out that the lines of its law, or of a definition in it, name."""
     folder = posixpath.dirname(page.place)
     rows = [posixpath.normpath(posixpath.join(folder, unescape(link)))
@@ -242,7 +251,7 @@ def left_out(site, page, text):
                 yield f"the tree of {page.place} leaves out {leads}, which {at} names"
 
 
-def codes(site):
+def codes(site: Pages) -> tuple[dict[str, str], dict[str, str]]:
     """Gives the lines of each definition by its place, and of each place the definition that it is
     of, parts of it too."""
     code, owner = {}, {}
@@ -260,13 +269,13 @@ def codes(site):
 
 # ---- sliders
 
-def data_of(page):
+def data_of(page: Page) -> list[list[int | str]] | None:
     """Gives the data of a slider; None where the page has none."""
     found = re.search(r'(?s)<script id="slides" type="application/json">(.*?)</script>', page.text)
     return json.loads(found[1]) if found else None
 
 
-def sliders(site, workers):
+def sliders(site: Pages, workers: Workers) -> Iterator[Any]:
     """Says which slider does not show what answers the program gives to the example."""
     command, _ = site_scripts.answering()
     for path in site_scripts.examples():
@@ -289,7 +298,7 @@ def sliders(site, workers):
 
 # ---- all of it
 
-def faults(site, workers):
+def faults(site: Pages, workers: Workers) -> dict[str, list[Any]]:
     """Gives all that is wrong with a site, by its kind."""
     return {"links": list(dead_links(site)), "reach": list(out_of_reach(site)),
             "laws": [*laws(site), *linked_sentences(site)],
@@ -297,7 +306,7 @@ def faults(site, workers):
             "sliders": list(sliders(site, workers))}
 
 
-def tell(found):
+def tell(found: dict[str, list[Any]]) -> int:
     """Prints what is wrong, the first few of each kind; gives how many there are."""
     for lines in found.values():
         for line in lines[:MOST]:

@@ -11,8 +11,8 @@ ORDINALS = "first second third fourth fifth sixth seventh eighth".split()
 PLANS = re.compile(r"(aia_vcpu/src/access|aia_move/src/phase)\.rt$")
 # Those that follow two sets from the first take on, wherever it stands.
 SETS = re.compile(r"aia_vcpu_places/proofs/(SetSteps|FileLemmas|MoveEnds)\.antt$")
-# What is not looked through: the plans and their tables, tests and rows, crates that know of no move
-# and count the steps of a search, and those that judge plans as any list of steps.
+# What is not looked through: the plans and their tables, tests and rows, crates that know of no
+# move and count the steps of a search, and those that judge plans as any list of steps.
 LEFT_OUT = re.compile(
     r"crates/(?:aia_vcpu/(?:specs/Plans|proofs/PlanLemmas)\.antt$|"
     r"aia_move/proofs/(?:leave|arrive|shift|moves)/|aia_move_values/proofs/PhaseSteps\.antt$|"

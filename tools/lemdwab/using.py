@@ -5,12 +5,18 @@ A use is a function of another crate that calls a law, so that its answer may na
 as `c.LAW.ensures.CLAUSE`. A crate of uses is one whose name ends in `_uses`, or that has a module
 `uses`."""
 
+from __future__ import annotations
+
 import re
 from functools import cache
 from pathlib import Path
+from typing import TYPE_CHECKING
 
 from lemdwab import running, weakening
 from lemdwab.running import TOP
+
+if TYPE_CHECKING:
+    from lemdwab.weakening import Clause
 
 CALLED = re.compile(r"^use (\w+)::([^;]*);", re.M)
 CITED = re.compile(r"\bc\.([a-z]\w*)(?:-\d+)?\.ensures(?:\.([a-z]\w*))?")
@@ -19,7 +25,7 @@ MODULE, FILE = "use_", "Use"
 
 
 @cache
-def below(top=TOP):
+def below(top: Path = TOP) -> dict[str, list[str]]:
     """Gives of each crate of crates.txt the crates that it names."""
     text = running.contents(Path(top) / "crates.txt").decode()
     return {line.group(1): line.group(2).split()
@@ -27,25 +33,25 @@ def below(top=TOP):
 
 
 @cache
-def all_below(crate):
+def all_below(crate: str) -> set[str]:
     """Lists the crates that a crate stands on, however far below."""
     return {name for one in below().get(crate, ()) for name in (one, *all_below(one))}
 
 
-def crates_of_uses():
+def crates_of_uses() -> list[str]:
     """Lists the crates of uses."""
     return [name for name in below() if name.endswith("_uses")
             or (TOP / "crates" / name / "src/uses.rt").is_file()]
 
 
 @cache
-def called(path):
+def called(path: Path) -> dict[str, str]:
     """Gives of each law that a source file calls by name the crate that it is of."""
     return {name: crate for crate, names in CALLED.findall(weakening.text_of(path))
             for name in re.findall(r"\w+", names)}
 
 
-def source_of(crate, answers):
+def source_of(crate: str, answers: Path) -> tuple[Path, str]:
     """Gives the source file in which the function of some answers stands, and its path."""
     folder = answers.relative_to(TOP / "crates" / crate / "proofs").parent
     module, src = folder.parent, TOP / "crates" / crate / "src"
@@ -57,7 +63,7 @@ def source_of(crate, answers):
 
 
 @cache
-def citations():
+def citations() -> dict[tuple[str, str, str], list[str]]:
     """Gives of each clause that is cited from outside its crate, by crate, law and name, the
     functions that cite it; of a law with one clause, which has no name, the name is empty."""
     found = {}
@@ -74,7 +80,7 @@ def citations():
     return found
 
 
-def uses_of(clause):
+def uses_of(clause: Clause) -> list[str]:
     """Lists the functions that cite a clause from outside its crate; one that has no name is all
     that its law says."""
     return sorted({use for (crate, law, name), uses in citations().items()
@@ -84,13 +90,13 @@ def uses_of(clause):
 
 # ---- moving them
 
-def files_of(crate, module):
+def files_of(crate: str, module: str) -> list[Path]:
     """Lists the files of a module of a crate: its source, and the answers of its functions."""
     top = TOP / "crates" / crate
     return [top / "src" / f"{module}.rt", *sorted((top / "proofs" / module).rglob("*.antt"))]
 
 
-def needed(crate, files):
+def needed(crate: str, files: list[Path]) -> tuple[set[str], set[tuple[str, str]]]:
     """Gives which modules of a crate, and which files of its specs/ and proofs/, files name."""
     text = "".join(weakening.text_of(path) for path in files)
     modules = re.findall(rf"\bcrate::(?!specs\b|proofs\b)([a-z]\w*)"
@@ -101,7 +107,7 @@ def needed(crate, files):
             {(one[0] or one[2], one[1] or one[3]) for one in others})
 
 
-def closure(crate, module):
+def closure(crate: str, module: str) -> tuple[set[str], set[tuple[str, str]]]:
     """Gives the modules that a module needs with itself, and the files of specs/ and proofs/."""
     modules, others, left = set(), set(), [(module, None)]
     while left:
@@ -116,7 +122,7 @@ def closure(crate, module):
     return modules, others
 
 
-def movable(uses, laws):
+def movable(uses: str, laws: str) -> tuple[list[str], list[tuple[str, str]]]:
     """Gives the modules of a crate of uses that use laws of a crate, with all that they need, and
     those files; but no module that stands on what is above that crate."""
     modules, others = set(), set()
@@ -132,7 +138,7 @@ def movable(uses, laws):
     return sorted(modules), sorted(others)
 
 
-def renamed(text, uses, laws):
+def renamed(text: str, uses: str, laws: str) -> str:
     """Gives a text of a crate of uses with the names that it has in the crate of the laws."""
     specs, proofs = f"Rattle.{laws}.specs.", f"Rattle.{laws}.proofs."
     for old, new in ((rf"\bRattle\.{uses}\.specs\.declared\.", f"{specs}declared.{MODULE}"),
@@ -145,7 +151,7 @@ def renamed(text, uses, laws):
     return text
 
 
-def put(path, text):
+def put(path: Path, text: str) -> None:
     """Writes a file, which is not there yet."""
     if path.exists():
         running.fail(f"{path} is there already")
@@ -153,21 +159,21 @@ def put(path, text):
     path.write_text(text, encoding="utf-8")
 
 
-def add(path, line):
+def add(path: Path, line: str) -> None:
     """Adds a line to a file."""
     had = path.read_text(encoding="utf-8") if path.exists() else ""
     path.parent.mkdir(parents=True, exist_ok=True)
     path.write_text(f"{had}{line}\n", encoding="utf-8")
 
 
-def movable_files(uses, laws):
+def movable_files(uses: str, laws: str) -> list[Path]:
     """Lists the files of the uses that can be moved."""
     modules, others = movable(uses, laws)
     return ([path for module in modules for path in files_of(uses, module)]
             + [TOP / "crates" / uses / part / f"{name}.antt" for part, name in others])
 
 
-def move(copy, uses, laws):
+def move(copy: Path, uses: str, laws: str) -> None:
     """Moves the uses of a crate's laws into that crate, in a copy of the repository."""
     modules, others = movable(uses, laws)
     crate, top = Path(copy) / "crates" / laws, TOP / "crates" / uses
@@ -185,21 +191,21 @@ def move(copy, uses, laws):
         stand_on(copy, uses, laws)
 
 
-def beside(uses, laws):
+def beside(uses: str, laws: str) -> list[str]:
     """Lists what the uses of a crate's laws stand on beside what it stands on itself, but for it
     and what is above it."""
     return [name for name in below()[uses]
             if name != laws and name not in below()[laws] and laws not in all_below(name)]
 
 
-def wanted(laws):
+def wanted(laws: str) -> set[str]:
     """Gives the crates that a copy wants, in which the uses of a crate's laws stand in it."""
     names = {laws, *(name for uses in crates_of_uses() if movable(uses, laws)[0]
                      for name in beside(uses, laws))}
     return names | {name for one in names for name in all_below(one)}
 
 
-def stand_on(copy, uses, laws):
+def stand_on(copy: Path, uses: str, laws: str) -> None:
     """Has the crate of the laws stand on what its uses stand on."""
     path = Path(copy) / "crates.txt"
     more = beside(uses, laws)
@@ -208,7 +214,7 @@ def stand_on(copy, uses, laws):
                            flags=re.M), encoding="utf-8")
 
 
-def is_use(laws, place):
+def is_use(laws: str, place: str) -> bool:
     """Says whether a function or a file of proofs of the crate of the laws, with uses in it, is one
     of a use, or of what is worked there."""
     first = place.partition("::")[0]

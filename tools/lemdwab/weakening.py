@@ -6,9 +6,13 @@ premise, and *above* where it says less once it holds of more, as in what follow
 `not`, and a premise within a premise, turn this round; in an equation of two values it stands both
 ways. So it goes on from a definition to those that it names."""
 
+from __future__ import annotations
+
 import re
+from collections.abc import Iterator
 from functools import cache
-from typing import NamedTuple
+from pathlib import Path
+from typing import Any, NamedTuple
 
 from lemdwab.running import TOP
 
@@ -35,7 +39,7 @@ class Clause(NamedTuple):
     name: str
     says: str
 
-    def shown(self):
+    def shown(self) -> str:
         """Names it as its answer does."""
         return f"{self.module}::{self.law}.{self.name or 'ensures'}"
 
@@ -55,7 +59,7 @@ class Definition(NamedTuple):
     module: str
     name: str
     gives: str
-    parts: tuple
+    parts: tuple[Part, ...]
     head: int
 
 
@@ -71,29 +75,29 @@ class Plant(NamedTuple):
     at: int = 0
     old: str = ""
     new: str = ""
-    clause: Clause = None
+    clause: Clause | None = None
 
 
 @cache
-def text_of(path):
+def text_of(path: Path) -> str:
     """Gives the text of a file."""
     return path.read_text(encoding="utf-8")
 
 
-def sources(crate, part, ending):
+def sources(crate: str, part: str, ending: str) -> list[Path]:
     """Lists the files of a part of a crate, in order."""
     return sorted((TOP / "crates" / crate / part).rglob(f"*.{ending}"))
 
 
-def module_of(crate, path):
+def module_of(crate: str, path: Path) -> str:
     """Names the module of a source file of a crate."""
     return "::".join(path.relative_to(TOP / "crates" / crate / "src").with_suffix("").parts)
 
 
 @cache
-def clauses(crate):
+def clauses(crate: str) -> list[Clause]:
     """Lists the clauses of the laws of a crate: functions that take nothing and do nothing."""
-    found = []
+    found: list[Clause] = []
     for path in sources(crate, "src", "rt"):
         module = module_of(crate, path)
         for law in LAW.finditer(text_of(path)) if module not in WORKED.get(crate, ()) else ():
@@ -104,14 +108,14 @@ def clauses(crate):
 
 # ---- definitions
 
-def blocks(text):
+def blocks(text: str) -> Iterator[tuple[int, str]]:
     """Yields where the definitions of a text begin, and the text of each, to the next empty
     line."""
     for head in re.finditer(HEAD.pattern, text, re.M):
         yield head.start(), text[head.start():].partition("\n\n")[0].rstrip("\n")
 
 
-def equations(name, block, at):
+def equations(name: str, block: str, at: int) -> tuple[Part, ...]:
     """Lists the equations of a definition, each with its right side."""
     begin = [found.start() for found in re.finditer(rf"^{re.escape(name)}(?=[ \n])", block, re.M)]
     found = []
@@ -123,13 +127,13 @@ def equations(name, block, at):
     return tuple(found)
 
 
-def fields(block, at):
+def fields(block: str, at: int) -> tuple[Part, ...]:
     """Lists the fields of a record, each with its type."""
     return tuple(Part(field.group(1), field.group(2).rstrip(), at + field.start(2)) for field in
                  re.finditer(r"^  pub (\w+) : ((?:.|\n    )*)", block, re.M))
 
 
-def definition(module, at, block):
+def definition(module: str, at: int, block: str) -> Definition | None:
     """Reads a definition of a module; None where it is data."""
     head = HEAD.match(block)
     name = head.group(2)
@@ -146,7 +150,7 @@ def definition(module, at, block):
 
 
 @cache
-def definitions(crate):
+def definitions(crate: str) -> dict[tuple[str, str], Definition]:
     """Gives the definitions of a crate's specs, by module and name."""
     found = {}
     for path in sources(crate, "specs", "antt"):
@@ -159,7 +163,7 @@ def definitions(crate):
     return found
 
 
-def imported(crate, text):
+def imported(crate: str, text: str) -> dict[str, str]:
     """Gives which names a text takes from the specs of a crate, with their modules."""
     return {name.strip(): module for of, module, names in IMPORT.findall(text) if of == crate
             for name in names.split(",")}
@@ -167,7 +171,7 @@ def imported(crate, text):
 
 # ---- where they stand
 
-def tokens(text):
+def tokens(text: str) -> list[list[list[list[str] | str] | str] | str]:
     """Reads a text as words, and groups of words within brackets."""
     groups = [[]]
     for token in TOKEN.findall(text):
@@ -181,7 +185,8 @@ def tokens(text):
     return groups[0]
 
 
-def split(items, *signs):
+def split(items: list[list[list[list[str] | str] | str] | str],
+          *signs: str) -> list[list[list[list[Any] | str] | str]]:
     """Divides words at the signs between them."""
     parts = [[]]
     for item in items:
@@ -192,7 +197,8 @@ def split(items, *signs):
     return parts
 
 
-def bare(items):
+def bare(items: list[list[list[list[str] | str] | str] | str]
+        ) -> list[list[list[list[str] | str] | str] | str]:
     """Takes off the brackets around all of the words, but of a variable with its type that type."""
     while len(items) == 1 and isinstance(items[0], list):
         items = items[0]
@@ -201,7 +207,7 @@ def bare(items):
     return items
 
 
-def both(items):
+def both(items: list[list[list[list[Any] | str] | str] | str]) -> Iterator[tuple[str, int]]:
     """Yields the names in words, wherever they stand, both ways."""
     for item in items:
         if isinstance(item, list):
@@ -210,7 +216,8 @@ def both(items):
             yield from ((item, BELOW), (item, ABOVE))
 
 
-def in_type(items, way):
+def in_type(items: list[list[list[list[str] | str] | str] | str],
+            way: int) -> Iterator[tuple[str, int]]:
     """Yields the names in a type, with the way in which they stand there."""
     items = bare(items)
     *premises, last = split(items, "→")
@@ -231,7 +238,8 @@ def in_type(items, way):
         yield from in_call(items, way)
 
 
-def in_equation(sides, way):
+def in_equation(sides: list[list[list[list[Any] | str] | str]],
+                way: int) -> Iterator[tuple[str, int]]:
     """Yields those in an equation: of a value that holds, of one that does not, or of two."""
     for side, other in (sides, sides[::-1]):
         if bare(other) in (["true"], ["false"]):
@@ -240,7 +248,7 @@ def in_equation(sides, way):
     yield from both(sides)
 
 
-def otherwise(items, then):
+def otherwise(items: list[list[str] | str], then: int) -> int:
     """Gives where the `else` stands that belongs to a `then`."""
     depth = 1
     for at in range(then + 1, len(items)):
@@ -250,7 +258,8 @@ def otherwise(items, then):
     return len(items)
 
 
-def in_value(items, way):
+def in_value(items: list[list[list[list[str] | str] | str] | str],
+             way: int) -> Iterator[tuple[str, int]]:
     """Yields those in a value that is true or false, where `true` stands that way."""
     items = bare(items)
     parts = split(items, "&&", "||")
@@ -274,7 +283,8 @@ def in_value(items, way):
         yield from in_call(items, way)
 
 
-def in_call(items, way):
+def in_call(items: list[list[list[list[str] | str] | str] | str],
+            way: int) -> Iterator[tuple[str, int]]:
     """Yields the first name of words that way, and those that it is given both ways."""
     if items and isinstance(items[0], str):
         yield items[0], way
@@ -282,7 +292,7 @@ def in_call(items, way):
     yield from both(items)
 
 
-def named_by(one, way):
+def named_by(one: Definition, way: int) -> Iterator[tuple[str, int]]:
     """Yields the names that a definition names, where it stands that way itself."""
     for part in one.parts:
         items = tokens(part.text)
@@ -293,11 +303,11 @@ def named_by(one, way):
 
 
 @cache
-def ways(crate):
+def ways(crate: str) -> dict[tuple[str, str], set[int]]:
     """Gives in which ways each definition of a crate stands in its laws, by module and name."""
     every, found, left = definitions(crate), {}, []
 
-    def note(names, places, module):
+    def note(names: Iterator[Any], places: dict[str, str], module: str) -> None:
         for name, way in names:
             key = (places.get(name, module), name)
             if key in every and way not in found.setdefault(key, set()):
@@ -319,28 +329,28 @@ def ways(crate):
 
 # ---- plants
 
-def of_clauses(crate):
+def of_clauses(crate: str) -> Iterator[Plant]:
     """Yields the plants of the clauses of a crate's laws."""
     for clause in clauses(crate):
         for kind in (PREMISE, DROPPED):
             yield Plant(crate, kind, clause.law, clause.shown(), clause=clause)
 
 
-def values(one, way):
+def values(one: Definition, way: int) -> str:
     """Gives what an equation is made, so that less or more holds."""
     if one.gives == "Type":
         return "⊥" if way == BELOW else "Unit {0}"
     return "false" if way == BELOW else "true"
 
 
-def is_said(text):
+def is_said(text: str) -> bool:
     """Says whether the type of a field is something that holds or not, and no set of values."""
     items = split(tokens(text), "→")[-1]
     return bool(RELATIONS & {item for item in items if isinstance(item, str)}) or (
         len(items) > 1 and items[0][:1].isupper() and items[0] not in ("List", "Option"))
 
 
-def of_definition(crate, one, way):
+def of_definition(crate: str, one: Definition, way: int) -> Iterator[Plant]:
     """Yields the plants of a definition that stands in its laws that way."""
     kind, file = (NARROWER if way == BELOW else WIDER), f"specs/{one.module}.antt"
     if one.gives == "record" and way == BELOW:
@@ -360,19 +370,19 @@ def of_definition(crate, one, way):
                             part.at, part.text, value)
 
 
-def of_definitions(crate):
+def of_definitions(crate: str) -> Iterator[Plant]:
     """Yields the plants of the definitions that stand in the laws of a crate, in their order."""
     for key, one in definitions(crate).items():
         for way in sorted(ways(crate).get(key, ())):
             yield from of_definition(crate, one, way)
 
 
-def plants(crate, kinds):
+def plants(crate: str, kinds: tuple[str, str, str, str]) -> list[Plant]:
     """Lists the plants of these kinds in a crate."""
     return [plant for plant in (*of_clauses(crate), *of_definitions(crate)) if plant.kind in kinds]
 
 
-def planted(text, plant):
+def planted(text: str, plant: Plant) -> str:
     """Gives the text of a file with a plant in it, which names what it needs."""
     made = text[:plant.at] + plant.new + text[plant.at + len(plant.old):]
     names = {name.strip() for words in re.findall(r"^use Rattle\.std\.specs\.Prelude\.\{([^}]*)\}",

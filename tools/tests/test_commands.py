@@ -71,8 +71,8 @@ class FromMemory(unittest.TestCase):
         """A run that is answered otherwise is told, by its place."""
         same = [("g 0 0 csrr stopei", "0x0000000000000000")]
         other = [("g 0 0 csrr stopei", "0x0000000000050005")]
-        self.assertEqual(from_memory.differences(1, {"resident": same, "memory": same, "both": same}),
-                         [])
+        all_same = {"resident": same, "memory": same, "both": same}
+        self.assertEqual(from_memory.differences(1, all_same), [])
         found = from_memory.differences(1, {"resident": same, "memory": same, "both": other})
         self.assertEqual(found[0], "the machine of the number 1 differs where guests are in both"
                                    " places:")

@@ -1,4 +1,5 @@
-"""What scripts are drawn: by which numbers, and that the model written apart takes them as meant."""
+"""What scripts are drawn: by which numbers, and that the model written apart takes them as
+meant."""
 
 import unittest
 from itertools import islice
@@ -94,7 +95,8 @@ class Isolation(unittest.TestCase):
             self.assertNotIn("away", {answer for _, answer in told[0]})
 
     def test_leaks_are_told_by_the_model(self) -> None:
-        """With each leak the virtual hart of some pair is answered otherwise, and with none never."""
+        """With each leak the virtual hart of some pair is answered otherwise, and with none
+        never."""
         pairs = [isolating.pair(seed) for seed in range(1, 41)]
         for leak in range(isolating.LEAKS + 1):
             is_told = any(self.replies(leak, *one) != self.replies(leak, *other)
@@ -109,10 +111,11 @@ class Isolation(unittest.TestCase):
                 if is_own and line.startswith(f"g {who} csr")]
 
     def test_parts_are_answered_the_same(self) -> None:
-        """Of a script of all forms the lines that concern a VM are answered the same alone, and with
-        a leak that reaches other VMs they are not."""
+        """Of a script of all forms the lines that concern a VM are answered the same alone, and
+        with a leak that reaches other VMs they are not."""
         drawn = isolating.of_all_forms(2, 3000)
-        self.assertEqual({form(line) for line in drawn.lines} - {"of"}, set(FORMS) - {"pass", "entry"})
+        self.assertEqual({form(line) for line in drawn.lines} - {"of"},
+                         set(FORMS) - {"pass", "entry"})
         for vm in range(isolating.MACHINE_LEVEL, isolating.VMS):
             kept = [isolating.concerns(line, vm) for line in drawn.lines]
             part = [line for line, is_kept in zip(drawn.lines, kept) if is_kept]
@@ -159,6 +162,12 @@ class NoSense(unittest.TestCase):
                                  (b"wire 1 0x1", True), (b"wire 1 2", False), (b"ld 00", False),
                                  (b"ld 0x10000000000000000", False), (b"ld  0", False)):
             self.assertEqual(nosense.spells(line), is_spelled, line)
+        for digits in (111, 112):
+            # A line of 128 bytes spells one, and one of 129 does not.
+            sizes = [16] * 7 if digits == 112 else [15] + [16] * 6
+            words = [b"0x%0*x" % (size - 2, 1) for size in sizes]
+            line = b" ".join([b"load", *words[:2], b"image", *words[2:]])
+            self.assertEqual((len(line), nosense.spells(line)), (digits + 17, digits == 111))
         self.assertFalse(nosense.is_skipped(b"#" * 129))
         self.assertTrue(nosense.is_skipped(b"#" * 128))
 

@@ -163,11 +163,13 @@ class Drawing(unittest.TestCase):
         self.assertIn("5 to file 1 of hart 0", said)
 
 
-def defined(tree: ast.Module) -> Iterator[ast.FunctionDef]:
-    """Lists the functions of a module, its lambdas left out."""
-    for node in ast.walk(tree):
-        if isinstance(node, ast.FunctionDef):
-            yield node
+def unsaid(function: ast.FunctionDef) -> list[str]:
+    """Lists the arguments of a function of which no type is said, and `return` where none is."""
+    given = function.args
+    named = [*given.posonlyargs, *given.args, *given.kwonlyargs, given.vararg, given.kwarg]
+    found = [one.arg for one in named
+             if one and not one.annotation and one.arg not in ("self", "cls")]
+    return found + ["return"] * (function.returns is None)
 
 
 class Package(unittest.TestCase):
@@ -196,6 +198,13 @@ class Package(unittest.TestCase):
             for node in ast.walk(tree):
                 if isinstance(node, ast.ImportFrom) and (node.module or "").startswith("lemdwab"):
                     self.assertTrue(node.module.startswith("lemdwab.apart"), f"{name} imports it")
+
+    def test_types_are_said(self) -> None:
+        """Of each function the types of what it takes and gives are said."""
+        for path, tree in self.modules():
+            for node in ast.walk(tree):
+                if isinstance(node, ast.FunctionDef):
+                    self.assertEqual(unsaid(node), [], f"{path.name}: {node.name}")
 
     def test_no_path_is_changed(self) -> None:
         """No module changes where others are found."""

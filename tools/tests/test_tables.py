@@ -75,7 +75,7 @@ class Rows(unittest.TestCase):
         """A theorem names its row, and stands within 100 columns."""
         text = rows.module_of(self.read(ROW))
         self.assertIn("pub const SOME_ROW: [(&str, &str); 3] = [\n", text)
-        self.assertIn("ensures { answers (unended_script_of LONG_ROW) ≡ answers_of LONG_ROW }", text)
+        self.assertIn("{ answers (unended_script_of LONG_ROW) ≡ answers_of LONG_ROW }", text)
         self.assertLessEqual(max(map(len, text.splitlines())), 100)
 
     def test_rows_by_the_model(self) -> None:

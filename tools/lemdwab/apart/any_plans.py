@@ -1,30 +1,36 @@
 """any_plans.py PROGRAM COUNT SEED: random plans, judged by a program and tried by this machine.
 
 The machine, told a second time from docs/ANY-PLAN.md: two places, a hand, producers with routes. A
-plan is one of a hypervisor's with some edits. It is tried with one store, or one in flight, at every
-place, from several starts; and where the program shows a run, that run is made: one that loses
-something, or, of a plan that the rule on notices alone refuses, one that leaves the host untold.
-Prints how many accepted plans had a bad run, how many refused ones had none, and how many runs that
-were shown were good or missing, and ends with 1 if any was, and with 2 if the words are wrong or
-PROGRAM can't be run. A plan into memory that heeds its numbers may be refused by the rule on
-notices though no run of it leaves the host untold: none is shown then. Where notices are declared
-unset, no store tells the host before the plan writes where they go.
-"""
+plan is one of a hypervisor's with some edits. It is tried with one store, or one in flight, at
+every place, from several starts; and where the program shows a run, that run is made: one that
+loses something, or, of a plan that the rule on notices alone refuses, one that leaves the host
+untold. Prints how many accepted plans had a bad run, how many refused ones had none, and how many
+runs that were shown were good or missing, and ends with 1 if any was, and with 2 if the words are
+wrong or PROGRAM can't be run. A plan into memory that heeds its numbers may be refused by the rule
+on notices though no run of it leaves the host untold: none is shown then. Where notices are
+declared unset, no store tells the host before the plan writes where they go. """
+
+from __future__ import annotations
+
 import random
 import re
 import subprocess
+from collections.abc import Iterator
+from typing import Any
 
 from lemdwab.apart import words as command_line
+
 
 class Setting:
     """What is declared: kinds of producers, words, and what the new place is."""
 
-    def __init__(self, producers, words, fresh, memory, heeds, start, end, unset=False):
+    def __init__(self, producers: list[str], words: int, fresh: bool, memory: bool, heeds: bool,
+                 start: str, end: str, unset: bool = False) -> None:
         self.producers, self.words = producers, words
         self.fresh, self.memory, self.heeds = fresh, memory, heeds
         self.start, self.end, self.unset = start, end, unset
 
-    def lines(self):
+    def lines(self) -> list[str]:
         """The declarations, as lines of a plan file."""
         out = ['plan', f'words {self.words}', f'numbers {self.start} {self.end}']
         out += [f'producer {kind}' for kind in self.producers]
@@ -34,14 +40,15 @@ class Setting:
         return out + ['notices unset'] * self.unset
 
 
-def both_sets(words, verb):
+def both_sets(words: int, verb: str) -> list[tuple[str, str, int]]:
     return [(verb, bank, w) for w in range(words) for bank in ('pending', 'enabled')]
 
 
-def hypervisors(words):
+def hypervisors(words: int) -> Iterator[tuple[Setting, list[tuple[int | str, ...]]]]:
     """The plans from which random ones are made, each with its setting."""
     lead = [('route', 0), ('fence', 0), ('route', 1), ('fence', 1)]
-    core = [(v, b, w) for b in ('pending', 'enabled') for w in range(words) for v in ('take', 'join')]
+    core = [(v, b, w) for b in ('pending', 'enabled') for w in range(words)
+            for v in ('take', 'join')]
     zeroed = [('zero', 'new', 'delivery'), ('zero', 'new', 'threshold')]
     zeroed += [('zero', 'new', b, w) for w in range(words) for b in ('pending', 'enabled')]
     swapped = [('take', 'delivery'), ('take', 'threshold')] + both_sets(words, 'take')
@@ -68,7 +75,7 @@ def hypervisors(words):
            + [('write', 'notice'), ('tell',), ('free',)])
 
 
-def all_steps(setting):
+def all_steps(setting: Setting) -> list[tuple[int | str, ...]]:
     """Every step that a plan of a setting may have."""
     out = [('post',), ('tell',), ('write', 'notice'), ('free',)]
     for p in range(len(setting.producers)):
@@ -84,7 +91,8 @@ def all_steps(setting):
     return out
 
 
-def edited(setting, plan, rng):
+def edited(setting: Setting, plan: list[tuple[int | str, ...]],
+           rng: random.Random) -> list[tuple[int | str, ...]]:
     """A plan with one to three steps taken out, moved, added or replaced."""
     plan = list(plan)
     for _ in range(rng.choice((1, 1, 2, 3))):
@@ -104,7 +112,8 @@ def edited(setting, plan, rng):
 class Machine:
     """One run: sets are sets of (word, identity)."""
 
-    def __init__(self, setting, pending, enabled):
+    def __init__(self, setting: Setting, pending: tuple[int, ...],
+                 enabled: tuple[int, ...]) -> None:
         self.s = setting
         left = set() if setting.fresh else {(w, 7) for w in range(setting.words)}
         every = lambda ids: {(w, i) for w in range(setting.words) for i in ids}
@@ -113,26 +122,28 @@ class Machine:
         self.hand = {'pending': set(), 'enabled': set()}
         self.due = every(pending)
         self.first_enabled = every(enabled)
-        self.number = {'old': {'threshold': 66, 'delivery': 67}, 'hand': {'threshold': 77, 'delivery': 78},
+        self.number = {'old': {'threshold': 66, 'delivery': 67},
+                       'hand': {'threshold': 77, 'delivery': 78},
                        'new': {'threshold': 1, 'delivery': 0}}
         self.number[setting.start] = {'threshold': 9, 'delivery': 1}
         self.written = ['old'] * len(setting.producers)
         self.force = ['old'] * len(setting.producers)
-        self.flights = []
+        self.flights: list[Any] = []
         self.freed = self.strayed = self.seen = self.told = False
         self.notices_reach_the_host = not setting.unset
 
-    def lets_out(self, identity):
+    def lets_out(self, identity: int) -> bool:
         if not self.s.heeds:
             return True
         number = self.number['new']
-        return number['delivery'] == 1 and (number['threshold'] == 0 or identity < number['threshold'])
+        threshold = number['threshold']
+        return number['delivery'] == 1 and (threshold == 0 or identity < threshold)
 
-    def out(self, word):
+    def out(self, word: int) -> bool:
         both = self.new['pending'] & self.new['enabled']
         return any(w == word and self.lets_out(i) for w, i in both)
 
-    def land(self, place, what):
+    def land(self, place: str, what: str) -> None:
         if place == 'old':
             self.strayed |= self.freed
             self.old['pending'].add(what)
@@ -142,27 +153,28 @@ class Machine:
             self.new['pending'].add(what)
         self.due.add(what)
 
-    def store(self, producer, by_written, what):
+    def store(self, producer: Any, by_written: bool, what: Any) -> None:
         self.land((self.written if by_written else self.force)[producer], what)
 
-    def send(self, producer, by_written, what):
-        self.flights.append((producer, (self.written if by_written else self.force)[producer], what))
+    def send(self, producer: Any, by_written: bool, what: Any) -> None:
+        route = (self.written if by_written else self.force)[producer]
+        self.flights.append((producer, route, what))
 
-    def land_first(self):
+    def land_first(self) -> None:
         if self.flights:
             _, place, what = self.flights.pop(0)
             self.land(place, what)
 
-    def step(self, step):
+    def step(self, step: tuple[int | str, ...]) -> None:
         getattr(self, 'do_' + step[0])(*step[1:])
 
-    def do_route(self, p):
+    def do_route(self, p: int) -> None:
         self.written[p] = 'new'
 
-    def do_switch(self, p):
+    def do_switch(self, p: int) -> None:
         self.written[p] = self.force[p] = 'new'
 
-    def do_fence(self, p):
+    def do_fence(self, p: int) -> None:
         for q, place, what in self.flights:
             if q == p:
                 self.land(place, what)
@@ -170,10 +182,10 @@ class Machine:
         self.force[p] = self.written[p]
 
     @staticmethod
-    def of_word(bits, word):
+    def of_word(bits: set[tuple[int, int]], word: int) -> set[tuple[int, int]]:
         return {b for b in bits if b[0] == word}
 
-    def do_zero(self, place, what, word=None):
+    def do_zero(self, place: str, what: str, word: int | None = None) -> None:
         if place == 'old':
             self.strayed |= self.freed
         if word is None:
@@ -182,7 +194,7 @@ class Machine:
             sets = self.old if place == 'old' else self.new
             sets[what] -= self.of_word(sets[what], word)
 
-    def do_take(self, what, word=None):
+    def do_take(self, what: str, word: int | None = None) -> None:
         self.strayed |= self.freed
         if word is None:
             self.number['hand'][what] = self.number['old'][what]
@@ -193,38 +205,38 @@ class Machine:
             self.hand[what] |= taken
             self.old[what] -= taken
 
-    def do_join(self, bank, word):
+    def do_join(self, bank: str, word: int) -> None:
         held = self.of_word(self.hand[bank], word)
         self.new[bank] |= held
         self.hand[bank] -= held
 
-    def do_put(self, what, word=None):
+    def do_put(self, what: str, word: int | None = None) -> None:
         if word is None:
             self.number['new'][what] = self.number['hand'][what]
         else:
             self.new[what] -= self.of_word(self.new[what], word)
             self.do_join(what, word)
 
-    def do_look(self, word):
+    def do_look(self, word: int) -> None:
         self.seen |= self.out(word)
 
-    def do_post(self):
+    def do_post(self) -> None:
         self.told |= self.seen
 
-    def do_tell(self):
+    def do_tell(self) -> None:
         self.told |= any(self.out(w) for w in range(self.s.words))
 
-    def do_write(self, what):
+    def do_write(self, what: str) -> None:
         self.notices_reach_the_host = True
 
-    def do_free(self):
+    def do_free(self) -> None:
         self.freed = True
 
-    def is_untold(self):
+    def is_untold(self) -> bool:
         """Whether something stands out in the new place, and the host was not told."""
         return not self.told and any(self.out(w) for w in range(self.s.words))
 
-    def is_bad(self):
+    def is_bad(self) -> bool:
         """Whether a run that ends so loses, doubles, or leaves something behind, or untold."""
         return (self.new['pending'] != self.due or self.new['enabled'] != self.first_enabled
                 or self.old['pending'] or self.old['enabled'] or self.strayed
@@ -234,18 +246,19 @@ class Machine:
                 or (self.s.memory and self.is_untold()))
 
 
-def is_bad_run(setting, plan, start, events):
+def is_bad_run(setting: Setting, plan: list[tuple[int | str, ...]],
+               start: tuple[tuple[int], tuple[int, int, int]], events: list[Any]) -> bool:
     """Whether the run with these events, each with so many steps before it, is bad."""
     return is_bad_end(Machine(setting, *start), plan, events)
 
 
-def is_bad_end(machine, plan, events):
+def is_bad_end(machine: Machine, plan: list[tuple[int | str, ...]], events: list[Any]) -> bool:
     """Whether a machine ends badly after the steps of a plan with these events between them."""
     run(machine, plan, events)
     return machine.is_bad()
 
 
-def run(machine, plan, events):
+def run(machine: Machine, plan: list[tuple[int | str, ...]], events: list[Any]) -> None:
     """Makes the steps of a plan on a machine, with these events between them."""
     for at, step in enumerate(list(plan) + [None]):
         for before, act in events:
@@ -255,7 +268,7 @@ def run(machine, plan, events):
             machine.step(step)
 
 
-def runs(setting, plan):
+def runs(setting: Setting, plan: list[tuple[int | str, ...]]) -> Iterator[list[Any]]:
     """The events of every run that is tried: none, one store, one in flight."""
     yield []
     for p, kind in enumerate(setting.producers):
@@ -272,22 +285,29 @@ def runs(setting, plan):
                                 yield [send, (landing, lambda m: m.land_first())]
 
 
-def has_bad_run(setting, plan):
+def has_bad_run(setting: Setting, plan: list[tuple[int | str, ...]]) -> bool:
     starts = (((2,), (0, 1, 3)), ((0, 2), (0, 1, 3)))
-    return any(is_bad_run(setting, plan, start, events) for start in starts for events in runs(setting, plan))
+    return any(is_bad_run(setting, plan, start, events)
+               for start in starts for events in runs(setting, plan))
 
 
 SHOWN = re.compile(
-    r'  run: identity (\d+) is (pending|enabled) (nowhere|in the old place|in the new place) at the start'
-    r'(?:; producer (\d+) stores it (before the first step|behind line (\d+)) by its (written route|route in force)'
-    r'|; a store of producer (\d+) for it is in flight, and lands(?: before the first step| behind line (\d+)| (at its fence))'
-    r'|; a store of producer (\d+) for it is sent(?: before the first step| behind line (\d+)), and lands no sooner than it is fenced)?')
+    r'  run: identity (\d+) is (pending|enabled) (nowhere|in the old place|in the new place)'
+    r' at the start(?:; producer (\d+) stores it (before the first step|behind line (\d+))'
+    r' by its (written route|route in force)'
+    r'|; a store of producer (\d+) for it is in flight, and lands'
+    r'(?: before the first step| behind line (\d+)| (at its fence))'
+    r'|; a store of producer (\d+) for it is sent'
+    r'(?: before the first step| behind line (\d+)), and lands no sooner than it is fenced)?')
 
 
-def is_bad_shown(setting, plan, first_line, text):
-    """Whether a run that a program shows, of a plan whose first step is on a line, is one and is bad."""
+def is_bad_shown(setting: Setting, plan: list[tuple[int | str, ...]], first_line: int,
+                 text: str) -> bool:
+    """Whether a run that a program shows, of a plan whose first step is on a line, is one and is
+    bad."""
     found = SHOWN.fullmatch(text)
-    identity, bank, begin, storer, _, behind, route, flier, landing, at_fence, sender, sent = found.groups()
+    (identity, bank, begin, storer, _, behind, route, flier, landing, at_fence, sender,
+     sent) = found.groups()
     what = (int(identity) // 64, int(identity) % 64)
     machine = Machine(setting, (), ())
     machine.new = {'pending': set(), 'enabled': set()}
@@ -324,15 +344,19 @@ SPOT = r'in the (old place|hand|new place)'
 UNTOLD = re.compile(
     r'  run: identity (\d+) is enabled in the old place at the start'
     r'(?:(, and pending there)'
-    r'|; producer (\d+) stores it (?:before the first step|behind line (\d+)) by its (written route|route in force))'
+    r'|; producer (\d+) stores it (?:before the first step|behind line (\d+))'
+    r' by its (written route|route in force))'
     r'(; at the start delivery is 1 ' + SPOT + r' and 0 elsewhere, and the threshold is '
     r'(?:1 everywhere|0 ' + SPOT + r' and 1 elsewhere))?'
-    r'; in the end it is pending(?:, enabled and let through| and enabled) in the new place, and the host was not told')
-NONE = re.compile(r'  run: none was found with one store at most(; the rule asks for more than that the host is told)?')
+    r'; in the end it is pending(?:, enabled and let through| and enabled) in the new place,'
+    r' and the host was not told')
+NONE = re.compile(r'  run: none was found with one store at most'
+                  r'(; the rule asks for more than that the host is told)?')
 
 
-def is_untold_shown(setting, plan, first_line, text):
-    """Whether a run that a program shows, of a plan whose first step is on a line, is one, and leaves the host untold."""
+def is_untold_shown(setting: Any, plan: Any, first_line: int, text: str) -> bool:
+    """Whether a run that a program shows, of a plan whose first step is on a line, is one, and
+    leaves the host untold."""
     found = UNTOLD.fullmatch(text)
     identity, there, storer, behind, route, numbers, delivery, threshold = found.groups()
     what = (int(identity) // 64, int(identity) % 64)
@@ -346,7 +370,8 @@ def is_untold_shown(setting, plan, first_line, text):
         machine.due.add(what)
     for name in ('old', 'hand', 'new'):
         is_spot = lambda words: (words or '').startswith(name)
-        machine.number[name] = {'threshold': 0 if is_spot(threshold) else 1, 'delivery': int(is_spot(delivery))}
+        machine.number[name] = {'threshold': 0 if is_spot(threshold) else 1,
+                                'delivery': int(is_spot(delivery))}
     events = []
     if storer:
         if int(storer) >= len(setting.producers):
@@ -357,8 +382,10 @@ def is_untold_shown(setting, plan, first_line, text):
     return machine.is_untold() and all(what in machine.new[bank] for bank in ('pending', 'enabled'))
 
 
-def shown_of(setting, plan, first_line, verdict, text):
-    """What is shown of a plan: a run that is what its verdict asks for, or is not; or that none was found."""
+def shown_of(setting: Setting, plan: list[tuple[int | str, ...]], first_line: int, verdict: str,
+             text: str) -> str:
+    """What is shown of a plan: a run that is what its verdict asks for, or is not; or that none was
+    found."""
     is_notice = verdict == 'refused notice'
     none = NONE.fullmatch(text)
     if none:
@@ -367,7 +394,8 @@ def shown_of(setting, plan, first_line, verdict, text):
     return 'shown' if is_right_run(setting, plan, first_line, text) else 'wrongly shown'
 
 
-def verdicts(program, plans):
+def verdicts(program: str,
+             plans: list[tuple[Setting, list[tuple[int | str, ...]]]]) -> list[tuple[str, str]]:
     """What a program answers of each plan: the first two words, and what is shown."""
     text, firsts, line = [], [], 1
     for setting, plan in plans:
@@ -383,7 +411,8 @@ def verdicts(program, plans):
         if answer.startswith(' '):
             setting, plan = plans[len(answers) - 1]
             verdict = answers[-1][0]
-            answers[-1] = (verdict, shown_of(setting, plan, firsts[len(answers) - 1], verdict, answer))
+            shown = shown_of(setting, plan, firsts[len(answers) - 1], verdict, answer)
+            answers[-1] = (verdict, shown)
         else:
             answers.append((' '.join(answer.split()[:2]), 'none shown'))
     if len(answers) != len(plans):
@@ -391,7 +420,7 @@ def verdicts(program, plans):
     return answers
 
 
-def main():
+def main() -> int:
     program, count, seed = command_line.given(
         __doc__, lambda given: len(given) == 3 and command_line.are_numbers(given[1:]))
     count, rng = int(count), random.Random(int(seed))
@@ -405,7 +434,8 @@ def main():
         for (setting, plan), (verdict, shown) in zip(plans, verdicts(program, plans), strict=True):
             bad = has_bad_run(setting, plan)
             key = (verdict, 'a bad run' if bad else 'no bad run', shown)
-            if setting.memory and setting.heeds and key == ('refused notice', 'no bad run', 'none found'):
+            if (setting.memory and setting.heeds
+                    and key == ('refused notice', 'no bad run', 'none found')):
                 key = ('refused notice', 'no bad run, with numbers that are heeded', 'none found')
             tally[key] = tally.get(key, 0) + 1
             if not is_right(key):
@@ -415,7 +445,7 @@ def main():
     return 0 if all(map(is_right, tally)) else 1
 
 
-def is_right(key):
+def is_right(key: tuple[str, str, str]) -> bool:
     """Whether a verdict, what this machine found, and what was shown agree."""
     verdict, found, shown = key
     if verdict == 'accepted':

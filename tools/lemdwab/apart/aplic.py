@@ -3,6 +3,11 @@
 A set of sources is an int whose bit s is source s; bit 0 is never set in one that is kept.
 """
 
+from __future__ import annotations
+
+from collections.abc import Iterator
+from typing import Any
+
 from lemdwab.apart.interrupt_file import swapped
 
 DELEGATED = 0x400
@@ -16,7 +21,7 @@ ADDRESS_MASKS = {"mmsiaddrcfg": 0xffffffff, "mmsiaddrcfgh": 0x9f77ffff, "smsiadd
 ADDRESS_REGISTERS = tuple(ADDRESS_MASKS)
 
 
-def register_map():
+def register_map() -> dict[int, tuple[str, int]]:
     """The register at each offset of a control region, with its index."""
     rows = [("sourcecfg", 0, 4, 1, 1023), ("setip", 0x1c00, 4, 0, 31),
             ("in_clrip", 0x1d00, 4, 0, 31),
@@ -36,22 +41,22 @@ def register_map():
 REGISTERS = register_map()
 
 
-def register_at(offset):
+def register_at(offset: int) -> tuple[str, int]:
     """The register at an offset of a control region; "nothing" where none is."""
     return REGISTERS.get(offset, ("nothing", 0))
 
 
-def field(value, high, low):
+def field(value: int, high: int, low: int) -> int:
     return value >> low & (1 << (high - low + 1)) - 1
 
 
-def legal_mode(value):
+def legal_mode(value: int) -> int:
     """SM of a sourcecfg: the reserved modes 2 and 3 become 0."""
     mode = value & 7
     return 0 if mode in (2, 3) else mode
 
 
-def root_sourcecfg(value):
+def root_sourcecfg(value: int) -> int:
     """What the root domain keeps: with D the source is delegated to child 0, another child makes
     the register 0."""
     if value >> 10 & 1:
@@ -59,12 +64,12 @@ def root_sourcecfg(value):
     return legal_mode(value)
 
 
-def child_sourcecfg(value):
+def child_sourcecfg(value: int) -> int:
     """What its child keeps, which has no child itself."""
     return 0 if value >> 10 & 1 else legal_mode(value)
 
 
-def members(sources):
+def members(sources: int) -> Iterator[int]:
     """The sources of a set, the least first."""
     while sources:
         least = sources & -sources
@@ -75,7 +80,7 @@ def members(sources):
 class Domain:
     """One domain, with what it keeps of each source and of each hart."""
 
-    def __init__(self, aplic):
+    def __init__(self, aplic: Any | Aplic) -> None:
         self.aplic = aplic
         self.sourcecfg = [0] * 1024
         self.targets = [0] * 1024
@@ -90,11 +95,11 @@ class Domain:
 
     # Sources: how each is configured, and what becomes of its bits.
 
-    def inputs(self):
+    def inputs(self) -> int:
         """The rectified inputs that are high: of an inactive and a detached source none is."""
         return (self.aplic.wires ^ self.inverted) & self.sensitive
 
-    def input_changed(self, source, was):
+    def input_changed(self, source: int, was: int) -> None:
         """The wire of a source was given a level, and its rectified input was `was` before: a rise
         makes it pending, a fall of a level source clears it."""
         bit = 1 << source
@@ -104,7 +109,7 @@ class Domain:
         elif was and not now and self.level & bit:
             self.pending &= ~bit
 
-    def configure(self, source, sourcecfg):
+    def configure(self, source: int, sourcecfg: int) -> None:
         """A sourcecfg is written: the mode, and what follows from it."""
         bit = 1 << source
         mode = 0 if sourcecfg == DELEGATED else sourcecfg
@@ -122,28 +127,28 @@ class Domain:
         if self.level & bit:
             self.pending = self.pending & ~bit | self.inputs() & bit
 
-    def first_target(self):
+    def first_target(self) -> int:
         """The target of a source that becomes active, or whose delivery mode changes."""
         return 0 if self.by_msi else 1
 
-    def set_pending(self, sources):
+    def set_pending(self, sources: int) -> None:
         """Registers ask: a level source hears them only by MSIs and while its input is high."""
         heard = self.active & ~self.level
         if self.by_msi:
             heard |= self.level & self.inputs()
         self.pending |= sources & heard
 
-    def clear_pending(self, sources):
+    def clear_pending(self, sources: int) -> None:
         """Registers clear: a level source hears them only by MSIs."""
         self.pending &= ~(sources if self.by_msi else sources & ~self.level)
 
-    def set_enabled(self, sources):
+    def set_enabled(self, sources: int) -> None:
         self.enabled |= sources & self.active
 
-    def clear_enabled(self, sources):
+    def clear_enabled(self, sources: int) -> None:
         self.enabled &= ~sources
 
-    def write_domaincfg(self, value):
+    def write_domaincfg(self, value: int) -> None:
         """IE and DM are kept; another delivery mode begins the targets anew, makes level sources
         pending just where they are high, and drops genmsi."""
         by_msi = bool(value >> 2 & 1)
@@ -156,19 +161,19 @@ class Domain:
             self.targets[source] = self.first_target()
         self.pending = self.pending & ~self.level | self.inputs() & self.level
 
-    def hart_kept(self, value):
+    def hart_kept(self, value: int) -> int:
         """The hart index in bits 31:18; one that isn't there becomes 0."""
         hart = field(value, 31, 18)
         return hart << 18 if hart < self.aplic.harts else 0
 
-    def write_target(self, source, value):
+    def write_target(self, source: int, value: int) -> None:
         """By MSIs an identity beside the hart, else a priority, which is not 0."""
         if not self.active >> source & 1:
             return
         low = value & 0x7ff if self.by_msi else (value & 0xff or 1)
         self.targets[source] = self.hart_kept(value) | low
 
-    def write_genmsi(self, value):
+    def write_genmsi(self, value: int) -> None:
         """It counts only by MSIs, and asks for one whether IE is 1 or not."""
         if self.by_msi:
             self.genmsi = self.hart_kept(value) | value & 0x7ff
@@ -176,7 +181,7 @@ class Domain:
 
     # Direct delivery.
 
-    def top(self, hart):
+    def top(self, hart: int) -> int:
         """Of the pending and enabled sources aimed at a hart that its threshold lets through, the
         one with the least priority number, then the least number: what topi reads."""
         if self.by_msi:
@@ -189,7 +194,7 @@ class Domain:
                 best = min(best or (256, 0), (priority, source))
         return best[1] << 16 | best[0] if best else 0
 
-    def claim(self, hart):
+    def claim(self, hart: int) -> int:
         """A load of claimi: what is on top is no more pending unless it is a level source; where
         nothing is, iforce falls. By MSIs it does nothing."""
         if self.by_msi:
@@ -201,21 +206,21 @@ class Domain:
             self.iforce[hart] = 0
         return top
 
-    def signals(self, hart):
+    def signals(self, hart: int) -> bool:
         """Whether it signals a hart, by direct delivery."""
         return (not self.by_msi and self.is_on and self.idelivery[hart] == 1
                 and (self.iforce[hart] == 1 or self.top(hart) != 0))
 
     # Registers.
 
-    def named_sources(self, register, index, value):
+    def named_sources(self, register: str, index: int, value: int) -> int:
         """The sources that a store to a register of pending or enable bits names."""
         if "num" not in register:
             return value << 32 * index
         source = swapped(value) if register == "setipnum_be" else value
         return 1 << source if source <= self.aplic.sources else 0
 
-    def write(self, register, index, value):
+    def write(self, register: str, index: int, value: int) -> None:
         """A store to one of its registers, but sourcecfg and those of MSI addresses."""
         if register in TOUCHES:
             TOUCHES[register](self, self.named_sources(register, index, value))
@@ -228,7 +233,7 @@ class Domain:
         elif register in CONTROLS and index < self.aplic.harts:
             getattr(self, register)[index] = value & CONTROLS[register]
 
-    def read(self, register, index):
+    def read(self, register: str, index: int) -> int:
         """A load from one of its registers, with what the load does; 0 where there is none."""
         if register in WORDS:
             return WORDS[register](self) >> 32 * index & 0xffffffff
@@ -263,7 +268,7 @@ WORDS = {"setip": lambda domain: domain.pending, "in_clrip": Domain.inputs,
 class Aplic:
     """Both domains, the wires, and the registers of MSI addresses, which the root domain has."""
 
-    def __init__(self, harts, sources):
+    def __init__(self, harts: int, sources: int) -> None:
         self.harts = harts
         self.sources = sources
         self.wires = 0
@@ -271,7 +276,7 @@ class Aplic:
         self.child = Domain(self)
         self.addresses = dict.fromkeys(ADDRESS_REGISTERS, 0)
 
-    def drive(self, source, level):
+    def drive(self, source: int, level: int) -> None:
         """The wire of a source gets a level."""
         bit = 1 << source
         before = [(domain, domain.inputs() & bit) for domain in (self.root, self.child)]
@@ -279,7 +284,7 @@ class Aplic:
         for domain, was in before:
             domain.input_changed(source, was)
 
-    def store(self, domain, register, index, value):
+    def store(self, domain: Any | Domain, register: str, index: int, value: int) -> None:
         if register == "sourcecfg":
             self.write_sourcecfg(domain, index, value)
         elif register in ADDRESS_REGISTERS:
@@ -288,12 +293,12 @@ class Aplic:
         else:
             domain.write(register, index, value)
 
-    def load(self, domain, register, index):
+    def load(self, domain: Any | Domain, register: str, index: int) -> int:
         if register in ADDRESS_REGISTERS:
             return self.addresses[register] if domain is self.root else 0
         return domain.read(register, index)
 
-    def write_sourcecfg(self, domain, source, value):
+    def write_sourcecfg(self, domain: Domain, source: int, value: int) -> None:
         """The root domain's makes the child's 0, unless it delegates what is delegated already;
         the child's is there while the source is delegated."""
         if source > self.sources:
@@ -309,24 +314,24 @@ class Aplic:
         self.child.configure(source, 0)
         self.root.configure(source, sourcecfg)
 
-    def write_address(self, register, value):
+    def write_address(self, register: str, value: int) -> None:
         """A register of MSI addresses keeps its fields, unless L locks them all."""
         if self.addresses["mmsiaddrcfgh"] >> 31:
             return
         self.addresses[register] = value & ADDRESS_MASKS[register]
 
-    def reaches_guests(self):
+    def reaches_guests(self) -> bool:
         """Whether MSIs of the child reach the supervisor and guest files of the map."""
         high = self.addresses["mmsiaddrcfgh"]
         return (field(high, 18, 16) == 0 and field(high, 15, 12) == 2
                 and self.addresses["smsiaddrcfg"] == 0x28000
                 and self.addresses["smsiaddrcfgh"] == 0x500000)
 
-    def is_passable(self, source):
+    def is_passable(self, source: int) -> bool:
         """Whether MSIs to guests may be made of a source."""
         return bool(self.child.active >> source & 1 and self.child.by_msi and self.reaches_guests())
 
-    def msi_address(self, domain, target):
+    def msi_address(self, domain: Any | Domain, target: int) -> int:
         """The address of an MSI for the hart, and of the child's the guest index, of a target."""
         low, high = ADDRESS_REGISTERS[:2] if domain is self.root else ADDRESS_REGISTERS[2:]
         shape, base, own = (self.addresses[name] for name in ("mmsiaddrcfgh", low, high))
@@ -339,7 +344,7 @@ class Aplic:
             page |= field(target, 17, 12)
         return page << 12 & (1 << 64) - 1
 
-    def take_msis(self):
+    def take_msis(self) -> list[tuple[int, int, int]]:
         """All MSIs that are ready, as (address, identity, source), genmsi's first, whose source is
         0; then those of sources by rising number. What is sent is no more pending."""
         found = []

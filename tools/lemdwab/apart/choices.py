@@ -5,35 +5,39 @@ Each is a function that changes one rule of the machine of fixed.py, for good in
 name says the rule.
 """
 
+from __future__ import annotations
+
 import random
+from collections.abc import Callable, Iterator
+from typing import Any
 
 from lemdwab.apart import aplic, fixed
-from lemdwab.apart.aplic import (ADDRESS_REGISTERS, Aplic, CONTROLS, DELEGATED, Domain, field,
+from lemdwab.apart.aplic import (ADDRESS_REGISTERS, CONTROLS, DELEGATED, Aplic, Domain, field,
                                  members)
 from lemdwab.apart.fixed import FixedMachine
 from lemdwab.apart.interrupt_file import InterruptFile, swapped
 from lemdwab.apart.plants import around
 from lemdwab.apart.refusals import Refused
 
-CHOICES = {}
+CHOICES: dict[str, Callable[..., Any]] = {}
 # Those that go with no other of their kind: `all` takes none of them.
-APART = []
+APART: list[str] = []
 DELEGATES = 1 << 10
 
 
-def choice(change):
+def choice(change: Callable[..., Any]) -> Callable[..., Any]:
     """Notes a choice."""
     CHOICES[change.__name__] = change
     return change
 
 
-def apart(change):
+def apart(change: Callable[..., Any]) -> Callable[..., Any]:
     """Notes one that `all` leaves out."""
     APART.append(change.__name__)
     return choice(change)
 
 
-def take(names):
+def take(names: list[str]) -> None:
     """Makes choices, for good in this process."""
     together = [name for name in CHOICES if name not in APART]
     for name in dict.fromkeys(each for name in names
@@ -41,7 +45,7 @@ def take(names):
         CHOICES[name]()
 
 
-def told():
+def told() -> Iterator[str]:
     """Says each choice in a line."""
     for name, change in CHOICES.items():
         words = " ".join(change.__doc__.split())
@@ -51,15 +55,15 @@ def told():
 # Interrupt files.
 
 @choice
-def thresholds_of_eleven_bits():
+def thresholds_of_eleven_bits() -> None:
     """eithreshold keeps 11 bits."""
     InterruptFile.kept_threshold = lambda file, value: value & 0x7ff
 
 
 @choice
-def delivery_by_the_aplic():
+def delivery_by_the_aplic() -> None:
     """eidelivery keeps 0, 1 and 0x40000000, and stays at any other number."""
-    def access(file, operation, operand):
+    def access(file: InterruptFile, operation: str, operand: int) -> int:
         old, legal = file.delivery, (0, 1, 0x40000000)
         new = {"read": old, "write": operand, "set": old | operand,
                "clear": old & ~operand}[operation]
@@ -69,9 +73,9 @@ def delivery_by_the_aplic():
 
 
 @choice
-def select_numbers_of_nine_bits():
+def select_numbers_of_nine_bits() -> None:
     """A select CSR keeps 9 bits."""
-    def access(old, file, csr, *words):
+    def access(old: Callable[..., Any], file: InterruptFile, csr: str, *words: int | str) -> int:
         read = old(file, csr, *words)
         file.select &= 0x1ff
         return read
@@ -79,9 +83,9 @@ def select_numbers_of_nine_bits():
 
 
 @choice
-def numbers_of_no_register_read_0():
+def numbers_of_no_register_read_0() -> None:
     """An access by a select number that names no register reads 0, and raises nothing."""
-    def access(old, file, *words):
+    def access(old: Callable[..., Any], file: InterruptFile, *words: int | str) -> int:
         try:
             return old(file, *words)
         except Refused:
@@ -90,9 +94,9 @@ def numbers_of_no_register_read_0():
 
 
 @choice
-def registers_above_the_greatest_raise():
+def registers_above_the_greatest_raise() -> None:
     """eip and eie above the greatest identity are not there."""
-    def access(old, file, select, *words):
+    def access(old: Callable[..., Any], file: InterruptFile, select: int, *words: int | str) -> int:
         if 32 * (select & 0x3f) > file.greatest:
             raise Refused("illegal")
         return old(file, select, *words)
@@ -100,7 +104,7 @@ def registers_above_the_greatest_raise():
 
 
 @choice
-def no_stores_of_big_endian_numbers():
+def no_stores_of_big_endian_numbers() -> None:
     """Neither seteipnum_be nor setipnum_be is there: the system has little-endian stores alone."""
     around(InterruptFile, "store", lambda old, file, offset, value:
            None if offset == 4 else old(file, offset, value))
@@ -109,7 +113,7 @@ def no_stores_of_big_endian_numbers():
 
 
 @choice
-def operands_of_0_write_nothing():
+def operands_of_0_write_nothing() -> None:
     """The bridge tells csrrs and csrrc with an operand of 0 as instructions with x0."""
     around(FixedMachine, "csr", lambda old, chip, level, hart, csr, operation, operand:
            old(chip, level, hart, csr, operation if operand or operation == "write" else "read",
@@ -118,10 +122,11 @@ def operands_of_0_write_nothing():
 
 # Sources.
 
-def sourcecfg(change):
+def sourcecfg(change: Callable[..., Any]) -> None:
     """Changes what a write of sourcecfg does: `change` gives the number that is written in another
     one's place, None where none is."""
-    def write(old, part, domain, source, value):
+    def write(old: Callable[..., Any], part: Aplic, domain: Domain, source: int,
+              value: int) -> None:
         new = change(part, domain, source, value)
         if new is not None:
             old(part, domain, source, new)
@@ -129,30 +134,30 @@ def sourcecfg(change):
 
 
 @choice
-def reserved_modes_change_nothing():
+def reserved_modes_change_nothing() -> None:
     """A write of a reserved mode leaves sourcecfg as it is."""
     sourcecfg(lambda part, domain, source, value:
               value if value & DELEGATES or value & 7 not in (2, 3) else None)
 
 
 @choice
-def any_child_index_is_the_child():
+def any_child_index_is_the_child() -> None:
     """D with any child index delegates to the one child."""
     sourcecfg(lambda part, domain, source, value:
               DELEGATED if value & DELEGATES and domain is part.root else value)
 
 
 @choice
-def a_leaf_keeps_the_mode():
+def a_leaf_keeps_the_mode() -> None:
     """D in the child's sourcecfg is read-only zero, and the mode is kept."""
     sourcecfg(lambda part, domain, source, value:
               value if domain is part.root else value & ~DELEGATES)
 
 
 @choice
-def delegating_again_begins_anew():
+def delegating_again_begins_anew() -> None:
     """A write that delegates what is delegated already makes the child's sourcecfg 0."""
-    def again(part, domain, source, value):
+    def again(part: Aplic, domain: Domain, source: int, value: int) -> int:
         if domain is part.root and value & DELEGATES and source <= part.sources:
             part.child.configure(source, 0)
         return value
@@ -160,25 +165,25 @@ def delegating_again_begins_anew():
 
 
 @choice
-def inputs_are_wires():
+def inputs_are_wires() -> None:
     """in_clrip shows the wires of detached and of inactive sources as they are."""
     aplic.WORDS["in_clrip"] = lambda domain: (
         domain.inputs() | domain.aplic.wires & ~domain.sensitive)
 
 
 @choice
-def modes_make_edges():
+def modes_make_edges() -> None:
     """A write of sourcecfg with an edge mode sets the pending bit where the input is high."""
-    def configure(old, domain, source, mode):
+    def configure(old: Callable[..., Any], domain: Domain, source: int, mode: int) -> None:
         old(domain, source, mode)
         domain.pending |= domain.inputs() & ~domain.level & 1 << source
     around(Domain, "configure", configure)
 
 
 @choice
-def level_modes_ask_for_nothing():
+def level_modes_ask_for_nothing() -> None:
     """By MSIs a write of sourcecfg with a level mode sets no pending bit."""
-    def configure(old, domain, source, mode):
+    def configure(old: Callable[..., Any], domain: Domain, source: int, mode: int) -> None:
         was = domain.pending
         old(domain, source, mode)
         if domain.by_msi:
@@ -187,15 +192,15 @@ def level_modes_ask_for_nothing():
 
 
 @choice
-def first_targets_are_anything():
+def first_targets_are_anything() -> None:
     """The target of a source that becomes active is any legal one."""
     Domain.first_target = lambda domain: 0x40055 if domain.by_msi else 0x40007
 
 
 @choice
-def modes_begin_anew():
+def modes_begin_anew() -> None:
     """From one active mode to another the enable bit becomes 0 and the target any."""
-    def configure(old, domain, source, mode):
+    def configure(old: Callable[..., Any], domain: Domain, source: int, mode: int) -> None:
         was_active = domain.active >> source & 1
         old(domain, source, mode)
         if was_active and domain.active >> source & 1:
@@ -207,15 +212,15 @@ def modes_begin_anew():
 # Delivery.
 
 @choice
-def hart_indexes_are_kept():
+def hart_indexes_are_kept() -> None:
     """target keeps the index of a hart that isn't there."""
     Domain.hart_kept = lambda domain, value: field(value, 31, 18) << 18
 
 
 @choice
-def guest_indexes_are_kept():
+def guest_indexes_are_kept() -> None:
     """By MSIs a target of the child keeps a guest index."""
-    def write(old, domain, source, value):
+    def write(old: Callable[..., Any], domain: Domain, source: int, value: int) -> None:
         old(domain, source, value)
         guest = field(value, 17, 12)
         if (domain is domain.aplic.child and domain.by_msi and domain.active >> source & 1
@@ -224,11 +229,11 @@ def guest_indexes_are_kept():
     around(Domain, "write_target", write)
 
 
-def priorities(bits):
+def priorities(bits: int) -> None:
     """Gives priorities and ithreshold so many bits."""
     most = (1 << bits) - 1
 
-    def write(old, domain, source, value):
+    def write(old: Callable[..., Any], domain: Domain, source: int, value: int) -> None:
         old(domain, source, value)
         if not domain.by_msi and domain.active >> source & 1:
             target = domain.targets[source]
@@ -238,27 +243,28 @@ def priorities(bits):
 
 
 @choice
-def priorities_of_four_bits():
+def priorities_of_four_bits() -> None:
     """Priorities and ithreshold have 4 bits."""
     priorities(4)
 
 
 @apart
-def priorities_of_three_bits():
+def priorities_of_three_bits() -> None:
     """They have 3 bits: for --priority-bits 3."""
     priorities(3)
 
 
 @apart
-def priorities_of_one_bit():
+def priorities_of_one_bit() -> None:
     """They have one: for --priority-bits 1."""
     priorities(1)
 
 
 @choice
-def identities_of_few_bits():
+def identities_of_few_bits() -> None:
     """By MSIs target and genmsi keep as many bits of an identity as the files have."""
-    def write(old, domain, register, index, value):
+    def write(old: Callable[..., Any], domain: Domain, register: str, index: int,
+              value: int) -> None:
         if domain.by_msi and register in ("target", "genmsi"):
             value &= ~0x7ff | fixed.GREATEST
         old(domain, register, index, value)
@@ -266,7 +272,7 @@ def identities_of_few_bits():
 
 
 @choice
-def controls_are_0_by_msis():
+def controls_are_0_by_msis() -> None:
     """By MSIs the delivery controls of harts read 0 and ignore writes."""
     around(Domain, "read", lambda old, domain, register, index:
            0 if domain.by_msi and register in CONTROLS else old(domain, register, index))
@@ -276,10 +282,10 @@ def controls_are_0_by_msis():
 
 
 @choice
-def changes_of_delivery_leave_bits():
+def changes_of_delivery_leave_bits() -> None:
     """A change of the delivery mode leaves pending bits, but for those of level sources in direct
     delivery, and makes targets and genmsi any legal ones."""
-    def write(old, domain, value):
+    def write(old: Callable[..., Any], domain: Domain, value: int) -> None:
         pending, was_by_msi = domain.pending, domain.by_msi
         old(domain, value)
         if domain.by_msi != was_by_msi:
@@ -291,19 +297,21 @@ def changes_of_delivery_leave_bits():
 
 
 @choice
-def big_endian_domains():
+def big_endian_domains() -> None:
     """BE of domaincfg is kept, and a domain with BE takes and gives its registers reversed."""
-    def is_reversed(domain, register):
+    def is_reversed(domain: Domain, register: str) -> bool:
         return getattr(domain, "is_reversed", False) and register not in (
             "setipnum_le", "setipnum_be")
 
-    def store(old, part, domain, register, index, value):
+    def store(old: Callable[..., Any], part: Aplic, domain: Domain, register: str, index: int,
+              value: int) -> None:
         value = swapped(value) if is_reversed(domain, register) else value
         if register == "domaincfg":
             domain.is_reversed = bool(value & 1)
         old(part, domain, register, index, value)
 
-    def load(old, part, domain, register, index):
+    def load(old: Callable[..., Any], part: Aplic, domain: Domain, register: str,
+             index: int) -> int:
         value = old(part, domain, register, index)
         value |= register == "domaincfg" and getattr(domain, "is_reversed", False)
         return swapped(value) if is_reversed(domain, register) else value
@@ -312,9 +320,10 @@ def big_endian_domains():
 
 
 @choice
-def fixed_msi_addresses():
+def fixed_msi_addresses() -> None:
     """The registers of MSI addresses are what the machine's pages ask for, and read-only."""
-    def store(old, part, domain, register, index, value):
+    def store(old: Callable[..., Any], part: Aplic, domain: Domain, register: str, index: int,
+              value: int) -> None:
         if register not in ADDRESS_REGISTERS:
             old(part, domain, register, index, value)
     around(Aplic, "store", store)
@@ -323,28 +332,28 @@ def fixed_msi_addresses():
 
 
 @choice
-def the_child_shows_msi_addresses():
+def the_child_shows_msi_addresses() -> None:
     """The child has the registers of MSI addresses too, read-only."""
     around(Aplic, "load", lambda old, part, domain, register, index:
            old(part, part.root if register in ADDRESS_REGISTERS else domain, register, index))
 
 
 @choice
-def msis_go_backwards():
+def msis_go_backwards() -> None:
     """Of the MSIs that are ready the last one goes first."""
     around(Aplic, "take_msis", lambda old, part: list(reversed(old(part))))
 
 
 @choice
-def msis_take_their_time():
+def msis_take_their_time() -> None:
     """An MSI arrives later than the access that made it ready."""
     FixedMachine.changed = lambda chip: None
 
 
 @apart
-def deliveries_by_msis_alone():
+def deliveries_by_msis_alone() -> None:
     """DM is read-only one in both domains: for --delivery msis."""
-    def begin(old, domain, part):
+    def begin(old: Callable[..., Any], domain: Domain, part: Aplic) -> None:
         old(domain, part)
         domain.by_msi = True
     around(Domain, "__init__", begin)
@@ -352,7 +361,7 @@ def deliveries_by_msis_alone():
 
 
 @apart
-def deliveries_to_harts_alone():
+def deliveries_to_harts_alone() -> None:
     """DM is read-only zero in both domains: for --delivery direct."""
     around(Domain, "write_domaincfg", lambda old, domain, value: old(domain, value & ~4))
 
@@ -360,9 +369,9 @@ def deliveries_to_harts_alone():
 # The machine.
 
 @choice
-def all_begins_with_anything():
+def all_begins_with_anything() -> None:
     """Out of reset all but domaincfg is any legal number."""
-    def reset(chip):
+    def reset(chip: FixedMachine) -> None:
         draw = random.Random("out of reset")
         for file in [*chip.files.values(), *chip.guest_files.values()]:
             file.pending, file.enabled = (draw.getrandbits(2048) & file.implemented for _ in "pe")
@@ -376,7 +385,7 @@ def all_begins_with_anything():
     FixedMachine.reset = reset
 
 
-def begin_source(part, source, draw):
+def begin_source(part: Aplic, source: int, draw: random.Random) -> None:
     """Gives a source any mode in the domain that has it, any target, any bits that it may have."""
     part.write_sourcecfg(part.root, source, draw.choice((0, 1, 4, 5, 6, 7, DELEGATED)))
     part.write_sourcecfg(part.child, source, draw.choice((0, 1, 4, 5, 6, 7)))
@@ -388,27 +397,26 @@ def begin_source(part, source, draw):
 
 
 @choice
-def regions_end_behind_their_harts():
+def regions_end_behind_their_harts() -> None:
     """A control region is no larger than the delivery controls of the harts that are there."""
     around(FixedMachine, "domain_at", lambda old, chip, address:
            old(chip, address) if address % fixed.REGION_BYTES < 0x5000 else None)
 
 
 @apart
-def identities_to_2047():
+def identities_to_2047() -> None:
     """Its files have the identities 1 to 2047: for --machine '2 7 2047 96'."""
     fixed.GREATEST = 2047
 
 
 @choice
-def accesses_at_odd_places_do_nothing():
+def accesses_at_odd_places_do_nothing() -> None:
     """A load or store at no multiple of 4 is ignored."""
-    def load(old, chip, address):
+    def load(old: Callable[..., Any], chip: FixedMachine, address: int) -> int:
         return 0 if address % 4 else old(chip, address)
 
-    def store(old, chip, address, value):
+    def store(old: Callable[..., Any], chip: FixedMachine, address: int, value: int) -> None:
         if address % 4 == 0:
             old(chip, address, value)
     around(FixedMachine, "load", load)
     around(FixedMachine, "store", store)
-

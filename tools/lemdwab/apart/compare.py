@@ -11,10 +11,15 @@ by one rule (plants.py); `--until-told` ends with the first difference. Ends wit
 answer differs, and 2 where the words are wrong or PROGRAM can't be run.
 """
 
+from __future__ import annotations
+
+import argparse
 import random
 from collections import Counter
+from collections.abc import Iterator
 from multiprocessing import Pool
 from pathlib import Path
+from typing import Any
 
 from lemdwab import answers, running
 from lemdwab.apart import model, plants, reading, words
@@ -24,25 +29,25 @@ TIME_LIMIT = 20
 OUTPUT_LIMIT = 16 << 20
 
 
-def script_of(seed, options):
+def script_of(seed: int, options: argparse.Namespace) -> bytes:
     """The script of a seed."""
     count = options.lines or random.Random(f"length {seed}").randint(300, 400)
     return random_script(seed, count, options.without_images, options.mood)
 
 
-def run(program, script):
+def run(program: str, script: bytes) -> tuple[bytes, None]:
     """What the program prints for a script, within the limits, and how it ended."""
     ran = running.run([program, "replay"], script, TIME_LIMIT, OUTPUT_LIMIT)
     return ran.output, ran.fault() or None
 
 
-def check_program(program):
+def check_program(program: str) -> None:
     """Ends with status 2 where a program can't be started."""
     ran = running.run([program, "replay"], b"", TIME_LIMIT, OUTPUT_LIMIT)
     running.check_started(ran, [program])
 
 
-def answered(script):
+def answered(script: bytes) -> Iterator[tuple[int, bytes, str]]:
     """The lines of a script that have an answer, with their forms."""
     for place, text in enumerate(reading.texts(script), 1):
         line = reading.read(text)
@@ -50,7 +55,8 @@ def answered(script):
             yield place, text, line[0]
 
 
-def first_difference(seed, script, wanted, found, ended):
+def first_difference(seed: int, script: bytes, wanted: bytes, found: bytes, ended: str | None
+                    ) -> tuple[str, str]:
     """The form of the first line whose answers differ, and what to say of it."""
     difference, lines = (answers.first_difference(script, wanted, found, answers.Known()),
                          answers.lines(script))
@@ -65,7 +71,8 @@ def first_difference(seed, script, wanted, found, ended):
         f" {theirs[at]}" + (f" ({ended})" if ended else ""))
 
 
-def compare(work):
+def compare(work: tuple[int, argparse.Namespace]
+           ) -> tuple[int, Counter[Any], tuple[str, str] | None]:
     """One seed: its counts and, where there is one, its difference."""
     seed, options = work
     script = script_of(seed, options)
@@ -82,7 +89,7 @@ def compare(work):
     return seed, counts, first_difference(seed, script, wanted, found, ended)
 
 
-def show(counts, differing):
+def show(counts: Counter[tuple[str, str]], differing: Counter[Any]) -> None:
     """The table by forms of line."""
     forms = sorted({form for form, _ in counts})
     for form in forms:
@@ -93,7 +100,7 @@ def show(counts, differing):
               f" differ {differing[form]:5}  {refused}")
 
 
-def options_given():
+def options_given() -> argparse.Namespace:
     """The options of the command line."""
     given = words.parser(__doc__)
     given.add_argument("program")
@@ -109,7 +116,7 @@ def options_given():
     return given.parse_args()
 
 
-def main():
+def main() -> int:
     options = options_given()
     check_program(options.program)
     if options.plant:

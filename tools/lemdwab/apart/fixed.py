@@ -6,9 +6,16 @@ examples/fixed-machine.py is a bridge to it. What it answers where the standard 
 what the model chooses, unless choices.py makes it otherwise.
 """
 
-from lemdwab.apart.aplic import Aplic, CONTROLS, REGISTERS, register_at
+from __future__ import annotations
+
+from typing import TYPE_CHECKING
+
+from lemdwab.apart.aplic import CONTROLS, REGISTERS, Aplic, register_at
 from lemdwab.apart.interrupt_file import InterruptFile
 from lemdwab.apart.refusals import Refused
+
+if TYPE_CHECKING:
+    from lemdwab.apart.aplic import Domain
 
 HARTS, GUESTS, GREATEST, SOURCES = 2, 7, 255, 96
 MACHINE_LEVEL, SUPERVISOR = "machine", "supervisor"
@@ -32,7 +39,7 @@ class Trap(Exception):
 class FixedMachine:
     """The machine, out of reset."""
 
-    def __init__(self):
+    def __init__(self) -> None:
         self.files = {(level, hart): InterruptFile(GREATEST)
                       for level in (MACHINE_LEVEL, SUPERVISOR) for hart in range(HARTS)}
         self.guest_files = {(hart, number): InterruptFile(GREATEST)
@@ -40,12 +47,12 @@ class FixedMachine:
         self.aplic = Aplic(HARTS, SOURCES)
         self.reset()
 
-    def reset(self):
+    def reset(self) -> None:
         """All is 0; another machine may begin with anything here."""
 
     # Loads and stores.
 
-    def file_at(self, address):
+    def file_at(self, address: int) -> InterruptFile | None:
         """The interrupt file in whose page an address lies."""
         page = (address - MACHINE_PAGES) // PAGE
         if 0 <= page < HARTS:
@@ -55,21 +62,21 @@ class FixedMachine:
             return self.guest_files[hart, number] if number else self.files[SUPERVISOR, hart]
         return None
 
-    def domain_at(self, address):
+    def domain_at(self, address: int) -> Domain | None:
         """The domain of the APLIC in whose region an address lies."""
         for domain, begin in ((self.aplic.root, ROOT), (self.aplic.child, CHILD)):
             if begin <= address < begin + REGION_BYTES:
                 return domain
         return None
 
-    def load(self, address):
+    def load(self, address: int) -> int:
         """A load of 32 bits."""
         domain = self.domain_at(address)
         if address % 4 or not (domain or self.file_at(address)):
             raise Fault
         return self.aplic.load(domain, *register_at(address % REGION_BYTES)) if domain else 0
 
-    def store(self, address, value):
+    def store(self, address: int, value: int) -> None:
         """A store of 32 bits."""
         domain, file = self.domain_at(address), self.file_at(address)
         if address % 4 or not (domain or file):
@@ -82,28 +89,28 @@ class FixedMachine:
 
     # CSRs, wires, signals and time.
 
-    def csr(self, level, hart, csr, operation, operand):
+    def csr(self, level: str, hart: int, csr: str, operation: str, operand: int) -> int:
         """A CSR instruction on `select`, `reg` or `topei` of a level: what it read."""
         try:
             return self.files[level, hart].access(csr, operation, operand, "illegal")
         except Refused:
             raise Trap from None
 
-    def wire(self, source, level):
+    def wire(self, source: int, level: int) -> None:
         """The wire of a source gets a level."""
         self.aplic.drive(source, level)
         self.changed()
 
-    def signals(self, hart):
+    def signals(self, hart: int) -> list[int]:
         """Which signals of a hart are high: of both domains and of both files."""
         return [int(one.signals(hart)) for one in (self.aplic.root, self.aplic.child)] + [
             int(self.files[level, hart].signals()) for level in (MACHINE_LEVEL, SUPERVISOR)]
 
-    def changed(self):
+    def changed(self) -> None:
         """Something was written: MSIs that are ready are sent at once."""
         self.wait()
 
-    def wait(self):
+    def wait(self) -> None:
         """Waits until no MSI is under way."""
         for address, value, _ in self.aplic.take_msis():
             file = self.file_at(address)
@@ -111,11 +118,11 @@ class FixedMachine:
                 file.store(0, value)
 
 
-def place_of(register, index=0):
+def place_of(register: str, index: int = 0) -> int:
     """The offset of a register in a domain's region."""
     return next(offset for offset, found in REGISTERS.items() if found == (register, index))
 
 
-def controls(hart):
+def controls(hart: int) -> list[int]:
     """The offsets of a hart's delivery controls that keep what is written."""
     return [place_of(name, hart) for name in CONTROLS]

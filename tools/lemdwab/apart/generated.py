@@ -3,18 +3,22 @@
 Ends with status 2 where the words are wrong.
 """
 
+from __future__ import annotations
+
+from collections.abc import Iterator
+
 from lemdwab.apart import model, words
 
 MULTIPLIER, INCREMENT = 6364136223846793005, 1442695040888963407
 
 
-def setup(who):
+def setup(who: str) -> list[str]:
     """All is enabled, and the file delivers."""
     return [f"{who} csrrw siselect 0xc0", f"{who} csrrw sireg 0xfffffffffffffffe",
             f"{who} csrrw siselect 0x70", f"{who} csrrw sireg 0x1"]
 
 
-def head():
+def head() -> list[str]:
     lines = ["machine 2 2 63 8", "vm 2 0x38 0", "vm 2 0x38 1"]
     for vm in range(2):
         for number in range(2):
@@ -22,7 +26,7 @@ def head():
     return lines + setup("h 0") + setup("h 1")
 
 
-def body(count, seed):
+def body(count: int, seed: int) -> Iterator[str]:
     state = seed
     for _ in range(count):
         state = (state * MULTIPLIER + INCREMENT) % 2 ** 64
@@ -37,7 +41,7 @@ def body(count, seed):
                f"h {hart} csrrw stopei 0x0")[draw % 10]
 
 
-def tell(count, seed):
+def tell(count: int, seed: int) -> None:
     """Runs the script, and prints its four numbers."""
     notices, notify = [], model.Machine.notify
     model.Machine.notify = lambda machine, hart: (notices.append(hart), notify(machine, hart))
@@ -50,7 +54,7 @@ def tell(count, seed):
     print(f"lines {lines}\nclaims {claims}\nnotices {len(notices)}\nsum {total % 2 ** 64}")
 
 
-def main():
+def main() -> int:
     """Prints the four numbers of the script of two numbers."""
     count, seed = words.given(__doc__, lambda given: len(given) == 2 and words.are_numbers(given))
     tell(int(count), int(seed))

@@ -6,6 +6,8 @@ it over random plans: the core's own, changed a little.
 Ends with status 1 where a verdict differs, and 2 where the words are wrong or PROGRAM can't be run.
 """
 
+from __future__ import annotations
+
 import random
 import subprocess
 
@@ -22,7 +24,7 @@ ODD_TEXTS = ("", "# a comment", "#" + "x" * 127, "#" + "x" * 128, "takep", "take
              "Fence", "fence ", "look 00", "word2", "look 0x20", "pute 18446744073709551616")
 
 
-def step_of(text, words):
+def step_of(text: str, words: int) -> tuple[str, int | None] | None:
     """The step that a text spells, with its word; None where it spells none."""
     parts = text.split(" ")
     if len(text) > LINE_BYTES:
@@ -35,7 +37,7 @@ def step_of(text, words):
     return None
 
 
-def keeps_routes(kind, steps):
+def keeps_routes(kind: str, steps: list[tuple[str, int | None]]) -> bool:
     """Part 1: each route is written once, and then put in force once; a leave says before where
     notices go, and no other move does."""
     places = {}
@@ -50,7 +52,7 @@ def keeps_routes(kind, steps):
     return all(places[first] < places[second] for first, second in order)
 
 
-def takes_each(words, steps):
+def takes_each(words: int, steps: list[tuple[str, int | None]]) -> bool:
     """Part 2: each pending word is taken once, after both fences."""
     begin = max(steps.index(("fence", None)), steps.index(("gfence", None)))
     taken = [word for name, word in steps[begin:] if name == "takep"]
@@ -58,7 +60,7 @@ def takes_each(words, steps):
         name == "takep" for name, _ in steps)
 
 
-def puts_at_once(take, put, steps):
+def puts_at_once(take: str, put: str, steps: list[tuple[str, int | None]]) -> bool:
     """Each take of a word is followed at once by its put, and no other put stands."""
     after, before = steps[1:] + [None], [None] + steps[:-1]
     return all((step[0] != take or after[place] == (put, step[1]))
@@ -66,13 +68,13 @@ def puts_at_once(take, put, steps):
                for place, step in enumerate(steps))
 
 
-def moves_enables(words, steps):
+def moves_enables(words: int, steps: list[tuple[str, int | None]]) -> bool:
     """Part 4: each word of the enables is taken once, and put at once."""
     taken = sorted(word for name, word in steps if name == "takee")
     return taken == list(range(words)) and puts_at_once("takee", "pute", steps)
 
 
-def verdict(kind, words, steps):
+def verdict(kind: str, words: int, steps: list[tuple[str, int | None]]) -> str:
     """Which part of the rule is the first that a plan breaks."""
     parts = (lambda: keeps_routes(kind, steps), lambda: takes_each(words, steps),
              lambda: puts_at_once("takep", "putp", steps), lambda: moves_enables(words, steps))
@@ -80,7 +82,7 @@ def verdict(kind, words, steps):
     return f"refused {broken}" if broken else "accepted"
 
 
-def audit(kind, words, plan):
+def audit(kind: str, words: int, plan: str) -> str:
     """What is printed for the text of a plan."""
     steps = []
     for text in plan.split("\n"):
@@ -93,13 +95,13 @@ def audit(kind, words, plan):
     return verdict(kind, words, steps)
 
 
-def moved_words(words):
+def moved_words(words: int) -> list[list[str]]:
     """The steps that move each word, a pair of lines each."""
     return [[f"take{which} {word}", f"put{which} {word}"]
             for word in range(words) for which in "pe"]
 
 
-def core_plan(draw, kind, words):
+def core_plan(draw: random.Random, kind: str, words: int) -> list[str]:
     """A plan as the core's, with its words in any order."""
     blocks = moved_words(words)
     draw.shuffle(blocks)
@@ -113,7 +115,7 @@ def core_plan(draw, kind, words):
     return ["quiet", "word0", "fence", "remap", "gfence"] + middle + ["taket", "putt", "wake"]
 
 
-def change(draw, words, lines):
+def change(draw: random.Random, words: int, lines: list[str]) -> None:
     """One line is dropped, doubled, moved, changed for another, or put in anew."""
     first, second = draw.randrange(len(lines)), draw.randrange(len(lines))
     way = draw.randrange(7)
@@ -133,7 +135,7 @@ def change(draw, words, lines):
         lines.insert(first, draw.choice(ODD_TEXTS))
 
 
-def random_plan(draw, kind, words):
+def random_plan(draw: random.Random, kind: str, words: int) -> str:
     lines = core_plan(draw, draw.choice(list(RECORD_STEPS)) if draw.random() < 0.1 else kind, words)
     for _ in range(draw.choice((0, 0, 1, 1, 1, 2, 2, 3, 5))):
         change(draw, words, lines)
@@ -142,7 +144,7 @@ def random_plan(draw, kind, words):
     return "\n".join(lines) + ("" if draw.random() < 0.1 else "\n")
 
 
-def main():
+def main() -> int:
     program, seed, count = words.given(
         __doc__, lambda given: len(given) == 3 and words.are_numbers(given[1:]))
     draw, counts, differing = random.Random(f"plans {seed}"), {}, 0

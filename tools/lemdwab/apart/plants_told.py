@@ -6,11 +6,15 @@ Scripts and the model's own answers are made once; each error is planted in a pr
 Ends with status 2 where the words are wrong.
 """
 
+from __future__ import annotations
+
 from multiprocessing import Process, Queue
+from typing import Any
 
 from lemdwab.apart import compare, model, plants, words
 
-def told_by(script, wanted):
+
+def told_by(script: bytes, wanted: list[str]) -> bool:
     """Whether the changed model answers otherwise, or not at all."""
     try:
         return model.answers(script) != wanted
@@ -18,7 +22,7 @@ def told_by(script, wanted):
         return True
 
 
-def try_plant(name, scripts, answers, results):
+def try_plant(name: str, scripts: list[bytes], answers: list[bytes], results: Any) -> None:
     """Plants an error and counts the scripts that tell it."""
     plants.plant(name)
     told, first = 0, None
@@ -28,7 +32,7 @@ def try_plant(name, scripts, answers, results):
     results.put((name, told, first))
 
 
-def main():
+def main() -> None:
     given = words.parser(__doc__)
     given.add_argument("first", type=int)
     given.add_argument("last", type=int)

@@ -9,11 +9,18 @@ keeps guesses alone: which VMs there are, where each virtual hart may be, how ma
 has still to go. Where it saves images it asks the model what they are, so as to load them again.
 """
 
+from __future__ import annotations
+
 import random
 import sys
+from collections.abc import Callable
 from pathlib import Path
+from typing import TYPE_CHECKING, Any
 
 from lemdwab.apart import model, vocabulary as say, words
+
+if TYPE_CHECKING:
+    from lemdwab.scripts import Filter
 
 MOODS = {"moves": 20, "passes": 20, "running": 14, "majors": 10, "aplic": 20, "images": 14,
          "everything": 12}
@@ -27,19 +34,21 @@ TRIES = 400
 class Guess:
     """Where a virtual hart may be."""
 
-    def __init__(self, vm, number):
+    def __init__(self, vm: int, number: int) -> None:
         self.vm, self.number = vm, number
         self.home = "parked"
         self.steps = 0  # that its move has still to go
         self.passes = 0
-        self.sources = []  # that seem to be passed to it
-        self.holds = []  # the harts of the guest files that it seems to have
+        self.sources: list[Any] = []  # that seem to be passed to it
+        self.holds: list[Any] = []  # the harts of the guest files that it seems to have
 
 
 class Generator:
     """One script, line by line."""
 
-    def __init__(self, seed, count, without_images=False, mood=None, sizes=None, filter_=None):
+    def __init__(self, seed: int, count: int, without_images: bool = False, mood: str | None = None,
+                 sizes: tuple[int, int, int, int] | None = None,
+                 filter_: Filter | None = None) -> None:
         """`sizes` are those of the machine, where they are not drawn. A filter says of each line
         whether it is said (`keeps`), with its answer by a model, and whether one that is refused is
         wanted now (`wants_refused`)."""
@@ -50,33 +59,36 @@ class Generator:
         self.mood = mood or self.weighted(moods)
         self.without_images = without_images
         self.count = count
-        self.lines = []
-        self.vms = []  # (how many virtual harts, mask, notice hart)
-        self.guesses = []
-        self.passed = []  # sources
+        self.lines: list[bytes] = []
+        self.vms: list[tuple[int, int, int]] = []  # (how many virtual harts, mask, notice hart)
+        self.guesses: list[Guess] = []
+        self.passed: list[int] = []  # sources
         self.missed = False  # whether the newest name of a virtual hart is another one
         self.supervisor_base = 0x28000  # the page that MSIs of the child are mostly meant for
         self.groups = False  # whether MSIs are meant for groups of harts
-        self.flight = {}  # how many stores of a VM seem to be in flight
+        self.flight: dict[int, int] = {}  # how many stores of a VM seem to be in flight
         self.twin = model.Script() if self.mood == "images" or filter_ else None
-        self.saved = []  # parts of images, as they were printed
-        self.fruitless = {}  # how often in a row an action said nothing that the filter keeps
+        self.saved: list[Any] = []  # parts of images, as they were printed
+        # How often in a row an action said nothing that the filter keeps.
+        self.fruitless: dict[Callable[..., Any], int] = {}
 
     # Numbers and choices.
 
-    def chance(self, probability):
+    def chance(self, probability: float) -> bool:
         return self.random.random() < probability
 
-    def pick(self, *choices):
+    def pick(self,
+             *choices: Callable[..., Any] | int | str | tuple[int, ...]
+            ) -> Callable[..., Any] | int | str | tuple[int, ...]:
         return self.random.choice(choices)
 
-    def below(self, limit):
+    def below(self, limit: int) -> int:
         return self.random.randrange(limit)
 
-    def weighted(self, table):
+    def weighted(self, table: dict[int | str, int]) -> int | str:
         return self.random.choices(list(table), weights=list(table.values()))[0]
 
-    def number(self, value, hexadecimal=False):
+    def number(self, value: int, hexadecimal: bool = False) -> str:
         """A number, now and then spelled in the other way."""
         if self.chance(0.05):
             hexadecimal = not hexadecimal
@@ -84,7 +96,7 @@ class Generator:
             return str(value)
         return "0x%0*x" % (self.pick(2, 8, 16) if self.chance(0.04) else 1, value)
 
-    def astray(self, value, limit):
+    def astray(self, value: int, limit: int) -> int:
         """A number that mostly is the one given, and now and then one beside what is there."""
         if self.chance(0.985):
             return value
@@ -92,7 +104,7 @@ class Generator:
 
     # Emission.
 
-    def say(self, *words):
+    def say(self, *words: int | str | tuple[int]) -> None:
         """A line of words; an int is a number in decimal, a pair (value,) one in hexadecimal. Lines
         that are refused follow where a filter wants them."""
         spelled = [self.number(*word, hexadecimal=True) if isinstance(word, tuple)
@@ -103,7 +115,7 @@ class Generator:
             say.wrong(self)
             tries -= 1
 
-    def put(self, text):
+    def put(self, text: bytes) -> str | None:
         """A line, unless a filter leaves it out; gives its answer where there is a model."""
         if self.filter:
             is_kept, answer = self.filter.keeps(text)
@@ -117,39 +129,39 @@ class Generator:
 
     # What the script is about.
 
-    def hart(self):
+    def hart(self) -> int:
         return self.astray(self.below(self.harts), self.harts)
 
-    def guess(self, *homes):
+    def guess(self, *homes: str) -> Guess:
         """A virtual hart that may be at one of these homes, if there is one."""
         fitting = [one for one in self.guesses if one.home in homes] if homes else self.guesses
         return self.random.choice(fitting or self.guesses)
 
-    def named(self, one):
+    def named(self, one: Guess) -> tuple[int, int]:
         """The words by which a line names a virtual hart; now and then it misses."""
         words = self.astray(one.vm, len(self.vms)), self.astray(one.number, self.vms[one.vm][0])
         self.missed = words != (one.vm, one.number)
         return words
 
-    def identity(self):
+    def identity(self) -> int:
         if self.chance(0.85):
             return self.random.choice(self.favourites)
         return self.pick(0, 1, self.greatest, self.greatest + 1, self.below(self.greatest) + 1,
                          self.below(64), 32 + self.below(18), self.below(1 << 32), 2047, 1 << 31)
 
-    def source(self):
+    def source(self) -> int:
         if self.chance(0.97):
             return self.random.choice(self.sources_used)
         return self.pick(0, 1, self.sources, self.sources + 1, 1023, 1024, 1 << 32, (1 << 32) + 1)
 
-    def set_word(self):
+    def set_word(self) -> int:
         """A word of a set of identities or of sources."""
         ones = 0
         for _ in range(self.below(3) + 1):
             ones |= 1 << self.random.choice(self.favourites) % 64
         return self.pick(ONES, ONES, 0, ones, ones, ones, ~ones & ONES, self.random.getrandbits(64))
 
-    def set_sizes(self):
+    def set_sizes(self) -> None:
         """The machine's sizes, by the mood."""
         self.harts = self.pick(1, 2, 2, 3, 4)
         self.guests = self.pick(1, 1, 2, 2, 3, 3, 5, 31, self.pick(0, 1))
@@ -169,12 +181,12 @@ class Generator:
         many = 18 if self.mood == "passes" and self.chance(0.3) else 3
         self.sources_used = [1, self.sources] + [self.below(self.sources) + 1 for _ in range(many)]
 
-    def plan_length(self, kind, passes):
+    def plan_length(self, kind: str, passes: int) -> int:
         words = (self.greatest + 1) // 64
         return {"leave": 8 + 5 * words, "arrive": 6 + 4 * words,
                 "shift": 8 + 4 * words}[kind] + passes
 
-    def make(self):
+    def make(self) -> None:
         """The beginning of a script: the machine and its VMs."""
         self.set_sizes()
         if self.chance(0.1) and not self.fixed:
@@ -198,7 +210,7 @@ class Generator:
             elif self.chance(0.5):
                 say.begin(self, whole=True, one=one)
 
-    def open_host_file(self, hart):
+    def open_host_file(self, hart: int) -> None:
         """The host sees what comes: all is enabled in its file, and sireg then shows eip."""
         self.say("h", hart, "csrrw", "siselect", (0xc0,))
         self.say("h", hart, "csrrw", "sireg", (ONES,))
@@ -207,7 +219,7 @@ class Generator:
             self.say("h", hart, "csrrw", "sireg", (1,))
         self.say("h", hart, "csrrw", "siselect", (0x80,))
 
-    def finish(self):
+    def finish(self) -> None:
         """The end of a script: each move goes to its end, and all that is there is looked at."""
         for one in self.guesses:
             if one.home == "moving":
@@ -224,7 +236,7 @@ class Generator:
             self.say("h", hart, "hgeip")
             self.say("pins", hart)
 
-    def act(self, action, weights):
+    def act(self, action: Callable[..., Any], weights: dict[Callable[..., Any], float]) -> None:
         """An action; of a filtered script, one that says nothing again and again is given up."""
         said = len(self.lines)
         action(self)
@@ -234,7 +246,7 @@ class Generator:
         if self.fruitless[action] == FRUITLESS:
             weights.pop(action, None)
 
-    def script(self):
+    def script(self) -> bytes:
         """The bytes of the whole script."""
         self.make()
         weights = say.weights_of(self.mood, self.without_images)
@@ -249,12 +261,13 @@ class Generator:
         return text if self.chance(0.05) else text + b"\n"
 
 
-def random_script(seed, count, without_images=False, mood=None):
+def random_script(seed: int, count: int, without_images: bool = False,
+                  mood: str | None = None) -> bytes:
     """The script of a seed, of so many lines."""
     return Generator(seed, count, without_images, mood).script()
 
 
-def main():
+def main() -> None:
     reader = words.parser(__doc__)
     reader.add_argument("seed", type=int)
     reader.add_argument("count", type=int)

@@ -5,15 +5,17 @@ name of a form with its fields. A number is an int; a CSR instruction is the thr
 operation and operand.
 """
 
+from __future__ import annotations
+
 import re
 
 LINE_BYTES = 128
 BAD = ("bad", ())
 NUMBER = re.compile(rb"0|[1-9][0-9]*|0x[0-9a-f]{1,16}")
-known_numbers = {}
+known_numbers: dict[bytes, int | None] = {}
 
 
-def spelled_number(word):
+def spelled_number(word: bytes) -> int | None:
     """The number below 2^64 that a word spells, None where it spells none."""
     if not NUMBER.fullmatch(word):
         return None
@@ -21,7 +23,7 @@ def spelled_number(word):
     return value if value < 1 << 64 else None
 
 
-def number(word, limit=1 << 64):
+def number(word: bytes, limit: int = 1 << 64) -> int | None:
     """The same below a limit; words that were read before are kept."""
     if word not in known_numbers:
         if len(known_numbers) > 200_000:
@@ -56,7 +58,7 @@ GUEST_CSRS = {**FILE_CSRS, b"stopi": "topi", b"sip": "sip", b"sie": "sie"}
 WRITING = {b"csrrw": "write", b"csrrs": "set", b"csrrc": "clear"}
 
 
-def fields(kinds, words):
+def fields(kinds: str, words: list[bytes]) -> list[int] | None:
     """The fields that words spell, one word a field; None where one of them spells none."""
     if len(words) != len(kinds):
         return None
@@ -64,7 +66,7 @@ def fields(kinds, words):
     return None if None in found else found
 
 
-def instruction(csrs, words):
+def instruction(csrs: dict[bytes, str], words: list[bytes]) -> list[int | str] | None:
     """A CSR instruction: the CSR, the operation and the operand."""
     if len(words) == 2 and words[0] == b"csrr" and words[1] in csrs:
         return [csrs[words[1]], "read", 0]
@@ -74,30 +76,31 @@ def instruction(csrs, words):
     return None
 
 
-def joined(name, front, rest):
+def joined(name: str, front: list[int] | None,
+           rest: list[int | str] | None) -> tuple[str, list[int | str] | tuple[()]]:
     """A line of two parts, BAD where one of them spells nothing."""
     return BAD if front is None or rest is None else (name, front + rest)
 
 
-def read_machine_csr(words):
+def read_machine_csr(words: list[bytes]) -> tuple[str, list[int | str] | tuple[()]]:
     return joined("m", fields("n", words[1:2]), instruction(MACHINE_CSRS, words[2:]))
 
 
-def read_host(words):
+def read_host(words: list[bytes]) -> tuple[str, list[int | str] | tuple[()]]:
     front = fields("n", words[1:2])
     if words[2:] == [b"hgeip"]:
         return joined("hgeip", front, [])
     return joined("h", front, instruction(FILE_CSRS, words[2:]))
 
 
-def read_guest(words):
+def read_guest(words: list[bytes]) -> tuple[str, list[int | str] | tuple[()]]:
     front = fields("nn", words[1:3])
     if words[3:4] == [b"ipi"]:
         return joined("ipi", front, fields("nw", words[4:]))
     return joined("g", front, instruction(GUEST_CSRS, words[3:]))
 
 
-def read_load(words):
+def read_load(words: list[bytes]) -> tuple[str, list[int] | tuple[()]]:
     part = words[3] if len(words) > 3 else b""
     rest = fields(PARTS[part], words[4:]) if part in PARTS else None
     return joined("load_" + part.decode("latin-1"), fields("nn", words[1:3]), rest)
@@ -106,12 +109,12 @@ def read_load(words):
 READERS = {b"m": read_machine_csr, b"h": read_host, b"g": read_guest, b"load": read_load}
 
 
-def is_skipped(text):
+def is_skipped(text: bytes) -> bool:
     """Whether a text is empty or a comment, which have no answer."""
     return not text or text[0] == 35 and len(text) <= LINE_BYTES
 
 
-def read(text):
+def read(text: bytes) -> tuple[str, list[int | str] | tuple[()]] | None:
     """What a text is: None where it is skipped, else a form and its fields."""
     if is_skipped(text):
         return None
@@ -126,7 +129,7 @@ def read(text):
     return BAD if found is None else (name, found)
 
 
-def texts(script):
+def texts(script: bytes) -> list[bytes]:
     """The texts of a script: it is cut at LF, and a last text without one counts."""
     cut = script.split(b"\n")
     return cut if cut[-1] else cut[:-1]

@@ -6,11 +6,14 @@ at each level, every bit of the words of an entry.
 Ends with status 1 where an answer differs, and 2 where the words are wrong or PROGRAM can't be run.
 """
 
+from __future__ import annotations
+
 import random
 
 from lemdwab.apart import compare, model, words
 
-def registers(draw):
+
+def registers(draw: random.Random) -> list[str]:
     """Stores of random values at all offsets, in any order, and loads from all, between lines that
     make sources of all modes."""
     lines = ["machine 4 3 2047 1023", "vm 2 0x8 1", "arrive 0 0 0"]
@@ -30,7 +33,7 @@ def registers(draw):
     return lines + [f"pins {hart}" for hart in range(4)]
 
 
-def selects(draw):
+def selects(draw: random.Random) -> list[str]:
     """Each select number at each level, with an access of the register."""
     greatest = draw.choice(model.GREATEST)
     lines = [f"machine 1 1 {greatest} 1", "vm 2 0x8 0", "arrive 0 0 0"]
@@ -48,7 +51,7 @@ def selects(draw):
     return lines
 
 
-def entries(draw):
+def entries(draw: random.Random) -> list[str]:
     """Entries with each bit changed, and with each two."""
     lines = ["machine 1 0 63 1"]
     for word0, word1 in ((7, 0), (3, 0), (3 | draw.getrandbits(44) << 10, draw.getrandbits(54)),
@@ -60,7 +63,7 @@ def entries(draw):
     return lines
 
 
-def main():
+def main() -> int:
     program, first, last = words.given(
         __doc__, lambda given: len(given) == 3 and words.are_numbers(given[1:]))
     compare.check_program(program)

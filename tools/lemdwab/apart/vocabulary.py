@@ -1,9 +1,16 @@
 """What random scripts say: actions, each of which puts a few lines into a script, and how often
 each mood takes which."""
 
+from __future__ import annotations
+
 import re
+from collections.abc import Callable
+from typing import TYPE_CHECKING, Any
 
 from lemdwab.apart.interrupt_file import swapped
+
+if TYPE_CHECKING:
+    from lemdwab.apart.random_scripts import Generator, Guess
 
 ONES = (1 << 64) - 1
 ROOT, CHILD = 0x0c000000, 0x0c008000
@@ -26,7 +33,7 @@ m 0 csrr mtopei; h 0 csrrs sireg 1; h 0 hgeip; pins 0; entry 0x7 0x0; ld 0x1; st
 hvictl 9 9 0x40000000; wire 0 0; load; save 0 0; vm 0 0 0""")
 
 
-def before_the_machine(script):
+def before_the_machine(script: Generator) -> None:
     """Lines that no machine answers, and machines that may not be."""
     for _ in range(script.pick(0, 1, 3, 10)):
         script.put(script.random.choice(ONE_OF_EACH).encode())
@@ -37,11 +44,11 @@ def before_the_machine(script):
         script.say("machine", *sizes)
 
 
-def again(script):
+def again(script: Generator) -> None:
     script.say("machine", script.pick(0, 1, 9), 1, 63, 8)
 
 
-def new_vm(script, plainly=False):
+def new_vm(script: Generator, plainly: bool = False) -> None:
     """A VM, of a mask with 1 to 4 ones."""
     from lemdwab.apart.random_scripts import Guess
     ones = 1 if plainly else script.pick(3, 4) if script.crowded else script.pick(1, 1, 2, 2, 3, 4)
@@ -63,7 +70,7 @@ def new_vm(script, plainly=False):
 
 # Stores of devices and of virtual harts.
 
-def offset_and_value(script):
+def offset_and_value(script: Generator) -> tuple[int, int]:
     """Where in a page a store goes, and what it asks for."""
     identity = script.identity() % (1 << 32)
     way = script.random.random()
@@ -74,7 +81,7 @@ def offset_and_value(script):
     return script.pick(8, 0x7fc, 0xffc, 1, 2, 5, 0x104, 0xc), identity
 
 
-def device_address(script, one):
+def device_address(script: Generator, one: Guess) -> int:
     """An MSI address of a virtual hart, or something like it."""
     count, mask, _ = script.vms[one.vm]
     number = one.number if script.chance(0.96) else script.below(18)
@@ -89,7 +96,7 @@ def device_address(script, one):
     return page << 12
 
 
-def device_store(script, word="msi", homes=()):
+def device_store(script: Generator, word: str = "msi", homes: tuple[str, ...] = ()) -> Guess:
     one = script.guess(*homes)
     offset, value = offset_and_value(script)
     vm = script.astray(one.vm, len(script.vms))
@@ -97,12 +104,12 @@ def device_store(script, word="msi", homes=()):
     return one
 
 
-def send(script):
+def send(script: Generator) -> None:
     one = device_store(script, "send", ("moving",) if script.chance(0.4) else ())
     script.flight[one.vm] = min(script.flight.get(one.vm, 0) + 1, 8)
 
 
-def sends(script):
+def sends(script: Generator) -> None:
     """Stores until no more may be in flight, or nearly."""
     vm = script.guess().vm
     for _ in range(script.pick(3, 8, 9)):
@@ -111,7 +118,7 @@ def sends(script):
         script.flight[vm] = min(script.flight.get(vm, 0) + 1, 8)
 
 
-def land(script):
+def land(script: Generator) -> None:
     """A store lands, of a VM of which some seem to be in flight."""
     flying = [vm for vm, count in script.flight.items() if count]
     if not flying and script.chance(0.8):
@@ -125,12 +132,12 @@ def land(script):
     script.flight[vm] = max(count - 1, 0)
 
 
-def refetch(script):
+def refetch(script: Generator) -> None:
     script.say("refetch", *script.named(script.guess("moving") if script.chance(0.8)
                                         else script.guess()))
 
 
-def ipi(script, to=None):
+def ipi(script: Generator, to: Guess | None = None) -> None:
     one = to or script.guess()
     peers = [other for other in script.guesses if other.vm == one.vm and
              other.home in ("resident", "entered")] or [one]
@@ -141,23 +148,23 @@ def ipi(script, to=None):
 
 # Moves.
 
-def holders(script, hart):
+def holders(script: Generator, hart: int) -> int:
     """How many guest files of a hart are held, as it seems."""
     return sum(one.holds.count(hart) for one in script.guesses)
 
 
-def has_room(script):
+def has_room(script: Generator) -> bool:
     """Whether a guest file of some hart seems to be free."""
     return any(holders(script, hart) < script.guests for hart in range(script.harts))
 
 
-def movable(script):
+def movable(script: Generator) -> Guess:
     """A virtual hart that is at rest and, where it is parked, seems to have a file to go to."""
     homes = ("parked", "resident") if has_room(script) else ("resident",)
     return script.guess(*homes)
 
 
-def begin(script, whole=False, one=None):
+def begin(script: Generator, whole: bool = False, one: Guess | None = None) -> Guess:
     """A move of a virtual hart, whole or begun."""
     one = one or (movable(script) if script.chance(0.9) else script.guess())
     if one.home != "resident" and not has_room(script) and script.chance(0.8):
@@ -187,11 +194,11 @@ def begin(script, whole=False, one=None):
     return one
 
 
-def whole(script):
+def whole(script: Generator) -> None:
     begin(script, whole=True)
 
 
-def step(script, one=None):
+def step(script: Generator, one: Guess | None = None) -> Guess:
     """One step, of a virtual hart that seems to be moved."""
     if not one and all(other.home != "moving" for other in script.guesses) and script.chance(0.9):
         begin(script)
@@ -204,7 +211,7 @@ def step(script, one=None):
     return one
 
 
-def steps(script):
+def steps(script: Generator) -> None:
     """Some steps in a row, the more the longer the move."""
     one = step(script)
     burst = script.pick(0, 0, 0, 1, 2, 4, script.below(one.steps + 1) if one.home == "moving"
@@ -214,7 +221,7 @@ def steps(script):
             step(script, one)
 
 
-def store_to(script, one, word):
+def store_to(script: Generator, one: Guess, word: str) -> None:
     """A store of a device for one virtual hart, mostly of an identity that it has enabled."""
     oddly = script.chance(0.2)
     offset, value = (offset_and_value(script) if oddly
@@ -224,7 +231,7 @@ def store_to(script, one, word):
         script.flight[one.vm] = min(script.flight.get(one.vm, 0) + 1, 8)
 
 
-def something(script, one):
+def something(script: Generator, one: Guess) -> None:
     """What may come between two steps of a move of a virtual hart."""
     what = script.pick("msi", "msi", "send", "ipi", "ipi", "refetch", "pass", "pass",
                        "land" if script.flight.get(one.vm) else "msi")
@@ -250,7 +257,7 @@ def something(script, one):
             script.say("land", one.vm, 0)
 
 
-def moments_of(script, length, passes):
+def moments_of(script: Generator, length: int, passes: int) -> set[int]:
     """Before which steps of a move something comes: all of its beginning or of its end, or some."""
     early = min(length, 7 + passes)
     late = min(length, (script.greatest + 1) // 64 + 4)
@@ -264,7 +271,7 @@ def moments_of(script, length, passes):
     return {script.below(length) for _ in range(script.pick(1, 2, 3, 5))}
 
 
-def drill(script):
+def drill(script: Generator) -> None:
     """A move with something before some of its steps, and a look at the host and the guest."""
     one = movable(script)
     while one.home == "moving" and one.steps < 40:
@@ -293,7 +300,7 @@ def drill(script):
 
 # Virtual harts' CSRs.
 
-def select_number(script):
+def select_number(script: Generator) -> int:
     words = (script.greatest + 1) // 64
     word = 2 * script.below(words)
     first = script.random.choice(script.favourites) // 64 * 2
@@ -304,7 +311,7 @@ def select_number(script):
                                    0x10c0, 0x1070, ONES, script.below(0x1100)))
 
 
-def register_value(script, select):
+def register_value(script: Generator, select: int) -> int:
     if select == 0x70:
         return script.pick(0, 1, 1, 1, 2, 3, 0x40000000)
     if select == 0x72:
@@ -313,11 +320,12 @@ def register_value(script, select):
     return script.set_word()
 
 
-def mnemonic(script):
+def mnemonic(script: Generator) -> str:
     return script.pick("csrrw", "csrrw", "csrrs", "csrrc")
 
 
-def access(script, who, names, reads=0.4):
+def access(script: Generator, who: tuple[int | str, ...], names: tuple[str, str, str],
+           reads: float = 0.4) -> None:
     """An access by the names of a level's CSRs: of the selected register mostly after a choice."""
     select_name, register_name, top_name = names
     what = script.random.random()
@@ -340,12 +348,12 @@ def access(script, who, names, reads=0.4):
         script.say(*who, mnemonic(script), register_name, (register_value(script, select),))
 
 
-def guest(script):
+def guest(script: Generator) -> None:
     one = script.guess("resident", "entered") if script.chance(0.93) else script.guess()
     access(script, ("g", *script.named(one)), ("siselect", "sireg", "stopei"))
 
 
-def guest_look(script, one=None):
+def guest_look(script: Generator, one: Guess | None = None) -> None:
     """A claim of a guest, or a look at what is pending or enabled."""
     one = one or script.guess("resident", "entered")
     who = ("g", *script.named(one))
@@ -357,11 +365,11 @@ def guest_look(script, one=None):
         script.say(*who, "csrr", "sireg")
 
 
-def host(script):
+def host(script: Generator) -> None:
     access(script, ("h", script.hart()), ("siselect", "sireg", "stopei"))
 
 
-def host_look(script, hart=None):
+def host_look(script: Generator, hart: int | None = None) -> None:
     """The host sees its notices, and mostly clears them."""
     who = ("h", script.hart() if hart is None else hart)
     way = script.random.random()
@@ -374,19 +382,19 @@ def host_look(script, hart=None):
         script.say(*who, "csrr", script.pick("sireg", "stopei"))
 
 
-def machine_level(script):
+def machine_level(script: Generator) -> None:
     access(script, ("m", script.hart()), ("miselect", "mireg", "mtopei"))
 
 
-def hgeip(script):
+def hgeip(script: Generator) -> None:
     script.say("h", script.hart(), "hgeip")
 
 
-def pins(script):
+def pins(script: Generator) -> None:
     script.say("pins", script.hart())
 
 
-def set_up_guest(script, one):
+def set_up_guest(script: Generator, one: Guess) -> None:
     """It arrives, or runs from memory, and enables some of its identities."""
     if script.chance(0.85) and has_room(script):
         begin(script, whole=True, one=one)
@@ -410,21 +418,21 @@ def set_up_guest(script, one):
 
 # Running from memory.
 
-def enter(script, one=None):
+def enter(script: Generator, one: Guess | None = None) -> None:
     one = one or script.guess("parked")
     script.say("enter", *script.named(one))
     if one.home == "parked" and not script.missed:
         one.home = "entered"
 
 
-def leave_memory(script, one=None):
+def leave_memory(script: Generator, one: Guess | None = None) -> None:
     one = one or script.guess("entered")
     script.say("exit", *script.named(one))
     if one.home == "entered" and not script.missed:
         one.home = "parked"
 
 
-def run(script):
+def run(script: Generator) -> None:
     """Some while from memory, with stores and claims, and its end."""
     one = script.guess("parked")
     enter(script, one)
@@ -442,18 +450,18 @@ def run(script):
 
 # Majors.
 
-def priority(script):
+def priority(script: Generator) -> int:
     return script.pick(0, 1, 2, 254, 255, script.random.choice(script.favourites) & 0xff,
                        script.below(256))
 
 
-def inject(script):
+def inject(script: Generator) -> None:
     script.say("inject", *script.named(script.guess()),
                script.pick(1, 5, 9, 13, script.astray(9, 2)),
                script.pick(0, 1, 1))
 
 
-def hvictl(script):
+def hvictl(script: Generator) -> None:
     vti = script.chance(0.4)
     iid = script.pick(1, 5, 9, 9, 13, 3, 63, script.pick(0, 64, 100, 4095, script.below(4096)))
     value = vti << 30 | iid << 16 | script.below(4) << 8 | priority(script)
@@ -462,14 +470,14 @@ def hvictl(script):
     script.say("hvictl", *script.named(script.guess()), (value,))
 
 
-def hviprio(script):
+def hviprio(script: Generator) -> None:
     value = priority(script) << 8 | priority(script) << 24 | priority(script) << 40
     if script.chance(0.15):
         value |= script.random.getrandbits(64) & ~0x0000ff00ff00ff00
     script.say("hviprio", *script.named(script.guess()), (value,))
 
 
-def major_access(script):
+def major_access(script: Generator) -> None:
     one = script.guess("resident") if script.chance(0.9) else script.guess()
     who = ("g", *script.named(one))
     csr = script.pick("sip", "sie", "sie", "stopi", "stopi", "stopi")
@@ -483,18 +491,18 @@ def major_access(script):
 
 # The APLIC.
 
-def domain(script):
+def domain(script: Generator) -> int:
     return script.pick(ROOT, CHILD)
 
 
-def pulse(script, source=None):
+def pulse(script: Generator, source: int | None = None) -> None:
     """A wire, which mostly changes its level."""
     source = script.source() if source is None else source
     for level in script.pick((0,), (1,), (1, 0), (0, 1)):
         script.say("wire", source, level)
 
 
-def sourcecfg(script, where):
+def sourcecfg(script: Generator, where: int) -> int:
     mode = script.pick(1, 4, 4, 5, 6, 6, 7, script.pick(0, 2, 3))
     if where == ROOT:
         return script.pick(0x400, 0x400, mode,
@@ -502,14 +510,14 @@ def sourcecfg(script, where):
     return script.pick(mode, mode, mode, mode, script.pick(0x400, 0x404, 0xfffffbf8 | mode, 0x7ff))
 
 
-def target(script):
+def target(script: Generator) -> int:
     hart = script.below(script.harts) if script.chance(0.9) else script.pick(script.harts, 4, 16383)
     low = script.pick(script.identity() & 0x7ff, priority(script), script.below(4), script.below(4))
     return hart << 18 | (script.below(64) << 12 if script.chance(0.1) else 0) | low | (
         script.pick(0, 0x800, 0x300) if script.chance(0.1) else 0)
 
 
-def address_value(script, name):
+def address_value(script: Generator, name: str) -> int:
     if script.groups:
         return {"mmsiaddrcfg": script.pick(0x20000, 0x24000),
                 "smsiaddrcfg": script.pick(0x20000, 0x28000),
@@ -529,7 +537,7 @@ def address_value(script, name):
     return script.random.choice(odd)
 
 
-def register(script):
+def register(script: Generator) -> tuple[int, int]:
     """The offset of a register, and a value that it may get."""
     where = domain(script)
     kind = script.weighted({"sourcecfg": 16, "target": 14, "words": 14, "numbers": 14,
@@ -564,14 +572,14 @@ def register(script):
     return where + 4 * script.below(0x2000), script.random.getrandbits(32)
 
 
-def aplic_store(script):
+def aplic_store(script: Generator) -> None:
     address, value = register(script)
     script.say("st", (address,), (value,))
     if script.chance(0.2):
         script.say("ld", (address,))
 
 
-def aplic_load(script):
+def aplic_load(script: Generator) -> None:
     address, _ = register(script)
     if script.chance(0.3):
         control = domain(script) + 0x4000 + 32 * script.below(script.harts)
@@ -582,7 +590,7 @@ def aplic_load(script):
     script.say("ld", (address,))
 
 
-def elsewhere(script):
+def elsewhere(script: Generator) -> None:
     """A store or a load of the host outside of the control regions, or at their edges."""
     hart, number = script.below(5), script.below(34)
     base = script.pick(0x24000000 + hart * 0x1000, 0x28000000 + hart * 0x20000,
@@ -599,7 +607,7 @@ def elsewhere(script):
         script.say("ld", (address & ONES,))
 
 
-def host_file_store(script):
+def host_file_store(script: Generator) -> None:
     """An MSI for a file of the host, of a device of its own."""
     hart = script.below(script.harts)
     offset, value = offset_and_value(script)
@@ -607,7 +615,7 @@ def host_file_store(script):
                       ), (value,))
 
 
-def force(script):
+def force(script: Generator) -> None:
     """An interrupt that is forced or on top, and loads of topi and claimi."""
     control = domain(script) + 0x4000 + 32 * script.below(script.harts)
     for offset, value in ((0, 1), (4, script.below(2)), (8, script.below(5))):
@@ -619,7 +627,7 @@ def force(script):
             pins(script)
 
 
-def ready_domains(script):
+def ready_domains(script: Generator) -> None:
     """Sources of both domains with modes, targets and enables; files that take their MSIs."""
     script.groups = script.chance(0.15)
     script.supervisor_base = 0x28001 if script.chance(0.15) else 0x28000
@@ -643,7 +651,7 @@ def ready_domains(script):
 
 # Passes.
 
-def ready_sources(script):
+def ready_sources(script: Generator) -> None:
     """Sources that may be passed, and mostly signal."""
     for source in script.sources_used:
         script.say("st", (ROOT + 4 * source,), (0x400,))
@@ -660,7 +668,7 @@ def ready_sources(script):
             pass_source(script, source)
 
 
-def pass_source(script, source=None):
+def pass_source(script: Generator, source: int | None = None) -> None:
     fresh = [one for one in script.sources_used if one not in script.passed]
     if source is None:
         source = script.random.choice(fresh) if fresh and script.chance(0.8) else script.source()
@@ -674,11 +682,11 @@ def pass_source(script, source=None):
         one.sources.append(source)
 
 
-def passed_wire(script):
+def passed_wire(script: Generator) -> None:
     pulse(script, script.random.choice(script.passed) if script.passed else None)
 
 
-def passed_registers(script):
+def passed_registers(script: Generator) -> None:
     """What the host may still do about a passed source, and what it may not."""
     source = script.random.choice(script.passed or [1])
     name = script.pick("look", "look", "enable", "disable", "set", "clear", "ie", "redirect")
@@ -696,7 +704,7 @@ def passed_registers(script):
 
 # Images.
 
-def random_part(script):
+def random_part(script: Generator) -> list[int | str | tuple[int]]:
     words = (script.greatest + 1) // 64
     part = script.pick("image", "majors", "prio", "word", "word", "word")
     if part == "image":
@@ -720,12 +728,12 @@ def random_part(script):
     return [part, script.astray(word, words), (pending,), (enabled,)]
 
 
-def load_random(script):
+def load_random(script: Generator) -> None:
     one = script.guess("parked") if script.chance(0.9) else script.guess()
     script.say("load", *script.named(one), *random_part(script))
 
 
-def save(script, one=None):
+def save(script: Generator, one: Guess | None = None) -> Guess:
     """Some part of an image; what it was is kept, where a model is there to say it."""
     one = one or (script.guess("parked") if script.chance(0.9) else script.guess())
     words = (script.greatest + 1) // 64
@@ -734,7 +742,7 @@ def save(script, one=None):
     return one
 
 
-def copy_image(script):
+def copy_image(script: Generator) -> None:
     """All parts of an image, saved, and loaded into another virtual hart in any order."""
     one, other = script.guess("parked"), script.guess("parked")
     words = (script.greatest + 1) // 64
@@ -756,7 +764,7 @@ def copy_image(script):
 
 # Other lines, and those that are refused or bad.
 
-def entry(script):
+def entry(script: Generator) -> None:
     word0 = script.pick(7, 3, 3, 1, 5, 6) | script.random.getrandbits(54) << 10
     word1 = script.random.getrandbits(64)
     if script.chance(0.85):
@@ -769,13 +777,13 @@ def entry(script):
     script.say("entry", (word0 & ~(0x3f8 if script.chance(0.8) else 0),), (word1,))
 
 
-def sample(script):
+def sample(script: Generator) -> bytes:
     """A line that was said before, or a plain one."""
     text = script.random.choice(script.lines) if script.lines else b"pins 0"
     return text if text and len(text) < 100 else b"wire 1 1"
 
 
-def bad(script):
+def bad(script: Generator) -> None:
     """A text that spells no line, or is skipped, or looks as if."""
     text = sample(script)
     words = text.split(b" ")
@@ -806,7 +814,7 @@ def bad(script):
         script.put(script.random.choice(ways))
 
 
-def wrong(script):
+def wrong(script: Generator) -> None:
     """A line that is mostly refused: no line, one of another machine, or one with a wild number."""
     way = script.below(3)
     if way == 0:
@@ -819,7 +827,7 @@ def wrong(script):
         script.put(b" ".join(words))
 
 
-def repeat(script):
+def repeat(script: Generator) -> None:
     """A line that was said before, once more."""
     script.put(sample(script))
 
@@ -858,7 +866,7 @@ MOOD_WEIGHTS = {
 }
 
 
-def weights_of(mood, without_images):
+def weights_of(mood: str, without_images: bool) -> dict[Callable[..., Any], float]:
     """How often each action is taken."""
     weights = {action: weight * 0.7 for action, weight in BACKGROUND.items()}
     if not without_images:

@@ -2,24 +2,31 @@
 
     between-steps [FOLDER]
 
-Writes crates/aia_script_tests/data/moves/lines-between-steps below FOLDER, else in this repository: lines
-that stand between two steps of a move of a virtual hart, what each answers there, and what there is
-to see after the move. The program aia_script_tests holds runs to it, between any two steps, and with passed
-sources also before and after the move. Which lines these are stands in lemdwab.between. What they
-answer says the model written apart. Takes about a minute.
+Writes crates/aia_script_tests/data/moves/lines-between-steps below FOLDER, else in this repository:
+lines that stand between two steps of a move of a virtual hart, what each answers there, and what
+there is to see after the move. The program aia_script_tests holds runs to it, between any two
+steps, and with passed sources also before and after the move. Which lines these are stands in
+lemdwab.between. What they answer says the model written apart. Takes about a minute.
 
 Ends with status 2 where the words are wrong, or the file can't be written. Needs Python 3.10 or
 later.
 """
 
+from __future__ import annotations
+
 import copy
 import re
+from collections.abc import Iterator
 from itertools import groupby
 from pathlib import Path
+from typing import TYPE_CHECKING
 
 from lemdwab import between, running
 from lemdwab.apart import model, moves
 from lemdwab.between import KINDS, MOVES, Setting
+
+if TYPE_CHECKING:
+    from lemdwab.apart.model import Script
 
 HEAD = """\
 # Lines between two steps of a move, and their answers: suite/between-steps finds them, so
@@ -31,7 +38,7 @@ WIDTH = 93
 WIDE = re.compile("0x0*([0-9a-f]+)")
 
 
-def shown(answer):
+def shown(answer: str) -> str:
     """Gives an answer as the table has it: numbers of 64 bits are cut."""
     return f"x{WIDE.fullmatch(answer)[1]}" if len(answer) == 18 else answer
 
@@ -39,38 +46,38 @@ def shown(answer):
 class Run:
     """A script of the model written apart, up to a place of a move."""
 
-    def __init__(self, script=None):
+    def __init__(self, script: Script | None = None) -> None:
         self.script = script or model.Script()
 
-    def copied(self):
+    def copied(self) -> Run:
         """Gives a run that goes on by itself from the same place."""
         return Run(copy.deepcopy(self.script))
 
-    def answers(self, lines):
+    def answers(self, lines: list[str]) -> list[str]:
         """Says lines, and lists their answers."""
         return [shown(self.script.answer(line.encode())) for line in lines]
 
-    def steps(self, count):
+    def steps(self, count: int) -> None:
         """Does so many steps of the move."""
         for _ in range(count):
             self.script.answer(b"step 0 0")
 
 
-def steps_left(kind, setting):
+def steps_left(kind: str, setting: Setting) -> int:
     """Gives how many steps are to come after the beginning."""
     if kind not in MOVES:
         return 0
     return len(moves.plan_of(MOVES[kind], setting.words)) + setting.passed - begun(kind, setting)
 
 
-def begun(kind, setting):
+def begun(kind: str, setting: Setting) -> int:
     """Gives how many steps are done at the beginning: up to its fence, or none."""
     if setting.flight != "past":
         return 0
     return moves.plan_of(MOVES[kind], setting.words).index(("Fence", 0)) + 1
 
 
-def listed(word, lines, said):
+def listed(word: str, lines: list[str], said: list[str]) -> Iterator[str]:
     """Lists rows of lines with their answers, as many lines in a row as fit its width."""
     row, row_said = "", ""
     for line, one in zip(lines, said):
@@ -85,7 +92,7 @@ def listed(word, lines, said):
 class Move:
     """A move of a virtual hart from a setting on, and what there is to see after it."""
 
-    def __init__(self, kind, setting):
+    def __init__(self, kind: str, setting: Setting) -> None:
         self.kind, self.setting = kind, setting
         self.left = steps_left(kind, setting)
         self.before = between.before(setting)
@@ -100,7 +107,7 @@ class Move:
             self.places[-1].steps(1)
         self.usual = self.places[-1].copied().answers(self.after)
 
-    def head(self):
+    def head(self) -> str:
         """Says what the table is about."""
         setting = self.setting
         sent = "past its fence" if setting.flight == "past" else "before"
@@ -109,7 +116,7 @@ class Move:
                 + (f", stores sent {sent}" if setting.flight else "")
                 + (f", passed sources: {setting.passed}" if setting.passed else ""))
 
-    def said(self, lines, gap):
+    def said(self, lines: list[str], gap: int) -> str:
         """Gives what lines answer at a place, and behind that what is to see after the move where
         it is not as usual: of looks that are, how many."""
         run = self.places[gap].copied()
@@ -123,7 +130,7 @@ class Move:
                 same = 0
         return " ".join(said)
 
-    def runs(self, line):
+    def runs(self, line: str) -> Iterator[str]:
         """Lists the rows of lines at all places, those together where they answer the same."""
         last = self.left + (1 if self.setting.passed else 0)
         said = [(gap, self.said(line.split(";"), gap)) for gap in range(last)]
@@ -131,7 +138,7 @@ class Move:
             gaps = [gap for gap, _ in group]
             yield f"at {gaps[0]} {gaps[-1] + 1} {line} => {answer}"
 
-    def table(self):
+    def table(self) -> Iterator[str]:
         """Lists the rows of the table."""
         yield self.head()
         yield f"steps {self.left}"
@@ -145,7 +152,7 @@ class Move:
             yield from self.runs(line)
 
 
-def tables():
+def tables() -> Iterator[Move]:
     """Lists all tables: which moves, from which settings on."""
     for words in (1, 2):
         for is_deliverable in (False, True):
@@ -159,7 +166,7 @@ def tables():
                 yield Move(kind, Setting(words, passed=passed))
 
 
-def main():
+def main() -> int:
     _, rest, _ = running.words("")
     if len(rest) > 1:
         running.usage("one FOLDER at most is wanted")

@@ -10,8 +10,9 @@ crate twice, or has a ring of crates. It needs Python 3.10 or later, reads that 
 within ten seconds and prints at most 200 lines.
 """
 
+from __future__ import annotations
+
 import signal
-import sys
 
 from lemdwab import running
 
@@ -20,7 +21,7 @@ LONGEST_RUN = 10
 MOST_LINES = 200
 
 
-def below_each(text):
+def below_each(text: str) -> dict[str, list[str]]:
     """Gives the crates, in order, each with those of them on which it stands."""
     found = {}
     for number, line in enumerate(text.splitlines(), 1):
@@ -36,11 +37,11 @@ def below_each(text):
     return {crate: [other for other in others if other in found] for crate, others in found.items()}
 
 
-def chains(below):
+def chains(below: dict[str, list[str]]) -> dict[str, list[str]]:
     """Gives the longest chain of each crate, the lowest crate first."""
     found, begun = {}, []
 
-    def chain(crate):
+    def chain(crate: str) -> list[str]:
         if crate in begun:
             ring = " ".join(begun[begun.index(crate):])
             running.fail(f"crates.txt: these stand on one another: {ring}")
@@ -55,12 +56,8 @@ def chains(below):
     return found
 
 
-def main():
-    given = sys.argv[1:]
-    if given in (["-h"], ["--help"]):
-        running.tell_help()
-    if given:
-        running.usage("no word is wanted")
+def main() -> int:
+    running.command_given()
     signal.alarm(LONGEST_RUN)
     below = below_each(running.contents(running.TOP / "crates.txt").decode("utf-8", "replace"))
     longest = chains(below)

@@ -4,17 +4,19 @@ make them.
     check [-k PATTERN] [COMMAND..]
 
 Runs COMMAND, else that of the variable PROGRAM with the word `replay`, else ./aia replay of this
-repository, over each script of crates/aia_script_tests/data/suite and of examples, the script on its
-standard input, and compares what it prints with the file NAME.out beside NAME.script. Of a script
-that differs it prints the first answer that does. With -k it takes only the scripts whose NAME has
-PATTERN, a pattern of a shell's, within it, as -k genmsi; without, it also says where files differ
-from what suite/make makes of suite/rows, and from what suite/majors-table and suite/between-steps
-write, and which script has not one row, and one class, in suite/classes.txt. A release has no rows,
-and there it does not.
+repository, over each script of crates/aia_script_tests/data/suite and of examples, the script on
+its standard input, and compares what it prints with the file NAME.out beside NAME.script. Of a
+script that differs it prints the first answer that does. With -k it takes only the scripts whose
+NAME has PATTERN, a pattern of a shell's, within it, as -k genmsi; without, it also says where files
+differ from what suite/make makes of suite/rows, and from what suite/majors-table and
+suite/between-steps write, and which script has not one row, and one class, in suite/classes.txt. A
+release has no rows, and there it does not.
 
 Ends with status 1 where anything differs, and 2 where words are wrong or nothing could be run. A
 script may take a minute. Needs Python 3.10 or later.
 """
+
+from __future__ import annotations
 
 import tempfile
 from collections.abc import Iterator
@@ -26,7 +28,8 @@ from lemdwab.running import TOP
 MAKERS = ("make", "majors-table", "between-steps")
 # How long each of these may take, in seconds, and how many bytes it may print.
 MAKING, SAID = 600, 1 << 20
-FOLDERS = ("examples", "crates/aia_script_tests/data/examples", "crates/aia_script_tests/data/suite")
+DATA = "crates/aia_script_tests/data"
+FOLDERS = ("examples", f"{DATA}/examples", f"{DATA}/suite")
 
 
 def make(workers: running.Workers, folder: Path) -> None:
@@ -51,7 +54,7 @@ def drifts(top: Path, folder: Path) -> Iterator[str]:
                 yield f"{path.relative_to(top)} is of no row"
 
 
-def check():
+def check() -> int:
     given, rest, _ = running.words("k:")
     if given.get("k") == "":
         running.usage("a PATTERN is wanted behind -k")

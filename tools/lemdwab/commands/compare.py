@@ -46,17 +46,24 @@ the model does not end with status 0, no line is one of a script, or no answer w
 each is `-`; and where nobody reads on what it prints. Needs Python 3.10 or later.
 """
 
+from __future__ import annotations
+
 import os
 import shutil
+from typing import TYPE_CHECKING
 
 from lemdwab import answers, classes, comparing, running
+
+if TYPE_CHECKING:
+    from lemdwab.comparing import Options
+    from lemdwab.running import Workers
 
 ALL_BAD = ("all lines are bad: look for capital digits, two spaces, leading zeros, or another"
            " language; suite/lint says which")
 DIVIDED = "for a command put -- before it"
 
 
-def read_options(given):
+def read_options(given: dict[str, str]) -> Options:
     """Reads the options."""
     forms, sizes, delivery = given.get("only"), given.get("machine"), given.get("delivery", "")
     if delivery and delivery not in classes.DELIVERIES:
@@ -70,7 +77,7 @@ def read_options(given):
         running.number(given.get("priority-bits", "8"), "N", 1, classes.MOST_BITS))
 
 
-def run_model(model, script, seconds):
+def run_model(model: list[str], script: bytes, seconds: int) -> bytes:
     """Runs the model over a script, and gives what it answers."""
     ran = running.run(model, script, seconds, answers.most_output(script), True)
     running.check_started(ran, model)
@@ -79,7 +86,7 @@ def run_model(model, script, seconds):
     return ran.output
 
 
-def no_script(script):
+def no_script(script: bytes) -> str:
     """Says why a script, all of whose lines are bad if it has any, is none."""
     lines = answers.lines(script)
     if not lines:
@@ -87,7 +94,7 @@ def no_script(script):
     return "each line ends in CR" if all(line.text.endswith("\r") for line in lines) else ALL_BAD
 
 
-def meant(path, mine):
+def meant(path: str, mine: bytes) -> str:
     """Says what a file of answers may be, if it seems to have none; nothing if it has."""
     if mine.startswith(b"#!") or os.access(path, os.X_OK):
         return f"{path} is a program: {DIVIDED}"
@@ -98,14 +105,15 @@ def meant(path, mine):
     return ""
 
 
-def answers_in(path):
+def answers_in(path: str) -> bytes:
     """Gives the bytes of a file of answers."""
     if not os.path.exists(path) and shutil.which(path):
         running.fail(f"{path} is no file here, and a command: {DIVIDED}")
     return running.contents(path)
 
 
-def over_one(name, command, path, options, workers, model):
+def over_one(name: str, command: list[str], path: str | None, options: Options, workers: Workers,
+             model: list[str]) -> bool:
     """Holds answers, of a command or in a file, against the model's over one script."""
     script = running.contents(name)
     if options.sizes:
@@ -140,7 +148,7 @@ def over_one(name, command, path, options, workers, model):
     return is_same
 
 
-def wrong_words(rest, is_divided, files, given):
+def wrong_words(rest: list[str], is_divided: bool, files: list[str], given: dict[str, str]) -> str:
     """Says what is wrong with the words; nothing where they are right."""
     of_suite = {"k", "only", "only-standard"} & set(given)
     of_standard = {"delivery", "priority-bits"} & set(given)
@@ -161,7 +169,7 @@ def wrong_words(rest, is_divided, files, given):
     return ""
 
 
-def compare():
+def compare() -> int:
     given, rest, is_divided = running.words(
         "k:", "known=", "machine=", "only=", "each=", "show=", "strict", "only-standard",
         "delivery=", "priority-bits=")

@@ -15,12 +15,15 @@ program is needed. Ends with status 2 where words are wrong, SCRIPT can't be rea
 there. Needs Python 3.10 or later.
 """
 
+from __future__ import annotations
+
 import re
 from pathlib import Path
 
 from lemdwab import drawing, running
 
-def main():
+
+def main() -> int:
     given, rest, _ = running.words("", "svg", "lines=")
     span = re.fullmatch("([0-9]{1,9})-([0-9]{1,9})", given.get("lines", "1-999999999"))
     if not span:

@@ -83,8 +83,8 @@ def main() -> int:
             if wrong == ENOUGH:
                 break
     print(f"{looked} guests on {counts.machines} machines: {counts.lines} lines of guests, of which"
-          f" {counts.read} read a CSR, {counts.claims} claimed an identity and {counts.refused} were"
-          " refused")
+          f" {counts.read} read a CSR, {counts.claims} claimed an identity and"
+          f" {counts.refused} were refused")
     if not wrong:
         print("all are answered the same from memory as in a guest file")
     return 1 if wrong else 0

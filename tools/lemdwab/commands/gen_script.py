@@ -7,10 +7,13 @@ COUNT is at most 100,000, SEED a number below 2^64. Ends with status 2 where its
 runs nothing. Needs Python 3.10 or later.
 """
 
+from __future__ import annotations
+
 from lemdwab import running, scripts
 from lemdwab.apart import generated
 
-def main():
+
+def main() -> int:
     given, rest, _ = running.words("")
     if len(rest) != 2:
         running.usage(f"COUNT and SEED are wanted, and not {running.counted(len(rest), 'word')}")

@@ -31,18 +31,26 @@ there which patterns no line fits, if all scripts were tried, or 100.
 
 Ends with status 0 where all are answered the same, 1 where one is not, 2 where it could not look:
 words are wrong, COMMAND can't be started, fails over an empty script or answers - to every line,
-the file of --into can't be written, or the model does not end with status 0. COMMAND and the file are tried before anything is
-built. Where a signal stops it, it says where what is left so far stands, kept as above, and ends
-with 128 and the signal's number: 130 for an interrupt, 143 for SIGTERM. Needs Python 3.10 or later.
-"""
+the file of --into can't be written, or the model does not end with status 0. COMMAND and the file
+are tried before anything is built. Where a signal stops it, it says where what is left so far
+stands, kept as above, and ends with 128 and the signal's number: 130 for an interrupt, 143 for
+SIGTERM. Needs Python 3.10 or later. """
+
+from __future__ import annotations
 
 import math
 import os
 import sys
 from pathlib import Path
+from typing import TYPE_CHECKING
 
 from lemdwab import answers, hunting, running, scripts
 from lemdwab.running import TOP
+
+if TYPE_CHECKING:
+    from lemdwab.hunting import Hunt, Progress
+    from lemdwab.running import Pace, Ran, Workers
+    from lemdwab.scripts import Draw
 
 NUMBERS = {"scripts": ("2000", 1, 1_000_000), "seed": ("1", 0, scripts.SEEDS),
            "lines": ("350", 1, scripts.MOST_LINES), "jobs": ("1", 1, 64),
@@ -52,7 +60,7 @@ TOLD = ("lines", "each", "known", *(name[:-1] for name in scripts.LINES))
 OPTIONS = ("known=", "into=", "find", *(f"{name}=" for name in NUMBERS), *scripts.LINES)
 
 
-def read_words():
+def read_words() -> tuple[dict[str, str], list[str], dict[str, int]]:
     """Reads the options and the command."""
     given, command, is_divided = running.words("", *OPTIONS)
     if not command:
@@ -69,7 +77,7 @@ def read_words():
     return given, command, numbers
 
 
-def greeted(ran):
+def greeted(ran: Ran) -> None:
     """Says that a command prints something where there is nothing to answer."""
     print("the empty script differs")
     verdict = answers.Verdict(b"", b"", ran.output, answers.Known())
@@ -78,7 +86,8 @@ def greeted(ran):
     print("a command prints answers and nothing else: no greeting and no prompt")
 
 
-def first_that_differs(given, command, numbers, hunt, draw):
+def first_that_differs(given: dict[str, str], command: list[str], numbers: dict[str, int],
+                       hunt: Hunt, draw: Draw) -> int | None:
     """Gives the number of the first script that differs, None where none does."""
     first, count, jobs = numbers["seed"], numbers["scripts"], numbers["jobs"]
     if jobs == 1:
@@ -95,7 +104,7 @@ def first_that_differs(given, command, numbers, hunt, draw):
     return int(said)
 
 
-def tell_left(hunt, left, seed, into):
+def tell_left(hunt: hunting.Hunt, left: hunting.Left, seed: int, into: str | None) -> bytes:
     """Prints what is left of a script; gives what goes into the file that was asked for."""
     whole = hunt.whole(left.script)
     if not left.found:
@@ -114,7 +123,8 @@ def tell_left(hunt, left, seed, into):
     return whole
 
 
-def tell_unmet(given, numbers, hunt, draw, last):
+def tell_unmet(given: dict[str, str], numbers: dict[str, int], hunt: Hunt, draw: Draw,
+               last: int) -> None:
     """Says which patterns no line fits of the scripts that were tried, up to a number."""
     if "find" in given:
         return
@@ -125,7 +135,7 @@ def tell_unmet(given, numbers, hunt, draw, last):
               " fits it", file=sys.stderr)
 
 
-def try_command(command, each, workers):
+def try_command(command: list[str], each: int, workers: Workers) -> bool:
     """Runs a command over the empty script; says whether it prints nothing. Ends the tool where it
     fails."""
     ran = running.tried(workers, command, each)
@@ -137,7 +147,8 @@ def try_command(command, each, workers):
     return not ran.output
 
 
-def search(given, command, numbers, workers, progress):
+def search(given: dict[str, str], command: list[str], numbers: dict[str, int], workers: Workers,
+           progress: Progress) -> tuple[int, bytes]:
     """Hunts, and prints what was found; gives the exit status, and what is left of the script."""
     known, draw = answers.Known(given.get("known")), scripts.draw_of(given)
     into, first, count = given.get("into"), numbers["seed"], numbers["scripts"]
@@ -174,7 +185,7 @@ def search(given, command, numbers, workers, progress):
     return 1, whole
 
 
-def pace_of(given):
+def pace_of(given: dict[str, str]) -> Pace:
     """Gives what says how far the hunt is. One that is part of another says nothing: what it says
     on standard error is why it failed."""
     pace = running.Pace()
@@ -183,7 +194,7 @@ def pace_of(given):
     return pace
 
 
-def main():
+def main() -> int:
     given, command, numbers = read_words()
     if "find" in given:
         # One that is ended by another has to be done before that is.

@@ -11,10 +11,10 @@ same. With LEAK, 1 to 11, a leak is planted before the program, as lemdwab.isola
 leak of 0 is none.
 
 The program is that of the variable PROGRAM, else ./aia of this repository, which is proved and
-built first where it has to be. Prints of each VM how many lines concern it, and how many of them are
-answered otherwise; the same of the scripts that pass sources, all together; and of how many pairs
-the two are answered otherwise, with the first three of these. Takes ten seconds of processor time,
-and a second for 50 pairs.
+built first where it has to be. Prints of each VM how many lines concern it, and how many of them
+are answered otherwise; the same of the scripts that pass sources, all together; and of how many
+pairs the two are answered otherwise, with the first three of these. Takes ten seconds of processor
+time, and a second for 50 pairs.
 
 Ends with status 1 where anything is answered otherwise, and 2 where it could not look: words are
 wrong, there is no program, or it fails or does not answer each line. Needs Python 3.10 or later.
@@ -79,14 +79,15 @@ class Looks:
             lines = [line.text for line in lines_of(script)]
             for _, count, wrong in self.parts(lines, isolating.concerns_by_sources):
                 left, differ = left + count, differ + wrong
-        print(f"{SCRIPTS} scripts that pass sources: {left} lines left, {differ} answered otherwise",
-              flush=True)
+        print(f"{SCRIPTS} scripts that pass sources: {left} lines left,"
+              f" {differ} answered otherwise", flush=True)
 
     def replies(self, lines: list[str], who: isolating.Name) -> list[tuple[str, str]]:
         """Gives a virtual hart's own CSR instructions, with their answers."""
         front = f"g {who} "
-        return [(line.removeprefix(front), answer) for line, answer in zip(lines, self.answers(lines))
-                if line.startswith(front) and CSR.match(line.removeprefix(front))]
+        said = zip(lines, self.answers(lines))
+        own = [(line.removeprefix(front), one) for line, one in said if line.startswith(front)]
+        return [pair for pair in own if CSR.match(pair[0])]
 
     def pairs(self, count: int) -> None:
         """Looks at so many pairs."""
@@ -103,7 +104,8 @@ class Looks:
 
 
 def main() -> int:
-    pairs, leak = running.numbers_given(("PAIRS", 2000, 1, 999_999), ("LEAK", 0, 0, isolating.LEAKS))
+    pairs, leak = running.numbers_given(("PAIRS", 2000, 1, 999_999),
+                                        ("LEAK", 0, 0, isolating.LEAKS))
     with running.Workers(1) as workers:
         looks = Looks(replaying.Program(workers), leak)
         looks.whole()

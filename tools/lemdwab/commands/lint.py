@@ -22,12 +22,18 @@ Ends with status 0 where no line is bad, 1 where one is, or lint and the program
 could not look: words are wrong, or a file can't be read.
 """
 
+from __future__ import annotations
+
 import re
 import sys
+from typing import TYPE_CHECKING
 
 from lemdwab import answers, linting, running
 from lemdwab.apart import plans, reading
 from lemdwab.linting_plans import Judged, Said, notes, said_of
+
+if TYPE_CHECKING:
+    from lemdwab.linting import Audit, Fault, Script
 
 # What a file is by its language.
 LANGUAGES = {"script": "a script", "audit": "a plan for ./aia audit",
@@ -44,19 +50,19 @@ ENOUGH = 5000
 FIRST_LINE = re.compile(rb"# audit (?:leave|arrive|shift) ([0-9]{1,2})\r?")
 
 
-def contents(name):
+def contents(name: str) -> bytes:
     """Gives the bytes of a file, or of standard input."""
     if name != "-":
         return running.contents(name)
     return sys.stdin.buffer.read(MOST_BYTES + 1)
 
 
-def plainly(text):
+def plainly(text: bytes) -> bytes:
     """Gives what a line may have meant: without its comment, capitals, tabs and spare spaces."""
     return b" ".join(text.partition(b"#")[0].lower().split())
 
 
-def language_of(texts):
+def language_of(texts: list[bytes]) -> tuple[str, dict[str, int]]:
     """Gives the language in which most lines are read, the first of them where it is open."""
     read = dict.fromkeys(LANGUAGES, 0)
     for text in filter(None, map(plainly, texts[:ENOUGH])):
@@ -66,7 +72,7 @@ def language_of(texts):
     return max(LANGUAGES, key=lambda name: read[name]), read
 
 
-def reader_of(language, width):
+def reader_of(language: str, width: int | None) -> Audit | Judged | Script:
     """Gives what reads the lines of a file."""
     return {"script": linting.Script, "judge": Judged,
             "audit": lambda: linting.Audit(width)}[language]()
@@ -75,7 +81,7 @@ def reader_of(language, width):
 class File:
     """The lines of a file, and what is wrong with them."""
 
-    def __init__(self, name, data, language, width):
+    def __init__(self, name: str, data: bytes, language: str | None, width: int | None) -> None:
         self.name, self.size = name, len(data)
         # Of one that is too long the program answers the whole lines that it has read.
         read = data if len(data) <= MOST_BYTES else data[:data.rfind(b"\n", 0, MOST_BYTES) + 1]
@@ -94,19 +100,19 @@ class File:
                            or self.count > SOME and 10 * most < self.count)
         self.like = like
 
-    def verdict(self, bad):
+    def verdict(self, bad: int) -> str:
         """Says what the file is, and how many of its lines are bad."""
         lines = running.counted(len(self.texts), "line")
         if self.is_of_none:
             return f"{self.name}: in none of the three languages, {lines}"
         return f"{self.name}: {LANGUAGES[self.language]}, {lines}, {bad} bad"
 
-    def faults(self, texts):
+    def faults(self, texts: list[bytes]) -> list[Fault | None]:
         """Lists the faults of lines, None of each that has none."""
         reader = reader_of(self.language, self.width)
         return [reader.fault(text) for text in texts]
 
-    def warned(self):
+    def warned(self) -> bool:
         """Says of a script which lines no machine answers, of plans for `judge` what is not
         declared; gives whether there is no plan."""
         if self.language == "script" and not self.is_of_none:
@@ -121,7 +127,7 @@ class File:
             print(f"{self.name}:{number}:1: warning: the plan from here on {warning}")
         return False
 
-    def warn_of_machines(self):
+    def warn_of_machines(self) -> None:
         """Warns of a script whose first good line does not make a machine."""
         read = ((number, reading.read(text)) for number, text in enumerate(self.texts, 1))
         for number, (name, fields) in (one for one in read if one[1] not in (None, reading.BAD)):
@@ -134,7 +140,7 @@ class File:
                       " nomachine")
             return
 
-    def told(self):
+    def told(self) -> int:
         """Says what is wrong; gives how many lines are bad."""
         if self.is_other and not self.is_of_none:
             print(f"{self.name}: this is {LANGUAGES[self.like]}, not {LANGUAGES[self.language]}")
@@ -155,12 +161,12 @@ class File:
         return bad
 
 
-def width_of(text):
+def width_of(text: str) -> int | None:
     """Reads how many words the files of a plan have; None where no file has so many."""
     return next((width for width in plans.WIDTHS if str(width) == text), None)
 
 
-def main():
+def main() -> int:
     given, rest, _ = running.words("", "language=", "words=")
     language, width = given.get("language"), given.get("words")
     if not rest:

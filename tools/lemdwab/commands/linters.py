@@ -27,7 +27,8 @@ WARNINGS = ["-std=gnu11", "-Wall", "-Wextra", "-Werror", "-fsyntax-only"]
 # What is compiled where: on this machine, or for RISC-V by a cross compiler. The rest of peers/ is
 # compiled within the sources of Linux.
 HERE = ("examples/*.c", "suite/library/*.c")
-CROSS, THERE = "riscv64-linux-gnu-gcc", ("peers/linux/guest/guest.c", "peers/linux/guest/machines.c")
+CROSS = "riscv64-linux-gnu-gcc"
+THERE = ("peers/linux/guest/guest.c", "peers/linux/guest/machines.c")
 FLAGS = ["-I", str(TOP / "include"), "-I", str(TOP / "suite/library")]
 # Fronts have no ending, and are of Python too.
 SHELLS, PYTHON = ("sh", "bash"), "python3"

@@ -13,6 +13,8 @@ later, ends within ten seconds and prints at most 200 lines; a table that is wro
 status 2.
 """
 
+from __future__ import annotations
+
 import re
 import signal
 import sys
@@ -33,7 +35,7 @@ ANTT_TYPE = re.compile(r"(?m)^(?:inductive )?pub (?:inductive )?(record|data) ([
 LINE = re.compile(r"(\S+): (\S+(?: \S+)+)$")
 
 
-def types(crates):
+def types(crates: Path) -> defaultdict[str, list[tuple[str, str]]]:
     """Gives the public types by their names, each with its files below crates/, in order."""
     found = defaultdict(list)
     for folder, end, pattern in (("src", "rt", RUST_TYPE), ("specs", "antt", ANTT_TYPE)):
@@ -45,18 +47,18 @@ def types(crates):
     return found
 
 
-def crate(place):
+def crate(place: tuple[str, str]) -> str:
     """Gives the crate in which a place is."""
     return place[0].partition("/")[0]
 
 
-def twice(found):
+def twice(found: defaultdict[str, list[tuple[str, str]]]) -> dict[str, list[tuple[str, str]]]:
     """Gives those that stand in more than one crate, each with its places."""
     return {name: places for name, places in sorted(found.items())
             if len(set(map(crate, places))) > 1}
 
 
-def kept_lines():
+def kept_lines() -> dict[str, list[str]]:
     """Gives the names of the table, each with its files. A reason stands above its names."""
     kept, has_reason = {}, False
     text = running.contents(KEPT).decode("utf-8", "replace")
@@ -72,7 +74,7 @@ def kept_lines():
     return kept
 
 
-def faults(found, kept):
+def faults(found: defaultdict[str, list[tuple[str, str]]], kept: dict[str, list[str]]) -> list[str]:
     """Lists what is not as it should be, a line or more for each name."""
     said, several = [], twice(found)
     for name, places in several.items():
@@ -109,7 +111,7 @@ PLANTED = [
 ]
 
 
-def see_planted():
+def see_planted() -> None:
     """Ends with status 1 where other names stand twice than those of what is planted."""
     for one, its_text, other, other_text, names in PLANTED:
         with tempfile.TemporaryDirectory() as folder:
@@ -130,14 +132,10 @@ def see_planted():
                 sys.exit(1)
 
 
-def main():
-    given = sys.argv[1:]
-    if given in (["-h"], ["--help"]):
-        running.tell_help()
-    if given not in ([], ["try"]):
-        running.usage("no word is wanted, or `try`")
+def main() -> int:
+    given = running.command_given("try")
     signal.alarm(LONGEST_RUN)
-    if given == ["try"]:
+    if given == "try":
         see_planted()
     found, kept = types(CRATES), kept_lines()
     said = faults(found, kept)

@@ -26,8 +26,8 @@ from lemdwab.answers import answers, printable
 
 # So many lines have less than the most bytes of a script.
 MOST = 100_000
-# Lines before those of no sense, so that many of these find a machine, and virtual harts: as many as
-# there may be, but one.
+# Lines before those of no sense, so that many of these find a machine, and virtual harts: as many
+# as there may be, but one.
 BEGINNING = b"""machine 4 31 63 8
 vm 16 0xf 0
 vm 2 0x8 1
@@ -88,7 +88,8 @@ class Looks:
 
 
 def main() -> int:
-    count, seed = running.numbers_given(("LINES", MOST, 1, 999_999_999), ("SEED", 1, 0, 999_999_999))
+    count, seed = running.numbers_given(("LINES", MOST, 1, 999_999_999),
+                                        ("SEED", 1, 0, 999_999_999))
     with running.Workers(1) as workers:
         looks = Looks(replaying.Program(workers))
         for at, size in replaying.pieces(count, MOST):

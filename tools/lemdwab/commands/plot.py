@@ -3,6 +3,8 @@ builds, counted by valgrind over the first 60,000 lines of scripts of bench/run.
 (instructions.svg, beside it), and prints them as a table. It is no gate. Ends with status 2 where
 the words are wrong, or the program or valgrind can't be run."""
 
+from __future__ import annotations
+
 import os
 import re
 import subprocess
@@ -33,7 +35,7 @@ REST = ("all else", "#9aa5b1")
 LEFT, WIDTH, ROW, TOP_EDGE = 150, 620, 26, 96
 
 
-def scripts_in(folder):
+def scripts_in(folder: Path) -> None:
     """Makes the scripts, each cut to its first lines."""
     subprocess.run([HERE / "scripts", folder, *SCRIPTS], check=True, timeout=SECONDS)
     for name in SCRIPTS:
@@ -43,7 +45,7 @@ def scripts_in(folder):
         script.write_bytes(b"".join(front))
 
 
-def counted(script, folder):
+def counted(script: Path, folder: str) -> dict[str, int]:
     """Gives how many instructions each function makes over a script."""
     kept = Path(folder) / "counts"
     with script.open("rb") as given, open(os.devnull, "wb") as nowhere:
@@ -54,7 +56,7 @@ def counted(script, folder):
     return own_counts(kept.read_text())
 
 
-def own_counts(text):
+def own_counts(text: str) -> dict[str, int]:
     """Reads what callgrind wrote: the instructions of each function without those that it calls."""
     names, counts, name, called = {}, {}, "", False
     for line in text.splitlines():
@@ -73,7 +75,7 @@ def own_counts(text):
     return counts
 
 
-def parts_of(counts, lines):
+def parts_of(counts: dict[str, int], lines: int) -> list[float]:
     """Gives the instructions a line of each part, and of all else."""
     sums = [0] * (len(PARTS) + 1)
     for name, count in counts.items():
@@ -82,7 +84,7 @@ def parts_of(counts, lines):
     return [count / lines for count in sums]
 
 
-def drawn(rows):
+def drawn(rows: list[tuple[str, list[float]]]) -> str:
     """Draws a bar for each script."""
     most = max(sum(parts) for _, parts in rows)
     height = TOP_EDGE + ROW * len(rows) + 24
@@ -107,7 +109,7 @@ def drawn(rows):
     return picture.done()
 
 
-def main():
+def main() -> None:
     if sys.argv[1:2] in (["-h"], ["--help"]):
         print(__doc__)
         return
@@ -121,7 +123,7 @@ def main():
         sys.exit(2)
 
 
-def plot():
+def plot() -> None:
     """Counts, draws and prints."""
     target = Path(sys.argv[1]) if len(sys.argv) > 1 else HERE / "instructions.svg"
     subprocess.run([TOP / "aia", "replay"], stdin=subprocess.DEVNULL, check=True)
@@ -133,4 +135,5 @@ def plot():
     print("| Script | All | " + " | ".join(titles) + " |")
     print("|---|---|" + "---|" * len(titles))
     for name, parts in rows:
-        print(f"| {name} | {sum(parts):.0f} | " + " | ".join(f"{count:.0f}" for count in parts) + " |")
+        cells = [name, f"{sum(parts):.0f}", *(f"{count:.0f}" for count in parts)]
+        print(f"| {' | '.join(cells)} |")

@@ -21,11 +21,14 @@ empty. The same words give the same script wherever Python is 3.10 or later.
 Ends with status 2 where its words are wrong, or SEED gives no so long a script. It runs nothing.
 """
 
+from __future__ import annotations
+
 import sys
 
 from lemdwab import running, scripts
 
-def main():
+
+def main() -> int:
     given, rest, _ = running.words("", *scripts.LINES)
     if len(rest) != 2:
         running.usage(f"SEED and COUNT are wanted, and not {running.counted(len(rest), 'word')}")

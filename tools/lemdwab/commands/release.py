@@ -18,14 +18,21 @@ groff and, to install the package, root or `unshare --map-root-user`, else it sa
 tried. Needs Python 3.10 or later.
 """
 
+from __future__ import annotations
+
 import os
 import shutil
 import sys
 import tempfile
+from collections.abc import Iterator
 from pathlib import Path
+from typing import TYPE_CHECKING, Any
 
 from lemdwab import installed, released, running
 from lemdwab.running import TOP
+
+if TYPE_CHECKING:
+    from lemdwab.running import Workers
 
 # How long a release may take to be made, in seconds, and how much a command may print, in bytes.
 MAKING, MOST = 900, 1 << 24
@@ -63,15 +70,15 @@ PYTHON_RUNS = (
 class Looks:
     """What is looked at, and whether all of it was right."""
 
-    def __init__(self, workers):
+    def __init__(self, workers: Workers) -> None:
         self.workers, self.is_right = workers, True
 
-    def run(self, *command, text=b"", seconds=100):
+    def run(self, *command: str | Path, text: bytes = b"", seconds: int = 100) -> running.Ran:
         """Runs a command; gives how it ended."""
         words = [str(word) for word in command]
         return self.workers.submit(running.run, words, text, seconds, MOST).result()
 
-    def tell(self, what, faults):
+    def tell(self, what: str, faults: Iterator[Any]) -> None:
         """Says whether something is right, and else each way in which it is not."""
         found = list(faults)
         print(f"{what}: {'WRONG' if found else 'right'}", flush=True)
@@ -80,7 +87,7 @@ class Looks:
         self.is_right &= not found
 
 
-def built(looks, folder):
+def built(looks: Looks, folder: Path) -> list[str]:
     """Gives the variables that name what is released, which is built where it is not given."""
     program = running.model_command(looks.workers)[0]
     plans, library = os.environ.get("PLANS"), os.environ.get("LIBRARY")
@@ -99,7 +106,7 @@ def built(looks, folder):
             f"LIBRARY={os.path.abspath(library)}"]
 
 
-def made(looks, version, clone, setting, variables):
+def made(looks: Looks, version: str, clone: Path, setting: str, variables: list[str]) -> Path:
     """Makes a release in a clone, with other settings of the shell; gives its folder."""
     ran = looks.run("git", "clone", "-q", "--shared", TOP, clone)
     if ran.fault():
@@ -112,7 +119,7 @@ def made(looks, version, clone, setting, variables):
     return folder
 
 
-def look_at_archive(looks, folder, version, work):
+def look_at_archive(looks: Looks, folder: Path, version: str, work: Path) -> None:
     """Looks at the archive of a release, and at what is in it."""
     archive, = folder.glob("*.tar.gz")
     commit = looks.run("git", "-C", TOP, "rev-parse", "HEAD").output.decode().strip()
@@ -131,7 +138,7 @@ def look_at_archive(looks, folder, version, work):
     looks.tell("bin/aia where it was unpacked", [] if is_right else [ran.errors])
 
 
-def runs(root, version):
+def runs(root: installed.Root, version: str) -> Iterator[str]:
     """Runs what is installed, and gives each that ends or prints otherwise."""
     cases = [(("aia", "--version"), None, 0, f"aia {version}\n"),
              (("plans", "--version"), None, 0, f"plans {version}\n"), *PLAIN_RUNS,
@@ -143,7 +150,7 @@ def runs(root, version):
             yield f"{' '.join(words)} ends with {ran.status}: {ran.output[-200:]} {ran.errors}"
 
 
-def own_program(root, work):
+def own_program(root: installed.Root, work: Path) -> Iterator[str]:
     """Runs examples/library.c, built against the archive, by the library that is installed."""
     if (work / "shared").exists():
         shutil.copy(work / "shared", root.folder / "tmp/shared")
@@ -152,7 +159,7 @@ def own_program(root, work):
             yield f"it prints {ran.output!r}: {ran.errors}"
 
 
-def look_at_package(looks, folder, version, work):
+def look_at_package(looks: Looks, folder: Path, version: str, work: Path) -> None:
     """Installs the package into a clean root, looks at it there, and removes it."""
     package, = folder.glob("*.deb")
     (work / "root").mkdir()
@@ -179,7 +186,7 @@ def look_at_package(looks, folder, version, work):
     looks.tell("nothing else is removed with it", lost[:10])
 
 
-def main():
+def main() -> int:
     _, rest, _ = running.words("")
     if len(rest) > 1:
         running.usage("one FOLDER is wanted at most")

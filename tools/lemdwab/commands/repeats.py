@@ -18,6 +18,8 @@ for what they share to the letter. It needs Python 3.10 or later, ends within tw
 at most 2,000 lines; a table that is wrong ends it with status 2.
 """
 
+from __future__ import annotations
+
 import re
 import signal
 import sys
@@ -63,22 +65,22 @@ class Repeat(NamedTuple):
 
     kind: str
     length: int
-    places: tuple
+    places: tuple[Place, ...]
 
-    def shown(self):
+    def shown(self) -> tuple[str, str]:
         """Gives the first line that prints it, and the others."""
         where = "".join(f"\n    {one.file}:{one.line} {one.name}".rstrip() for one in self.places)
         return f"{self.kind} of {self.length}", where
 
 
-def sources(crates):
+def sources(crates: Path) -> list[str]:
     """Lists the files that are read, by their paths below crates/."""
     paths = [path for end in ("rt", "antt") for path in crates.rglob(f"*.{end}")]
     below = [path.relative_to(crates) for path in paths]
     return sorted(str(path) for path in below if not LEFT_OUT.intersection(path.parts[:-1]))
 
 
-def text_of(crates, file):
+def text_of(crates: Path, file: str) -> str:
     """Gives the text of a file, with its `use` lines empty."""
     text = (crates / file).read_text(encoding="utf-8")
     pattern = RUST_USE if file.endswith(".rt") else ANTT_USE
@@ -88,7 +90,7 @@ def text_of(crates, file):
 # ---- passages
 
 
-def tokens(crates, file):
+def tokens(crates: Path, file: str) -> list[tuple[str, Place]]:
     """Gives the words and marks of a file, with the place of each."""
     is_rust, text = file.endswith(".rt"), text_of(crates, file)
     names, name = [], ""
@@ -105,7 +107,7 @@ def tokens(crates, file):
     return found
 
 
-def all_tokens(crates, files):
+def all_tokens(crates: Path, files: list[str]) -> tuple[list[int], list[Place]]:
     """Gives the tokens of all files as numbers, with one of its own at the end of each file, and
     the place of each."""
     numbers, codes, places = {}, [], []
@@ -116,7 +118,7 @@ def all_tokens(crates, files):
     return codes, places
 
 
-def same_starts(codes):
+def same_starts(codes: list[int]) -> dict[int, list[int]]:
     """Gives, for each start of a run that stands in several places, all starts of that run."""
     high, value, at = pow(BASE, PASSAGE, MODULUS), 0, defaultdict(list)
     for end, code in enumerate(codes):
@@ -128,7 +130,7 @@ def same_starts(codes):
     return {start: starts for starts in at.values() if len(starts) > 1 for start in starts}
 
 
-def passages(crates, files):
+def passages(crates: Path, files: list[str]) -> list[Repeat]:
     """Lists the runs that stand in several places, each as long as it stands in all of them."""
     codes, places = all_tokens(crates, files)
     groups, found, taken = same_starts(codes), [], set()
@@ -152,7 +154,7 @@ def passages(crates, files):
 # ---- lemmas and definitions
 
 
-def declarations(crates, file):
+def declarations(crates: Path, file: str) -> list[tuple[Place, str, list[str]]]:
     """Lists the declarations of a file as (place, type, clauses), each in one line; a record has no
     type, and one clause."""
     text = re.sub(r"(?m)--.*$", "", text_of(crates, file))
@@ -171,7 +173,7 @@ def declarations(crates, file):
     return [(place, lines[0], lines[1:]) for place, lines in found]
 
 
-def bound_names(found):
+def bound_names(found: list[str]) -> set[str]:
     """Gives the names that parentheses, braces and λ bind among tokens."""
     names = set()
     for at, token in enumerate(found):
@@ -183,7 +185,7 @@ def bound_names(found):
     return names
 
 
-def by_number(found, names):
+def by_number(found: list[str], names: set[str]) -> tuple[str, ...]:
     """Gives tokens with the names among them numbered as they come; a name behind a field's dot
     stays."""
     numbers, said = {}, []
@@ -194,7 +196,7 @@ def by_number(found, names):
     return tuple(said)
 
 
-def meaning(place, statement, clauses):
+def meaning(place: Place, statement: str, clauses: list[str]) -> tuple[str, tuple[str, ...]] | None:
     """Gives the kind of a declaration and what it says, None where that is too short to count."""
     found = ANTT_TOKEN.findall(statement)
     names = bound_names(found)
@@ -209,7 +211,7 @@ def meaning(place, statement, clauses):
     return ("definition", said) if len(said) >= DEFINITION else None
 
 
-def same_meanings(crates, files):
+def same_meanings(crates: Path, files: list[str]) -> list[Repeat]:
     """Lists the lemmas and the definitions that say the same."""
     groups = defaultdict(list)
     for file in files:
@@ -223,7 +225,7 @@ def same_meanings(crates, files):
 # ---- what is named
 
 
-def named_lines():
+def named_lines() -> list[list[str]]:
     """Gives the lines of the table that name something, as lists of words."""
     lines = NAMED.read_text(encoding="utf-8").split("\n")
     found = [line.split() for line in lines if line.startswith(" ") and line.strip()]
@@ -233,12 +235,12 @@ def named_lines():
     return found
 
 
-def fits(place, pattern):
+def fits(place: Place, pattern: str) -> bool:
     """Says whether a place fits a pattern: FILE, or FILE:NAME."""
     return fnmatchcase(f"{place.file}:{place.name}", pattern if ":" in pattern else f"{pattern}:*")
 
 
-def is_named_by(words, repeat):
+def is_named_by(words: list[str], repeat: Repeat) -> bool:
     """Says whether a line names a repeat: each place fits a pattern, and each pattern a place."""
     kind, *patterns = words
     return (kind in (repeat.kind, "any")
@@ -246,7 +248,7 @@ def is_named_by(words, repeat):
             and all(any(fits(place, one) for place in repeat.places) for one in patterns))
 
 
-def repeats(crates):
+def repeats(crates: Path) -> list[Repeat]:
     """Lists all that stands in several places, the longest first."""
     files = sources(crates)
     found = same_meanings(crates, files) + passages(crates, files)
@@ -275,7 +277,7 @@ PLANTED = [
 ]
 
 
-def see_planted():
+def see_planted() -> None:
     """Ends with status 1 where other kinds are found than those of what is planted."""
     for one, other, kinds in PLANTED:
         end = "rt" if one.startswith(("fn ", "use ")) else "antt"
@@ -289,14 +291,10 @@ def see_planted():
             sys.exit(1)
 
 
-def main():
-    given = sys.argv[1:]
-    if given in (["-h"], ["--help"]):
-        running.tell_help()
-    if given not in ([], ["all"], ["try"]):
-        running.usage("no word is wanted, or `all`, or `try`")
+def main() -> int:
+    given = running.command_given("all", "try")
     signal.alarm(LONGEST_RUN)
-    if given == ["try"]:
+    if given == "try":
         see_planted()
     lines, used, said, unnamed = named_lines(), [], [], 0
     found = repeats(CRATES)
@@ -304,7 +302,7 @@ def main():
         by = [words for words in lines if is_named_by(words, repeat)]
         used += by
         unnamed += not by
-        if given == ["all"] or not by:
+        if given == "all" or not by:
             head, where = repeat.shown()
             said.append(f"{head}{', named' if by else ''}{where}")
     said += [f"names nothing: {' '.join(words)}" for words in lines if words not in used]

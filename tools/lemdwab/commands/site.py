@@ -16,11 +16,18 @@ status 1 where something is wrong, 2 where it could not look: words are wrong, o
 missing. Needs Python 3.10 or later, git, and pandoc.
 """
 
+from __future__ import annotations
+
 import tempfile
+from collections.abc import Iterator
 from pathlib import Path
+from typing import TYPE_CHECKING
 
 from lemdwab import browsing, running, siting
 from lemdwab.running import TOP
+
+if TYPE_CHECKING:
+    from lemdwab.siting import Pages
 
 MAKER = TOP / "docs/make/site"
 # How long the site may take to be made, in seconds.
@@ -29,7 +36,7 @@ LAW, SLIDER = "laws/aia_laws/no_notice_is_lost.html", "moves/stores-in-flight.ht
 CLAUSE = f"{LAW}#no_notice_is_lost.sent"
 
 
-def made(workers, folder):
+def made(workers: running.Workers, folder: Path) -> Path:
     """Makes a site in a folder; gives that."""
     ran = workers.submit(running.run, [str(MAKER), str(folder)], b"", LONGEST, 1 << 16).result()
     if ran.stopped or ran.status:
@@ -37,7 +44,7 @@ def made(workers, folder):
     return folder
 
 
-def opened(site, program, folder):
+def opened(site: Pages, program: str, folder: Path) -> Iterator[str]:
     """Says what is wrong in a browser."""
     with browsing.Browser(program, folder) as browser:
         browser.sized(1100, 800)
@@ -56,7 +63,7 @@ def opened(site, program, folder):
                 yield f"a page asks for {address}"
 
 
-def main():
+def main() -> int:
     _, rest, _ = running.words("")
     if len(rest) > 1 or rest and not (Path(rest[0]) / "index.html").is_file():
         wrong = len(rest) > 1

@@ -25,9 +25,9 @@
     tools [--jobs N] hunts    suite/hunt over 20 errors planted in the model written apart, one
                               after the other: each has to be found within 2,000 scripts, and shrunk
                               to 15 lines or fewer; takes some seven minutes; N scripts at a time
-    tools bugs                plants 25 bugs into the tools, one a tool, one after the other in a copy
-                              of the tree: the tool's own test has to fail with each, and not without;
-                              takes some eight minutes
+    tools bugs                plants 25 bugs into the tools, one a tool, one after the other in a
+                              copy of the tree: the tool's own test has to fail with each, and not
+                              without; takes some eight minutes
 
 The program is that of the variable PROGRAM, else ./aia of this repository, which is proved and
 built first where it is older than its sources: an hour and more the first time. In `compare`,
@@ -39,6 +39,8 @@ status 1 where one is not, 2 where words are wrong or there is no such program. 
 later, and tries with `shellcheck`, `cc` and `pandoc` what needs them, where they are.
 """
 
+from __future__ import annotations
+
 import os
 import re
 import shutil
@@ -47,14 +49,19 @@ import subprocess
 import sys
 import tempfile
 import time
+from collections.abc import Sequence
 from pathlib import Path
+from typing import TYPE_CHECKING
 from xml.etree import ElementTree
 
 from lemdwab import answers, comparing, running
 from lemdwab.apart import generated
 from lemdwab.running import TOP
-from lemdwab.trials import (bugs, classes, documents, edges, hunts, launchers, lint, release,
-                            site, weaken, wider)
+from lemdwab.trials import (bugs, classes, documents, edges, hunts, launchers, lint, release, site,
+                            weaken, wider)
+
+if TYPE_CHECKING:
+    from lemdwab.running import Ran, Workers
 
 SUITE, EXAMPLES, APART = TOP / "suite", TOP / "examples", TOP / "peers/apart"
 TOOLS = [SUITE / name for name in ("compare", "check", "random", "gen-script", "hunt", "tools")]
@@ -70,11 +77,11 @@ LEAVE = ("TakeDelivery", "WriteNotice", "WriteEntry", "Fence", "Map", "GFence",
 class Trial:
     """The tools, run with a program and in a folder, and what was seen of them."""
 
-    def __init__(self, workers, program, folder):
+    def __init__(self, workers: Workers, program: str, folder: Path) -> None:
         self.workers, self.program, self.folder = workers, program, folder
         self.right = self.wrong = 0
 
-    def sees(self, is_right, what):
+    def sees(self, is_right: bool, what: str) -> None:
         """Counts whether something is as it should be, and says where it is not."""
         if is_right:
             self.right += 1
@@ -82,7 +89,7 @@ class Trial:
             self.wrong += 1
             print(f"not as it should be: {what}", flush=True)
 
-    def run(self, *command, text=b"", seconds=LONGEST):
+    def run(self, *command: Path | int | str, text: bytes = b"", seconds: int = LONGEST) -> Ran:
         """Runs a tool; gives how it ended. Says where it had to be stopped, since its status then
         tells of the signal alone."""
         words = [str(word) for word in command]
@@ -91,7 +98,7 @@ class Trial:
             self.sees(False, f"{' '.join(words)}: {ran.stopped}; it has {seconds} seconds")
         return ran
 
-    def prints(self, status, wanted, *command):
+    def prints(self, status: int, wanted: Sequence[str], *command: Path | int | str) -> str:
         """Sees that a tool ends with a status, and that all of these texts stand in what it prints,
         in this order."""
         ran = self.run(*command)
@@ -103,14 +110,14 @@ class Trial:
         self.sees(ran.status == status, f"{' '.join(map(str, command))} ends with {ran.status}")
         return said
 
-    def file(self, name, text):
+    def file(self, name: str, text: str) -> Path:
         """Writes a file into the folder."""
         path = self.folder / name
         path.write_text(text, encoding="utf-8")
         return path
 
 
-def looked_at(trial):
+def looked_at(trial: Trial) -> None:
     """The scripts as their languages' own checkers see them."""
     python = [*(TOP / "tools").rglob("*.py"), *APART.glob("*.py"), *EXAMPLES.glob("*.py"), *TOOLS,
               *(TOP / "docs/make").glob("*.py"), TOP / "docs/make/site", SUITE / "site",
@@ -124,7 +131,7 @@ def looked_at(trial):
         trial.sees(ran.status == 0, f"shellcheck: {answers.shown(ran.output)}")
 
 
-def wrong_words(trial):
+def wrong_words(trial: Trial) -> None:
     """Wrong words, which each tool refuses with a message and status 2."""
     script = EXAMPLES / "claim.script"
     cases = [(TOOLS[0], [], [script], [script, "--"], ["--"], ["--x"], ["--", "/nosuch/command"],
@@ -152,7 +159,7 @@ def wrong_words(trial):
                        f"{tool.name} {words} ends with {ran.status}: {ran.errors[:60]!r}")
 
 
-def words_of_reference(trial):
+def words_of_reference(trial: Trial) -> None:
     """The words of refusals and the forms of line, as docs/REFERENCE.md has them in its tables."""
     text = (TOP / "docs/REFERENCE.md").read_text(encoding="utf-8")
     refusals = set(re.findall(r"(?m)^\| `(\w+)` \| refused: ", text))
@@ -163,13 +170,13 @@ def words_of_reference(trial):
     trial.sees(forms == set(answers.FORMS), f"the forms of line are {forms}")
 
 
-def block_after(text, marker):
+def block_after(text: str, marker: str) -> str:
     """Gives the block that stands after a marker, and after the end of the marker's own."""
     _, _, rest = text.partition(marker)
     return rest.split("```\n")[1]
 
 
-def documented(trial):
+def documented(trial: Trial) -> list[Path]:
     """What docs/TRACES.md says that three of the tools print. Gives its two files."""
     text = (TOP / "docs/TRACES.md").read_text(encoding="utf-8")
     files = []
@@ -189,7 +196,7 @@ def documented(trial):
     return files
 
 
-def failing_ends(trial):
+def failing_ends(trial: Trial) -> None:
     """Output that can't be written, which is said in one line, and output that nobody reads."""
     for tool in (f"{TOOLS[2]} 1 50000", f"{TOOLS[3]} 50000 1", f"{TOOLS[0]} -k claim -- true"):
         ran = trial.run("bash", "-c", f"{tool} > /dev/full")
@@ -199,7 +206,7 @@ def failing_ends(trial):
         trial.sees(not ran.errors, f"{tool} | head -n 1: {ran.errors}")
 
 
-def compares(trial):
+def compares(trial: Trial) -> None:
     """suite/compare over a script, with answers that are known, missing, spare or not shown."""
     tool = TOOLS[0]
     script, mine = documented(trial)
@@ -234,7 +241,7 @@ def compares(trial):
                      "-c", f"printf '{said}' >&2; exit 3")
 
 
-def compares_no_script(trial):
+def compares_no_script(trial: Trial) -> None:
     """suite/compare over what is no script, which it can't look at whatever is answered."""
     answered = trial.file("answered.out", "ok\nbad\n")
     for name, text, why in (
@@ -250,7 +257,7 @@ def compares_no_script(trial):
                        and not ran.output, f"compare {name}.script {words}: {ran}")
 
 
-def compares_unseen(trial):
+def compares_unseen(trial: Trial) -> None:
     """suite/compare with answers of which each, or each to a script, is `-`."""
     tool = TOOLS[0]
     script = trial.file("two.script", "machine 1 0 63 1\n# so\npins 0\n")
@@ -276,7 +283,7 @@ def compares_unseen(trial):
                  "-k", "claim", "--", some)
 
 
-def compares_meant(trial):
+def compares_meant(trial: Trial) -> None:
     """suite/compare with a program, a script or a command in the place of a file of answers."""
     script = trial.file("meant.script", "machine 1 0 63 1\npins 0\n")
     toy = trial.file("toy.py", "#!/usr/bin/env python3\nprint('ok')\n")
@@ -296,7 +303,7 @@ def compares_meant(trial):
         trial.sees(ran.status == 2 and hint in ran.errors, f"compare {words}: {ran}")
 
 
-def compares_suite(trial):
+def compares_suite(trial: Trial) -> None:
     """suite/compare and suite/check over the suite, with commands that are right and wrong."""
     tool, model = TOOLS[0], APART / "model.py"
     trial.prints(0, ["scripts same, 0 differ"], TOOLS[1], trial.program, "replay")
@@ -316,19 +323,19 @@ def compares_suite(trial):
                  "--each", "1", "--", "sleep", "1000")
 
 
-def told(script):
+def told(script: bytes) -> tuple[int, int, set[str]]:
     """Gives how many lines of a script have an answer, how many are refused, and its forms."""
     lines, said = answers.lines(script), answers.answers(answers_of(script))
     refused = sum(answers.is_refused(line.text, one) for line, one in zip(lines, said))
     return len(lines), refused, {answers.form(line.text) for line in lines}
 
 
-def answers_of(script):
+def answers_of(script: bytes) -> bytes:
     """Gives what the model written apart answers."""
     return generated.model.answers(script)
 
 
-def randoms(trial):
+def randoms(trial: Trial) -> None:
     """suite/random: the same script for the same words, and what its options ask for."""
     tool = TOOLS[2]
     one, same, other = (trial.run(tool, seed, 500).output for seed in (5, 5, 6))
@@ -359,7 +366,7 @@ def randoms(trial):
         trial.sees(form in told(found)[2], f"random --mood {mood} says no {form}")
 
 
-def gen_scripts(trial):
+def gen_scripts(trial: Trial) -> None:
     """suite/gen-script: what the program counts in its own script, counted in this one."""
     for count, seed in ((0, 1), (1000, 7), (20000, 42), (5000, (1 << 64) - 1)):
         script = trial.run(TOOLS[3], count, seed).output
@@ -374,7 +381,7 @@ def gen_scripts(trial):
                    f"gen-script {count} {seed}: {mine}, and gen has {wanted}")
 
 
-def draws(trial):
+def draws(trial: Trial) -> None:
     """examples/draw: a leave whose steps stand in the order of docs/MOVES.md."""
     script = trial.file("leave.script", "\n".join([
         "machine 1 1 63 1", "vm 1 0x8 0", "arrive 0 0 0", "g 0 0 csrrw siselect 0xc0",
@@ -398,7 +405,7 @@ def draws(trial):
         trial.sees(is_picture, f"draw --svg {path.name} is no picture")
 
 
-def stops(trial):
+def stops(trial: Trial) -> None:
     """Each tool that runs something, stopped by a signal: it ends, with all that it has started,
     and leaves no file."""
     hangs = trial.file("hangs", "#!/bin/sh\necho $$ >> \"$0.pids\"\nsleep 1000 &\n"
@@ -417,7 +424,7 @@ def stops(trial):
                        f" and leaves {left}")
 
 
-def leaves_behind(trial):
+def leaves_behind(trial: Trial) -> None:
     """A command that ends by itself, and leaves a process: a tool ends that too."""
     leaves = trial.file("leaves", "#!/bin/sh\nsleep 1000 > /dev/null 2>&1 &\n"
                                   "echo $! > \"$0.pid\"\nexec cat\n")
@@ -429,7 +436,8 @@ def leaves_behind(trial):
     trial.sees(not is_left, "a process is left behind")
 
 
-def stopped(command, each, pids, trial, hangs):
+def stopped(command: tuple[str | Path, ...], each: signal.Signals, pids: Path, trial: Trial,
+            hangs: Path) -> tuple[int, list[str]]:
     """Starts a tool, stops it once its command hangs, and gives its status and what it leaves."""
     is_examples = command[0].name == "check" and len(command) == 1
     folder = trial.folder / "tmp"
@@ -459,7 +467,7 @@ def stopped(command, each, pids, trial, hangs):
     return status, alive + [path.name for path in folder.iterdir()]
 
 
-def examples(trial):
+def examples(trial: Trial) -> None:
     """The examples' own check, with the two programs in lockstep."""
     trial.prints(0, ["lockstep.py: same", "lockstep.c: "], EXAMPLES / "check")
     for program, status in ((APART / "model.py", 1), ("/nosuch/program", 2)):
@@ -467,7 +475,7 @@ def examples(trial):
         trial.sees(ran.status == status, f"lockstep.py {program} ends with {ran.status}")
 
 
-def parts_of_tools(trial):
+def parts_of_tools(trial: Trial) -> None:
     """This itself: a part alone, the parts of its help, and programs that are not ./aia."""
     for part in ("draw", "rows"):
         said = trial.prints(0, [f"{part}: ", " seconds\n", " are not\n"], "env",
@@ -508,7 +516,7 @@ WITHOUT_PROGRAM = {"code", "lint", "draw", "rows", "wider", "weaken", "documents
 BY_MODEL = {"compare", "hunt", "hunts"}
 
 
-def program_for(workers, words):
+def program_for(workers: Workers, words: list[str]) -> str:
     """Gives the program that parts are tried with, which is built first where it has to be; ends
     with status 2 where there is none, or another than ./aia."""
     if words and set(words) <= WITHOUT_PROGRAM:
@@ -523,7 +531,7 @@ def program_for(workers, words):
     return program
 
 
-def try_parts(trial, names):
+def try_parts(trial: Trial, names: list[str]) -> None:
     """Tries these parts, and says how long each took; or all of them, where none is named."""
     # What `rows` sees `classes` sees too.
     for name in names or [name for name in PARTS if name != "rows"]:
@@ -534,7 +542,7 @@ def try_parts(trial, names):
             print(f"{name}: {time.monotonic() - begun:.0f} seconds", flush=True)
 
 
-def main():
+def main() -> int:
     given, rest, _ = running.words("", "jobs=")
     jobs = running.number(given.get("jobs", "1"), "--jobs", 1, 64)
     unknown = [word for word in rest if word not in PARTS]

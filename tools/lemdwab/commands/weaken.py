@@ -38,18 +38,24 @@ notices each, 1 where none notices one, 2 where it could not look: words are wro
 the crate is not proved with nothing planted, or one was not tried. Needs Python 3.10 or later.
 """
 
+from __future__ import annotations
+
 import hashlib
 import re
 import tempfile
 import time
+from collections.abc import Iterator
 from concurrent.futures import FIRST_COMPLETED, wait
 from pathlib import Path
-from typing import NamedTuple
+from typing import TYPE_CHECKING, Any, NamedTuple
 
 from lemdwab import running, using, weakening
 from lemdwab.keeping import (UNTRIED, Kept, Verdict, bounds_of, check_rt, copied, crate_named,
                              kept_folder)
 from lemdwab.running import TOP
+
+if TYPE_CHECKING:
+    from lemdwab.weakening import Plant
 
 ALWAYS = ("aia_laws", "aia_isolation", "plans_rules")
 NOTICED, OWN, UNNOTICED = KINDS = ("noticed", "OWN PROOF ALONE", "UNNOTICED")
@@ -70,13 +76,13 @@ class Plan(NamedTuple):
 
 # ---- what is asked for
 
-def law_crates():
+def law_crates() -> list[str]:
     """Lists the crates whose laws are looked at unless told, in the order of crates.txt."""
     return [name for name in using.below() if name in ALWAYS
             or any(using.uses_of(clause) for clause in weakening.clauses(name))]
 
 
-def read_words(words):
+def read_words(words: list[Any]) -> dict[Any, Any]:
     """Reads of which crates, and of which laws and definitions of each, plants are asked for."""
     asked, crate = {}, None
     for word in words:
@@ -92,7 +98,7 @@ def read_words(words):
     return asked
 
 
-def chosen(words, kinds):
+def chosen(words: list[Any], kinds: tuple[str, str, str, str]) -> list[tuple[str, list[Plant]]]:
     """Lists the plants that are asked for, by crate."""
     asked = read_words(words) or {name: set() for name in law_crates()}
     return [(crate, [plant for plant in weakening.plants(crate, kinds)
@@ -100,7 +106,7 @@ def chosen(words, kinds):
             for crate, names in asked.items()]
 
 
-def read_kinds(given):
+def read_kinds(given: dict[str, str]) -> tuple[str, str, str, str]:
     """Reads which kinds are asked for."""
     kinds = tuple(given.get("kind", ",".join(weakening.KINDS)).split(","))
     for kind in kinds:
@@ -111,7 +117,7 @@ def read_kinds(given):
 
 # ---- what is known
 
-def sum_of(crate):
+def sum_of(crate: str) -> str:
     """Gives a sum of what tells of a crate's plants: its own files, and those of its uses."""
     made = hashlib.sha256()
     uses = [path for name in using.crates_of_uses() for path in using.movable_files(name, crate)]
@@ -122,19 +128,20 @@ def sum_of(crate):
     return made.hexdigest()[:32]
 
 
-def total_of(total, plant):
+def total_of(total: str, plant: Plant) -> str:
     """Gives a sum of a plant, and of what tells of it."""
     return hashlib.sha256(f"{total}\0{plant.file}\0{plant.at}\0{plant.old}\0{plant.new}".encode()
                           ).hexdigest()[:32]
 
 
-def of_clause(plant):
+def of_clause(plant: Plant) -> Verdict:
     """Gives what comes of a plant of a clause: it is noticed by those that cite it."""
     uses = using.uses_of(plant.clause)
     return Verdict(NOTICED, ", ".join(uses)) if uses else Verdict(UNNOTICED, "")
 
 
-def sorted_out(crate, plants, kept):
+def sorted_out(crate: str, plants: list[Plant],
+               kept: Kept) -> tuple[list[tuple[Plant, Verdict]], list[tuple[Plant, str]]]:
     """Divides the plants of a crate: those of which it is known what comes of them, and those to be
     tried, with their sums."""
     known, left, total = [], [], ""
@@ -152,19 +159,19 @@ def sorted_out(crate, plants, kept):
 
 # ---- trying
 
-def place_of(file):
+def place_of(file: str) -> str:
     """Gives the module whose answers a file of proofs has, or the lemma file that it is."""
     parts = Path(file).with_suffix("").parts
     parts = parts[1:] if parts[:1] == ("proofs",) else parts
     return "::".join(parts[:-1] if parts[-1] == "Answers" else parts)
 
 
-def is_dependent(said):
+def is_dependent(said: str) -> bool:
     """Says whether an error only says that something else was refused."""
     return "which was not admitted" in said
 
 
-def verdict_of(crate, ran):
+def verdict_of(crate: str, ran: running.Ran) -> Verdict:
     """Gives what a check says of a plant."""
     text = ran.output.decode(errors="replace")
     errors = [error for error in ERROR.findall(text) if not is_dependent(error[1])]
@@ -186,13 +193,13 @@ def verdict_of(crate, ran):
         f": {said[-1].strip()}" if said else ""))
 
 
-def check(copy, crate, seconds):
+def check(copy: Path, crate: str, seconds: int) -> running.Ran:
     """Has rt check a crate in a copy; called by a worker."""
     return running.run(["env", "-C", str(copy / "crates" / crate), "rt", "check", "--jobs", "1"],
                        b"", seconds, MOST)
 
 
-def made_ready(workers, crate, number, place):
+def made_ready(workers: running.Workers, crate: str, number: int, place: Path) -> list[Path]:
     """Makes copies, in which a crate has its uses; each is proved first with nothing planted."""
     copies = [place / f"{crate}-{at}" for at in range(number)]
     for copy in copies:
@@ -208,7 +215,7 @@ def made_ready(workers, crate, number, place):
     return copies
 
 
-def attempt(copy, plant, seconds):
+def attempt(copy: Path, plant: weakening.Plant, seconds: int) -> tuple[Verdict, float]:
     """Plants in a copy, has it checked, and takes the plant out again; called by a worker. Gives
     what came of it, and how long it took."""
     path, began = copy / "crates" / plant.crate / plant.file, time.monotonic()
@@ -221,7 +228,8 @@ def attempt(copy, plant, seconds):
     return verdict_of(plant.crate, ran), time.monotonic() - began
 
 
-def tried(workers, copies, left, plan, pace):
+def tried(workers: running.Workers, copies: list[Path], left: list[tuple[weakening.Plant, str]],
+          plan: Plan, pace: running.Pace) -> Iterator[tuple[weakening.Plant, str, Verdict, float]]:
     """Yields each plant that is tried, its sum, what came of it and how long it took."""
     crate, left, busy, done = left[0][0].crate, list(left), {}, 0
     while busy or (left and time.monotonic() < plan.until):
@@ -238,7 +246,8 @@ def tried(workers, copies, left, plan, pace):
         pace.tell(f"at {crate}, {done} tried")
 
 
-def try_left(workers, left, plan, pace):
+def try_left(workers: running.Workers, left: list[tuple[weakening.Plant, str]], plan: Plan,
+             pace: running.Pace) -> Iterator[tuple[weakening.Plant, str, Verdict, float]]:
     """Yields the same of plants of one crate, in copies that are made first and removed then."""
     if left and time.monotonic() < plan.until:
         crate, number = left[0][0].crate, min(plan.at_once, len(left))
@@ -250,20 +259,21 @@ def try_left(workers, left, plan, pace):
 class Counts:
     """How many plants of each kind of each crate came to what."""
 
-    def __init__(self):
-        self.found, self.late = {}, 0
+    def __init__(self) -> None:
+        self.found: dict[tuple[str, str], dict[str, int]] = {}
+        self.late = 0
 
-    def add(self, plant, verdict):
+    def add(self, plant: Plant, verdict: Verdict) -> None:
         """Counts a plant, and says what came of it."""
         row = self.found.setdefault((plant.crate, plant.kind), dict.fromkeys((*KINDS, UNTRIED), 0))
         row[verdict.kind] += 1
         print(f"{plant.crate} {plant.kind} {plant.name}: {verdict.shortened()}", flush=True)
 
-    def total(self, kind):
+    def total(self, kind: str) -> int:
         """Gives how many came to that."""
         return sum(row[kind] for row in self.found.values())
 
-    def told(self):
+    def told(self) -> int:
         """Says how many came to what; gives the status."""
         for (crate, kind), row in self.found.items():
             print(f"{crate} {kind}: " + ", ".join(f"{count} {of}" for of, count in row.items()))
@@ -275,7 +285,7 @@ class Counts:
         return 2 if self.total(UNTRIED) or self.late else 0
 
 
-def try_all(crates, kept, plan):
+def try_all(crates: list[tuple[str, list[weakening.Plant]]], kept: Kept, plan: Plan) -> int:
     """Tries the plants of crates, and says what came of each; gives the status."""
     counts, pace = Counts(), running.Pace()
     with running.Workers(plan.at_once) as workers:
@@ -291,7 +301,7 @@ def try_all(crates, kept, plan):
     return counts.told()
 
 
-def list_all(crates, kept):
+def list_all(crates: list[tuple[str, list[Plant]]], kept: Kept) -> int:
     """Lists the plants, and what came of each before; gives the status."""
     number = 0
     for crate, plants in crates:
@@ -305,7 +315,7 @@ def list_all(crates, kept):
     return 0
 
 
-def main():
+def main() -> int:
     given, names, _ = running.words("", "list", "anew", "kept=", "kind=", "at-once=", "minutes=",
                                     "seconds=")
     bounds = bounds_of(given, "1", 64, "900")

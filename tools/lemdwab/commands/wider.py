@@ -26,20 +26,25 @@ status 0 where all are refused, 1 where one is let through, 2 where it could not
 wrong, there is no rt, or one was not tried. Needs Python 3.10 or later.
 """
 
+from __future__ import annotations
+
 import hashlib
 import re
 import shutil
 import tempfile
 import time
-from concurrent.futures import TimeoutError as StillRuns
+from concurrent.futures import Future, TimeoutError as StillRuns
 from pathlib import Path
-from typing import NamedTuple
+from typing import TYPE_CHECKING, Any, NamedTuple
 
 from lemdwab import running
 from lemdwab.documents import strength
 from lemdwab.keeping import (UNTRIED, Kept, Verdict, bounds_of, check_rt, copied, crate_named,
                              kept_folder)
 from lemdwab.running import TOP
+
+if TYPE_CHECKING:
+    from lemdwab.documents.strength import Edit
 
 PARTS = ("src", "specs", "proofs")
 REFUSED, THROUGH = "refused", "LET THROUGH"
@@ -59,7 +64,7 @@ class Plan(NamedTuple):
     seconds: int
 
 
-def sum_of(top, edit):
+def sum_of(top: Path, edit: Edit) -> str:
     """Gives a sum of a crate's own files and of an edit."""
     made, crate = hashlib.sha256(), top / "crates" / edit.crate
     for path in sorted(path for part in PARTS for path in (crate / part).rglob("*")):
@@ -69,13 +74,13 @@ def sum_of(top, edit):
     return made.hexdigest()[:32]
 
 
-def layers():
+def layers() -> list[str]:
     """Lists the crates, those first that others stand on."""
     lines = running.contents(TOP / "crates.txt").decode().splitlines()
     return [match.group(1) for line in lines if (match := re.match(r"(\w+)[^#]*:", line))]
 
 
-def read_words(words, every):
+def read_words(words: list[Any], every: dict[str, list[Edit]]) -> dict[Any, Any]:
     """Reads which edits are asked for: of each crate the names behind it, all if there are none."""
     asked, crate = {}, None
     for word in words:
@@ -94,7 +99,7 @@ def read_words(words, every):
     return asked
 
 
-def chosen(words):
+def chosen(words: list[Any]) -> list[tuple[str, list[Edit]]]:
     """Lists the edits that words ask for, or all where there are none, by crate."""
     every = {}
     for edit in strength.edits(strength.WIDER):
@@ -106,14 +111,14 @@ def chosen(words):
                     if not asked.get(name) or edit.name in asked[name]]) for name in crates]
 
 
-def named_in(said):
+def named_in(said: str) -> str:
     """Gives the place and the goal that the prover named, or what else was said of a refusal."""
     said = said.removeprefix(":").strip()
     match = re.match(r"(?:note: )?(\S+:\d+:\d+): [^(]*(\(`[^`]*`\))", said)
     return f"{match.group(1)} {match.group(2)}" if match else said
 
 
-def verdicts(crate, ran):
+def verdicts(crate: str, ran: running.Ran) -> dict[str, Verdict]:
     """Gives what a call of rt said of the edits of a crate, by their names."""
     found = {}
     for line in ran.output.decode(errors="replace").splitlines():
@@ -126,7 +131,7 @@ def verdicts(crate, ran):
     return found
 
 
-def waited_for(future, pace, how_far):
+def waited_for(future: Future[running.Ran], pace: running.Pace, how_far: str) -> running.Ran:
     """Waits for a call, and says meanwhile how far the tool is."""
     while True:
         try:
@@ -135,7 +140,7 @@ def waited_for(future, pace, how_far):
             pace.tell(how_far)
 
 
-def why_untold(ran):
+def why_untold(ran: running.Ran) -> str:
     """Says why rt told nothing of an edit."""
     if ran.stopped:
         return ran.stopped
@@ -145,7 +150,8 @@ def why_untold(ran):
         f": {said[-1].strip()}" if said else "")
 
 
-def call(workers, copy, crate, edits, plan, how_far):
+def call(workers: running.Workers, copy: Path, crate: str, edits: list[Any], plan: Plan,
+         how_far: str) -> tuple[dict[str, Verdict], float]:
     """Has rt try some edits of a crate in the copy; gives the verdict on each, by its name."""
     place = copy / "crates" / crate / strength.TRIED
     shutil.rmtree(place, ignore_errors=True)
@@ -161,12 +167,12 @@ def call(workers, copy, crate, edits, plan, how_far):
     return {edit.name: found.get(edit.name, Verdict(UNTRIED, why_untold(ran))) for edit in edits}
 
 
-def tell(edit, verdict):
+def tell(edit: Edit, verdict: Verdict) -> None:
     """Prints what came of an edit."""
     print(f"{edit.crate}/{edit.name}: {verdict.shortened()}", flush=True)
 
 
-def sorted_out(copy, edits, kept):
+def sorted_out(copy: Path, edits: list[Any], kept: Kept) -> tuple[dict[Any, Verdict], list[Any]]:
     """Divides the edits of a crate: the verdicts that are known, as kept or since they can't be
     made, and those to be tried, with their sums."""
     known, left = [], []
@@ -181,7 +187,8 @@ def sorted_out(copy, edits, kept):
     return known, left
 
 
-def try_all(workers, copy, crates, kept, plan):
+def try_all(workers: running.Workers, copy: Path, crates: Any, kept: Kept, plan: Plan
+           ) -> tuple[dict[str, int], int]:
     """Tries the edits of crates; gives how many of each kind there are, and how many are left."""
     counts, late, pace = dict.fromkeys((REFUSED, THROUGH, UNTRIED), 0), 0, running.Pace()
     for crate, edits in crates:
@@ -211,7 +218,7 @@ def try_all(workers, copy, crates, kept, plan):
     return counts, late
 
 
-def list_all(crates, kept):
+def list_all(crates: list[tuple[str, list[Edit]]], kept: Kept) -> int:
     """Lists the edits, whether they can be made, and whether they were refused before; gives the
     status."""
     faults = number = 0
@@ -227,14 +234,14 @@ def list_all(crates, kept):
     return 2 if faults else 0
 
 
-def told(counts, late):
+def told(counts: dict[str, int], late: int) -> int:
     """Says how many there are of each kind; gives the status."""
     line = ", ".join(f"{count} {kind}" for kind, count in counts.items())
     print(line + (f", {late} left for another run, since the minutes are over" if late else ""))
     return 1 if counts[THROUGH] else 2 if counts[UNTRIED] or late else 0
 
 
-def main():
+def main() -> int:
     given, names, _ = running.words("", "list", "anew", "kept=", "at-once=", "jobs=", "minutes=",
                                     "seconds=")
     bounds = bounds_of(given, "8", 100, "3600")

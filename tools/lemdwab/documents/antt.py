@@ -1,7 +1,10 @@
 """Reads definitions: modules of specs/ in antt, and items of src/ in Rattle."""
 
+from __future__ import annotations
+
 import re
 from functools import cache
+from pathlib import Path
 
 from lemdwab.running import TOP
 
@@ -11,22 +14,22 @@ HEAD = re.compile(r"(?:abbrev |unfoldable |inductive )*pub (?:data |record )?(\S
 class Group:
     """A comment and the definitions under it, or a heading within a module."""
 
-    def __init__(self, comment):
+    def __init__(self, comment: list[str]) -> None:
         self.comment = comment
-        self.code = []
+        self.code: list[str] = []
 
-    def names(self):
+    def names(self) -> list[str]:
         """Gives the names of the definitions, in order."""
         heads = [HEAD.match(line) for line in self.code]
         return [h.group(1) for h in heads if h]
 
 
-def module_path(crate, module):
+def module_path(crate: str, module: str) -> Path:
     """Gives the file of a specs module."""
     return TOP / "crates" / crate / "specs" / f"{module}.antt"
 
 
-def all_modules():
+def all_modules() -> list[tuple[str, str]]:
     """Lists every specs module as (crate, module), but those that only list others."""
     found = []
     for path in sorted(TOP.glob("crates/*/specs/*.antt")):
@@ -35,7 +38,7 @@ def all_modules():
     return found
 
 
-def read_module(crate, module):
+def read_module(crate: str, module: str) -> tuple[list[str], list[Group], list[str]]:
     """Gives (comment of the module, groups, lines of `use`)."""
     lines = module_path(crate, module).read_text(encoding="utf-8").split("\n")
     uses = [line for line in lines if line.startswith("use ")]
@@ -66,7 +69,7 @@ def read_module(crate, module):
     return head, [g for g in groups if g.code or g.comment], uses
 
 
-def imports(uses):
+def imports(uses: list[str]) -> list[tuple[str, str, str, list[str]]]:
     """Lists what a module imports of the repository, as (crate, module or src/file.rt, names)."""
     found = []
     for use in uses:
@@ -85,7 +88,7 @@ def imports(uses):
     return found
 
 
-def read_item(crate, file, name):
+def read_item(crate: str, file: str, name: str) -> list[str]:
     """Gives the text of an enum, struct, const or trait of a source file, its comment included."""
     path = TOP / "crates" / crate / file
     lines = path.read_text(encoding="utf-8").split("\n")
@@ -105,18 +108,18 @@ def read_item(crate, file, name):
 
 
 @cache
-def joined(crate, module):
+def joined(crate: str, module: str) -> str:
     """Gives a module without its comments, each clause in one line."""
     text = module_path(crate, module).read_text(encoding="utf-8")
     return re.sub(r"\n[ \t]+", " ", re.sub(r"(?m)--.*$", "", text))
 
 
-def has_clauses(crate, module, name):
+def has_clauses(crate: str, module: str, name: str) -> bool:
     """Says whether a module defines a name by clauses."""
     return bool(re.search(rf"(?m)^{re.escape(name)}(?: [^=\n]*?)? = ", joined(crate, module)))
 
 
-def clauses(crate, module, name):
+def clauses(crate: str, module: str, name: str) -> list[tuple[str, str]]:
     """Gives the clauses of a definition by patterns, as (patterns as text, right side as text)."""
     found = []
     for line in joined(crate, module).split("\n"):

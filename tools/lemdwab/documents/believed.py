@@ -7,12 +7,19 @@ these name, and that those name in turn, down to names of libraries, have to sta
 it says in words what a module has (`@passed` in docs/make/definitions.order) they need not.
 """
 
+from __future__ import annotations
+
+from collections.abc import Iterator, Sequence
 from functools import cache
+from typing import TYPE_CHECKING
 
 from lemdwab.documents.definitions import FULL, ITEM, PASSED, placed
 from lemdwab.documents.naming import all_definitions, rests_on
 from lemdwab.documents.site_documents import claims, leads_to, proved
 from lemdwab.documents.site_laws import HEADLINE, all_functions, keys_in
+
+if TYPE_CHECKING:
+    from lemdwab.documents.naming import Definition
 
 # The crate of which README says that it is proved call by call, and how that sentence begins.
 LIBRARY, ALSO = "aia_c", "The model is also a library"
@@ -20,32 +27,32 @@ WHERE = "part I of docs/DEFINITIONS.md"
 
 
 @cache
-def shown():
+def shown() -> set[tuple[str, ...]]:
     """Lists what part I shows: modules as (crate, module), items of src/ as (crate, file, name)."""
     items = {(crate, file, name) for crate, file, *names in placed(ITEM) for name in names}
     return items | set(placed(FULL))
 
 
-def is_shown(one):
+def is_shown(one: Definition) -> bool:
     """Says whether part I shows a definition, or an item of src/."""
     of_item = (one.name,) if one.is_item else ()
     return (one.crate, one.module, *of_item) in shown()
 
 
 @cache
-def passed():
+def passed() -> set[tuple[str, str, str]]:
     """Lists the modules that are said in words where a crate names them, as (crate, crate of the
     module, module)."""
     return {(crate, of, module) for crate, _, of, module in placed(PASSED)}
 
 
-def goes_on(crate, key):
+def goes_on(crate: str, key: str) -> bool:
     """Says whether what a crate names by a key has to stand in part I itself."""
     one = all_definitions().get(key)
     return one is not None and (crate, one.crate, one.module) not in passed()
 
 
-def below(crate, keys):
+def below(crate: str, keys: Sequence[str]) -> list[str]:
     """Lists the definitions that keys named in a crate rest on, themselves among them."""
     found, open_ = [], [key for key in keys if goes_on(crate, key)]
     while open_:
@@ -56,7 +63,7 @@ def below(crate, keys):
     return found
 
 
-def carried_by(reference):
+def carried_by(reference: tuple[str, ...]) -> tuple[str, list[str]]:
     """Gives the crate and the keys of what a reference of docs/make/proved.txt names."""
     if reference == ("theorem",):
         reference = (*HEADLINE[:2], *HEADLINE[2])
@@ -67,7 +74,7 @@ def carried_by(reference):
     return crate, keys or [key] * (key in all_definitions())
 
 
-def lacking(what, crate, keys):
+def lacking(what: str, crate: str, keys: Sequence[str]) -> Iterator[str]:
     """Says which definitions of those that something rests on part I does not show."""
     for key in sorted(below(crate, keys)):
         one = all_definitions()[key]
@@ -78,7 +85,7 @@ def lacking(what, crate, keys):
             yield f"{what} rests on {one.name} of {one.crate} {one.module}, which {WHERE} lacks"
 
 
-def of_sentences():
+def of_sentences() -> Iterator[str]:
     """Says what part I lacks of what carries README's sentences, and which sentence nothing
     carries."""
     for sentence in claims():
@@ -92,14 +99,14 @@ def of_sentences():
             yield from lacking(what, *carried_by(reference))
 
 
-def of_library():
+def of_library() -> Iterator[str]:
     """Says what part I lacks of what the calls of the library for C say."""
     for one in all_functions():
         if one.crate == LIBRARY and (one.is_law or one.name.startswith("aia_")):
             yield from lacking(f"README's '{ALSO}', by {one.called()},", LIBRARY, keys_in(one))
 
 
-def drifts():
+def drifts() -> Iterator[str]:
     """Says each definition that part I lacks, once, with what first rests on it."""
     seen = set()
     for line in [*of_sentences(), *of_library()]:

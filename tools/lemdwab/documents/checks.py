@@ -1,8 +1,12 @@
 """Sees whether the documents' tables, examples, figures and links are in step with the tree."""
 
+from __future__ import annotations
+
 import re
 import subprocess
+from collections.abc import Callable, Iterable, Iterator
 from functools import cache
+from typing import Any
 
 from lemdwab.documents.antt import clauses
 from lemdwab.documents.claims import pages, sections
@@ -40,12 +44,13 @@ CALLED = {"leave": "a leave", "arrive": "an arrival", "shift": "a shift"}
 ALONE = ["README.md", REFERENCE, "docs/PROMISES.md"]
 
 
-def ticked(cell):
+def ticked(cell: str) -> list[str]:
     """Lists what stands in a cell as code."""
     return re.findall(r"`([^`]+)`", cell)
 
 
-def differ(where, stands, wanted):
+def differ(where: str, stands: dict[str, list[str]] | list[str],
+           wanted: Iterable[Any] | dict[str, Callable[..., Any]] | list[str]) -> Iterator[Any]:
     """Says what a table lacks, and what it has too much."""
     for name in sorted(set(wanted) - set(stands)):
         yield f"{where} lacks {name}"
@@ -58,7 +63,7 @@ NAMED = {"instruction": "INS", "part_shape": "PART"}
 CALLED_BY_KIND = {"Name": "CSR", "VmNumber": "VM"}
 
 
-def shape_of(tokens):
+def shape_of(tokens: list[str]) -> list[str]:
     """Reads a shape of the table of forms off the front of tokens: the texts that it has, `#` for a
     number, VM for that of a VM, CSR for a name of a CSR, INS for a CSR instruction, PART for a part
     of an image."""
@@ -86,17 +91,17 @@ def shape_of(tokens):
     return [f"{word} {text}".strip() for text in shape_of(tokens)]
 
 
-def tokens_of(text):
+def tokens_of(text: str) -> list[str]:
     """Cuts a text of the table into what it is made of."""
     return re.findall(r'\(codes "\w+"\)|[()&]|[\w.]+', text)
 
 
-def shapes(name):
+def shapes(name: str) -> list[str]:
     """Lists the texts of a shape that has a name in the table."""
     return shape_of(tokens_of(clauses("aia_model", "Forms", name)[0][1]))
 
 
-def forms_in(name):
+def forms_in(name: str) -> Iterator[tuple[str, str]]:
     """Lists what the forms of a list of the table are, those of a list that ends it too."""
     for member in re.findall(r"\w+", clauses("aia_model", "Forms", name)[0][1]):
         right = clauses("aia_model", "Forms", member)[0][1]
@@ -104,7 +109,7 @@ def forms_in(name):
         yield from [form.groups()] if form else forms_in(member)
 
 
-def all_forms():
+def all_forms() -> Iterator[str]:
     """Lists the texts of all forms, in the order of the table."""
     for keyword, rest in forms_in("forms"):
         table = tokens_of(rest)
@@ -113,14 +118,14 @@ def all_forms():
             yield f"{keyword} {text}".strip()
 
 
-def number_or(word):
+def number_or(word: str) -> str:
     """Gives a word of a form as it stands, but `#` for one that is a number or in capitals, which
     stands for one; that of a VM stays, so that the table of forms has to call it so."""
     is_number = re.fullmatch(r"\d+|[A-Zw][A-Z0-9]*", word) and word not in ("INS", "PART", "VM")
     return "#" if is_number else word
 
 
-def lines():
+def lines() -> Iterator[Any]:
     """Compares the forms of lines with the table of them, and the CSRs of each level."""
     stands, told = [], {}
     for cells in rows(section(REFERENCE, "Lines")):
@@ -141,7 +146,7 @@ def lines():
     yield from differ(f"{REFERENCE}, Images, the parts,", got, shapes("part_shape"))
 
 
-def answers():
+def answers() -> Iterator[Any]:
     """Compares the answers with their spellings, and the refusals with their order."""
     first = {}
     for text in shapes("part_shape"):
@@ -165,7 +170,7 @@ def answers():
         yield f"{REFERENCE}, Answers: the refusals stand as {got}, and are looked for as {order}"
 
 
-def statuses():
+def statuses() -> Iterator[Any]:
     """Compares the exit statuses with the numbers that the contracts of `command` have, those of
     launchers that could not build a program left out."""
     tables = (("aia_replay", REFERENCE, "Exit statuses", "1"),
@@ -176,7 +181,7 @@ def statuses():
         yield from differ(f"{document}, {heading},", [s for s in stands if s != unbuilt], wanted)
 
 
-def places():
+def places() -> Iterator[Any]:
     """Compares the map with the address map, and the sizes of a machine with its limits."""
     wanted = [address(name) for name in PLACES]
     stands = [text for cells in rows(section(REFERENCE, "The map")) for text in ticked(cells[0])]
@@ -188,14 +193,14 @@ def places():
             yield f"{REFERENCE}, The machine: of {part} the most are {' and '.join(limits)}"
 
 
-def formula(text, move, number):
+def formula(text: str, move: Move, number: int) -> int:
     """Computes a formula of docs/MOVES.md in W, R and the number of a word, w, or of a pass, r."""
     plain = re.sub(r"(\d)(W|w)", r"\1 * \2", text)
     names = {"W": move.words, "R": move.passes, "w": number, "r": number}
     return Reader(plain, names).value()
 
 
-def plans():
+def plans() -> Iterator[Any]:
     """Compares the tables of docs/MOVES.md with the plans."""
     table = {cells[0]: cells[1:] for cells in rows(section("docs/MOVES.md", "The three plans"))}
     steps = table.pop("how many steps there are", [""] * 4)
@@ -218,13 +223,13 @@ def plans():
     yield from stands_where()
 
 
-def step_line(step, word):
+def step_line(step: str, word: int | None) -> str:
     """Gives the line of a plan file that says a step of anybody's plan, w its word."""
     names = re.findall(r"[A-Z][a-z]*|\w+", step.replace("Number", ""))
     return " ".join(str(word) if name == "w" else name.lower() for name in names)
 
 
-def told_plan(move):
+def told_plan(move: Move) -> list[str]:
     """Lists the lines of a plan of homes, told as anybody's plan as `told_plan` has it."""
     told = {pattern.strip("()").split(" ")[0].removeprefix("accesses."): right
             for pattern, right in clauses("plans_of_aia", "Told", "told")}
@@ -234,7 +239,7 @@ def told_plan(move):
     return lines_ + [step_line(step, None) for step in back.split(" ∷ ") if step != "[]"]
 
 
-def told_plans():
+def told_plans() -> Iterator[Any]:
     """Compares the core's plans in examples/hypervisors with the plans of homes, told so."""
     for kind in KINDS:
         name = f"examples/hypervisors/core-{kind}.plan"
@@ -262,7 +267,7 @@ STANDS = {
 }
 
 
-def stands_where():
+def stands_where() -> Iterator[Any]:
     """Compares the table of what stands where with the definitions that its last column names."""
     text = section("docs/MOVES.md", "Why each step may be followed by anything")
     table = {ticked(cells[4])[0]: cells for cells in rows(text) if len(cells) == 5}
@@ -277,7 +282,7 @@ def stands_where():
                     yield f"docs/MOVES.md: {name}, of {CALLED[kind]}: '{cell}' is not {of}"
 
 
-def says(cell, move, w, k):
+def says(cell: str, move: Move, w: int, k: int) -> bool | None:
     """Computes whether a cell of that table says that something is so of word w after k steps."""
     if cell == "never":
         return False
@@ -291,7 +296,7 @@ def says(cell, move, w, k):
 
 
 @cache
-def libraries():
+def libraries() -> dict[str, list[str]]:
     """Gives each crate of crates.txt with the libraries that it uses."""
     found = {}
     for line in (TOP / "crates.txt").read_text(encoding="utf-8").split("\n"):
@@ -300,7 +305,7 @@ def libraries():
     return found
 
 
-def crates():
+def crates() -> Iterator[Any]:
     """Compares the crates of CRATES and PROMISES with crates.txt."""
     wanted = list(libraries())
     table = rows(section("docs/CRATES.md", "The crates"))
@@ -321,7 +326,7 @@ def crates():
             yield f"docs/CRATES.md, The crates, does not say: {part}"
 
 
-def promised():
+def promised() -> Iterator[Any]:
     """Sees that docs/promises names functions and clauses that are there, and each law."""
     for name in pages():
         for heading, body in sections(name):
@@ -332,13 +337,13 @@ def promised():
             yield from named_there(name, heading, body, text)
 
 
-def source(crate):
+def source(crate: str) -> str | None:
     """Gives the code of a crate, or None."""
     files = sorted((TOP / "crates" / crate / "src").glob("**/*.rt"))
     return "\n".join(f.read_text(encoding="utf-8") for f in files) if files else None
 
 
-def contracts(text):
+def contracts(text: str) -> dict[str, set[str]]:
     """Gives the names of the clauses of each function of some code, by its name."""
     found = {}
     for piece in re.split(r"\bfn (?=\w)", text)[1:]:
@@ -347,7 +352,7 @@ def contracts(text):
     return found
 
 
-def named_there(name, crate, body, text):
+def named_there(name: str, crate: str, body: str, text: str) -> Iterator[Any]:
     """Says which functions, clauses and laws of one crate a page has wrong or leaves out."""
     of_each = contracts(text)
     anywhere = set().union(*of_each.values()) if of_each else set()
@@ -370,7 +375,7 @@ def named_there(name, crate, body, text):
             yield f"{name} does not name the law {law} of {crate}"
 
 
-def in_specs(crate, clause):
+def in_specs(crate: str, clause: str) -> bool:
     """Says whether a record of definitions, or a trait, of the crate or a library has the name."""
     for of in [crate, *libraries().get(crate, [])]:
         for path in (TOP / "crates" / of / "specs").glob("*.antt"):
@@ -382,7 +387,7 @@ def in_specs(crate, clause):
     return False
 
 
-def replayed(name):
+def replayed(name: str) -> Iterator[tuple[str, str]]:
     """Gives a script's lines beside their answers."""
     answers_ = iter((TOP / f"{name}.out").read_text(encoding="utf-8").splitlines())
     for line in (TOP / f"{name}.script").read_text(encoding="utf-8").splitlines():
@@ -390,7 +395,7 @@ def replayed(name):
             yield line, next(answers_)
 
 
-def shown():
+def shown() -> Iterator[Any]:
     """Compares the example of README with the script that it is from, gaps and all."""
     text = section("README.md", "An example")
     block = re.search(r"(?ms)^```\n(.*?)^```", text)
@@ -417,12 +422,12 @@ def shown():
         ends, is_gap = after, False
 
 
-def ran(command, text):
+def ran(command: list[str], text: str) -> str:
     """Gives what a command prints, given a text."""
     return subprocess.run(command, input=text, capture_output=True, text=True, timeout=60)
 
 
-def tried():
+def tried() -> Iterator[Any]:
     """Runs what TRACES, MOVES and REFERENCE say to run, where the program is built."""
     program = TOP / "crates/aia/out/aia"
     if not program.exists():
@@ -445,7 +450,7 @@ def tried():
             yield f"{REFERENCE}: gen {count} {seed} prints {line}"
 
 
-def printed(program):
+def printed(program: str) -> Iterator[str]:
     """Runs what TRACES says of lockstep, and the script of MOVES."""
     code = re.search(r"(?ms)^```sh\n(.*?)^```", section("docs/MOVES.md", "Try it")).group(1)
     lockstep = ["python3", "-B", TOP / "examples/lockstep.py", program]
@@ -461,7 +466,7 @@ def printed(program):
             yield f"{name}, {heading}, prints {sorted(got)}"
 
 
-def below(crate):
+def below(crate: str) -> set[str]:
     """Gives the crates that a crate stands on, itself among them."""
     found, open_ = set(), [crate]
     while open_:
@@ -472,12 +477,12 @@ def below(crate):
 
 
 @cache
-def depth(crate):
+def depth(crate: str) -> int:
     """Gives how many crates the longest chain below a crate has, itself among them."""
     return 1 + max((depth(lib) for lib in libraries()[crate] if lib in libraries()), default=0)
 
 
-def newest(paths):
+def newest(paths: list[str]) -> tuple[str, str]:
     """Gives the day and the name of the newest commit that touches paths."""
     found = subprocess.run(
         ["git", "-C", str(TOP), "log", "-1", "--format=%cs %h", "--", *paths],
@@ -486,9 +491,9 @@ def newest(paths):
     return tuple(found) if found else ("", "")
 
 
-def aged():
-    """Compares the days of figures with the day on which what they measure last changed. The figures
-    say of which day they are, so that an older one is no drift."""
+def aged() -> Iterator[Any]:
+    """Compares the days of figures with the day on which what they measure last changed. The
+    figures say of which day they are, so that an older one is no drift."""
     code = [f"crates/{crate}/src" for crate in sorted(below("aia"))]
     where = "docs/PERFORMANCE.md, What was measured,"
     days = re.findall(r"\d{4}-\d\d-\d\d", section("docs/PERFORMANCE.md", "What was measured"))
@@ -498,7 +503,7 @@ def aged():
                f" {day} ({commit})")
 
 
-def linked():
+def linked() -> Iterator[Any]:
     """Sees that links between documents lead somewhere."""
     for name in documents():
         folder = (TOP / name).parent
@@ -513,7 +518,7 @@ def linked():
                 yield f"{name} links to {link}, and there is no such heading"
 
 
-def patient():
+def patient() -> Iterator[Any]:
     """Sees that no document is longer than its reader's patience."""
     for name in documents():
         limit = LIMITS.get(name, MOST_WORDS)
@@ -521,7 +526,7 @@ def patient():
             yield f"{name} has {count} words, and may have {limit}"
 
 
-def alone():
+def alone() -> Iterator[Any]:
     """Sees that README, REFERENCE and PROMISES share no sentence."""
     seen = {}
     for name in ALONE + [n for n in documents() if n.startswith("docs/promises/")]:
@@ -533,7 +538,7 @@ def alone():
             seen.setdefault(sentence, name)
 
 
-def drifts():
+def drifts() -> Iterator[Any]:
     """Says each place where a document is not in step."""
     for check in (lines, answers, statuses, places, plans, told_plans, crates, promised, shown,
                   tried, linked, patient, alone):

@@ -7,15 +7,21 @@ that changed alone is not. What a statement says by the definitions that it name
 sum: these stand in docs/DEFINITIONS.md.
 """
 
+from __future__ import annotations
+
 import hashlib
 import re
 import subprocess
+from collections.abc import Iterator
 from functools import cache
-from typing import NamedTuple
+from typing import TYPE_CHECKING, Any, NamedTuple
 
 from lemdwab.documents.functions import functions, functions_in, source_files
 from lemdwab.documents.markdown import documents, read
 from lemdwab.running import TOP
+
+if TYPE_CHECKING:
+    from lemdwab.documents.functions import Function
 
 PAGES = "docs/promises/"
 STATEMENTS = f"{PAGES}statements-"
@@ -33,7 +39,7 @@ class Passage(NamedTuple):
     """A row or a paragraph of a page, with the names in it of functions, and of a row those in its
     cell of clauses; None of a paragraph."""
 
-    names: tuple
+    names: tuple[str, ...]
     clauses: tuple | None
     text: str
 
@@ -49,17 +55,17 @@ class Claim(NamedTuple):
 # ---- sentences
 
 @cache
-def pages():
+def pages() -> list[str]:
     """Lists the pages that have sentences."""
     return [n for n in documents() if n.startswith(PAGES) and not n.startswith(STATEMENTS)]
 
 
-def sections(name):
+def sections(name: str) -> list[tuple[str, str]]:
     """Lists the parts of a page that are about a crate, as (crate, text)."""
     return re.findall(r"(?ms)^## `(\w+)`.*?\n(.*?)(?=^## |\Z)", read(name))
 
 
-def rows_of(block, before):
+def rows_of(block: str, before: tuple[str, ...]) -> Iterator[Passage]:
     """Lists the rows of a table, with the functions that the paragraph before it names: these it is
     about where no column has functions."""
     now = before
@@ -72,7 +78,7 @@ def rows_of(block, before):
             yield Passage(now, tuple(name or sign for name, sign in named), cells[-1])
 
 
-def passages(body):
+def passages(body: str) -> Iterator[Passage]:
     """Lists the rows and paragraphs of a part of a page."""
     before = ()
     for block in re.split(r"\n\s*\n", body.strip()):
@@ -83,7 +89,7 @@ def passages(body):
             yield Passage(before, None, " ".join(block.split()))
 
 
-def is_named(one, name, alone):
+def is_named(one: Function, name: str, alone: set[str]) -> bool:
     """Says whether a name of a page is that of a function. One without a type means a function
     outside all types, where there is such a one; `alone` has the names of these."""
     *owner, last = re.sub(r"<\w+>", "", name).split("::")
@@ -94,13 +100,14 @@ def is_named(one, name, alone):
     return owner[-1] in (one.owner, one.module().split("::")[-1])
 
 
-def is_on(passage, clause, count):
+def is_on(passage: Passage, clause: str, count: int) -> bool:
     """Says whether a row is on a clause of a function that has so many: it names it, or it has `-`
     and there is no other one, or it says how many there are."""
     return clause in passage.clauses or passage.clauses == ("-" if count == 1 else str(count),)
 
 
-def sentences_on(one, clause, count, found, alone):
+def sentences_on(one: Function, clause: str, count: int, found: list[Passage],
+                 alone: set[str]) -> str:
     """Gives the sentences on a clause of a function that has so many: the rows on it, or, where no
     row is on the function, the paragraphs that name it."""
     about = [p for p in found if any(is_named(one, name, alone) for name in p.names)]
@@ -111,12 +118,12 @@ def sentences_on(one, clause, count, found, alone):
 
 # ---- statements
 
-def told(one):
+def told(one: Function) -> bool:
     """Says whether docs/promises has to have a sentence on a function."""
     return bool(one.clauses()) and (one.is_law or one.is_public)
 
 
-def cut(one):
+def cut(one: Function) -> tuple[str, str, dict[str, str]]:
     """Cuts a contract into the words of the function, what it requires, and each clause by its
     name, comments left out."""
     clauses = one.clauses()
@@ -132,14 +139,14 @@ def cut(one):
     return head, "\n".join(required), ensured
 
 
-def statements(one):
+def statements(one: Function) -> dict[str, str]:
     """Gives the statement of each clause of a function, with the function's words, and what it
     requires."""
     head, required, ensured = cut(one)
     return {name: "\n".join([head, required, text]) for name, text in ensured.items()}
 
 
-def label(one, others):
+def label(one: Function, others: list[Function]) -> str:
     """Names a function within its crate, its module before it where two of its name stand in two
     modules."""
     is_one = len({other.module() for other in others if other.called() == one.called()}) == 1
@@ -147,13 +154,13 @@ def label(one, others):
 
 
 @cache
-def told_of(crate):
+def told_of(crate: str) -> list[tuple[str, Function]]:
     """Lists the functions of a crate on which there has to be a sentence, each with its name."""
     found = [one for file in source_files(crate) for one in functions(crate, file) if told(one)]
     return [(label(one, found), one) for one in found]
 
 
-def claims_of(page, crate, body):
+def claims_of(page: str, crate: str, body: str) -> dict[tuple[str, str, str], Claim]:
     """Gives the claims of a crate, by their crate, function and clause."""
     listed, claims = list(passages(body)), {}
     alone = {one.name for _, one in told_of(crate) if not one.owner}
@@ -168,9 +175,9 @@ def claims_of(page, crate, body):
 
 
 @cache
-def claims():
+def claims() -> dict[tuple[str, str, str], Claim]:
     """Gives all claims."""
-    found = {}
+    found: dict[tuple[str, str, str], Claim] = {}
     for page in pages():
         for crate, body in sections(page):
             found |= claims_of(page, crate, body)
@@ -179,30 +186,31 @@ def claims():
 
 # ---- the ledger
 
-def short(text):
+def short(text: str) -> str:
     """Gives a sum of a text without its spaces."""
     return hashlib.sha256("".join(text.split()).encode()).hexdigest()[:12]
 
 
-def sums(claim):
+def sums(claim: Claim) -> tuple[str, str]:
     """Gives the two sums of a claim."""
     return short(claim.statement), short(claim.sentence)
 
 
-def ledger():
+def ledger() -> dict[tuple[str, str, str], tuple[str, str]]:
     """Gives the sums that were accepted, by crate, function and clause."""
     text = LEDGER.read_text(encoding="utf-8") if LEDGER.exists() else ""
     rows = [line.split() for line in text.split("\n") if line and not line.startswith("#")]
     return {tuple(row[:3]): tuple(row[3:]) for row in rows}
 
 
-def write(accepted):
+def write(accepted: dict[tuple[str, str, str], tuple[str, str]]) -> None:
     """Writes the ledger."""
     lines = [" ".join((*key, *accepted[key])) for key in sorted(accepted)]
     LEDGER.write_text(HEAD + "\n".join(lines) + "\n", encoding="utf-8")
 
 
-def compared(stands, accepted):
+def compared(stands: dict[tuple[str, str, str], Claim],
+             accepted: dict[tuple[str, str, str], tuple[str, str]]) -> Iterator[str]:
     """Says which clauses have no sentence, and which are not as they were accepted."""
     for key in sorted(set(stands) | set(accepted)):
         crate, name, clause = key
@@ -219,20 +227,20 @@ def compared(stands, accepted):
             yield f"{what}: the statement changed, {so} ({stands[key].page}): {again}"
 
 
-def drifts():
+def drifts() -> Iterator[Any]:
     """Says where statements and what was accepted of them differ."""
     return compared(claims(), ledger())
 
 
 # ---- to accept
 
-def git(*words):
+def git(*words: str) -> str:
     """Gives what git prints; nothing where it fails."""
     ran = subprocess.run(["git", "-C", str(TOP), *words], capture_output=True, text=True)
     return ran.stdout if ran.returncode == 0 else ""
 
 
-def before(key, accepted):
+def before(key: tuple[str, str, str], accepted: tuple[str, str]) -> tuple[str, str]:
     """Gives the statement that was accepted, and the commit that has it; nothing where git has
     none."""
     crate, name, clause = key
@@ -252,12 +260,12 @@ def before(key, accepted):
     return "", ""
 
 
-def shown(text):
+def shown(text: str) -> str:
     """Gives a text moved in, empty lines left out."""
     return "\n".join(f"    {line}" for line in text.split("\n") if line.strip())
 
 
-def show(key, claim, accepted):
+def show(key: tuple[str, str, str], claim: Claim, accepted: tuple[str, str] | None) -> None:
     """Prints the sentence and the statement of a claim, and the statement before where it
     changed."""
     print(f"{' '.join(key)}, {claim.page}:\n{shown(claim.sentence)}\n  stands for:\n"
@@ -268,13 +276,13 @@ def show(key, claim, accepted):
         print(f"  {said}")
 
 
-def meant(word, keys):
+def meant(word: str, keys: list[tuple[str, str, str]]) -> list[tuple[str, str]]:
     """Lists the functions that a word names, with their crates."""
     return sorted({key[:2] for key in keys
                    if word in (key[1], f"{key[0]}::{key[1]}", key[1].split("::")[-1])})
 
 
-def accept(words):
+def accept(words: list[str]) -> int:
     """Shows the claims of functions and accepts them; gives 0, 1 where one has no sentence, and 2
     where a word names no function or two."""
     stands, accepted = claims(), ledger()

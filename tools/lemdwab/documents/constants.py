@@ -1,5 +1,7 @@
 """Reads the limits of a machine and the constants of its map, as numbers."""
 
+from __future__ import annotations
+
 import re
 from functools import cache
 
@@ -10,7 +12,7 @@ CONSTANT = re.compile(r"pub const (\w+): \w+ = ([^;]+);")
 
 
 @cache
-def expressions():
+def expressions() -> dict[str, str]:
     """Gives each constant's expression, in Python's notation."""
     found = {}
     for name in FILES:
@@ -22,19 +24,19 @@ def expressions():
 
 
 @cache
-def value(name):
+def value(name: str) -> int:
     """Computes a constant: sums, products and shifts of numbers and of other constants."""
     right = expressions()[name]
     names = {word: value(word) for word in re.findall(r"\b[A-Z]\w+", right)}
     return eval(right, {"__builtins__": {}}, names)
 
 
-def limit(name):
+def limit(name: str) -> str:
     """Gives a limit of a machine, in digits."""
     return str(value(name))
 
 
-def shown(formula):
+def shown(formula: str) -> str:
     """Gives a formula over constants with their numbers: one of constants alone as its value."""
     names = re.findall(r"\b[A-Z]\w+", formula)
     if all(word in ("+", *names) for word in formula.split()):

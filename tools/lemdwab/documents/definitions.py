@@ -1,6 +1,10 @@
 """Makes docs/DEFINITIONS.md of the definitions, in the order of definitions.order."""
 
+from __future__ import annotations
+
 import re
+from collections.abc import Iterator
+from typing import Any
 
 from lemdwab.documents.antt import all_modules, imports, module_path, read_item, read_module
 from lemdwab.documents.markdown import anchor
@@ -13,17 +17,17 @@ FULL, TABLE, ITEM, PASSED = "@ ", "@table ", "@item ", "@passed "
 CONTENTS = "@contents"
 
 
-def order_lines():
+def order_lines() -> list[str]:
     """Gives the lines of the reading order."""
     return ORDER.read_text(encoding="utf-8").rstrip("\n").split("\n")
 
 
-def placed(kind):
+def placed(kind: str) -> list[tuple[str, ...]]:
     """Lists what stands in the order with this mark, each split into its words."""
     return [tuple(line[len(kind) :].split()) for line in order_lines() if line.startswith(kind)]
 
 
-def prose(comment):
+def prose(comment: list[str]) -> list[str]:
     """Gives a comment as lines of a document, a heading within a module as a bold line."""
     lines = []
     for line in comment:
@@ -32,12 +36,12 @@ def prose(comment):
     return lines
 
 
-def fenced(lang, lines):
+def fenced(lang: str, lines: list[str]) -> list[str]:
     """Gives lines as a block of code."""
     return [f"```{lang}", *lines, "```"]
 
 
-def whole_module(crate, module):
+def whole_module(crate: str, module: str) -> list[str]:
     """Gives a module with all its text, and nothing where it is not there."""
     if not module_path(crate, module).exists():
         return []
@@ -52,7 +56,7 @@ def whole_module(crate, module):
     return out
 
 
-def cell(comment):
+def cell(comment: list[str]) -> str:
     """Gives a comment as one cell of a table."""
     lines = [line[2:].strip() for line in comment if not line.startswith("-- ----")]
     if not lines:
@@ -60,7 +64,7 @@ def cell(comment):
     return " ".join(lines).replace("|", "\\|")
 
 
-def module_table(crate, module):
+def module_table(crate: str, module: str) -> list[str]:
     """Gives a module as a table of its words and what their comments say, likewise."""
     if not module_path(crate, module).exists():
         return []
@@ -74,7 +78,7 @@ def module_table(crate, module):
     return [*out, ""]
 
 
-def items(crate, file, *names):
+def items(crate: str, file: str, *names: str) -> list[str]:
     """Gives enums, structs and constants of a source file with their text."""
     path = f"../crates/{crate}/{file}"
     shown = ", ".join(f"`{name}`" for name in names)
@@ -85,7 +89,7 @@ def items(crate, file, *names):
     return [*out, *fenced("rust", text[:-1]), ""]
 
 
-def contents():
+def contents() -> list[str]:
     """Gives the chapters of the document with the modules of each."""
     out = ["## Contents", ""]
     lines = order_lines()
@@ -101,7 +105,7 @@ def contents():
     return [*out, ""]
 
 
-def rendered():
+def rendered() -> str:
     """Gives the whole document."""
     made = (
         "<!-- Made by `suite/documents make` of the definitions, in the order of"
@@ -123,7 +127,7 @@ def rendered():
     return re.sub(r"\n{3,}", "\n\n", text)
 
 
-def unplaced():
+def unplaced() -> Iterator[Any]:
     """Says which modules stand nowhere in the order, and which part I names without showing."""
     full, table = placed(FULL), placed(TABLE)
     for crate, module in all_modules():
@@ -141,7 +145,9 @@ def unplaced():
             yield from missing(crate, module, named, full, shown, passed)
 
 
-def missing(crate, module, named, full, shown, passed):
+def missing(crate: str, module: str, named: tuple[str, str, str, list[str]],
+            full: list[tuple[str, str]], shown: set[tuple[str, str, str]],
+            passed: set[tuple[str, str, str, str]]) -> Iterator[Any]:
     """Says what one import of a module of part I names that part I does not show."""
     of, place, last, names = named
     if place.startswith("src/"):
@@ -153,7 +159,7 @@ def missing(crate, module, named, full, shown, passed):
         yield f"part I shows {crate} {module}, which names {of} {place}, and not that"
 
 
-def drifts():
+def drifts() -> Iterator[Any]:
     """Says where docs/DEFINITIONS.md and the definitions differ."""
     yield from unplaced()
     wanted = rendered().split("\n")
@@ -161,10 +167,10 @@ def drifts():
     if wanted != stands:
         at = next((i for i, (a, b) in enumerate(zip(wanted, stands)) if a != b), len(stands))
         near = next((w[4:] for w in reversed(wanted[: at + 1]) if w.startswith("### ")), "its head")
-        yield (f"docs/DEFINITIONS.md drifts from the definitions, first at line {at + 1}, in {near}:"
-               " suite/documents make writes it anew")
+        yield (f"docs/DEFINITIONS.md drifts from the definitions, first at line {at + 1}, in"
+               f" {near}: suite/documents make writes it anew")
 
 
-def make():
+def make() -> None:
     """Writes the document."""
     TARGET.write_text(rendered(), encoding="utf-8")

@@ -5,6 +5,8 @@
     documents.py claims FUNCTION..
 """
 
+from __future__ import annotations
+
 import sys
 import traceback
 
@@ -12,7 +14,7 @@ from lemdwab.documents import (believed, checks, claims, definitions, header, pi
                                statements, strength)
 
 
-def looked():
+def looked() -> int:
     """Does what the words ask for; gives the status."""
     if sys.argv[1] == "make":
         for maker in (definitions, pictures, strength, statements):
@@ -29,7 +31,7 @@ def looked():
     return 1 if found else 0
 
 
-def main():
+def main() -> int:
     """Ends with what `looked` gives; with 2 where it fails."""
     try:
         return looked()

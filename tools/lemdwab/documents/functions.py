@@ -1,6 +1,9 @@
 """Reads the functions of src/ with their contracts, and which of them other crates can call."""
 
+from __future__ import annotations
+
 import re
+from collections.abc import Sequence
 from functools import cache
 from typing import NamedTuple
 
@@ -32,20 +35,20 @@ class Function(NamedTuple):
     line: int
     owner: str
     name: str
-    comment: tuple
-    text: tuple
+    comment: tuple[str, ...]
+    text: tuple[str, ...]
     is_law: bool
     is_public: bool
 
-    def called(self):
+    def called(self) -> str:
         """Names it within its crate."""
         return f"{self.owner}::{self.name}" if self.owner else self.name
 
-    def module(self):
+    def module(self) -> str:
         """Gives the module of the crate that it stands in; nothing for the root."""
         return module_of(self.file)
 
-    def clauses(self):
+    def clauses(self) -> list[Clause]:
         """Lists the clauses of its contract."""
         text = "\n".join(self.text)
         found = []
@@ -57,7 +60,7 @@ class Function(NamedTuple):
         return found
 
 
-def closing(text, at):
+def closing(text: str, at: int) -> int:
     """Gives the place of the brace that closes the one at a place."""
     depth = 0
     for place in range(at, len(text)):
@@ -67,26 +70,26 @@ def closing(text, at):
     raise SystemExit(f"a brace is not closed: {text[at:at + 60]}")
 
 
-def module_of(file):
+def module_of(file: str) -> str:
     """Gives the module of a source file, as rows::files; nothing for the root of its crate."""
     inner = file.removeprefix("src/").removesuffix(".rt").removesuffix("/mod")
     return "" if inner in ("lib", "main") else inner.replace("/", "::")
 
 
-def source_files(crate):
+def source_files(crate: str) -> list[str]:
     """Lists the source files of a crate, as src/file.rt."""
     folder = TOP / "crates" / crate
     return [str(path.relative_to(folder)) for path in sorted((folder / "src").glob("**/*.rt"))]
 
 
 @cache
-def source_lines(crate, file):
+def source_lines(crate: str, file: str) -> list[str]:
     """Gives the lines of a source file."""
     return (TOP / "crates" / crate / file).read_text(encoding="utf-8").split("\n")
 
 
 @cache
-def exported(crate):
+def exported(crate: str) -> tuple[set[str], set[str]]:
     """Gives what the root of a crate lets others see: names, and its public modules."""
     root = next((f for f in source_files(crate) if f in ("src/lib.rt", "src/main.rt")), None)
     text = "\n".join(source_lines(crate, root)) if root else ""
@@ -96,14 +99,14 @@ def exported(crate):
     return names, set(re.findall(r"(?m)^pub mod (\w+);", text))
 
 
-def is_seen(crate, file, name):
+def is_seen(crate: str, file: str, name: str) -> bool:
     """Says whether other crates see an item of a file."""
     names, modules = exported(crate)
     module = module_of(file)
     return name in names or not module or module.split("::")[0] in modules
 
 
-def head_end(lines, at):
+def head_end(lines: list[str], at: int) -> int:
     """Gives the line after the last one of a function's words and contract: where its body begins,
     or, of a function of a trait, after its end."""
     indent = " " * (len(lines[at]) - len(lines[at].lstrip()))
@@ -120,7 +123,7 @@ def head_end(lines, at):
     raise SystemExit(f"no end of {lines[at]}")
 
 
-def comment_above(lines, at):
+def comment_above(lines: list[str], at: int) -> list[str]:
     """Gives the comment above an item, without its marks."""
     first = at
     while first and lines[first - 1].lstrip().startswith(("///", "#[")):
@@ -129,12 +132,12 @@ def comment_above(lines, at):
     return [line[3:].removeprefix(" ") for line in above if line.startswith("///")]
 
 
-def functions(crate, file):
+def functions(crate: str, file: str) -> list[Function]:
     """Lists the functions of a source file that others see or that are part of a trait."""
     return functions_in(crate, file, source_lines(crate, file))
 
 
-def functions_in(crate, file, lines):
+def functions_in(crate: str, file: str, lines: list[str]) -> list[Function]:
     """Lists those of a source file with these lines."""
     laws = set(LAW.findall("\n".join(lines)))
     found, owner, is_trait = [], "", False
@@ -157,7 +160,7 @@ def functions_in(crate, file, lines):
     return found
 
 
-def dedented(lines):
+def dedented(lines: Sequence[str]) -> list[str]:
     """Gives lines without what all of them are moved in by."""
     least = min((len(line) - len(line.lstrip()) for line in lines if line.strip()), default=0)
     return [line[least:] for line in lines]

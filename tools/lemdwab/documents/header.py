@@ -1,7 +1,10 @@
 """Sees that include/aia.h declares what the crate of the library exports: the same calls, with the
 same parameters in the same order, and the same numbers of codes, instructions and CSRs."""
 
+from __future__ import annotations
+
 import re
+from collections.abc import Iterator
 
 from lemdwab.documents.antt import clauses
 from lemdwab.documents.functions import source_files, source_lines
@@ -22,14 +25,14 @@ LEVELS = {"MachineCsr": "M", "HostCsr": "S"}
 OPS = {"Read": "CSRR", "Write": "CSRRW", "Set": "CSRRS", "Clear": "CSRRC"}
 
 
-def read():
+def read() -> str:
     """Gives the text of the header."""
     return (TOP / HEADER).read_text(encoding="utf-8")
 
 
 # ---- calls
 
-def in_c(name, of):
+def in_c(name: str, of: str) -> list[str]:
     """Gives what a parameter of an export is in C: a slice is two, an allocator none."""
     if of == "Global":
         return []
@@ -45,7 +48,7 @@ def in_c(name, of):
     return found + [f"size_t {'room' if 'mut' in pointer else 'length'}"] * bool(is_slice)
 
 
-def exports():
+def exports() -> dict[str, str]:
     """Gives what each exported call is in C, by its name."""
     found = {}
     for file in source_files(CRATE):
@@ -56,7 +59,7 @@ def exports():
     return found
 
 
-def without_mark():
+def without_mark() -> Iterator[None]:
     """Says which function of C is not exported by its name."""
     for file in source_files(CRATE):
         text = "\n".join(source_lines(CRATE, file))
@@ -66,7 +69,7 @@ def without_mark():
                 yield f"{name} of {CRATE} is a function of C that is not exported by its name"
 
 
-def declared():
+def declared() -> dict[str, str]:
     """Gives each declaration of the header, by its name."""
     text = re.sub(r"(?s)/\*.*?\*/", "", read())
     return {name: f"{gives} {name}({' '.join(words.split())})"
@@ -75,12 +78,12 @@ def declared():
 
 # ---- numbers
 
-def upper(name):
+def upper(name: str) -> str:
     """Gives a name of an enum as the header writes it: NO_FILE of NoFile."""
     return re.sub(r"(?<=.)(?=[A-Z])", "_", name).upper()
 
 
-def codes():
+def codes() -> dict[str, int]:
     """Gives the number of each code, by its name in the header."""
     found = {}
     for name in ("number", "refusal_number"):
@@ -90,7 +93,7 @@ def codes():
     return found
 
 
-def answers():
+def answers() -> dict[str, str]:
     """Gives the word of the answer of each code that has one, by its name in the header."""
     words = {upper(pattern.split(".")[-1]): word[1]
              for name, module in (("answer_word", "Answer"), ("refusal_word", "AnswerText"))
@@ -99,20 +102,20 @@ def answers():
     return {name: words.get(name, "none") for name, number in codes().items() if number >= 16}
 
 
-def numbered(name):
+def numbered(name: str) -> list[tuple[int, list[str]]]:
     """Gives what a definition of `Access` gives for numbers, as (number, words)."""
     right = clauses(CRATE, "Access", name)[0][1]
     found = re.findall(r"nat_eq \w+ (\d+) then Some (\([^)]*\)|[\w.]+)", right)
     return [(int(number), re.findall(r"\w+", gives)) for number, gives in found]
 
 
-def instructions():
+def instructions() -> dict[str, int]:
     """Gives the number of each instruction, by its name in the header."""
     return {OPS[next(word for word in gives if word in OPS)]: number
             for number, gives in numbered("op_of")}
 
 
-def addresses():
+def addresses() -> dict[str, int]:
     """Gives the address of each CSR of a hart or of a virtual hart, by its name in the header."""
     found = {}
     for number, gives in numbered("hart_line"):
@@ -122,7 +125,7 @@ def addresses():
     return found
 
 
-def constants():
+def constants() -> dict[str, int]:
     """Gives the two constants that the header defines, by their names in it."""
     places = {"ANSWER": ("aia_model", "src/limits.rt", "ANSWER_BYTES"),
               "VERSION": (CRATE, "src/version.rt", "VERSION")}
@@ -131,19 +134,19 @@ def constants():
                       .replace("_", "")) for name in places}
 
 
-def listed(name):
+def listed(name: str) -> dict[str, int]:
     """Gives the names and numbers of an enum of the header."""
     inner = re.search(rf"enum {name} \{{([^}}]*)\}}", read())
     return {word: int(number, 0)
             for word, number in re.findall(r"AIA_(\w+) = (\w+)", inner[1] if inner else "")}
 
 
-def defined():
+def defined() -> dict[str, int]:
     """Gives the names and numbers of constants of the header."""
     return {name: int(number) for name, number in re.findall(r"#define AIA_(\w+) (\d+)", read())}
 
 
-def said():
+def said() -> dict[str, str]:
     """Gives the word of the answer that the header says of each code that has one."""
     found = re.findall(r"AIA_(\w+) = (\d+),?\s*/\* (\w+)", read())
     return {name: word for name, number, word in found if int(number) >= 16}
@@ -151,7 +154,7 @@ def said():
 
 # ---- both
 
-def differ(what, stands, wanted):
+def differ(what: str, stands: dict[str, int | str], wanted: dict[str, int | str]) -> Iterator[str]:
     """Says where the header has something else than the crate."""
     for name in sorted(set(stands) | set(wanted)):
         if name not in wanted:
@@ -162,7 +165,7 @@ def differ(what, stands, wanted):
             yield f"{HEADER} has {what} {name} as {stands[name]}, and {CRATE} as {wanted[name]}"
 
 
-def drifts():
+def drifts() -> Iterator[str]:
     """Says where the header does not fit the crate, and its version not the repository's."""
     yield from without_mark()
     yield from differ("the call", declared(), exports())

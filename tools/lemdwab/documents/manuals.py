@@ -6,6 +6,8 @@ TIME is the day of the page, in seconds since 1970. A page begins with its launc
 on with a document: nothing is written for the page alone. Prints it, in the macros of `man`.
 """
 
+from __future__ import annotations
+
 import re
 import subprocess
 import sys
@@ -32,7 +34,7 @@ SOURCES = {"aia": Source(1, "aia", "docs/REFERENCE.md"),
            "libaia": Source(3, "library", "docs/LIBRARY.md")}
 
 
-def help_of(launcher):
+def help_of(launcher: str) -> tuple[str, list[list[str]], str]:
     """Gives a launcher's help: what it is in one line, its forms with what each does, and the
     paragraphs below them."""
     said = subprocess.run([str(TOP / launcher), "--help"], capture_output=True, text=True,
@@ -49,7 +51,7 @@ def help_of(launcher):
     return first.partition(": ")[2], forms, below
 
 
-def pieces(text):
+def pieces(text: str) -> list[tuple[str, list[str]]]:
     """Gives the comments of a header, each with the declarations that stand below it."""
     found, lines = [], text.split("\n")
     while lines:
@@ -66,20 +68,20 @@ def pieces(text):
     return found
 
 
-def taken_to_end(line, lines):
+def taken_to_end(line: str, lines: list[str]) -> list[str]:
     """Takes the rest of a declaration off the front of lines."""
     if line.endswith(";"):
         return []
     return [*taken(lines, lambda each: not re.match(r".*\);$|\};$", each)), lines.pop(0)]
 
 
-def uncommented(lines):
+def uncommented(lines: list[str]) -> str:
     """Gives the text of a comment of C, as a document has it."""
     text = "\n".join(lines).removeprefix("/*").removesuffix("*/")
     return re.sub(r"(?m)^ \*(?: |$)", "", text).strip()
 
 
-def put_constants(page, said):
+def put_constants(page: Page, said: str) -> None:
     """Puts the constants of an enumeration, each with its comment; all of it as it stands where
     they have none."""
     rows = re.findall(r"(\w+ = \d+),?\s*/\* (.*?) \*/", said)
@@ -89,7 +91,7 @@ def put_constants(page, said):
         page.tagged(f"`{constant}`", means)
 
 
-def put_calls(page, found):
+def put_calls(page: Page, found: list[tuple[str, list[str]]]) -> None:
     """Puts the calls of the library, with what the header says of each."""
     page.section("Calls")
     for said, declared in found:
@@ -104,7 +106,7 @@ def put_calls(page, found):
                 page.tagged(f"`{' '.join(each.split())}`", said)
 
 
-def put_library(page, what):
+def put_library(page: Page, what: str) -> None:
     """Puts the page of the library: its calls, and its document."""
     head, *rest = pieces(read(HEADER))
     calls = re.findall(r"(?m)^\w[\w ]*[ *](aia_\w+)\(", read(HEADER))
@@ -117,7 +119,7 @@ def put_library(page, what):
     put_calls(page, rest)
 
 
-def put_program(page, name, what, forms, below):
+def put_program(page: Page, name: str, what: str, forms: list[list[str]], below: str) -> None:
     """Puts the page of a program, by its launcher's help."""
     page.section("Name")
     page.lines.append(f"{name} \\- {what}")
@@ -130,7 +132,7 @@ def put_program(page, name, what, forms, below):
     page.document(below)
 
 
-def main():
+def main() -> None:
     name, version, seconds = sys.argv[1:]
     source = SOURCES[name]
     day = time.strftime("%Y-%m-%d", time.gmtime(int(seconds)))

@@ -1,9 +1,12 @@
 """Says where each name in a definition or a contract is defined, and which names each definition
 has: of modules of specs/, by their `use` lines, and of items of src/."""
 
+from __future__ import annotations
+
 import re
+from collections.abc import Iterator
 from functools import cache
-from typing import NamedTuple
+from typing import Any, NamedTuple
 
 from lemdwab.documents.antt import all_modules, read_item, read_module
 from lemdwab.documents.functions import dedented, source_files, source_lines
@@ -43,31 +46,31 @@ class Definition(NamedTuple):
     module: str
     name: str
     place: str
-    comment: list
-    lines: list
-    members: tuple
+    comment: list[str]
+    lines: list[str]
+    members: tuple[str, ...]
     is_item: bool
 
 
-def spec_page(crate, module):
+def spec_page(crate: str, module: str) -> str:
     """Gives the page of a module of definitions."""
     return f"definitions/{crate}/{module}.html"
 
 
-def code_page(crate):
+def code_page(crate: str) -> str:
     """Gives the page of the items of a crate."""
     return f"code/{crate}.html"
 
 
 @cache
-def crates():
+def crates() -> list[str]:
     """Lists the crates of the repository."""
     return sorted(path.name for path in (TOP / "crates").iterdir() if (path / "src").is_dir())
 
 
 # ---- what is defined
 
-def members_of(lines):
+def members_of(lines: list[str]) -> tuple[str, ...]:
     """Lists the parts of a record, or the forms of a type."""
     found = []
     for line in lines:
@@ -77,7 +80,7 @@ def members_of(lines):
 
 
 @cache
-def defined(crate, module):
+def defined(crate: str, module: str) -> list[Definition]:
     """Lists the definitions of a module, in order."""
     found = []
     for group in read_module(crate, module)[1]:
@@ -94,7 +97,7 @@ def defined(crate, module):
 
 
 @cache
-def items(crate):
+def items(crate: str) -> list[Definition]:
     """Lists the enums, structs, constants and traits of a crate that others see, or that
     definitions name."""
     return [item(crate, file, head[2]) for file in source_files(crate)
@@ -102,7 +105,7 @@ def items(crate):
             if head and (head[1] or (crate, head[2]) in named_in_specs())]
 
 
-def item(crate, file, name):
+def item(crate: str, file: str, name: str) -> Definition:
     """Gives an item of a source file."""
     text = read_item(crate, file, name)
     body = [one for one in text if not one.startswith("///")]
@@ -115,9 +118,9 @@ def item(crate, file, name):
 
 
 @cache
-def named_in_specs():
+def named_in_specs() -> set[tuple[str, str]]:
     """Gives the items that `use` lines of definitions name, each with its crate."""
-    found = set()
+    found: set[tuple[str, str]] = set()
     for crate, module in all_modules():
         for of, path in USE.findall("\n".join(read_module(crate, module)[2])):
             if path.startswith(("specs.declared.", "specs.contracts.")):
@@ -125,7 +128,7 @@ def named_in_specs():
     return found
 
 
-def shown_as(crate, file, name):
+def shown_as(crate: str, file: str, name: str) -> list[str]:
     """Gives what a contract sees of a struct: its `impl Model`, if it has one."""
     lines = source_lines(crate, file)
     head = re.compile(rf"impl(?:<[^>]*>)? Model for {name}\b")
@@ -138,7 +141,7 @@ def shown_as(crate, file, name):
 
 
 @cache
-def all_definitions():
+def all_definitions() -> dict[str, Definition]:
     """Gives every definition and item by its key."""
     found = [one for crate, module in all_modules() for one in defined(crate, module)]
     found += [one for crate in crates() for one in items(crate)]
@@ -146,25 +149,25 @@ def all_definitions():
 
 
 @cache
-def by_name(crate):
+def by_name(crate: str) -> dict[str, Definition]:
     """Gives the items of a crate by their names."""
     return {one.name: one for one in items(crate)}
 
 
 # ---- what names mean
 
-def target(one, member=""):
+def target(one: Definition, member: str = "") -> Target:
     """Gives the target of a definition, or of a part of it."""
     return Target(one.key, f"{one.place}.{member}" if member else one.place)
 
 
-def inside(one):
+def inside(one: Definition) -> dict[str, Target]:
     """Gives what may stand behind a type's name and a dot: its forms or parts."""
     return {member: target(one, member) for member in one.members}
 
 
 @cache
-def in_module(crate, module):
+def in_module(crate: str, module: str) -> dict[str, Target]:
     """Gives all that a module defines, forms and parts too."""
     found = {one.name: one for one in defined(crate, module)}
     forms = {form: target(one, form) for one in found.values()
@@ -172,7 +175,7 @@ def in_module(crate, module):
     return forms | {name: target(one) for name, one in found.items()}
 
 
-def item_of(crate, file, name):
+def item_of(crate: str, file: str, name: str) -> Definition:
     """Gives an item of a source file, by the file that a `use` line names."""
     key = f"{crate} src/{file}.rt {name}"
     definitions = all_definitions()
@@ -181,7 +184,7 @@ def item_of(crate, file, name):
     return by_name(crate).get(name)
 
 
-def space(crate, path):
+def space(crate: str, path: list[str]) -> dict[str, Target] | None:
     """Gives what a path below a crate offers: each of its names with its target."""
     if crate not in crates() or path[0] != "specs":
         return None
@@ -201,7 +204,7 @@ def space(crate, path):
     return inside(one) if rest[-1] == "TheVariants" else {one.name: target(one), "": target(one)}
 
 
-def library(crate):
+def library(crate: str) -> str:
     """Names what a leaf comes from."""
     return "std" if crate in ("std", "core") else crate
 
@@ -209,10 +212,12 @@ def library(crate):
 class Meaning:
     """What the names of a file mean: plain ones, and those behind another one and a dot."""
 
-    def __init__(self):
-        self.names, self.spaces, self.imported = {}, {}, []
+    def __init__(self) -> None:
+        self.names: dict[str, Target] = {}
+        self.spaces: dict[str, tuple[dict[str, Target] | None, str]] = {}
+        self.imported: list[tuple[str, str]] = []
 
-    def take(self, crate, text):
+    def take(self, crate: str, text: str) -> None:
         """Takes a `use` line, without its beginning."""
         path, _, braced = text.partition(".{")
         path, _, alias = path.partition(" as ")
@@ -231,7 +236,7 @@ class Meaning:
             self.names[other or name] = leads
             self.imported.append((other or name, name))
 
-    def take_rust(self, crate, text):
+    def take_rust(self, crate: str, text: str) -> None:
         """Takes what a `use` item of Rust names of the repository's crates."""
         of = re.match(r"(\w+)::", text)
         crate = crate if of and of[1] == "crate" else of and of[1]
@@ -242,7 +247,7 @@ class Meaning:
             if one:
                 self.names.setdefault(name, target(one))
 
-    def of(self, name):
+    def of(self, name: str) -> tuple[Target | None, int]:
         """Gives the target of a name, and how much of it that target is of."""
         first, *rest = re.split(r"\.|::", name)
         if first in self.spaces and rest:
@@ -256,13 +261,13 @@ class Meaning:
             return target(one, rest[0]), len(first) + dots + len(rest[0])
         return leads, len(first)
 
-    def of_sign(self, sign):
+    def of_sign(self, sign: str) -> Target | None:
         """Gives the target of an operator, or of a part of one."""
         return self.names.get(f"◌{sign}◌") or self.names.get(sign)
 
 
 @cache
-def offered_by(crate, name):
+def offered_by(crate: str, name: str) -> Definition | None:
     """Gives the item that a crate offers under a name: its own, or one of another crate that it
     hands on; None where there is none."""
     if name in by_name(crate):
@@ -276,14 +281,14 @@ def offered_by(crate, name):
 
 
 @cache
-def elsewhere(name):
+def elsewhere(name: str) -> str | None:
     """Gives the one item of that name in all crates; None where there are more, or none."""
     found = [one for crate in crates() for one in items(crate) if one.name == name]
     return found[0] if len(found) == 1 else None
 
 
 @cache
-def meaning_of_module(crate, module):
+def meaning_of_module(crate: str, module: str) -> Meaning:
     """Gives what the names of a module mean."""
     meaning = Meaning()
     for use in read_module(crate, module)[2]:
@@ -295,7 +300,7 @@ def meaning_of_module(crate, module):
 
 
 @cache
-def meaning_of_file(crate, file):
+def meaning_of_file(crate: str, file: str) -> Meaning:
     """Gives what the names of a source file mean."""
     text = "\n".join(source_lines(crate, file))
     meaning = Meaning()
@@ -310,7 +315,7 @@ def meaning_of_file(crate, file):
     return meaning
 
 
-def with_generics(meaning, text):
+def with_generics(meaning: Meaning, text: str) -> Meaning:
     """Gives what names mean where `S: Source` makes S a name for what that trait has."""
     found = Meaning()
     found.names, found.spaces = meaning.names, dict(meaning.spaces)
@@ -324,7 +329,7 @@ def with_generics(meaning, text):
 
 # ---- names in a text
 
-def bound(block):
+def bound(block: str) -> dict[str, int]:
     """Gives the names that a block of code binds itself, each with the place from which on."""
     code = re.sub(r"--[^\n]*|//[^\n]*", "", block)
     found = set()
@@ -346,17 +351,17 @@ def bound(block):
     return places
 
 
-def labels(block):
+def labels(block: str) -> set[int]:
     """Gives the places of a block where the name of a part stands, as in `record { n = 63 }`."""
     return {match.start(1) for match in re.finditer(r"[{;]\s*([\w']+)\s*=(?![=>])", block)}
 
 
-def is_bracket(block, match):
+def is_bracket(block: str, match: re.Match[str]) -> bool:
     """Says whether a sign is a bracket of a type of Rust, as in `Vec<u8>`, and no operator."""
     return set(match["sign"]) <= set("<>&") and block[match.start() - 1 : match.start()] != " "
 
 
-def named(block, meaning):
+def named(block: str, meaning: Meaning) -> Iterator[tuple[int, int, Target]]:
     """Lists what names in a block of code lead to: each with its place, its length and its
     target."""
     hidden, parts = bound(block), labels(block)
@@ -377,7 +382,7 @@ def named(block, meaning):
                 yield match.start(), len(match["sign"]), leads
 
 
-def blocks(lines):
+def blocks(lines: list[str]) -> list[str]:
     """Cuts lines into blocks: a line that is not moved in, and those that go on from it."""
     found = []
     for line in lines:
@@ -388,12 +393,12 @@ def blocks(lines):
     return ["\n".join(block) for block in found]
 
 
-def item_blocks(lines):
+def item_blocks(lines: list[str]) -> list[str]:
     """Gives an item as one block."""
     return ["\n".join(dedented(lines))]
 
 
-def meaning_of(one):
+def meaning_of(one: Definition) -> Meaning:
     """Gives what names mean where a definition stands."""
     if one.is_item:
         return meaning_of_file(one.crate, one.module)
@@ -401,14 +406,14 @@ def meaning_of(one):
 
 
 @cache
-def rests_on(key):
+def rests_on(key: str) -> tuple[str, ...]:
     """Lists what a definition names: other definitions and, last, names of libraries."""
     one = all_definitions()[key]
     cut = item_blocks(one.lines) if one.is_item else blocks(one.lines)
     return keys_of((leads for block in cut for _, _, leads in named(block, meaning_of(one))), key)
 
 
-def keys_of(targets, own=""):
+def keys_of(targets: Iterator[Any] | list[Target], own: str = "") -> tuple[str, ...]:
     """Gives the keys of targets, each once: those of definitions and, last, those of libraries."""
     found = list(dict.fromkeys(leads.key for leads in targets if leads.key != own))
     definitions = all_definitions()

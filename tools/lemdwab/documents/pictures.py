@@ -1,13 +1,17 @@
 """Makes docs/pictures of the plans' tables and of the map, both as the definitions have them, and
 of a script."""
 
+from __future__ import annotations
+
 import re
+from collections.abc import Iterator
+from typing import Any
 
 from lemdwab import drawing
 from lemdwab.documents.antt import clauses
 from lemdwab.documents.constants import limit, shown
 from lemdwab.documents.plans import KINDS, Move
-from lemdwab.documents.svg import GUEST, HAND, INK, LINE, MEMORY, OTHER, PALE, Picture, TOLD
+from lemdwab.documents.svg import GUEST, HAND, INK, LINE, MEMORY, OTHER, PALE, TOLD, Picture
 from lemdwab.running import TOP
 
 FOLDER = TOP / "docs/pictures"
@@ -54,7 +58,7 @@ LEFT, TOP_EDGE, CELL, ROW = 212, 170, 49, 27
 WORDS, PASSES = 1, 1
 
 
-def runs(values):
+def runs(values: list[str | None]) -> list[list[int | str | None]]:
     """Gives (value, first, past the last) for each run of the same value."""
     found = []
     for k, value in enumerate(values):
@@ -65,7 +69,7 @@ def runs(values):
     return found
 
 
-def lanes(move):
+def lanes(move: Move) -> list[tuple[str | None, str, list[str]]]:
     """Lists the rows of a move's picture, as (heading or None, name, a value for each state)."""
     old, new = KINDS[move.kind][1:]
     states = [steps for steps, _ in move.states()]
@@ -98,14 +102,14 @@ def lanes(move):
     return found
 
 
-def told(move):
+def told(move: Move) -> list[str | None]:
     """Gives the row of notices: in which states a store to memory sends one, looks and the post."""
     states = [steps for steps, _ in move.states()]
     said = "each store of an enabled identity"
     return [said if move.of_word("is_watched", 0, k) else None for k in states]
 
 
-def bar(picture, row, value, first, past):
+def bar(picture: Picture, row: int, value: str, first: int, past: int) -> None:
     """Draws what stands in a row from one state to another one."""
     words = value
     x, y = LEFT + first * CELL, row
@@ -120,7 +124,7 @@ def bar(picture, row, value, first, past):
         picture.text(middle, y + ROW / 2 + 4, words, size, "#ffffff", "middle")
 
 
-def heads(picture, move, bottom):
+def heads(picture: Picture, move: Move, bottom: int) -> None:
     """Draws the accesses above the states that they divide, and the numbers of steps done."""
     for k, ((access, _), state) in enumerate(zip(move.turns(), move.states())):
         x = LEFT + (k + 1) * CELL
@@ -135,7 +139,7 @@ def heads(picture, move, bottom):
     picture.text(LEFT - 10, TOP_EDGE - 8, "steps done", 11, "#52606d", "end")
 
 
-def notices(picture, move, y):
+def notices(picture: Picture, move: Move, y: int) -> int:
     """Draws the row of notices, with the looks and the post as marks at their steps."""
     picture.text(14, y + ROW / 2 + 4, "When a notice may go", 12, INK, bold=True)
     row = y + ROW
@@ -163,7 +167,7 @@ def notices(picture, move, y):
     return row + ROW
 
 
-def picture_of(kind):
+def picture_of(kind: str) -> str:
     """Gives the picture of a move, as the text of a file."""
     move = Move(kind, WORDS, PASSES)
     rows = lanes(move)
@@ -192,13 +196,14 @@ def picture_of(kind):
     return picture.done()
 
 
-def address(name):
+def address(name: str) -> str:
     """Gives an address of the map, as the definitions have it."""
     right = shown(clauses("aia_regs", "AddressMap", name)[0][1])
     return re.sub(r"\b(hart|q|vm)\b", lambda m: {"hart": "h", "vm": "v"}.get(m[0], m[0]), right)
 
 
-def part(picture, x, y, w, h, title, under, fill=PALE, stroke=LINE, dash=None):
+def part(picture: Picture, x: int, y: int, w: int, h: int, title: str, under: list[str],
+         fill: str = PALE, stroke: str = LINE, dash: str | None = None) -> None:
     """Draws a part of the machine: its name and, under it, where it lies."""
     picture.box(x, y, w, h, fill, stroke, 6, dash)
     picture.text(x + 12, y + 20, title, 13, bold=True)
@@ -206,7 +211,7 @@ def part(picture, x, y, w, h, title, under, fill=PALE, stroke=LINE, dash=None):
         picture.text(x + 12, y + 38 + 16 * k, line, 11.5, "#3e4c59", mono=line.startswith("0x"))
 
 
-def aplic_part(picture):
+def aplic_part(picture: Picture) -> None:
     """Draws the wires and the APLIC."""
     picture.box(24, 92, 226, 208, "#ffffff", INK, 8)
     picture.text(36, 114, "APLIC", 14, bold=True)
@@ -219,7 +224,7 @@ def aplic_part(picture):
     picture.line([(136, 70), (136, 90)], INK, 1.4, None, True)
 
 
-def hart_part(picture):
+def hart_part(picture: Picture) -> None:
     """Draws the interrupt files of a hart."""
     picture.box(330, 92, 268, 256, "#ffffff", INK, 8)
     picture.text(342, 114, "hart h", 14, bold=True)
@@ -239,7 +244,7 @@ def hart_part(picture):
     picture.text(290, 282, "of passes", 11.5, GUEST, "middle")
 
 
-def memory_part(picture):
+def memory_part(picture: Picture) -> None:
     """Draws memory: the slots of parked virtual harts, and the MSI page tables."""
     picture.box(690, 92, 262, 256, "#ffffff", INK, 8)
     picture.text(702, 114, "memory", 14, bold=True)
@@ -254,7 +259,7 @@ def memory_part(picture):
     picture.text(650, 232, "notices", 12, TOLD, "middle", True)
 
 
-def guests_part(picture):
+def guests_part(picture: Picture) -> None:
     """Draws a VM with its devices, and the routes of their stores."""
     picture.box(330, 452, 622, 84, "#ffffff", INK, 8)
     picture.text(342, 474, "VM v", 14, bold=True)
@@ -276,7 +281,7 @@ def guests_part(picture):
     picture.line([(830, 388), (830, 334)], MEMORY, 1.8, None, True)
 
 
-def host_part(picture):
+def host_part(picture: Picture) -> None:
     """Draws the host, whose lines reach the APLIC and the files of its own levels."""
     part(picture, 24, 384, 226, 92, "the host", ["loads, stores, CSR instructions,",
          "and what the hypervisor does:", "VMs, moves, passes, majors"])
@@ -285,7 +290,7 @@ def host_part(picture):
     picture.line([(312, 236), (342, 236)], INK, 1.4, None, True)
 
 
-def machine():
+def machine() -> str:
     """Gives the picture of the machine, as the text of a file."""
     picture = Picture(976, 556, "The machine")
     picture.text(24, 32, "The machine", 17, bold=True)
@@ -297,14 +302,14 @@ def machine():
     return picture.done()
 
 
-def rendered():
+def rendered() -> dict[str, str]:
     """Gives each picture by its file's name."""
     script = drawing.in_svg(*drawing.watched(DRAWN.read_bytes(), FIRST, LAST), DRAWN.name)
     return {"machine.svg": machine(), f"{DRAWN.stem}.svg": script} | {
         f"{kind}.svg": picture_of(kind) for kind in KINDS}
 
 
-def drifts():
+def drifts() -> Iterator[Any]:
     """Says which pictures are not what the definitions make."""
     for name, text in rendered().items():
         path = FOLDER / name
@@ -316,7 +321,7 @@ def drifts():
             yield f"docs/pictures/{path.name} is none that the scripts make"
 
 
-def make():
+def make() -> None:
     """Writes the pictures."""
     FOLDER.mkdir(exist_ok=True)
     for name, text in rendered().items():

@@ -1,8 +1,11 @@
 """Reads the plans of moves out of the definitions of aia_vcpu, and computes what stands where."""
 
+from __future__ import annotations
+
 import re
 from dataclasses import dataclass
 from functools import cache
+from typing import Any
 
 from lemdwab.documents.antt import clauses, has_clauses
 from lemdwab.running import TOP
@@ -27,8 +30,9 @@ STD = {
 }
 
 
-def read_patterns(text):
-    """Reads the patterns of a clause: each a name, or a constructor with its patterns, as a list."""
+def read_patterns(text: str) -> list[list[str] | str]:
+    """Reads the patterns of a clause: each a name, or a constructor with its patterns, as a
+    list."""
     found = [[]]
     for token in re.findall(r"[()]|[^\s()]+", text):
         if token == "(":
@@ -41,7 +45,7 @@ def read_patterns(text):
 
 
 @cache
-def definition(name):
+def definition(name: str) -> list[tuple[list[list[str] | str], str]]:
     """Gives the clauses of a definition of aia_vcpu, each as (patterns, right side)."""
     for module in MODULES:
         if has_clauses("aia_vcpu", module, name):
@@ -50,7 +54,9 @@ def definition(name):
     raise SystemExit(f"the plans name {name}, which lemdwab.documents.plans does not find")
 
 
-def bound(pattern, value):
+def bound(pattern: list[str] | str,
+          value: Any
+         ) -> dict[str, Any] | None:
     """Gives what the names of a pattern stand for, or None where the value is none of it."""
     head, *parts = [pattern] if isinstance(pattern, str) else pattern
     if not head[0].isupper():
@@ -61,7 +67,9 @@ def bound(pattern, value):
     return None if None in found else {key: one for names in found for key, one in names.items()}
 
 
-def computed(name, values):
+def computed(name: str,
+             values: list[int | tuple[dict[str, int] | int | str | tuple[str, ...], ...]]
+            ) -> int | tuple[str, ...]:
     """Computes a definition of aia_vcpu of some values."""
     for patterns, right in definition(name):
         found = [bound(pattern, value) for pattern, value in zip(patterns, values)]
@@ -74,22 +82,24 @@ def computed(name, values):
 class Reader:
     """Computes an expression of the small part of antt in which the plans are written."""
 
-    def __init__(self, text, names):
+    def __init__(self, text: str,
+                 names: dict[str, Any]
+                ) -> None:
         self.tokens = TOKEN.findall(text)
         self.at = 0
         self.names = names
 
-    def peek(self):
+    def peek(self) -> str | None:
         return self.tokens[self.at] if self.at < len(self.tokens) else None
 
-    def take(self, wanted=None):
+    def take(self, wanted: str | None = None) -> str:
         token = self.peek()
         if token is None or (wanted and token != wanted):
             raise SystemExit(f"the plans have {token!r} where {wanted!r} was expected")
         self.at += 1
         return token
 
-    def value(self):
+    def value(self) -> int | tuple[dict[str, int] | int | str | tuple[str, str], ...]:
         """Gives the value of an `if`, or of an expression."""
         if self.peek() == "if":
             self.take()
@@ -106,20 +116,20 @@ class Reader:
             found = (found and other) if operator == "&&" else (found or other)
         return found
 
-    def sum(self):
+    def sum(self) -> int | tuple[dict[str, int] | int | str | tuple[str, ...], ...]:
         found = self.product()
         while self.peek() in ("+", "-"):
             found = found + self.product() if self.take() == "+" else max(0, found - self.product())
         return found
 
-    def product(self):
+    def product(self) -> int | tuple[dict[str, int] | int | str | tuple[str, ...], ...]:
         found = self.applied()
         while self.peek() == "*":
             self.take()
             found *= self.applied()
         return found
 
-    def applied(self):
+    def applied(self) -> int | tuple[dict[str, int] | int | str | tuple[str, ...], ...]:
         """Gives a word applied to what stands behind it: a name, a constructor or a definition."""
         token = self.peek()
         if token == "(" or token.isdigit():
@@ -129,7 +139,8 @@ class Reader:
             values.append(self.atom())
         return self.named(head, values)
 
-    def atom(self):
+    def atom(self
+            ) -> Any:
         token = self.take()
         if token == "(":
             found = self.value()
@@ -137,7 +148,9 @@ class Reader:
             return found
         return int(token) if token.isdigit() else self.named(token, [])
 
-    def named(self, head, values):
+    def named(self, head: str,
+              values: list[Any]
+             ) -> Any:
         """Gives what a name stands for, applied to some values."""
         name, _, part = head.partition(".")
         found = self.names.get(name, STD.get(name))
@@ -160,30 +173,30 @@ class Move:
     words: int
     passes: int = 0
 
-    def home(self, steps=0, aims=0):
+    def home(self, steps: int = 0, aims: int = 0) -> tuple[str, tuple[str, ...], dict[str, int]]:
         """Gives the home of a virtual hart that is moved so, after so many steps and aims."""
         at = {"steps": steps, "aims": aims}
         places = {"leave": ["old"], "arrive": ["new"], "shift": ["old", "new"]}
         return ("OnWay", (KINDS[self.kind][0], *places[self.kind]), at)
 
-    def named_place(self, place):
+    def named_place(self, place: tuple[str, ...]) -> str:
         """Gives `old` or `new` for a guest file or, by None, for the slot."""
         if place == ("None",):
             return "new" if self.kind == "leave" else "old"
         return place[1]
 
-    def place(self, name, steps):
+    def place(self, name: str, steps: int) -> str:
         """Gives the place that a definition of homes names: `old` or `new`."""
         return self.named_place(computed(name, [self.home(steps)]))
 
-    def in_force(self, stepped, steps):
+    def in_force(self, stepped: str, steps: int) -> str:
         """Gives the place that is in force, by the newest fence: `old` or `new`."""
         found = computed("origin", [self.home()])
         for k in range(steps):
             found = computed(stepped, [self.home(k), found])
         return self.named_place(found)
 
-    def states(self):
+    def states(self) -> list[tuple[int, int]]:
         """Lists how many steps and how many aims are done, from the beginning of it to its end."""
         found, steps, aims = [(0, 0)], 0, 0
         while steps < self.length():
@@ -194,23 +207,23 @@ class Move:
             found.append((steps, aims))
         return found
 
-    def turns(self):
+    def turns(self) -> list[tuple[str, int | None]]:
         """Lists its accesses and aims in order, an aim as (`aim`, number of the pass)."""
         made, states = self.accesses(), self.states()
         return [made[k] if k < states[i + 1][0] else ("aim", a)
                 for i, (k, a) in enumerate(states[:-1])]
 
-    def pass_at(self, r, steps, aims):
+    def pass_at(self, r: int, steps: int, aims: int) -> str:
         """Gives the place that the r-th pass reaches: `old` or `new`."""
         return self.named_place(computed("pass_reaches", [r, self.home(steps, aims)]))
 
-    def length(self):
+    def length(self) -> int:
         """Gives how many steps it has, those that aim aside."""
         way = self.home()[1]
         ends = [computed(end, [way]) for end in ("old_end", "new_end")]
         return computed("plan_steps", [*ends, self.words])
 
-    def accesses(self):
+    def accesses(self) -> list[tuple[str, int | None]]:
         """Lists its accesses in order, as (constructor, number of the word or None)."""
         text = (TOP / "crates/aia_vcpu/src/access.rt").read_text(encoding="utf-8")
         found = {}
@@ -222,30 +235,30 @@ class Move:
             raise SystemExit(f"the steps of a {self.kind} are not those of its plan")
         return [found[k] for k in sorted(found)]
 
-    def ask(self, name, access, w=None, steps=0):
+    def ask(self, name: str, access: str, w: int | None = None, steps: int = 0) -> int:
         """Computes a definition of an access of this move."""
         made = (access,) if w is None else (access, w)
         return computed(name, [self.words, self.home(steps), made])
 
-    def has(self, access, w=None):
+    def has(self, access: str, w: int | None = None) -> bool:
         """Says whether its plan has an access."""
         return self.ask("has_access", access, w)
 
-    def step(self, access, w=None):
+    def step(self, access: str, w: int | None = None) -> int:
         """Gives the number of the step that makes an access, counted from 0."""
         return self.ask("step_of", access, w)
 
-    def is_made(self, access, w, steps):
+    def is_made(self, access: str, w: int | None, steps: int) -> bool:
         """Says whether an access is made after so many steps."""
         return self.ask("is_made", access, w, steps)
 
-    def word_at(self, take, w, steps):
+    def word_at(self, take: str, w: int, steps: int) -> str:
         """Gives where a word stands that an access takes: `old`, `hand` or `new`."""
         if not self.is_made(take, w, steps):
             return "old"
         return "hand" if self.ask("is_last_made", take, w, steps) else "new"
 
-    def number_at(self, number, steps):
+    def number_at(self, number: str, steps: int) -> str:
         """Gives where eidelivery or eithreshold stands: `old`, `new` or `hand`, which keeps it."""
         of_words = [] if number == "delivery" else [self.words]
         if computed(f"{number}_in_own", [*of_words, self.home(steps)]):
@@ -256,6 +269,6 @@ class Move:
         is_put = self.has("PutDelivery") and self.is_made("PutDelivery", None, steps)
         return "new" if is_put else "hand"
 
-    def of_word(self, name, w, steps):
+    def of_word(self, name: str, w: int, steps: int) -> bool:
         """Computes a test of word w of this move, as whether it is watched."""
         return computed(name, [self.words, self.home(steps), w])

@@ -7,12 +7,15 @@ proved of what it holds, and what is trusted with it. It is made of the document
 is released; each NAME, of aia, plans and library, was built by the release, or given to it.
 """
 
+from __future__ import annotations
+
 import hashlib
 import os
 import re
 import sys
 import textwrap
 import time
+from collections.abc import Iterator
 from pathlib import Path
 
 from lemdwab.documents.checks import libraries
@@ -23,23 +26,23 @@ BUILT = {"aia": (["lib/lemdwab/aia"], "aia"), "plans": (["lib/lemdwab/plans"], "
          "library": (["lib/libaia.a", "lib/libaia.so.1"], "aia_c")}
 
 
-def told(text, indent=""):
+def told(text: str, indent: str = "") -> str:
     """Gives a text in lines of a hundred columns."""
     return textwrap.fill(" ".join(text.split()), 100, initial_indent=indent,
                          subsequent_indent=indent, break_long_words=False, break_on_hyphens=False)
 
 
-def unlinked(text):
+def unlinked(text: str) -> str:
     """Gives a text of a document without its pictures, and links as what they are called."""
     text = re.sub(r"(?m)^!\[[^\]]*\]\([^)]*\)\n*", "", text)
     return re.sub(r"\[([^\]]*)\]\([^)]*\)", r"\1", text).strip()
 
 
-def order_of(crate, uses):
+def order_of(crate: str, uses: dict[str, list[str]]) -> list[str]:
     """Lists the crates on which one stands, each after those that it uses, and last itself."""
     found = []
 
-    def visit(each):
+    def visit(each: str) -> None:
         if each in uses and each not in found:
             for used in sorted(uses[each]):
                 visit(used)
@@ -49,7 +52,7 @@ def order_of(crate, uses):
     return found
 
 
-def head(version, commit, is_dirty, toolchain):
+def head(version: str, commit: str, is_dirty: bool, toolchain: str) -> Iterator[str]:
     """Says which version of which commit it is, and by which toolchain."""
     day = time.strftime("%Y-%m-%d", time.gmtime(int(os.environ["SOURCE_DATE_EPOCH"])))
     yield f"Lemdwab {version}: what was proved of this release\n"
@@ -61,7 +64,7 @@ def head(version, commit, is_dirty, toolchain):
                            else "no rt was on the path where this was packed; README.md names one")
 
 
-def files(folder, origins):
+def files(folder: Path, origins: dict[str, str]) -> Iterator[str]:
     """Says of each built file which one it is, and how it came here."""
     yield "\nTHE BUILT FILES\n"
     for name, origin in origins.items():
@@ -76,7 +79,7 @@ def files(folder, origins):
                " made libaia.so.1 of these.")
 
 
-def crates(origins):
+def crates(origins: dict[str, str]) -> Iterator[str]:
     """Says which crates are in what is built, and what each promises."""
     uses, said = libraries(), {}
     for row in rows(section("docs/CRATES.md", "The crates")):
@@ -101,7 +104,7 @@ def crates(origins):
         " of whether it was.")
 
 
-def main():
+def main() -> None:
     version, commit, dirty, toolchain, folder, *named = sys.argv[1:]
     origins = dict(each.split("=") for each in named)
     parts = [*head(version, commit, dirty == "1", toolchain), *files(Path(folder), origins),

@@ -3,6 +3,7 @@ hart's delivery control by their offsets and names, those of an interrupt file b
 numbers, the CSRs by their levels and names, and the bits of an entry by its formats."""
 
 import re
+from collections.abc import Iterator
 
 from lemdwab.documents.antt import TOP
 from lemdwab.documents.checks import differ, ticked
@@ -18,52 +19,52 @@ LEVELS = {"m": "Machine", "h": "Host", "g": "Guest"}
 FIELD = re.compile(r"field (w[01]) (\d+) (\d+)|has_bit (w[01]) (\d+)")
 
 
-def source(which):
+def source(which: str) -> str:
     """Gives the text of one of the files that say which registers there are."""
     return (TOP / "crates" / FILES[which]).read_text(encoding="utf-8")
 
 
-def names():
+def names() -> dict[str, str]:
     """Gives the name of each register of a domain, by its variant."""
     text = source("names").partition("pub enum DomainReg {")[2].partition("\n}")[0]
-    found, name = {}, None
+    found: dict[str, str] = {}
+    name = None
     for line in text.splitlines():
         told = re.match(r"\s*/// `(\w+)`", line)
         variant = re.match(r"    (\w+)(?:\(u32\))?,", line)
         if told and name is None:
             name = told[1]
         if variant:
-            found[variant[1]], name = name, None
+            found[variant[1]], name = name or "", None
     return found
 
 
-def place(base, stride, first, last):
+def place(base: str, stride: str, first: str, last: str) -> str:
     """Gives the offset of a row as the document writes it."""
-    if stride is None:
+    if not stride:
         return base
     if stride == "32":
         return f"{base} + 32h"
     return f"{base} + 4{'i, i' if first == '1' else 'k, k'} {first} to {last}"
 
 
-def domain_rows():
+def domain_rows() -> Iterator[str]:
     """Gives each register of a domain's region: its offset and its name."""
     called = names()
     table = source("domain").partition("\ntable =")[2].partition("[]")[0]
     for _, base, stride, first, last, variant in ROW.findall(table):
-        stride = stride or None
         index = {"1": "[i]", "0": "[k]"}.get(first, "") if stride == "4" else ""
         yield f"{place(base, stride, first, last)} {called[variant]}{index}"
 
 
-def table(heading):
+def table(heading: str) -> list[list[str]]:
     """Gives the cells of the document's rows below a heading."""
     return rows(section(DOCUMENT, heading))
 
 
-def domains():
+def domains() -> Iterator[str]:
     """Compares the offsets and names of a domain's registers, and of delivery controls."""
-    stands = []
+    stands: list[str] = []
     for heading in ("An APLIC domain", "A hart's delivery control"):
         for cells in table(heading):
             if cells[0].startswith("0x"):
@@ -71,9 +72,9 @@ def domains():
     yield from differ(f"{DOCUMENT}, of an APLIC domain,", stands, list(domain_rows()))
 
 
-def selects():
+def selects() -> Iterator[str]:
     """Compares the select numbers: what the document says of each, and what each names."""
-    told = {}
+    told: dict[int, str] = {}
     for cells in table("Interrupt files"):
         name = ticked(cells[1])[0] if ticked(cells[1]) else cells[1].partition(" ")[0]
         for number in numbers(cells[0]):
@@ -87,19 +88,19 @@ def selects():
             return
 
 
-def numbers(cell):
+def numbers(cell: str) -> list[int]:
     """Lists the select numbers that a cell names."""
     if cell == "all others":
         return []
     step = 2 if "odd" in cell or ", " in cell else 1
-    found = []
+    found: list[int] = []
     for part in cell.replace(", odd", "").split(", "):
         ends = [int(end, 16) for end in part.split(" to ")]
         found += range(ends[0], ends[-1] + 1, step)
     return found
 
 
-def by_definition(text, number):
+def by_definition(text: str, number: int) -> str:
     """Gives the register that a select number names, by the conditions of the definition."""
     kinds = {"Delivery": "eidelivery", "Threshold": "eithreshold", "Reserved": "reserved",
              "Odd": "none", "Pending": "eip", "Enable": "eie"}
@@ -115,13 +116,14 @@ def by_definition(text, number):
     return "none"
 
 
-def csrs():
+def csrs() -> Iterator[str]:
     """Compares the CSRs that lines of each level name."""
     stands = [f"{ticked(cells[0])[0]} {name}" for cells in table("CSRs")
               for name in ticked(cells[1])
               if ticked(cells[0]) and ticked(cells[0])[0] in LEVELS and name != "hgeip"]
     text = source("csrs").partition("\ncsr_names levels.Machine =")[2].partition("\n\n")[0]
-    wanted, level = [], "m"
+    wanted: list[str] = []
+    level = "m"
     letter = {of: line for line, of in LEVELS.items()}
     for word in re.findall(r'levels\.(\w+)|codes "(\w+)"', text):
         if word[0]:
@@ -131,9 +133,10 @@ def csrs():
     yield from differ(f"{DOCUMENT}, CSRs,", stands, wanted)
 
 
-def entries():
+def entries() -> Iterator[str]:
     """Compares the bits of an entry's two words."""
-    stands, word = set(), ""
+    stands: set[str] = set()
+    word = ""
     for cells in table("An entry of an MSI page table"):
         for part in re.split(r"[;,] | and ", cells[0]):
             named = re.match(r"word ([01])$", part)
@@ -147,7 +150,7 @@ def entries():
     yield from differ(f"{DOCUMENT}, An entry,", stands, wanted)
 
 
-def drifts():
+def drifts() -> Iterator[str]:
     """Lists what the document has otherwise than the definitions."""
     for check in (domains, selects, csrs, entries):
         yield from check()

@@ -13,18 +13,24 @@ are wrong, or a package is missing. Needs Python 3.10 or later, git, and pandoc 
 install pandoc).
 """
 
+from __future__ import annotations
+
 import os
 import sys
 from pathlib import Path
+from typing import TYPE_CHECKING
 
 from lemdwab import running
 from lemdwab.documents import site_definitions, site_documents, site_laws, site_pages, site_scripts
 from lemdwab.running import TOP
 
+if TYPE_CHECKING:
+    from lemdwab.documents.site_pages import Site
+
 HERE = TOP / "docs/make"
 
 
-def checked(word):
+def checked(word: str) -> Path:
     """Gives the folder that a word names, where a site may be written into it."""
     folder = Path(word)
     if not folder.parent.is_dir():
@@ -34,7 +40,7 @@ def checked(word):
     return folder
 
 
-def made():
+def made() -> Site:
     """Gives the site, of which nothing is written yet."""
     site = site_pages.Site()
     for name in site_pages.ASSETS:
@@ -52,7 +58,7 @@ def made():
     return site
 
 
-def main():
+def main() -> int:
     _, rest, _ = running.words("")
     if len(rest) != 1:
         running.usage("one FOLDER is wanted")

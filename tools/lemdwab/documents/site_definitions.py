@@ -1,7 +1,11 @@
 """The pages of the site on definitions: a page a module, a page for the items of each crate, the
 definitions by chapters, and an index of names."""
 
+from __future__ import annotations
+
+from collections.abc import Iterator, Sequence
 from html import escape
+from typing import TYPE_CHECKING
 
 from lemdwab.documents.antt import all_modules, read_module
 from lemdwab.documents.definitions import (CONTENTS, FULL, ITEM as PLACED_ITEM, PASSED, TABLE,
@@ -13,10 +17,15 @@ from lemdwab.documents.naming import (all_definitions, blocks, code_page, crates
 from lemdwab.documents.site_pages import (Prose, first_sentence, link, linked_code, pandoc,
                                           shown_file)
 
+if TYPE_CHECKING:
+    from lemdwab.documents.functions import Function
+    from lemdwab.documents.naming import Definition
+    from lemdwab.documents.site_pages import Site
+
 DEFINITIONS = "docs/DEFINITIONS.html"
 
 
-def comments():
+def comments() -> Iterator[str]:
     """Lists all comments that are prose of pages here."""
     for crate, module in all_modules():
         head, groups, _ = read_module(crate, module)
@@ -28,7 +37,7 @@ def comments():
             yield "\n".join(one.comment)
 
 
-def links(page, keys):
+def links(page: str, keys: list[str]) -> str:
     """Gives keys of definitions and of names of libraries as links, the latter in words."""
     found, leaves = [], {}
     definitions = all_definitions()
@@ -44,12 +53,12 @@ def links(page, keys):
     return ", ".join(found)
 
 
-def library_words(of):
+def library_words(of: str) -> str:
     """Says in words what a name comes from that is no definition here."""
     return "the standard library" if of == "std" else f"the library {escape(of)}"
 
 
-def around(page, one, namers):
+def around(page: str, one: Definition, namers: dict[str, list[str | tuple[str, str]]]) -> str:
     """Gives what a definition names and what names it, folded."""
     parts = []
     for words, keys in (("rests on", rests_on(one.key)), ("is named by", namers.get(one.key, ()))):
@@ -59,7 +68,7 @@ def around(page, one, namers):
     return f'<div class="around">{"".join(parts)}</div>' if parts else ""
 
 
-def named_by(page, keys):
+def named_by(page: str, keys: Sequence[str | tuple[str, str]]) -> str:
     """Gives what names a definition as links: definitions by their keys, laws and calls by their
     places and names."""
     others = [link(page, key[0], escape(key[1]), "law") for key in keys if isinstance(key, tuple)]
@@ -67,7 +76,7 @@ def named_by(page, keys):
     return ", ".join(part for part in (own, *others) if part)
 
 
-def code_of(page, one, ids=True):
+def code_of(page: str, one: Definition, ids: bool = True) -> str:
     """Gives a definition's lines with links."""
     cut = item_blocks(one.lines) if one.is_item else blocks(one.lines)
     html = "\n".join(linked_code(block, meaning_of(one), page, one.place) for block in cut)
@@ -78,7 +87,8 @@ def code_of(page, one, ids=True):
     return f"<pre>{html.rstrip()}</pre>"
 
 
-def module_page(site, crate, module, namers):
+def module_page(site: Site, crate: str, module: str,
+                namers: dict[str, list[str | tuple[str, str]]]) -> None:
     """Writes the page of a module."""
     page = spec_page(crate, module)
     head, groups, _ = read_module(crate, module)
@@ -99,7 +109,7 @@ def module_page(site, crate, module, namers):
     site.write(page, f"{module} of {crate}", "\n".join(body), DEFINITIONS)
 
 
-def items_page(site, crate, namers):
+def items_page(site: Site, crate: str, namers: dict[str, list[str | tuple[str, str]]]) -> None:
     """Writes the page of the items of a crate, folded by file."""
     page = code_page(crate)
     body = [f'<p class="path">{link(page, DEFINITIONS, "Definitions")} / {crate}</p>',
@@ -120,7 +130,7 @@ def items_page(site, crate, namers):
 
 # ---- by chapters
 
-def folded(crate, module):
+def folded(crate: str, module: str) -> str:
     """Gives a module as one line that unfolds: what its comment says, and its names."""
     head = read_module(crate, module)[0]
     page = spec_page(crate, module)
@@ -131,7 +141,7 @@ def folded(crate, module):
             f"</small></summary>{Prose.of(chr(10).join(head))}<p>{names}</p></details>")
 
 
-def placed_items(crate, file, *names):
+def placed_items(crate: str, file: str, *names: str) -> str:
     """Gives links to items, and the anchor that the document has for them."""
     shown = ", ".join(link(DEFINITIONS, f"{shown_file(crate, file)}.{name}", name)
                       for name in names)
@@ -139,11 +149,11 @@ def placed_items(crate, file, *names):
     return f'<p id="{of}">{shown} <small>{crate}, {file}</small></p>'
 
 
-def by_chapters(site):
+def by_chapters(site: Site) -> None:
     """Writes the definitions by chapters, in the order in which they are read."""
     body, text = [], []
 
-    def said():
+    def said() -> None:
         html = pandoc("\n".join(text)) if "".join(text).strip() else ""
         body.append(site.linked(html, "docs/DEFINITIONS.md", DEFINITIONS))
         text.clear()
@@ -166,7 +176,7 @@ def by_chapters(site):
 
 # ---- names
 
-def names_page(site, functions):
+def names_page(site: Site, functions: list[tuple[Function, str]]) -> None:
     """Writes the index of names, folded by their first letter."""
     found = []
     for one in all_definitions().values():
@@ -188,7 +198,8 @@ def names_page(site, functions):
     site.write("names.html", "Names", "\n".join(body))
 
 
-def namers_of(functions):
+def namers_of(functions: list[tuple[Function, str, tuple[str, ...]]]
+             ) -> dict[str, list[str | tuple[str, str]]]:
     """Gives what names each definition: keys of definitions, and places and names of functions."""
     found = {}
     for key in all_definitions():
@@ -200,7 +211,7 @@ def namers_of(functions):
     return found
 
 
-def make(site, functions):
+def make(site: Site, functions: list[tuple[Function, str, tuple[str, ...]]]) -> None:
     """Writes all pages of definitions; functions are the laws and calls, each with its place and
     the keys of what its clauses name."""
     namers = namers_of(functions)

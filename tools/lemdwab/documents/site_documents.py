@@ -1,8 +1,12 @@
 """The pages of the site that are documents of the repository: README, whose sentences on what is
 proved lead to their laws and clauses, and all others."""
 
+from __future__ import annotations
+
 import re
+from collections.abc import Iterator
 from html import escape, unescape
+from typing import TYPE_CHECKING
 
 from lemdwab.documents.markdown import documents, read, section
 from lemdwab.documents.naming import all_definitions
@@ -10,6 +14,9 @@ from lemdwab.documents.site_definitions import DEFINITIONS
 from lemdwab.documents.site_laws import THEOREM, all_functions, anchor_of, place_of
 from lemdwab.documents.site_pages import document_page, link, pandoc
 from lemdwab.running import TOP
+
+if TYPE_CHECKING:
+    from lemdwab.documents.site_pages import Site
 
 PROVED = TOP / "docs/make/proved.txt"
 README, HEADING = "README.md", "What is proved"
@@ -19,27 +26,27 @@ PLAIN = ("LICENSE", "NOTICE")
 MARK = "the-laws-of-sentence-{}-stand-here"
 
 
-def plain(text):
+def plain(text: str) -> str:
     """Gives a text without the marks of Markdown."""
     text = re.sub(r"\[([^\]]*)\]\([^)]*\)", r"\1", text)
     return " ".join(re.sub(r"[*`]", "", text).split())
 
 
-def sentences(text):
+def sentences(text: str) -> Iterator[list[str]]:
     """Cuts a text into its paragraphs and points, and each of these into its sentences."""
     for part in re.split(r"\n\s*\n|\n(?=- )", text.strip()):
         line = " ".join(part.split())
         yield re.sub(r"([.:]\*{0,2}) ", "\\1\n", line).split("\n") if line else []
 
 
-def claims():
+def claims() -> list[str]:
     """Lists the sentences of README on what is proved, as plain text: those before it says what is
     not."""
     proved_, _, _ = section(README, HEADING).partition(f"\n{PAST}")
     return [plain(one) for part in sentences(proved_) for one in joined(part)]
 
 
-def joined(pieces):
+def joined(pieces: list[str]) -> list[str]:
     """Joins pieces that belong to one sentence: what follows a colon, or begins with no capital."""
     found = []
     for piece in pieces:
@@ -51,7 +58,7 @@ def joined(pieces):
     return found
 
 
-def proved():
+def proved() -> dict[str, list[tuple[str, ...]]]:
     """Gives what docs/make/proved.txt says: of the first words of a sentence, which laws, clauses
     and definitions carry it, each as the words of a reference."""
     found, now = {}, []
@@ -63,14 +70,14 @@ def proved():
     return found
 
 
-def carriers(sentence):
+def carriers(sentence: str) -> list[tuple[str, ...]]:
     """Gives the references of a sentence; nothing where none is named."""
     rows = [rest for words, rest in proved().items()
             if sentence.removeprefix("- ").startswith(words)]
     return rows[0] if len(rows) == 1 else []
 
 
-def leads_to(reference):
+def leads_to(reference: tuple[str, ...]) -> tuple[str, str] | None:
     """Gives the place that a reference names, with its name: `crate function [clause]`, or
     `crate Module name` of a definition, or `theorem`; None where it names nothing."""
     if reference == ("theorem",):
@@ -92,10 +99,10 @@ def leads_to(reference):
 class Notes:
     """What README's sentences lead to, numbered."""
 
-    def __init__(self):
-        self.numbers = {}
+    def __init__(self) -> None:
+        self.numbers: dict[tuple[str, str], int] = {}
 
-    def marks(self, sentence):
+    def marks(self, sentence: str) -> str:
         """Gives the links behind a sentence."""
         found = []
         for reference in carriers(plain(sentence)):
@@ -106,7 +113,7 @@ class Notes:
                              f"{number}</a>")
         return f'<sup class="laws">{" ".join(found)}</sup>' if found else ""
 
-    def listed(self):
+    def listed(self) -> str:
         """Lists all of them."""
         rows = "".join(f'<li>{link("index.html", place, escape(name))}</li>'
                        for place, name in self.numbers)
@@ -114,7 +121,7 @@ class Notes:
                 f"</summary><ol>{rows}</ol></details>")
 
 
-def start_page(site):
+def start_page(site: Site) -> None:
     """Writes the start page: README, with what its sentences on what is proved rest on."""
     text, notes, marks = without_comments(read(README)), Notes(), []
     whole = section(README, HEADING)
@@ -132,24 +139,24 @@ def start_page(site):
     site.write("index.html", "Lemdwab", site.linked(html, README, "index.html"))
 
 
-def without_comments(text):
+def without_comments(text: str) -> str:
     """Gives a document without its comments."""
     return re.sub(r"(?s)<!--.*?-->", "", text)
 
 
 # ---- names of laws, calls and clauses in documents
 
-def with_laws(html, page):
+def with_laws(html: str, page: str) -> str:
     """Gives the HTML of a document with a link at each name of a law that stands in it as code."""
     laws = {one.name: one for one in all_functions() if one.is_law}
 
-    def leads(match):
+    def leads(match: re.Match[str]) -> str:
         one = laws.get(match[1].split("::")[-1])
         return link(page, place_of(one), match[0]) if one else match[0]
     return re.sub(r"<code>([\w:]+)</code>(?!</a>)", leads, html)
 
 
-def with_calls(html, page):
+def with_calls(html: str, page: str) -> str:
     """Gives the HTML of a page of docs/promises with links at functions and clauses: the crate is
     that of the heading above."""
     found = []
@@ -159,26 +166,26 @@ def with_calls(html, page):
     return "".join(found)
 
 
-def with_rows(html, page, crate):
+def with_rows(html: str, page: str, crate: str) -> str:
     """Gives the rows of a crate's tables with links at functions and their clauses."""
     of = {name: one for one in all_functions() if one.crate == crate
           for name in (one.called(), one.name, f"{one.module()}::{one.called()}")}
     now = []
 
-    def function(match):
+    def function(match: re.Match[str]) -> str:
         one = of.get(re.sub(r"\(.*", "", unescape(match[1])))
         if one:
             now.append(one)
         return link(page, place_of(one), match[0]) if one else match[0]
 
-    def clause(match):
+    def clause(match: re.Match[str]) -> str:
         one = next((one for one in now if match[1] in {c.name for c in one.clauses()}), None)
         if not one:
             return match[0]
         place = place_of(one).partition("#")[0]
         return link(page, f"{place}#{anchor_of(one)}.{match[1]}", match[0])
 
-    def row(match):
+    def row(match: re.Match[str]) -> str:
         cells = re.split(r"(?=<td)", match[0])
         if "<code>" in cells[1]:
             now.clear()
@@ -189,7 +196,7 @@ def with_rows(html, page, crate):
     return re.sub(r"(?s)<tr[^>]*>\s*<td.*?</tr>", row, html)
 
 
-def document(site, path):
+def document(site: Site, path: str) -> None:
     """Writes the page of a document."""
     page = document_page(path)
     html = pandoc(without_comments(read(path)))
@@ -205,16 +212,16 @@ def document(site, path):
                "docs/README.html")
 
 
-def with_scripts(html, page):
+def with_scripts(html: str, page: str) -> str:
     """Gives a cell of docs/PEERS.md with links at least scripts."""
-    def leads(match):
+    def leads(match: re.Match[str]) -> str:
         is_there = any((TOP / f"peers/{peer}/known/{match[1]}.script").exists()
                        for peer in ("qemu", "kvm"))
         return link(page, f"peers.html#{match[1]}", match[0]) if is_there else match[0]
     return re.sub(r"<code>([\w-]+)</code>", leads, html)
 
 
-def others(page):
+def others(page: str) -> str:
     """Lists the documents that stand outside docs/."""
     found = ["README.md", "CHANGELOG.md", *PLAIN]
     found += [name for name in documents() if "/" in name and not name.startswith("docs/")]
@@ -222,7 +229,7 @@ def others(page):
     return f"\n<h2>Outside this folder</h2>\n<p>{rows}</p>\n"
 
 
-def make(site):
+def make(site: Site) -> None:
     """Writes all documents but docs/DEFINITIONS.md, which has pages of its own."""
     start_page(site)
     for path in documents():

@@ -1,9 +1,13 @@
 """The pages of the site on what is proved: the laws, the clauses of public calls, and the theorem,
 each with the definitions that it rests on."""
 
+from __future__ import annotations
+
 from collections import Counter
+from collections.abc import Sequence
 from functools import cache
 from html import escape
+from typing import TYPE_CHECKING
 
 from lemdwab.documents.definitions import prose
 from lemdwab.documents.functions import dedented, functions, source_files
@@ -13,6 +17,11 @@ from lemdwab.documents.site_definitions import code_of, library_words
 from lemdwab.documents.site_pages import Prose, first_sentence, link, linked_code
 from lemdwab.running import TOP
 
+if TYPE_CHECKING:
+    from lemdwab.documents.functions import Clause, Function
+    from lemdwab.documents.naming import Definition, Meaning
+    from lemdwab.documents.site_pages import Site
+
 LAWS, CALLS, THEOREM = "laws/index.html", "calls/index.html", "theorem.html"
 # Crates whose laws are worked scripts, each law one row: they stand together, and rest on what the
 # answers of a script rest on.
@@ -20,8 +29,8 @@ WORKED = ("aia_guest_vectors", "aia_vectors")
 # Crates whose laws are of the definitions alone (docs/promises/laws.md).
 FOR_USERS = ("aia_laws", "aia_isolation", "aia_model")
 # What stands at the head of the two lists.
-OF_LAWS = ("Functions that do nothing, whose clauses were proved of the definitions. Each page has a"
-           " law's clauses, and what they rest on. Beside a name stands the first sentence of its"
+OF_LAWS = ("Functions that do nothing, whose clauses were proved of the definitions. Each page has"
+           " a law's clauses, and what they rest on. Beside a name stands the first sentence of its"
            " comment alone: where others bound it, they stand on the page.")
 OF_CALLS = ("What each crate offers to others, with the clauses of its contract. Beside a name"
             " stands the first sentence of its comment alone.")
@@ -29,20 +38,20 @@ HEADLINE = ("aia_replay", "run", ("done", "all"))
 
 
 @cache
-def all_functions():
+def all_functions() -> list[Function]:
     """Lists the laws of all crates, and the public functions that have clauses."""
     return [one for crate in crates() for file in source_files(crate)
             for one in functions(crate, file)
             if one.clauses() and (one.is_law or one.is_public)]
 
 
-def is_worked(one):
+def is_worked(one: Function) -> bool:
     """Says whether a law is of a row: that the answers of a script are those beside its lines."""
     return one.is_law and one.crate in WORKED and one.module().startswith("rows::")
 
 
 @cache
-def place_of(one):
+def place_of(one: Function) -> str:
     """Gives the place of a law or a call."""
     if one.is_law and not is_worked(one):
         return f"laws/{one.crate}/{one.name}.html"
@@ -51,12 +60,12 @@ def place_of(one):
 
 
 @cache
-def counts():
+def counts() -> Counter[tuple[str, str]]:
     """Gives how many functions of a crate have a name."""
     return Counter((one.crate, one.called()) for one in all_functions())
 
 
-def anchor_of(one):
+def anchor_of(one: Function) -> str:
     """Gives the anchor of a function on its page; two of one name may stand in two modules."""
     name = one.called().replace("::", ".")
     if counts()[one.crate, one.called()] == 1:
@@ -64,13 +73,13 @@ def anchor_of(one):
     return f"{one.module().replace('::', '.')}.{name}"
 
 
-def comments():
+def comments() -> list[str]:
     """Lists all comments that are prose of pages here."""
     return ["\n".join(one.comment) for one in all_functions()]
 
 
 @cache
-def meaning(one):
+def meaning(one: Function) -> Meaning:
     """Gives what the names of a function mean: one of a trait may name what that has."""
     found = with_generics(meaning_of_file(one.crate, one.file), "\n".join(one.text))
     owner = by_name(one.crate).get(one.owner)
@@ -80,7 +89,7 @@ def meaning(one):
 
 
 @cache
-def keys_in(one, names=()):
+def keys_in(one: Function, names: tuple[str, ...] = ()) -> tuple[str, ...]:
     """Gives the keys of what the clauses of a function name, of all or of those of these names."""
     found = []
     for clause in one.clauses():
@@ -90,7 +99,7 @@ def keys_in(one, names=()):
     return keys_of(found)
 
 
-def contract(page, one, names=()):
+def contract(page: str, one: Function, names: tuple[()] = ()) -> str:
     """Gives the words and the contract of a function with links, and an anchor for each clause; of
     clauses only those of these names, if there are any."""
     begins = {clause.first: clause for clause in one.clauses()}
@@ -112,7 +121,7 @@ def contract(page, one, names=()):
     return "\n".join(clause_mark(begins.get(at), of, part) for (at, _), part in zip(found, html))
 
 
-def clause_mark(clause, of, html):
+def clause_mark(clause: Clause | None, of: str, html: str) -> str:
     """Gives the first line of a clause an anchor."""
     if not clause or not clause.name:
         return html
@@ -121,7 +130,7 @@ def clause_mark(clause, of, html):
 
 # ---- what something rests on
 
-def tree(keys):
+def tree(keys: tuple[str, ...]) -> dict[str, list[str]]:
     """Gives each definition that keys rest on below the one that names it first, breadth first:
     for each key the keys below it that stand there first."""
     definitions = all_definitions()
@@ -141,17 +150,17 @@ def tree(keys):
 class Tree:
     """What some keys rest on, as lists that unfold, down to names of libraries."""
 
-    def __init__(self, page, keys, has_code=False):
+    def __init__(self, page: str, keys: tuple[str, ...], has_code: bool = False) -> None:
         self.page, self.has_code = page, has_code
         self.below = tree(keys)
         self.numbers = {key: number for number, key in enumerate(self.below)}
         self.keys = keys
 
-    def html(self):
+    def html(self) -> str:
         """Gives the tree as HTML."""
         return f'<ul class="tree">{self.rows(self.keys, self.keys)}</ul>'
 
-    def rows(self, keys, own):
+    def rows(self, keys: tuple[str, ...], own: Sequence[str]) -> str:
         """Gives the rows of what something names: those that stand here first unfold."""
         definitions = all_definitions()
         found = "".join(self.row(key) for key in keys if key in own and key in definitions)
@@ -169,7 +178,7 @@ class Tree:
             found += f'<li class="leaves">{library_words(of)}: {" ".join(names)}</li>'
         return found
 
-    def row(self, key):
+    def row(self, key: str) -> str:
         """Gives one definition, with what it names below it."""
         one = all_definitions()[key]
         where = one.crate if one.is_item else f"{one.module} of {one.crate}"
@@ -186,14 +195,14 @@ class Tree:
                 f"{code}{rest}</details></li>")
 
 
-def shown_comment(one):
+def shown_comment(one: Definition) -> list[str]:
     """Gives a definition's comment as the lines of its prose."""
     return one.comment if one.is_item else prose(one.comment)
 
 
 # ---- pages
 
-def law_page(site, one):
+def law_page(site: Site, one: Function) -> None:
     """Writes the page of a law."""
     page = place_of(one)
     rests = Tree(page, keys_in(one))
@@ -209,7 +218,7 @@ def law_page(site, one):
     site.write(page, one.name, "\n".join(body), LAWS)
 
 
-def section(page, one):
+def section(page: str, one: Function) -> str:
     """Gives a function on the page of its crate."""
     of = anchor_of(one)
     return (f'<section class="one" id="{of}"><h3><a href="#{of}">{escape(one.called())}</a></h3>'
@@ -217,7 +226,8 @@ def section(page, one):
             f"<pre>{contract(page, one)}</pre></section>")
 
 
-def crate_page(site, crate, own, folder, title, note, more=""):
+def crate_page(site: Site, crate: str, own: list[Function], folder: str, title: str, note: str,
+               more: str = "") -> None:
     """Writes a page of functions of one crate, folded by module, with more behind them."""
     page, of = f"{folder}/{crate}.html", f"{folder}/index.html"
     body = [f'<p class="path">{link(page, of, folder.capitalize())} / {crate}</p>',
@@ -229,7 +239,8 @@ def crate_page(site, crate, own, folder, title, note, more=""):
     site.write(page, title, "\n".join([*body, more]), of)
 
 
-def listed(site, page, title, note, chapters):
+def listed(site: Site, page: str, title: str, note: str,
+           chapters: dict[str, dict[str, list[Function]]]) -> None:
     """Writes a list of functions, by chapters and crates; the first chapter is unfolded where it
     has a heading."""
     body = [f"<h1>{title}</h1>", f'<p class="note">{note}</p>']
@@ -245,7 +256,7 @@ def listed(site, page, title, note, chapters):
     site.write(page, title, "\n".join(body))
 
 
-def shared_tree(crate, own):
+def shared_tree(crate: str, own: list[Function]) -> str:
     """Gives the tree of what all clauses of some laws of a crate name."""
     shared = [key for key in keys_in(own[0]) if all(key in keys_in(one) for one in own)]
     rests = Tree(f"laws/{crate}.html", shared)
@@ -254,7 +265,7 @@ def shared_tree(crate, own):
             f" besides, each names its script.</p>\n{rests.html()}")
 
 
-def theorem(site):
+def theorem(site: Site) -> None:
     """Writes the page of the theorem: the clauses of `run` that carry it, and all below them."""
     crate, name, names = HEADLINE
     one = next(one for one in all_functions() if one.crate == crate and one.called() == name)
@@ -272,13 +283,13 @@ def theorem(site):
     site.write(THEOREM, "The theorem", "\n".join(body))
 
 
-def headline_words():
+def headline_words() -> str:
     """Gives what docs/PROMISES.md says in words of the theorem."""
     text = (TOP / "docs/PROMISES.md").read_text(encoding="utf-8")
     return text.partition("### The headline\n\n")[2].partition("\n\n")[0]
 
 
-def make(site):
+def make(site: Site) -> None:
     """Writes all pages on what is proved."""
     laws, worked, calls = {}, {}, {}
     for one in all_functions():

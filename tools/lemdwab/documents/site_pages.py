@@ -1,16 +1,24 @@
 """What the pages of the site share: their frame, prose made of Markdown, code with links, and where
 a file of the repository stands in the site."""
 
+from __future__ import annotations
+
 import posixpath
 import re
 import shutil
 import subprocess
+from collections.abc import Sequence
 from functools import cache
 from html import escape, unescape
+from pathlib import Path
+from typing import TYPE_CHECKING
 
 from lemdwab.documents.markdown import documents
 from lemdwab.documents.naming import code_page, named, spec_page
 from lemdwab.running import TOP
+
+if TYPE_CHECKING:
+    from lemdwab.documents.naming import Meaning
 
 ASSETS = ("site.css", "site.js")
 # What stands at the head of each page: places with their names.
@@ -30,10 +38,10 @@ PICTURES = (".svg", ".png")
 class Site:
     """The site that is made: its files, by their places in it, until all are written at once."""
 
-    def __init__(self):
-        self.files = {}
+    def __init__(self) -> None:
+        self.files: dict[str, bytes] = {}
 
-    def write(self, place, title, body, where=""):
+    def write(self, place: str, title: str, body: str, where: str = "") -> None:
         """Writes a page; `where` is the place at its head that it belongs to."""
         up = "../" * place.count("/")
         road = "".join(
@@ -47,14 +55,14 @@ class Site:
                 f"<nav>{road}</nav>\n<main>\n{body}\n</main>\n</body>\n</html>\n")
         self.files[place] = text.encode()
 
-    def put(self, folder):
+    def put(self, folder: Path) -> None:
         """Writes all files into a folder."""
         for place, data in self.files.items():
             path = folder / place
             path.parent.mkdir(parents=True, exist_ok=True)
             path.write_bytes(data)
 
-    def place_of(self, path):
+    def place_of(self, path: str) -> str | None:
         """Gives the place of a file of the repository in the site, which is written for it where it
         has no page of its own; None where there is no such file."""
         found = re.fullmatch(r"crates/(\w+)/specs/(\w+)\.antt", path)
@@ -69,7 +77,7 @@ class Site:
             self.copy(path, place)
         return place
 
-    def copy(self, path, place):
+    def copy(self, path: str, place: str) -> None:
         """Writes a file of the repository: a picture as it is, and else a page with its text."""
         data = (TOP / path).read_bytes()
         if path.endswith(PICTURES):
@@ -78,9 +86,9 @@ class Site:
         text = data.decode("utf-8", errors="replace")
         self.write(place, path, f"<h1>{escape(path)}</h1>\n<pre>{escape(text, quote=False)}</pre>")
 
-    def linked(self, html, path, page):
+    def linked(self, html: str, path: str, page: str) -> str:
         """Leads the links of a document's HTML to the site's pages."""
-        def leads(match):
+        def leads(match: re.Match[str]) -> str:
             link = unescape(match[2])
             if re.match(r"[a-z]+:", link):
                 return match[0]
@@ -96,30 +104,30 @@ class Site:
 
 
 @cache
-def known():
+def known() -> frozenset[str]:
     """Gives the documents of the repository, which are listed once."""
     return frozenset(documents())
 
 
-def document_page(path):
+def document_page(path: str) -> str:
     """Gives the place of a document."""
     return "index.html" if path == "README.md" else f"{path.removesuffix('.md')}.html"
 
 
 @cache
-def between(page, place):
+def between(page: str, place: str) -> str:
     """Gives the way from a page to another one, or to itself."""
     return "" if place == page else posixpath.relpath(place, posixpath.dirname(page) or ".")
 
 
-def way(page, place, anchor=""):
+def way(page: str, place: str, anchor: str = "") -> str:
     """Gives the way from a page to a place."""
     place, _, inner = place.partition("#")
     anchor, to = anchor or inner, between(page, place)
     return f"{to}#{anchor}" if anchor else to or posixpath.basename(place)
 
 
-def link(page, place, words, kind=""):
+def link(page: str, place: str, words: str, kind: str = "") -> str:
     """Gives a link from a page to a place, of words that are HTML already."""
     of = f' class="{kind}"' if kind else ""
     return f'<a{of} href="{escape(way(page, place))}">{words}</a>'
@@ -127,7 +135,7 @@ def link(page, place, words, kind=""):
 
 # ---- prose
 
-def pandoc(text):
+def pandoc(text: str) -> str:
     """Gives Markdown as HTML."""
     try:
         ran = subprocess.run(PANDOC, input=text, capture_output=True, text=True, timeout=LONGEST,
@@ -142,10 +150,10 @@ def pandoc(text):
 class Prose:
     """Comments as HTML, each made once, all of them at one time."""
 
-    made = {}
+    made: dict[str, str] = {}
 
     @classmethod
-    def make(cls, texts):
+    def make(cls, texts: list[str]) -> None:
         """Makes many texts."""
         texts = list(dict.fromkeys(text for text in texts if text and text not in cls.made))
         whole = "".join(f"\n\n{CUT.format(i)}\n\n{text}\n" for i, text in enumerate(texts))
@@ -155,7 +163,7 @@ class Prose:
         cls.made |= dict(zip(texts, cut[1:]))
 
     @classmethod
-    def of(cls, text, page="", meaning=None):
+    def of(cls, text: str, page: str = "", meaning: Meaning | None = None) -> str:
         """Gives a text as HTML; names that it has as code lead to where they are defined."""
         html = cls.made.get(text, "") if text else ""
         if meaning is None:
@@ -164,7 +172,7 @@ class Prose:
         return re.sub(r"<code>([^<\s]*)</code>", lambda m: named_code(m, page, meaning), html)
 
 
-def named_code(match, page, meaning):
+def named_code(match: re.Match[str], page: str, meaning: Meaning) -> str:
     """Gives a name in a comment with a link, if it is one that leads somewhere."""
     leads, length = meaning.of(unescape(match[1]))
     if leads and leads.place and length == len(unescape(match[1])):
@@ -172,14 +180,14 @@ def named_code(match, page, meaning):
     return match[0]
 
 
-def prepared():
+def prepared() -> bool:
     """Says whether the package is there that makes HTML."""
     return shutil.which("pandoc") is not None
 
 
 # ---- code
 
-def linked_code(block, meaning, page, own=""):
+def linked_code(block: str, meaning: Meaning, page: str, own: str = "") -> str:
     """Gives a block of code as HTML, each name with a link to where it is defined; those of the
     definition itself stay plain."""
     found, at = [], 0
@@ -196,19 +204,19 @@ def linked_code(block, meaning, page, own=""):
     return shaded("".join(found))
 
 
-def shaded(html):
+def shaded(html: str) -> str:
     """Marks the comments in a block of code."""
     return re.sub(r"(?m)((?:^|(?<=\s))(?://|--).*)$", r'<span class="said">\1</span>', html)
 
 
-def first_sentence(lines):
+def first_sentence(lines: Sequence[str]) -> str:
     """Gives the first sentence of a comment, as plain text."""
     text = " ".join(line[2:].strip() if line.startswith("--") else line for line in lines
                     if not line.startswith("-- ----"))
     return re.split(r"(?<=\.) ", text, maxsplit=1)[0].rstrip(".").replace("`", "")
 
 
-def shown_file(crate, file):
+def shown_file(crate: str, file: str) -> str:
     """Gives the page that shows the items of a source file, with its anchor."""
     stem = file.removeprefix("src/").removesuffix(".rt").replace("/", ".")
     return f"{code_page(crate)}#{stem}"

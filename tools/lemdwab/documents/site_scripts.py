@@ -1,15 +1,26 @@
 """The pages of the site on scripts: examples, drawn, with a slider over their lines, and the least
 scripts of what other implementations answer otherwise, beside both answers."""
 
+from __future__ import annotations
+
 import json
 import os
 import sys
 from html import escape
+from pathlib import Path
+from typing import TYPE_CHECKING
 
 from lemdwab import answers, drawing, running
 from lemdwab.documents.markdown import read, rows
 from lemdwab.documents.site_pages import link
 from lemdwab.running import TOP
+
+if TYPE_CHECKING:
+    from lemdwab.answers import Line
+    from lemdwab.apart.moves import VirtualHart
+    from lemdwab.documents.site_pages import Site
+    from lemdwab.drawing import Shown
+    from lemdwab.running import Workers
 
 MOVES, PEERS = "moves/index.html", "peers.html"
 MODEL = TOP / "peers/apart/model.py"
@@ -18,12 +29,12 @@ LONGEST = 60
 NAMES = {"qemu": "QEMU", "kvm": "KVM"}
 
 
-def examples():
+def examples() -> list[Path]:
     """Lists the examples' scripts."""
     return sorted((TOP / "examples").glob("*.script"))
 
 
-def answering():
+def answering() -> tuple[list[str], str]:
     """Gives the command that answers scripts, and how it is called: the program of the variable
     PROGRAM, or the model written apart."""
     program = os.environ.get("PROGRAM")
@@ -34,7 +45,7 @@ def answering():
     return [sys.executable, "-B", str(MODEL)], "the independent Python model, which is not proved"
 
 
-def answered(workers, command, script):
+def answered(workers: Workers, command: list[str], script: bytes) -> list[tuple[Line, str]]:
     """Gives the lines of a script that have an answer, each with its answer."""
     ran = workers.submit(running.run, command, script, LONGEST,
                          answers.most_output(script)).result()
@@ -50,7 +61,7 @@ def answered(workers, command, script):
 
 # ---- examples
 
-def states(found, names):
+def states(found: list[Shown], names: dict[VirtualHart, str]) -> dict[int, tuple[int, str, str]]:
     """Gives of each line that is drawn its column, what it did, and where each virtual hart is."""
     harts = drawing.harts_of(found) if found else []
     told = {}
@@ -64,7 +75,9 @@ def states(found, names):
     return told
 
 
-def slides(script, said):
+def slides(script: bytes,
+           said: list[tuple[Line, str]]
+          ) -> tuple[list[list[int | str]], list[Shown], dict[VirtualHart, str]]:
     """Gives the data of the slider: of each line with an answer its number, its text, the answer,
     how many columns of the picture are drawn by then, what it did, and where all are then."""
     found, names = drawing.watched(script, 1, 1 << 30)
@@ -76,7 +89,7 @@ def slides(script, said):
     return slides_, found, names
 
 
-def listing(script, slides_):
+def listing(script: bytes, slides_: list[list[int | str]]) -> str:
     """Gives the script as a table: each line with its answer, comments among them."""
     by_number = {slide[0]: (at, slide) for at, slide in enumerate(slides_)}
     found = []
@@ -91,7 +104,8 @@ def listing(script, slides_):
     return f'<table class="script"><tbody>{"".join(found)}</tbody></table>'
 
 
-def example_page(site, workers, path, command, by):
+def example_page(site: Site, workers: Workers, path: Path, command: list[str],
+                 by: str) -> tuple[str, bool]:
     """Writes the page of an example."""
     script = path.read_bytes()
     slides_, found, names = slides(script, answered(workers, command, script))
@@ -116,7 +130,7 @@ def example_page(site, workers, path, command, by):
     return page, bool(found)
 
 
-def make_examples(site, workers):
+def make_examples(site: Site, workers: Workers) -> None:
     """Writes the pages of all examples, and their list."""
     command, by = answering()
     drawn = {}
@@ -136,7 +150,7 @@ def make_examples(site, workers):
 
 # ---- peers
 
-def differences():
+def differences() -> list[tuple[str, list[str], list[tuple[str, str]]]]:
     """Lists the rows of docs/PEERS.md that have least scripts: the heading above, the names of the
     scripts, and the other cells as (head, text)."""
     found, heading, heads = [], "", []
@@ -154,13 +168,13 @@ def differences():
     return found
 
 
-def known(name):
+def known(name: str) -> list[tuple[str, Path]]:
     """Lists the peers that have a least script of this name, with its path."""
     return [(peer, TOP / f"peers/{peer}/known/{name}.script") for peer in NAMES
             if (TOP / f"peers/{peer}/known/{name}.script").exists()]
 
 
-def beside(peer, path):
+def beside(peer: str, path: Path) -> str:
     """Gives a least script with the answers of the model and of the peer."""
     script = path.read_bytes()
     mine = answers.answers(path.with_suffix(".aia").read_bytes())
@@ -174,7 +188,7 @@ def beside(peer, path):
             f"<th>{NAMES[peer]}</th></tr></thead><tbody>{''.join(found)}</tbody></table></div>")
 
 
-def cell_html(text):
+def cell_html(text: str) -> str:
     """Gives a cell of a table as HTML."""
     parts = escape(text, quote=False).split("`")
     code = "".join(f"<code>{part}</code>" if at % 2 else part for at, part in enumerate(parts))
@@ -183,7 +197,7 @@ def cell_html(text):
                    for at, part in enumerate(emphasis))
 
 
-def make_peers(site):
+def make_peers(site: Site) -> None:
     """Writes the page of differences, folded by least script."""
     document = link(PEERS, "docs/PEERS.html", "docs/PEERS.md")
     body = ["<h1>What QEMU and KVM answer otherwise</h1>",

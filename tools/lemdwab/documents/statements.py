@@ -1,7 +1,10 @@
 """Makes docs/promises/statements-*.md: for each page of docs/promises the contracts that it has in
 words, as they stand in src/."""
 
+from __future__ import annotations
+
 import re
+from collections.abc import Iterator
 
 from lemdwab.documents.claims import PAGES, STATEMENTS, pages, sections, told_of
 from lemdwab.documents.functions import dedented
@@ -20,12 +23,12 @@ function and law, what it requires, and each clause of what it ensures.
 """
 
 
-def name_for(page):
+def name_for(page: str) -> str:
     """Names the page of the statements that a page has in words."""
     return page.replace(PAGES, STATEMENTS)
 
 
-def contracts_of(crate):
+def contracts_of(crate: str) -> dict[str, list[str]]:
     """Gives the contracts of a crate under their names, those of one name together."""
     found = {}
     for name, one in told_of(crate):
@@ -34,7 +37,7 @@ def contracts_of(crate):
     return found
 
 
-def rendered(page):
+def rendered(page: str) -> str:
     """Gives the whole page of the statements that a page has in words."""
     own = page.removeprefix(PAGES)
     title = re.match(r"# (.*)", read(page))[1]
@@ -47,12 +50,12 @@ def rendered(page):
     return "\n".join(parts)
 
 
-def made():
+def made() -> list[str]:
     """Lists the pages of statements that are there."""
     return [name for name in documents() if name.startswith(STATEMENTS)]
 
 
-def unlinked(page):
+def unlinked(page: str) -> Iterator[str]:
     """Says under which heading of a page its statements are not linked."""
     own = name_for(page).removeprefix(PAGES)
     for crate, body in sections(page):
@@ -60,7 +63,7 @@ def unlinked(page):
             yield f"{page} does not link to {own}#{crate} under the heading of {crate}"
 
 
-def drifts():
+def drifts() -> Iterator[str]:
     """Says which pages of statements are not those of the contracts."""
     wanted = {name_for(page): rendered(page) for page in pages()}
     for name in sorted({*made(), *wanted}):
@@ -72,7 +75,7 @@ def drifts():
         yield from unlinked(page)
 
 
-def make():
+def make() -> None:
     """Writes the pages, and takes away those that no page has in words."""
     wanted = {name_for(page): rendered(page) for page in pages()}
     for name in set(made()) - set(wanted):

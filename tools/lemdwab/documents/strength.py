@@ -2,9 +2,13 @@
 every edit can be made, of must-fail/ and of the wider set in more-fail/, and that each of
 wrong_bodies.txt is there."""
 
+from __future__ import annotations
+
 import re
+from collections.abc import Iterator, Sequence
 from functools import cache
-from typing import NamedTuple
+from pathlib import Path
+from typing import Any, NamedTuple
 
 from lemdwab.running import TOP
 
@@ -26,14 +30,14 @@ class Edit(NamedTuple):
     crate: str
     folder: str
     name: str
-    changes: tuple
+    changes: tuple[tuple[str, str, str], ...]
 
-    def path(self):
+    def path(self) -> str:
         """Gives its file, from the top of the repository."""
         return f"crates/{self.crate}/{self.folder}/{self.name}.edit"
 
 
-def changes(text):
+def changes(text: str) -> tuple[tuple[str, str, str], ...]:
     """Reads the changes of an edit's file, as the prover's tool does."""
     file, old, found = "", "", []
     for line in text.split("\n"):
@@ -48,25 +52,25 @@ def changes(text):
 
 
 @cache
-def edits(folder=TRIED):
+def edits(folder: str = TRIED) -> list[Edit]:
     """Lists the edits of all crates in their folders of that name."""
     return [Edit(path.parts[-3], folder, path.stem, changes(path.read_text(encoding="utf-8")))
             for path in sorted(TOP.glob(f"crates/*/{folder}/*.edit"))]
 
 
 @cache
-def source(crate, file):
+def source(crate: str, file: str) -> str:
     """Gives the text of a file of a crate."""
     return (TOP / "crates" / crate / file).read_text(encoding="utf-8")
 
 
-def rows(path):
+def rows(path: Path) -> list[str]:
     """Lists the lines of a table kept by hand, without its comments."""
     lines = path.read_text(encoding="utf-8").split("\n")
     return [line for line in lines if line and not line.startswith("#")]
 
 
-def refusals():
+def refusals() -> dict[tuple[str, str], str]:
     """Gives what each edit's refusal names, as the table kept by hand says."""
     found = {}
     for line in rows(REFUSALS):
@@ -77,7 +81,7 @@ def refusals():
     return found
 
 
-def code(text):
+def code(text: str) -> str:
     """Gives code as a cell of a table, cut where it is long."""
     text = text.strip()
     if len(text) > 64:
@@ -85,7 +89,7 @@ def code(text):
     return f"`{text}`".replace("|", "\\|") if text else "nothing"
 
 
-def differing(old, new):
+def differing(old: str, new: str) -> tuple[str, str]:
     """Gives the parts of two lines of code that differ, with the words around them."""
     if len(old) <= 64 and len(new) <= 64:
         return old, new
@@ -94,7 +98,7 @@ def differing(old, new):
     return old[first:], new[first:]
 
 
-def type_of(head):
+def type_of(head: str) -> str:
     """Gives the type of an `impl`, with the name of its trait behind it, as folders of proofs have
     it; nothing where the line begins no `impl`."""
     while (bare := re.sub(r"<[^<>]*>", "", head)) != head:
@@ -103,7 +107,7 @@ def type_of(head):
     return match.group(2) + (match.group(1) or "") if match else ""
 
 
-def function_at(text, old):
+def function_at(text: str, old: str) -> tuple[str, str] | None:
     """Gives the type and the name of the function in which what stands in a text lies, by the
     layout of `rt fmt`: no type outside an `impl`, and nothing outside a function."""
     line = text[:text.find(old) + len(old) - len(old.lstrip())].count("\n")
@@ -119,7 +123,7 @@ def function_at(text, old):
     return (of, name) if name else None
 
 
-def has_written_proof(crate, of, name, module="**"):
+def has_written_proof(crate: str, of: str, name: str, module: str = "**") -> bool:
     """Says whether a function has a proof written by hand. That of a method stands in a folder
     named for its type, below the module of the type, wherever its `impl` stands."""
     below = f"**/{of}*" if of else module
@@ -127,13 +131,13 @@ def has_written_proof(crate, of, name, module="**"):
     return any(not of or path.parts[-3].partition("+")[0] == of for path in found)
 
 
-def function_refused(by):
+def function_refused(by: str) -> tuple[str, str]:
     """Gives the type and the name of the function that a refusal names first."""
     named = re.search(r"`(?:(\w+)::)?(\w+)`", by)
     return (named.group(1) or "", named.group(2)) if named else ("", "-")
 
 
-def star(edit, by):
+def star(edit: Edit, by: str) -> str:
     """Gives the mark of an edit of a definition, or in a function with a hand-written proof; where
     a line stands in no function, that is the one that its refusal names."""
     if not all(file.startswith("src/") for file, _, _ in edit.changes):
@@ -152,7 +156,7 @@ def star(edit, by):
     return ""
 
 
-def table():
+def table() -> str:
     """Gives the tables of all edits that the gate tries, by crate."""
     told, out, crate = refusals(), [], None
     for edit in edits():
@@ -173,7 +177,7 @@ def table():
     return "\n".join([BEGIN, head, *out, END])
 
 
-def rendered():
+def rendered() -> str:
     """Gives the document with its tables made anew."""
     text = TARGET.read_text(encoding="utf-8")
     if BEGIN not in text or END not in text:
@@ -182,7 +186,7 @@ def rendered():
     return before + table() + rest.split(END, 1)[1]
 
 
-def made(crate, each):
+def made(crate: str, each: Sequence[tuple[str, str, str]]) -> tuple[dict[str, str], str]:
     """Gives the files of a crate as the changes of an edit leave them, by their names, and why the
     edit can't be made, which is nothing where it can: each old text stands once in its file, as the
     changes before it left that."""
@@ -203,12 +207,12 @@ def made(crate, each):
     return texts, "" if each else "it has no pair of lines 'old: ' and 'new: '"
 
 
-def misfit(crate, each):
+def misfit(crate: str, each: Sequence[tuple[str, str, str]]) -> str:
     """Says why an edit can't be made; gives nothing where it can be."""
     return made(crate, each)[1]
 
 
-def told_apart(found):
+def told_apart(found: list[Edit]) -> Iterator[str]:
     """Says which edits are the same as another, though their words or their folders differ."""
     first, names = {}, {}
     for edit in found:
@@ -223,7 +227,7 @@ def told_apart(found):
         names.setdefault((edit.crate, edit.name), edit)
 
 
-def misfits():
+def misfits() -> Iterator[Any]:
     """Says which edits can't be made, which are the same, and which crates have too many."""
     every = [*edits(TRIED), *edits(WIDER)]
     found = [f"{edit.path()}: {why}" for edit in every if (why := misfit(edit.crate, edit.changes))]
@@ -234,7 +238,7 @@ def misfits():
             yield f"crates/{crate}/must-fail has {count} edits, and may have {MOST}"
 
 
-def wrong_bodies():
+def wrong_bodies() -> list[tuple[str, list[tuple[str, str]]]] | None:
     """Lists the wrong bodies that are to be planted: the words of each, and the edits, as crate and
     name, that plant it."""
     found = []
@@ -247,7 +251,7 @@ def wrong_bodies():
     return found
 
 
-def unplanted():
+def unplanted() -> Iterator[str]:
     """Says which of the wrong bodies are planted by no edit that stands."""
     there = {(edit.crate, edit.name) for edit in (*edits(TRIED), *edits(WIDER))}
     for words, names in wrong_bodies():
@@ -258,13 +262,13 @@ def unplanted():
 
 
 @cache
-def sources(crate):
+def sources(crate: str) -> str:
     """Gives the text of all code of a crate."""
     files = sorted((TOP / "crates" / crate / "src").rglob("*.rt"))
     return "\n".join(path.read_text(encoding="utf-8") for path in files)
 
 
-def misplaced(told):
+def misplaced(told: dict[tuple[str, str], str]) -> Iterator[str]:
     """Says which rows of refusals stand out of order, and which name a function that their crate
     has not got."""
     keys = list(told)
@@ -278,7 +282,7 @@ def misplaced(told):
                    f" of crates/{of}/src")
 
 
-def drifts():
+def drifts() -> Iterator[Any]:
     """Says where the tables differ from the edits, which edits nothing is said of, which can't be
     made, and which wrong bodies are planted by none."""
     found = list(misfits())
@@ -299,7 +303,7 @@ def drifts():
                " suite/documents make writes them anew")
 
 
-def make():
+def make() -> None:
     """Writes the tables into the document; ends where an edit can't be made."""
     if found := list(misfits()):
         raise SystemExit("\n".join(found))

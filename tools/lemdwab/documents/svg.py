@@ -1,5 +1,8 @@
 """A few words to write a picture with, as SVG."""
 
+from __future__ import annotations
+
+from typing import Any
 from xml.sax.saxutils import escape
 
 GUEST, OTHER, MEMORY = "#4c78a8", "#2b8a93", "#4f9d5b"
@@ -11,12 +14,13 @@ INK, PALE, LINE = "#1f2933", "#f4f6f8", "#9aa5b1"
 class Picture:
     """A picture of a size, to which shapes are added in the order in which they are painted."""
 
-    def __init__(self, width, height, title):
+    def __init__(self, width: int, height: int, title: str) -> None:
         self.width, self.height = width, height
         self.shapes = [f"<title>{escape(title)}</title>"]
         self.box(0, 0, width, height, "#ffffff", None, 0)
 
-    def box(self, x, y, w, h, fill=PALE, stroke=LINE, round_=6, dash=None):
+    def box(self, x: float, y: int, w: float, h: int, fill: str = PALE, stroke: str | None = LINE,
+            round_: int = 6, dash: str | None = None) -> None:
         edge = f' stroke="{stroke}" stroke-width="1.2"' if stroke else ""
         dashed = f' stroke-dasharray="{dash}"' if dash else ""
         self.shapes.append(
@@ -24,7 +28,8 @@ class Picture:
             f' fill="{fill}"{edge}{dashed}/>'
         )
 
-    def text(self, x, y, words, size=13, fill=INK, anchor="start", bold=False, **how):
+    def text(self, x: float, y: float, words: str, size: float = 13, fill: str = INK,
+             anchor: str = "start", bold: bool = False, **how: Any) -> None:
         family = MONO if how.get("mono") else SANS
         more = ' font-weight="bold"' if bold else ""
         turn = how.get("turn")
@@ -34,14 +39,15 @@ class Picture:
             f' text-anchor="{anchor}"{more}>{escape(words)}</text>'
         )
 
-    def line(self, points, stroke=INK, width=1.4, dash=None, arrow=False):
+    def line(self, points: list[tuple[int, float]], stroke: str = INK, width: float = 1.4,
+             dash: str | None = None, arrow: bool = False) -> None:
         path = " ".join(f"{x:g},{y:g}" for x, y in points)
         more = f' stroke-dasharray="{dash}"' if dash else ""
         more += f' marker-end="url(#to-{stroke[1:]})"' if arrow else ""
         more = f'stroke="{stroke}" stroke-width="{width}"{more}'
         self.shapes.append(f'<polyline points="{path}" fill="none" {more}/>')
 
-    def done(self):
+    def done(self) -> str:
         """Gives the text of the file."""
         heads = "".join(
             f'<marker id="to-{c[1:]}" viewBox="0 0 8 8" refX="7" refY="4" markerWidth="7"'

@@ -1,7 +1,11 @@
 """Writes text of a document in the macros of `man`: its sections, paragraphs, lists, tables and
 blocks of code."""
 
+from __future__ import annotations
+
 import re
+from collections.abc import Callable
+from typing import Any
 
 ESCAPES = {"\\": r"\e", "-": r"\-", "'": r"\(aq", "`": r"\(ga", "^": r"\(ha", "~": r"\(ti",
            '"': r"\(dq"}
@@ -12,12 +16,12 @@ ITEM = re.compile(r"(?P<mark>-|\d+\.) +(?P<text>.*)")
 RULE = re.compile(r"\|[-:| ]+\|")
 
 
-def escaped(text):
+def escaped(text: str) -> str:
     """Gives a text whose characters stand for themselves."""
     return "".join(ESCAPES.get(c, c if c.isascii() else f"\\[u{ord(c):04X}]") for c in text)
 
 
-def marked(text):
+def marked(text: str) -> str:
     """Gives a text with its marks as fonts, and links as what they are called."""
     found, at = "", 0
     for mark in MARKS.finditer(text):
@@ -34,13 +38,13 @@ def marked(text):
     return found + escaped(text[at:])
 
 
-def filled(text):
+def filled(text: str) -> str:
     """Gives a text that is filled into lines, none of which is taken for a request."""
     lines = marked(" ".join(text.split())).split("\n")
     return "\n".join(r"\&" + line if line[:1] in (".", "'") else line for line in lines)
 
 
-def cells(line):
+def cells(line: str) -> list[str]:
     """Gives the cells of a row of a table."""
     return [each.strip().replace(r"\|", "|") for each in re.split(r"(?<!\\)\|", line.strip())[1:-1]]
 
@@ -48,37 +52,37 @@ def cells(line):
 class Page:
     """A manual page as it is written."""
 
-    def __init__(self, name, section, day, source):
+    def __init__(self, name: str, section: int, day: str, source: str) -> None:
         self.lines = [f'.TH {name.upper()} {section} "{day}" "{source}" "{source.split()[0]}"']
 
-    def text(self):
+    def text(self) -> str:
         """Gives the page."""
         return "\n".join(self.lines) + "\n"
 
-    def section(self, title):
+    def section(self, title: str) -> None:
         """Begins a section."""
         self.lines.append(f'.SH "{escaped(title.upper())}"')
 
-    def subsection(self, title):
+    def subsection(self, title: str) -> None:
         """Begins a part of a section."""
         self.lines.append(f'.SS "{escaped(title)}"')
 
-    def paragraph(self, text):
+    def paragraph(self, text: str) -> None:
         """Puts a paragraph, if there is anything in it."""
         text = filled(text)
         if text:
             self.lines += [".PP", text]
 
-    def block(self, lines):
+    def block(self, lines: list[str]) -> None:
         """Puts lines as they stand."""
         self.lines += [".PP", ".RS 4", ".EX", *(r"\&" + escaped(line) for line in lines), ".EE",
                        ".RE"]
 
-    def tagged(self, tag, text):
+    def tagged(self, tag: str, text: str) -> None:
         """Puts a text below a tag, which is a text with marks too."""
         self.lines += [".TP", filled(tag), filled(text)]
 
-    def table(self, lines):
+    def table(self, lines: list[str]) -> None:
         """Puts the rows of a table: the first cell as a tag, the others below it, and of those from
         the third on what their column is called."""
         head, _, *rows = map(cells, lines)
@@ -88,11 +92,11 @@ class Page:
                 if cell:
                     self.lines += [".br", filled(f"*{name}:* {cell}" if name else cell)]
 
-    def item(self, mark, text):
+    def item(self, mark: str, text: str) -> None:
         """Puts an item of a list."""
         self.lines += [r".IP \(bu 3" if mark == "-" else f".IP {mark} 4", filled(text)]
 
-    def document(self, text):
+    def document(self, text: str) -> None:
         """Puts the text of a document, without the comments in it."""
         lines = re.sub(r"(?s)<!--.*?-->", "", text).split("\n")
         while lines:
@@ -115,7 +119,7 @@ class Page:
                 self.paragraph(" ".join([line, *taken(lines, is_filled)]))
 
 
-def taken(lines, fits):
+def taken(lines: list[str], fits: Callable[..., Any]) -> list[str]:
     """Takes lines off the front while they fit."""
     found = []
     while lines and fits(lines[0]):
@@ -123,12 +127,12 @@ def taken(lines, fits):
     return found
 
 
-def is_filled(line):
+def is_filled(line: str) -> bool:
     """Says whether a line goes on with the paragraph above it."""
     return bool(line.strip()) and not re.match(r"```|#+ |\||    ", line) and not ITEM.match(line)
 
 
-def plain(text):
+def plain(text: str) -> str:
     """Gives a text without its marks."""
     return MARKS.sub(lambda mark: mark["code"] or mark["strong"] or mark["stress"] or mark["link"]
                      or "", text)

@@ -1,13 +1,23 @@
 """Tries the classes of scripts, suite/compare --only-standard, and the machine of fixed sizes of
 examples, as suite/tools does: each function takes its Trial."""
 
+from __future__ import annotations
+
 import re
 import sys
 from collections import Counter
+from typing import TYPE_CHECKING, Any
 
 from lemdwab import answers, classes
 from lemdwab.apart import choices, generated
 from lemdwab.running import TOP
+
+if TYPE_CHECKING:
+    from lemdwab.classes import Needs
+
+if TYPE_CHECKING:
+    from lemdwab.classes import Needs
+    from lemdwab.commands.tools import Trial
 
 FIXED = TOP / "examples/fixed-machine.py"
 COMPARE = TOP / "suite/compare"
@@ -23,7 +33,7 @@ APART = {
 ALIKE = classes.Needs(SIZES, "", 4)
 
 
-def by_class():
+def by_class() -> dict[str, set[str]]:
     """Gives the names of the scripts of each class."""
     found = {kind: set() for kind in classes.CLASSES}
     for name, kind, _ in classes.rows(classes.TABLE.read_text(encoding="ascii")):
@@ -31,7 +41,7 @@ def by_class():
     return found
 
 
-def classes_of_scripts(trial):
+def classes_of_scripts(trial: Trial) -> None:
     """Each script has one class, and suite/README.md agrees: its table of choices has the scripts
     of the class profile, and it says how many scripts each class has."""
     for wrong in classes.drifts():
@@ -50,7 +60,7 @@ def classes_of_scripts(trial):
                    "not both")
 
 
-def wrong_tables(trial):
+def wrong_tables(trial: Trial) -> None:
     """What is wrong in a table of classes is told."""
     text = classes.TABLE.read_text(encoding="ascii")
     row = next(line for line in text.splitlines() if line.startswith("store-is-claimed "))
@@ -63,7 +73,7 @@ def wrong_tables(trial):
         trial.sees(len(found) == 1 and said in found[0], f"of {new!r} the table says {found}")
 
 
-def standard_scripts(trial):
+def standard_scripts(trial: Trial) -> None:
     """A standard script has lines of a few forms, and no answer that is a refusal, on its own
     machine and on the least that it needs, which is no larger than its own."""
     for path, needs in classes.standard().items():
@@ -79,13 +89,13 @@ def standard_scripts(trial):
             trial.sees(not answers.REFUSALS & set(said), f"a line of {path.stem} is refused")
 
 
-def asked_of(has):
+def asked_of(has: Needs) -> list[bytes]:
     """Lists the standard scripts that a machine can be asked, with its sizes."""
     return [answers.with_sizes(path.read_bytes(), has.sizes)
             for path, needs in classes.standard().items() if not needs.lacks(has)]
 
 
-def is_alike(trial, has, *words):
+def is_alike(trial: Trial, has: Needs, *words: Any) -> None:
     """Sees that the machine of fixed sizes, with choices, answers all scripts that it can be asked
     as the model does; they come one after the other, and each begins with a machine."""
     scripts = asked_of(has)
@@ -95,7 +105,7 @@ def is_alike(trial, has, *words):
                f"fixed-machine.py {words} answers a standard script otherwise: {ran.errors}")
 
 
-def fixed_machines(trial):
+def fixed_machines(trial: Trial) -> None:
     """A right machine of fixed sizes answers the standard scripts as the model does, with each
     other choice alone and with all together."""
     is_alike(trial, ALIKE)
@@ -112,7 +122,7 @@ def fixed_machines(trial):
     trial.sees(ran.status == 2 and "nothing of this line: vm" in ran.errors, "fixed-machine vm")
 
 
-def left_out(has):
+def left_out(has: Needs) -> str:
     """Says how many scripts are left out of those that a machine can be asked, as compare does."""
     lacks = Counter(filter(None, (needs.lacks(has) for needs in classes.standard().values())))
     count = sum(lacks.values())
@@ -120,7 +130,7 @@ def left_out(has):
             + ", ".join(f"{what} ({number})" for what, number in lacks.items()))
 
 
-def only_standard(trial):
+def only_standard(trial: Trial) -> None:
     """suite/compare --only-standard, with machines of several sizes and deliveries."""
     bridge = [sys.executable, "-B", FIXED]
     for has, *options in (

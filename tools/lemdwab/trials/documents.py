@@ -3,9 +3,18 @@ function takes its Trial. A crate of its own, with a page that has it in words, 
 one after the other, each taken back; so have the order of the definitions and the
 header of the library for C."""
 
+from __future__ import annotations
+
 import sys
+from collections.abc import Callable
+from pathlib import Path
+from types import ModuleType
+from typing import TYPE_CHECKING, Any
 
 from lemdwab.documents import believed, claims, functions, header, statements
+
+if TYPE_CHECKING:
+    from lemdwab.commands.tools import Trial
 
 PAGE = f"{claims.PAGES}words.md"
 # A crate with a call of two clauses, a method, and a law.
@@ -47,11 +56,11 @@ class Tree:
     """A tree in which there is that crate and its page, in place of the repository, while it is
     tried; a file of it is changed by `plant`."""
 
-    def __init__(self, trial):
+    def __init__(self, trial: Trial) -> None:
         self.trial, self.folder = trial, trial.folder / "words"
-        self.stood = {}
+        self.stood: dict[tuple[ModuleType, str], Callable[..., Any] | Path] = {}
 
-    def __enter__(self):
+    def __enter__(self) -> Tree:
         files = {"crates/bits/src/lib.rt": SOURCE, PAGE: WORDS}
         for name, text in files.items():
             (self.folder / name).parent.mkdir(parents=True, exist_ok=True)
@@ -66,39 +75,39 @@ class Tree:
         self.forget()
         return self
 
-    def __exit__(self, *_):
+    def __exit__(self, *_: None) -> None:
         for (module, name), value in self.stood.items():
             setattr(module, name, value)
         self.forget()
 
-    def documents(self):
+    def documents(self) -> list[str]:
         """Lists the pages of the tree."""
         found = self.folder.glob("docs/**/*.md")
         return sorted(str(path.relative_to(self.folder)) for path in found)
 
     @staticmethod
-    def forget():
+    def forget() -> None:
         """Forgets what was read before a file changed."""
         for cached in (claims.pages, claims.claims, claims.told_of, functions.source_lines,
                        functions.exported):
             cached.cache_clear()
 
-    def told(self):
+    def told(self) -> list[str]:
         """Gives what is told of the tree."""
         self.forget()
         return [*claims.drifts(), *statements.drifts()]
 
-    def make(self):
+    def make(self) -> None:
         """Makes the pages of statements anew."""
         self.forget()
         statements.make()
 
-    def accepted(self, *words):
+    def accepted(self, *words: str) -> int:
         """Accepts functions, and gives the status."""
         self.forget()
         return quiet(claims.accept, list(words))
 
-    def plant(self, name, *changes):
+    def plant(self, name: str, *changes: tuple[str, str]) -> list[str]:
         """Changes a file, and gives what is told then; the file is as before after it."""
         path = self.folder / name
         stood = path.read_text(encoding="utf-8")
@@ -113,7 +122,7 @@ class Tree:
         return found
 
 
-def quiet(call, *given):
+def quiet(call: Callable[..., Any], *given: list[str]) -> int:
     """Calls what prints, without what it prints."""
     stood, sys.stdout = sys.stdout, Silence()
     try:
@@ -125,10 +134,10 @@ def quiet(call, *given):
 class Silence:
     """Where nothing is written."""
 
-    def write(self, text):
+    def write(self, text: str) -> None:
         """Takes a text."""
 
-    def flush(self):
+    def flush(self) -> None:
         """Has nothing to hand on."""
 
 
@@ -161,7 +170,7 @@ PLANTS = [
 ]
 
 
-def told_claims(trial):
+def told_claims(trial: Trial) -> None:
     """Statements, sentences and rows that change, each alone; and that both may be accepted."""
     with Tree(trial) as tree:
         trial.sees(len(tree.told()) == 4, f"of what nobody accepted is told {tree.told()}")
@@ -177,7 +186,7 @@ def told_claims(trial):
         trial.sees(not tree.told(), f"of what is as before is told {tree.told()}")
 
 
-def accepted_claims(trial):
+def accepted_claims(trial: Trial) -> None:
     """A sentence that changed first hides no statement that changes after it; what has no sentence,
     and what is not named, is not accepted, and `make` accepts nothing."""
     with Tree(trial) as tree:
@@ -200,7 +209,7 @@ def accepted_claims(trial):
             trial.sees(tree.accepted(word) == 2, f"the function {word!r} is accepted")
 
 
-def shows_before(trial):
+def shows_before(trial: Trial) -> None:
     """The statement that was accepted, as a commit has it, and none where no commit has it."""
     said = {"log": "c1\n", "grep": "c1:crates/bits/src/lib.rt\n"}
     real = claims.git
@@ -216,7 +225,7 @@ def shows_before(trial):
         claims.git = real
 
 
-def statements_drift(trial):
+def statements_drift(trial: Trial) -> None:
     """A page of statements that is changed by hand, and one that stands for no page."""
     with Tree(trial) as tree:
         tree.accepted("count", "none_is_lost")
@@ -232,7 +241,8 @@ def statements_drift(trial):
         trial.sees(not tree.told(), f"of pages made anew is told {tree.told()}")
 
 
-def told_beliefs(trial, *said, placed=believed.placed, proved=believed.proved):
+def told_beliefs(trial: Trial, *said: str, placed: Callable[..., Any] = believed.placed,
+                 proved: Callable[..., Any] = believed.proved) -> None:
     """Sees that of an order of definitions, and of what carries README's sentences, this is
     told."""
     stood = believed.placed, believed.proved
@@ -245,7 +255,7 @@ def told_beliefs(trial, *said, placed=believed.placed, proved=believed.proved):
                f"{said} is not told: {found[:3]}")
 
 
-def lacks_beliefs(trial):
+def lacks_beliefs(trial: Trial) -> None:
     """What README's sentences rest on, taken out of part I of docs/DEFINITIONS.md."""
     real, rows = believed.placed, believed.proved()
     told_beliefs(trial)
@@ -283,7 +293,7 @@ HEADERS = [
 ]
 
 
-def header_drifts(trial):
+def header_drifts(trial: Trial) -> None:
     """The header of the library for C, with something changed in it."""
     stood, text = header.read, header.read()
     trial.sees(not list(header.drifts()), f"of the header is told {list(header.drifts())}")

@@ -1,13 +1,33 @@
 """Tries how the tools end, as suite/tools does: each function takes its Trial. Help is printed with
 status 0; 0 says that all is the same, 1 that something differs, 2 that a tool could not look."""
 
+from __future__ import annotations
+
 import os
 import shutil
 import stat
 import sys
+from collections.abc import Iterator
+from pathlib import Path
+from typing import TYPE_CHECKING, Any
 
 from lemdwab import answers
 from lemdwab.running import TOP
+
+if TYPE_CHECKING:
+    from lemdwab.commands.tools import Trial
+
+if TYPE_CHECKING:
+    from lemdwab.commands.tools import Trial
+
+if TYPE_CHECKING:
+    from lemdwab.commands.tools import Trial
+
+if TYPE_CHECKING:
+    from lemdwab.commands.tools import Trial
+
+if TYPE_CHECKING:
+    from lemdwab.commands.tools import Trial
 
 FOLDERS = ("suite", "peers", "examples", "bench", "docs/make")
 APART = TOP / "peers/apart"
@@ -23,7 +43,7 @@ ENDING = {
     "killed": ("kill -9 $$", 2)}
 
 
-def executables():
+def executables() -> Iterator[Path]:
     """Lists the scripts of the tools: files that may be run and begin with a line that says how."""
     for folder in FOLDERS:
         for path in sorted((TOP / folder).rglob("*")):
@@ -33,19 +53,19 @@ def executables():
                         yield path
 
 
-def program(trial, name, lines):
+def program(trial: Trial, name: str, lines: str) -> Path:
     """Writes a program of some lines of a shell."""
     path = trial.file(name, f"#!/bin/bash\n{lines}\n")
     path.chmod(0o755)
     return path
 
 
-def planted(trial, plant):
+def planted(trial: Trial, plant: str) -> Path:
     """Writes a program that answers as the model does with an error in it."""
     return program(trial, plant, f'exec "{APART}/plants.py" {plant}')
 
 
-def helps(trial):
+def helps(trial: Trial) -> None:
     """Each script prints its own help, with status 0, and builds or runs nothing."""
     folder = trial.folder / "builders"
     folder.mkdir()
@@ -68,7 +88,7 @@ def helps(trial):
     trial.sees(not noted.exists(), "help is asked for, and something is run")
 
 
-def refused_words(trial):
+def refused_words(trial: Trial) -> Iterator[Any]:
     """Lists words that are wrong, by the tool."""
     for name in ("between-steps", "majors-table", "make", "documents", "step-numbers", "isolation",
                  "from-memory", "migrations", "no-sense", "want-of-memory", "repeats",
@@ -105,7 +125,7 @@ def refused_words(trial):
     yield TOP / "bench/plot", ["--x"], ["a", "b"]
 
 
-def words_are_refused(trial):
+def words_are_refused(trial: Trial) -> None:
     """Wrong words, and files that are not there: status 2, and a message on standard error."""
     for tool, *cases in refused_words(trial):
         for words in cases:
@@ -119,7 +139,7 @@ def words_are_refused(trial):
     trial.sees("\n    a_priority_of_0_is_kept\n" in said, "plants.py -h lists no plants")
 
 
-def reasons(trial):
+def reasons(trial: Trial) -> None:
     """Where words are wrong a tool says what is, in few lines, and no more of its help."""
     script = TOP / "examples/claim.script"
     for words, said in (
@@ -145,14 +165,14 @@ def reasons(trial):
                         (["step-numbers", "tri"],
                          "step-numbers: there is no command 'tri': there is try"),
                         (["make", "a", "b"], "make: one FOLDER at most is wanted, and not 2 words"),
-                        (["isolation", "x"], "isolation: PAIRS is a number from 1 to 999999, and not"
-                                             " 'x'"),
-                        (["from-memory", "x"], "from-memory: GUESTS is a number from 1 to 999999, and"
-                                               " not 'x'"),
+                        (["isolation", "x"],
+                         "isolation: PAIRS is a number from 1 to 999999, and not 'x'"),
+                        (["from-memory", "x"],
+                         "from-memory: GUESTS is a number from 1 to 999999, and not 'x'"),
                         (["migrations", "1", "x"], "migrations: SEED is a number from 0 to 999999,"
                                                    " and not 'x'"),
-                        (["no-sense", "x"], "no-sense: LINES is a number from 1 to 999999999, and not"
-                                            " 'x'")):
+                        (["no-sense", "x"],
+                         "no-sense: LINES is a number from 1 to 999999999, and not 'x'")):
         ran = trial.run("env", "-u", "PLANS", TOP / "suite" / words[0], *words[1:])
         trial.sees(ran.status == 2 and ran.errors.splitlines()[:1] == [said],
                    f"{' '.join(words)} says {ran.errors}")
@@ -165,7 +185,7 @@ def reasons(trial):
         "fixed-machine.py: "), "fixed-machine.py -h begins without its name")
 
 
-def judges_nothing(trial):
+def judges_nothing(trial: Trial) -> None:
     """Where plans can't be judged the checks of examples say that, and never that one differs."""
     fails = program(trial, "fails", "echo no judge >&2; exit 126")
     for tool, one in (("plans/check", APART / "model.py"), ("plans/check", fails),
@@ -176,7 +196,7 @@ def judges_nothing(trial):
                    f"{tool} with {one.name} ends with {ran.status}: {ran.output}")
 
 
-def without_toolchain(trial):
+def without_toolchain(trial: Trial) -> None:
     """Without the toolchain and a program each tool says what serves in its place."""
     path = f"PATH={os.path.dirname(sys.executable)}:/usr/bin:/bin"
     if shutil.which("rt", path=path.partition("=")[2]) or list(TOP.glob("crates/*/out")):
@@ -193,7 +213,7 @@ def without_toolchain(trial):
                f"lockstep.py without a program says {ran.errors}")
 
 
-def could_not_look(trial):
+def could_not_look(trial: Trial) -> None:
     """No program, or one that can't be run, no compiler, no place to write: status 2."""
     here = TOP / "examples"
     own = [TOP / "suite" / name for name in ("isolation", "from-memory", "migrations", "no-sense",
@@ -224,7 +244,7 @@ def could_not_look(trial):
                    f"{' '.join(map(str, words))} ends with {ran.status}: {ran.errors[-80:]!r}")
 
 
-def same_and_different(trial):
+def same_and_different(trial: Trial) -> None:
     """The tools that hold a program against something end with 0 where it is right, and with 1
     where it has an error."""
     suite, here, right = TOP / "suite", TOP / "examples", trial.program
@@ -245,7 +265,7 @@ def same_and_different(trial):
             trial.sees(ran.status == status, f"{tool.name} over {one.name if status else one} ends"
                        f" with {ran.status}: {ran.errors[-80:]!r}")
     for leak, status in ((0, 0), (1, 1)):
-        trial.sees(trial.run(suite / "isolation", 3, leak).status == status,
+        trial.sees(trial.run(suite / "isolation", 3, leak, seconds=400).status == status,
                    f"isolation with the leak {leak}")
     plant = ("--plant", "a_claim_clears_a_level_source")
     for words, status in ((["1", "4"], 0), (["1", "40", *plant], 1)):
@@ -260,7 +280,7 @@ def same_and_different(trial):
     trial.prints(0, [" names of public types: "], suite / "names", "try")
 
 
-def short_of_time(trial, name, seconds):
+def short_of_time(trial: Trial, name: str, seconds: str) -> Path:
     """Writes an example anew, with a second for each answer."""
     text = (TOP / "examples" / name).read_text(encoding="utf-8")
     trial.sees(f"SECONDS{seconds}" in text, f"{name} has no SECONDS")
@@ -268,7 +288,7 @@ def short_of_time(trial, name, seconds):
                       text.replace(f"SECONDS{seconds}", f"SECONDS{seconds.replace('60', '1')}"))
 
 
-def locksteps(trial):
+def locksteps(trial: Trial) -> None:
     """examples/lockstep.py, and lockstep.c where there is a compiler, with programs that end before
     their time, or close their output: status 2 and a message, and never a traceback."""
     tools, hasty = [[TOP / "examples/lockstep.py"]], [short_of_time(trial, "lockstep.py", " = 60")]

@@ -1,5 +1,7 @@
 """What suite/tools tries of suite/hunt."""
 
+from __future__ import annotations
+
 import os
 import shlex
 import signal
@@ -7,10 +9,20 @@ import subprocess
 import sys
 import time
 from pathlib import Path
+from typing import TYPE_CHECKING
 
 from lemdwab import answers, hunting
 from lemdwab.apart import generated
 from lemdwab.running import TOP
+
+if TYPE_CHECKING:
+    from lemdwab.commands.tools import Trial
+
+if TYPE_CHECKING:
+    from lemdwab.commands.tools import Trial
+
+if TYPE_CHECKING:
+    from lemdwab.commands.tools import Trial
 
 HUNT, RANDOM, APART = TOP / "suite/hunt", TOP / "suite/random", TOP / "peers/apart"
 COMPARE = TOP / "suite/compare"
@@ -32,7 +44,7 @@ PLANTS = (
 )
 
 
-def command(trial, name, body, runs="/dev/null"):
+def command(trial: Trial, name: str, body: str, runs: str | Path = "/dev/null") -> Path:
     """Writes a command that answers as the program, but for what a body in awk makes of each
     answer, given the line that it is of as `text`. A file keeps a line for each of its `runs`."""
     path = trial.file(name, f"""#!/bin/bash
@@ -48,12 +60,12 @@ def command(trial, name, body, runs="/dev/null"):
     return path
 
 
-def listed(said):
+def listed(said: str) -> list[str]:
     """Gives the lines of the listing that stands in what hunt printed, with the model's answers."""
     return [line.split("  => ")[0].strip() for line in said.splitlines() if "  => " in line]
 
 
-def finds_plant(trial, plant, *options, most=15):
+def finds_plant(trial: Trial, plant: str, *options: str | int | Path, most: int = 15) -> int | None:
     """Sees that a planted error is found and shrunk."""
     ran = trial.run(HUNT, *options, APART / "plants.py", plant, seconds=LONGEST)
     words = answers.shown(ran.output).split()
@@ -63,7 +75,7 @@ def finds_plant(trial, plant, *options, most=15):
     return fewest
 
 
-def hunts(trial):
+def hunts(trial: Trial) -> None:
     """suite/hunt: a command that is right, one that is wrong, and what is left of the script."""
     left = trial.folder / "left.script"
     trial.prints(0, ["30 scripts same, by the numbers 1 to 30\n"], HUNT, "--scripts", 30, "--jobs",
@@ -82,7 +94,7 @@ def hunts(trial):
                f"hunt says of a command that never ends {ran.errors}")
 
 
-def hunts_by_processes(trial):
+def hunts_by_processes(trial: Trial) -> None:
     """The same is found, and printed, by one process and by three: the least number that differs;
     what a process says against the words is said once."""
     plant = (APART / "plants.py", "guards_stand_without_passes")
@@ -104,7 +116,7 @@ def hunts_by_processes(trial):
                " no board", f"hunt with a model that ends so: {ran}")
 
 
-def hunts_ranges(trial):
+def hunts_ranges(trial: Trial) -> None:
     """The ranges that processes look through: each number once, in order, and not too many."""
     for first, count, jobs in ((1, 2000, 4), (7, 1, 64), (0, 30, 2), (5, 4, 3), (1, 100_000, 8)):
         ranges = list(hunting.units(first, count, jobs))
@@ -113,7 +125,7 @@ def hunts_ranges(trial):
                    f"{count} numbers from {first} on, by {jobs} processes: {ranges}")
 
 
-def hunts_kinds(trial):
+def hunts_kinds(trial: Trial) -> None:
     """Answers that are missing and spare, a greeting, and an end: each is named as what it is, and
     what is left shows it."""
     short = (HUNT, "--lines", 30, "--only")
@@ -142,7 +154,7 @@ def hunts_kinds(trial):
     trial.prints(1, ["shrunk to 6 lines,", "mine: fault"], *short, "wire,h", whole)
 
 
-def hunts_now_and_then(trial):
+def hunts_now_and_then(trial: Trial) -> None:
     """A difference that comes now and then: how often it does is said, nothing is printed that was
     not seen, and where it is seldom the whole script is kept."""
     runs = trial.file("runs", "")
@@ -170,7 +182,7 @@ def hunts_now_and_then(trial):
     trial.sees(listed(said)[-1:] == ["pins 0"], f"of every other run is left {said}")
 
 
-def hunts_changing(trial):
+def hunts_changing(trial: Trial) -> None:
     """A command of which another answer is wrong in each run: nothing is shrunk. One that is wrong
     in one line of many that are alike: that line is kept."""
     into, runs = trial.folder / "changing.script", trial.file("runs", "")
@@ -190,7 +202,7 @@ def hunts_changing(trial):
     trial.sees(said.count("mine:") == 1, f"of the third of some lines is left {said}")
 
 
-def hunts_words(trial):
+def hunts_words(trial: Trial) -> None:
     """A command that fails over an empty script, an option behind the command, and patterns that no
     line fits."""
     ran = trial.run(HUNT, "bash", "-c", "echo no board >&2; echo two >&2; exit 4")
@@ -223,7 +235,7 @@ def hunts_words(trial):
     trial.sees(ran.status == 1 and not ran.errors, f"hunt that ends early says {ran.errors}")
 
 
-def paces(trial):
+def paces(trial: Trial) -> None:
     """How far a tool is stands on standard error, once it is time to."""
     said = trial.run("env", f"PYTHONPATH={TOP}/tools", sys.executable, "-B", "-c",
                      "from lemdwab import running; pace = running.Pace();"
@@ -231,7 +243,7 @@ def paces(trial):
     trial.sees(said == "-c: 7 of 9 scripts, 0 seconds", f"a pace says {said!r}")
 
 
-def hunts_first(trial):
+def hunts_first(trial: Trial) -> None:
     """The command and the file of --into are tried before the model is asked for, and the file is
     as it was, or not there, until there is something to write."""
     mark = trial.folder / "asked"
@@ -257,7 +269,7 @@ def hunts_first(trial):
                f"hunt --help ends with {ran.status}")
 
 
-def hunts_stopped(trial):
+def hunts_stopped(trial: Trial) -> None:
     """hunt with processes of its own, stopped: it ends with all that these have started."""
     hangs = trial.file("hangs-later", "#!/bin/sh\n[ -s /dev/stdin ] || exit 0\n"
                                       "echo $$ >> \"$0.pids\"\nsleep 1000 &\n"
@@ -290,7 +302,7 @@ def hunts_stopped(trial):
                    f" {alive} of {started}, and says {errors}")
 
 
-def hunts_stopped_later(trial):
+def hunts_stopped_later(trial: Trial) -> None:
     """hunt stopped while it shrinks: it says so, says nothing of the model, and what is left so far
     stands in the file that it names."""
     slow = trial.file("slow", "#!/bin/sh\n[ -s /dev/stdin ] || exit 0\nsleep 0.2\nhead -n 5\n")
@@ -318,7 +330,7 @@ def hunts_stopped_later(trial):
                    f" {path.name}\n", f"hunt stopped {at}: {tool.returncode}, {lines}, {errors}")
 
 
-def hunts_signals(trial):
+def hunts_signals(trial: Trial) -> None:
     """A command that a signal ends: the signal is named."""
     for number, name in ((11, "SIGSEGV"), (9, "SIGKILL")):
         ran = trial.run(HUNT, "bash", "-c", f"kill -{number} $$")
@@ -326,7 +338,7 @@ def hunts_signals(trial):
                    f" killed by signal {number} ({name})", f"hunt over a killed command: {ran}")
 
 
-def hunts_a_file_alone(trial):
+def hunts_a_file_alone(trial: Trial) -> None:
     """The recipe of docs/TRACES.md for the supervisor file of one hart finds that eidelivery is
     ignored."""
     text = (TOP / "docs/TRACES.md").read_text(encoding="utf-8")
@@ -346,7 +358,7 @@ model.replay()
                f"hunt {words} over an ignored eidelivery: {ran}")
 
 
-def is_alive(pid):
+def is_alive(pid: int) -> bool:
     """Says whether a process runs; one that has ended and waits for its parent does not."""
     try:
         stat = Path(f"/proc/{pid}/stat").read_text(encoding="ascii", errors="replace")
@@ -355,7 +367,7 @@ def is_alive(pid):
     return stat.rpartition(")")[2].split()[0] not in "ZX"
 
 
-def all_plants(trial, jobs):
+def all_plants(trial: Trial, jobs: int) -> None:
     """suite/hunt over all planted errors."""
     for plant in PLANTS:
         began = time.monotonic()

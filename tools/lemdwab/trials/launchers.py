@@ -1,6 +1,8 @@
 """Tries the launchers ./aia, ./plans and ./library: what they say before the program runs, and
 after it. They run in a tree of their own, with a toolchain and programs that only pretend."""
 
+from __future__ import annotations
+
 import os
 import random
 import re
@@ -8,9 +10,15 @@ import shutil
 import signal
 import subprocess
 import time
+from pathlib import Path
+from typing import TYPE_CHECKING, Any
 
 from lemdwab.running import TOP
 from lemdwab.trials.hunts import is_alive
+
+if TYPE_CHECKING:
+    from lemdwab.commands.tools import Trial
+    from lemdwab.running import Ran
 
 PLAN, SCRIPT = "examples/hypervisors/core-leave.plan", "examples/claim.script"
 AUDITED = "examples/plans/leave.plan"
@@ -75,7 +83,7 @@ SENTENCES = {3: "the input could not be read to its end",
 class Tree:
     """A tree with the launchers, a path with a toolchain that pretends, and one without."""
 
-    def __init__(self, trial, name):
+    def __init__(self, trial: Trial, name: str) -> None:
         self.trial, self.folder = trial, trial.folder / name
         for file in FILES:
             (self.folder / file).parent.mkdir(parents=True, exist_ok=True)
@@ -92,7 +100,7 @@ class Tree:
         for crate in re.findall(r"(?m)^(\w+)", crates):
             (self.folder / "crates" / crate / "src").mkdir(parents=True)
 
-    def pretend(self, status, program="exec cat"):
+    def pretend(self, status: int, program: str = "exec cat") -> None:
         """Puts a toolchain on the path that says much, makes a program, and ends with a status."""
         rt = self.path / "rt"
         rt.write_text(
@@ -104,7 +112,7 @@ class Tree:
             f"chmod +x out/*\nexit {status}\n", encoding="ascii")
         rt.chmod(0o755)
 
-    def put(self, launcher, program):
+    def put(self, launcher: str, program: str) -> None:
         """Puts a program where the launcher has one built."""
         crate, name, _ = BUILT[launcher]
         built = self.folder / "crates" / crate / "out" / name
@@ -112,18 +120,18 @@ class Tree:
         built.write_text(f"#!/bin/sh\n{program}\n", encoding="ascii")
         built.chmod(0o755)
 
-    def run(self, launcher, *words, path=None):
+    def run(self, launcher: str, *words: str, path: Path | None = None) -> Ran:
         """Runs a launcher in the tree; gives how it ended."""
         searched = f"{path or self.path}:{self.bare}" if path != self.bare else self.bare
         return self.trial.run("env", "-C", self.folder, f"PATH={searched}",
                               self.folder / launcher, *words)
 
-    def has_built(self):
+    def has_built(self) -> bool:
         """Says whether the toolchain was called."""
         return self.calls.exists()
 
 
-def launchers_speak(trial):
+def launchers_speak(trial: Trial) -> None:
     """Help, the version and wrong words, of which nothing is built."""
     tree = Tree(trial, "speak")
     tree.pretend(0)
@@ -151,7 +159,7 @@ def launchers_speak(trial):
     trial.sees(not tree.has_built(), "a launcher builds before it has looked at its words")
 
 
-def versions_agree(trial):
+def versions_agree(trial: Trial) -> None:
     """One version in the file VERSION, in the header and in the library."""
     major, minor, patch = map(int, (TOP / "VERSION").read_text(encoding="ascii").split("."))
     number = 10_000 * major + 100 * minor + patch
@@ -164,7 +172,7 @@ def versions_agree(trial):
                "the first version of CHANGELOG.md")
 
 
-def files_are_licensed(trial):
+def files_are_licensed(trial: Trial) -> None:
     """Each file that is meant to be copied says its licence, and each of the READMEs for users."""
     files = [TOP / "include/aia.h", TOP / "README.md", TOP / "suite/README.md",
              TOP / "peers/README.md", *sorted((TOP / "examples").glob("*.[cpr]*")),
@@ -174,7 +182,7 @@ def files_are_licensed(trial):
     trial.sees("Apache License" in (TOP / "LICENSE").read_text(encoding="utf-8")[:200], "LICENSE")
 
 
-def launchers_refuse_as_programs(trial):
+def launchers_refuse_as_programs(trial: Trial) -> None:
     """Words at random, which ./aia refuses where the program does."""
     tree, draw = Tree(trial, "words"), random.Random(7)
     tree.put("aia", "exit 0")
@@ -187,7 +195,7 @@ def launchers_refuse_as_programs(trial):
                    f"aia {words} is refused by the launcher or by the program alone")
 
 
-def launchers_without_toolchain(trial):
+def launchers_without_toolchain(trial: Trial) -> None:
     """No toolchain on the path: a sentence says so, and what there is without it."""
     tree = Tree(trial, "without")
     for launcher, (_, _, status) in BUILT.items():
@@ -206,7 +214,7 @@ def launchers_without_toolchain(trial):
     trial.sees(ran.output == b"here\n" and not ran.status, "aia is built, and wants rt")
 
 
-def launchers_build(trial):
+def launchers_build(trial: Trial) -> None:
     """A first build: what is said before it, how it goes on, and where it failed."""
     for launcher, (crate, _, status) in list(BUILT.items())[:2]:
         tree = Tree(trial, f"build-{launcher}")
@@ -233,7 +241,7 @@ def launchers_build(trial):
                    f"{launcher} that fails to build ends with {ran.status}: {ran.errors}")
 
 
-def launchers_say_statuses(trial):
+def launchers_say_statuses(trial: Trial) -> None:
     """The statuses of a program, which a launcher keeps and, of failures, says in a sentence."""
     tree = Tree(trial, "statuses")
     for launcher in ("aia", "plans"):
@@ -245,7 +253,7 @@ def launchers_say_statuses(trial):
                        f"{launcher} of status {status} ends with {ran.status}: {ran.errors!r}")
 
 
-def ended(tree, each, pid):
+def ended(tree: Tree, each: Any, pid: Path) -> tuple[int, bool]:
     """Starts ./aia replay in a tree, tells it to end once a process has said its number, and gives
     its status and whether that process is still there."""
     pid.unlink(missing_ok=True)
@@ -267,7 +275,7 @@ def ended(tree, each, pid):
     return status, is_alive(int(pid.read_text(encoding="ascii")))
 
 
-def on_terminal(tree, seconds):
+def on_terminal(tree: Tree, seconds: float) -> str:
     """Starts ./plans judge in a tree with a terminal for standard error, tells it to end after so
     many seconds, and gives what the terminal shows."""
     ours, its = os.openpty()
@@ -289,7 +297,7 @@ def on_terminal(tree, seconds):
     return shown.decode()
 
 
-def launchers_on_terminal(trial):
+def launchers_on_terminal(trial: Trial) -> None:
     """A build on a terminal: its line moves each second, and what is said at its end stands in a
     line of its own."""
     tree = Tree(trial, "terminal")
@@ -302,7 +310,7 @@ def launchers_on_terminal(trial):
                f"what is said at the end stands in the line of the build: {shown!r}")
 
 
-def launchers_end(trial):
+def launchers_end(trial: Trial) -> None:
     """A launcher that is told to end, which ends its program, or the build of it."""
     tree = Tree(trial, "end")
     tree.path.joinpath("rt").write_text(f"#!/bin/sh\necho $$ > {tree.folder}/rt.pid\n"

@@ -1,13 +1,22 @@
 """What suite/tools tries of suite/lint; and random lines of each language, good ones and broken
 ones, on which lint and the program have to agree."""
 
+from __future__ import annotations
+
 import os
 import random
 import re
+from collections.abc import Callable
+from typing import TYPE_CHECKING, Any
 
 from lemdwab import answers, linting, linting_plans, running
 from lemdwab.apart import plans, reading
 from lemdwab.running import TOP
+
+if TYPE_CHECKING:
+    from lemdwab.commands.tools import Trial
+    from lemdwab.linting import Fault
+    from lemdwab.running import Workers
 
 LINT = TOP / "suite/lint"
 # How many lines are compared by one run of the program, at most, and how long that may take.
@@ -28,7 +37,7 @@ IMAGE_PARTS = ("image", "majors", "prio", "word")
 
 # ---- good lines
 
-def spelled(draw, value):
+def spelled(draw: random.Random, value: int) -> bytes:
     """Spells a number in one of its ways."""
     way = draw.randrange(8)
     if way < 4:
@@ -36,7 +45,7 @@ def spelled(draw, value):
     return b"0x%0*x" % (draw.choice((1, 1, 1, 2, 8, 16)), value)
 
 
-def numbers(draw, kinds):
+def numbers(draw: random.Random, kinds: str) -> list[bytes]:
     """Gives numbers of these kinds."""
     found = []
     for kind in kinds:
@@ -45,7 +54,7 @@ def numbers(draw, kinds):
     return found
 
 
-def instruction(draw, names):
+def instruction(draw: random.Random, names: dict[bytes, str]) -> list[bytes]:
     """Gives the words of a CSR instruction."""
     csr = draw.choice(list(names))
     if draw.random() < 0.3:
@@ -53,7 +62,7 @@ def instruction(draw, names):
     return [draw.choice(list(reading.WRITING)), csr, *numbers(draw, "n")]
 
 
-def script_line(draw):
+def script_line(draw: random.Random) -> bytes:
     """Gives a good line of a script."""
     form = draw.choice([*reading.FORMS, "m", "h", "h", "g", "g", "load", "load"])
     if form in reading.FORMS:
@@ -70,14 +79,14 @@ def script_line(draw):
     return b" ".join([form.encode(), *numbers(draw, "n" if form in "mh" else "nn"), *rest])
 
 
-def audit_line(draw):
+def audit_line(draw: random.Random) -> bytes:
     """Gives a good step of a plan for `audit`."""
     if draw.random() < 0.4:
         return draw.choice(plans.PLAIN).encode()
     return draw.choice(plans.OF_A_WORD).encode() + b" " + spelled(draw, draw.randrange(AUDIT_WIDTH))
 
 
-def judge_line(draw, names):
+def judge_line(draw: random.Random, names: Any) -> bytes:
     """Gives a line of a plan for `judge` that spells something, whatever is declared."""
     name = draw.choice(list(names))
     words = [name]
@@ -96,7 +105,7 @@ def judge_line(draw, names):
 
 # ---- broken ones
 
-def broken(draw, text):
+def broken(draw: random.Random, text: bytes) -> bytes:
     """Gives a line with one thing that is other."""
     words, at = text.split(b" "), draw.randrange(len(text) + 1)
     one = draw.randrange(len(words))
@@ -131,7 +140,7 @@ def broken(draw, text):
     return draw.choice(list(other.values()))().replace(b"\n", b" ")
 
 
-def some_line(draw, line, share):
+def some_line(draw: random.Random, line: Callable[..., Any], share: float) -> bytes:
     """Gives a line that is good or, of a share, broken once or twice."""
     text = line(draw)
     for _ in range((draw.random() < share) + (draw.random() < share / 4)):
@@ -144,10 +153,10 @@ def some_line(draw, line, share):
 class Tally:
     """What was compared, and what differs."""
 
-    def __init__(self, language):
+    def __init__(self, language: str) -> None:
         self.language, self.lines, self.bad, self.differ = language, 0, 0, 0
 
-    def see(self, text, mine, its):
+    def see(self, text: bytes, mine: Any, its: Any) -> None:
         """Sees whether lint and the program say the same of a text."""
         if mine != its:
             self.differ += 1
@@ -155,13 +164,14 @@ class Tally:
                 print(f"{answers.printable(answers.shown(text))!r}: lint says {mine}, the program"
                       f" {its}", flush=True)
 
-    def summary(self):
+    def summary(self) -> str:
         """Says what was compared."""
         return (f"{self.language}: {self.lines} lines, {self.bad} bad, on {self.differ} of them"
                 " lint and the program differ")
 
 
-def ran(workers, command, text, most, statuses=(0,)):
+def ran(workers: running.Workers, command: list[str], text: bytes, most: int,
+        statuses: tuple[int, ...] = (0,)) -> list[str]:
     """Gives what a command answers; ends the tool where it ends with another status than these."""
     one = workers.submit(running.run, command, text, LONGEST, most).result()
     running.check_started(one, command)
@@ -170,7 +180,8 @@ def ran(workers, command, text, most, statuses=(0,)):
     return answers.answers(one.output)
 
 
-def compare_scripts(workers, program, draw, count, tally):
+def compare_scripts(workers: Workers, program: str, draw: random.Random, count: int,
+                    tally: Tally) -> None:
     """Compares lines of scripts, each by its answer."""
     while tally.lines < count:
         texts = [some_line(draw, script_line, 0.6) for _ in range(min(PIECE, count - tally.lines))]
@@ -184,7 +195,8 @@ def compare_scripts(workers, program, draw, count, tally):
         tally.lines += len(texts)
 
 
-def compare_audits(workers, program, draw, count, tally):
+def compare_audits(workers: Workers, program: str, draw: random.Random, count: int,
+                   tally: Tally) -> None:
     """Compares plans for `audit`, each by its first line that is bad, if it has one."""
     while tally.lines < count:
         texts = [some_line(draw, audit_line, 0.04) for _ in range(draw.choice((5, 20, 40, 40)))]
@@ -201,7 +213,7 @@ def compare_audits(workers, program, draw, count, tally):
         tally.lines, tally.bad = tally.lines + len(texts), tally.bad + (bad is not None)
 
 
-def a_plan(draw):
+def a_plan(draw: random.Random) -> list[bytes]:
     """Gives the lines of a plan for `judge`, most of them good, in an order that mostly may be."""
     declared = {name: what for name, what in linting_plans.DECLARATIONS.items() if name != "plan"}
     texts = [b"plan"] if draw.random() < 0.97 else [b" plan # next"]
@@ -214,7 +226,8 @@ def a_plan(draw):
     return [texts[0], *(broken(draw, text) if draw.random() < 0.06 else text for text in texts[1:])]
 
 
-def compare_judged(workers, program, draw, count, tally):
+def compare_judged(workers: Workers, program: str, draw: random.Random, count: int,
+                   tally: Tally) -> None:
     """Compares plans for `judge`, each by its first line that is bad, if it has one."""
     while tally.lines < count:
         texts = []
@@ -240,7 +253,7 @@ def compare_judged(workers, program, draw, count, tally):
 COMPARED = {"script": compare_scripts, "audit": compare_audits, "judge": compare_judged}
 
 
-def program_of(workers, language):
+def program_of(workers: running.Workers, language: str) -> str:
     """Gives the program that reads a language, which is built first where it has to be."""
     if language != "judge":
         return running.model_command(workers)[0]
@@ -253,7 +266,7 @@ def program_of(workers, language):
     return str(TOP / "crates/plans/out/plans")
 
 
-def compares(words):
+def compares(words: list[str]) -> int:
     """Compares lint with the program over random lines: LINES SEED [LANGUAGE]."""
     if len(words) not in (2, 3):
         running.usage("LINES and SEED are wanted behind `try`")
@@ -382,7 +395,7 @@ HOLDS = {
 }
 
 
-def holds(text, fault):
+def holds(text: bytes, fault: Fault) -> bool | re.Match[str]:
     """Says whether the reason that is given of a line of a script is true of it."""
     rest = text[fault.column - 1:]
     word = rest.split(b" ")[0]
@@ -402,7 +415,7 @@ def holds(text, fault):
                if fault.reason.startswith(begin))
 
 
-def lints_by_reasons(trial):
+def lints_by_reasons(trial: Trial) -> None:
     """What is said of lines that are bad: of some by heart, and of random ones that it is true."""
     for text, column, reason in CASES:
         fault = linting.script_fault(text.encode("latin-1"))
@@ -432,11 +445,11 @@ def lints_by_reasons(trial):
                f"of two plans in a file lint says {said}")
 
 
-def lints_as_documents(trial):
+def lints_as_documents(trial: Trial) -> None:
     """The forms as the documents have them, and the lines of the suite that are answered `bad`."""
     reference = (TOP / "docs/REFERENCE.md").read_text(encoding="utf-8")
 
-    def told(text, title):
+    def told(text: str, title: str) -> set[str]:
         table = text.partition(f"\n## {title}\n")[2].partition("\n## ")[0]
         return {form for cell in re.findall(r"(?m)^\| ([^|]*) \|", table)
                 for form in re.findall("`([^`]+)", cell)}
@@ -462,7 +475,7 @@ def lints_as_documents(trial):
     trial.sees(not wrong, f"lines of the suite on which lint and the answers differ: {wrong[:3]}")
 
 
-def lints_files(trial):
+def lints_files(trial: Trial) -> None:
     """suite/lint over files: which language they are in, the ends of lines, and statuses."""
     bad = trial.file("my.script", "machine 1 0 63 1\n# so\nst 0x2800000C 5\nwire 1 1\n")
     trial.prints(1, [f"{bad}:3:4: capital digits in a hexadecimal number: 0x2800000C\n",
@@ -492,7 +505,7 @@ def lints_files(trial):
                    f"lint {words} ends with {ended.status}: {ended.errors}")
 
 
-def lints_much(trial):
+def lints_much(trial: Trial) -> None:
     """A file of no language, and one with more bad lines than are told: one verdict, at the end."""
     readme = TOP / "README.md"
     verdict = f"{readme}: in none of the three languages"
@@ -510,7 +523,7 @@ def lints_much(trial):
         trial.sees(ran.output == b"2\n" and not ran.errors, f"{tool} | nobody: {ran}")
 
 
-def lints_machines(trial):
+def lints_machines(trial: Trial) -> None:
     """A script whose first line that is read makes no machine, which is no error of its text."""
     for text, said in (("# so\nbad\npins 0\nwire 1 1\n", ":3:1: warning: no machine stands before"),
                        ("machine 1 0 64 1\npins 0\n", ":1:1: warning: no machine has these sizes")):
@@ -521,7 +534,7 @@ def lints_machines(trial):
     trial.sees("warning" not in shown, f"lint warns of a machine: {shown}")
 
 
-def lints_declarations(trial):
+def lints_declarations(trial: Trial) -> None:
     """What plans for `judge` do not declare, as docs/ANY-PLAN.md has it: no plan at all, which is
     an error, and of a plan no producer and no memory, which is none."""
     for text, status, said in (("", 1, ["there is no plan"]), ("# x\n\n", 1, ["there is no plan"]),
@@ -537,7 +550,7 @@ def lints_declarations(trial):
     trial.sees("warning" not in shown, f"lint warns of what is declared: {shown}")
 
 
-def lints_with_the_program(trial):
+def lints_with_the_program(trial: Trial) -> None:
     """lint and the program agree on random lines."""
     trial.prints(0, ["script: 20000 lines, "], LINT, "try", 20000, 1)
     trial.prints(0, ["audit: "], LINT, "try", 2000, 1, "audit")
@@ -545,7 +558,7 @@ def lints_with_the_program(trial):
         trial.prints(0, ["judge: "], LINT, "try", 5000, 1, "judge")
 
 
-def lints_documented(trial):
+def lints_documented(trial: Trial) -> None:
     """What docs/TRACES.md says that lint prints."""
     text = (TOP / "docs/TRACES.md").read_text(encoding="utf-8").partition("\n## Lint\n")[2]
     script = text.partition("cat > my.script <<'END'\n")[2].partition("END\n")[0]

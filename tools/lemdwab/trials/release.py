@@ -1,12 +1,19 @@
 """Tries ./release, where it refuses, and what suite/release sees of a release that is wrong."""
 
+from __future__ import annotations
+
 import gzip
 import io
 import shutil
 import tarfile
+from collections.abc import Iterator
+from typing import TYPE_CHECKING, Any
 
 from lemdwab import installed, released
 from lemdwab.running import TOP
+
+if TYPE_CHECKING:
+    from lemdwab.commands.tools import Trial
 
 # What ./release needs before it begins to build.
 FILES = ("release", "VERSION", "suite/launcher.sh", "aia", "examples/claim.script",
@@ -27,7 +34,7 @@ CALLS = "int aia_open(void) { return 0; }\nvoid aia_close(void) { }\n"
 SETTLED = ("git", "-c", "user.name=none", "-c", "user.email=none", "commit", "-q", "-m", "all")
 
 
-def release_refuses(trial):
+def release_refuses(trial: Trial) -> None:
     """Help, wrong words, and a tree that is not that of a commit."""
     for word in ("-h", "--help"):
         ran = trial.run(TOP / "release", word)
@@ -61,14 +68,14 @@ def release_refuses(trial):
                f"release --dirty ends with {ran.status}: {ran.errors}")
 
 
-def sees_only(trial, faults, *wanted):
+def sees_only(trial: Trial, faults: Iterator[Any], *wanted: str) -> None:
     """Sees that what is found is just this, in this order."""
     found = list(faults)
     trial.sees(len(found) == len(wanted) and all(map(lambda a, b: b in a, found, wanted)),
                f"of a release that is wrong {found} is said, and not {wanted}")
 
 
-def release_bytes(trial):
+def release_bytes(trial: Trial) -> None:
     """Releases of which a byte, a file or a sum is wrong, and archives with an owner or a mode."""
     one, other = trial.folder / "one-release", trial.folder / "other-release"
     for folder in (one, other):
@@ -95,7 +102,7 @@ def release_bytes(trial):
               "a day of d")
 
 
-def release_files(trial):
+def release_files(trial: Trial) -> None:
     """A library with a name too much, one too few, or another SONAME, and pages that are not there
     or set with a warning."""
     tree = trial.folder / "release-tree"

@@ -1,11 +1,19 @@
 """Tries suite/site, as suite/tools does: each function takes its Trial. A site is made once, and
 then has faults planted, each of which has to be told."""
 
+from __future__ import annotations
+
 import shutil
 import sys
+from collections.abc import Callable
+from pathlib import Path
+from typing import TYPE_CHECKING, Any
 
 from lemdwab import siting
 from lemdwab.running import TOP
+
+if TYPE_CHECKING:
+    from lemdwab.commands.tools import Trial
 
 SITE, MAKER = TOP / "suite/site", TOP / "docs/make/site"
 LAW, SCRIPT = "laws/aia_laws/no_notice_is_lost.html", "definitions/aia_model/Script.html"
@@ -15,7 +23,7 @@ COMMANDS = ("env", "python3", "git", "bash")
 LONGEST = 300
 
 
-def without(trial):
+def without(trial: Trial) -> str:
     """Gives a path on which there is no pandoc and no browser."""
     folder = trial.folder / "without-pandoc"
     if not folder.exists():
@@ -26,7 +34,7 @@ def without(trial):
     return f"PATH={folder}"
 
 
-def refuses_to_make(trial):
+def refuses_to_make(trial: Trial) -> None:
     """docs/make/site without pandoc, and with words and folders that are wrong: status 2."""
     full, new = trial.folder / "full", trial.folder / "new"
     full.mkdir()
@@ -49,15 +57,15 @@ def refuses_to_make(trial):
 class Planted:
     """A site in which faults are planted one after another, each taken back."""
 
-    def __init__(self, trial, folder):
+    def __init__(self, trial: Trial, folder: Path) -> None:
         self.trial, self.site = trial, siting.Pages(folder)
 
-    def looks(self, *checks):
+    def looks(self, *checks: Callable[..., Any]) -> list[str]:
         """Gives what checks say of the site as it stands."""
         self.site.seen = self.site.reached()
         return [line for check in checks for line in check(self.site)]
 
-    def tells(self, said, place, old, new, *checks):
+    def tells(self, said: str, place: str, old: str, new: str, *checks: Any) -> None:
         """Plants other text into a page, and sees that checks tell it."""
         path = self.site.folder / place
         text = path.read_text(encoding="utf-8")
@@ -70,7 +78,7 @@ class Planted:
         path.write_text(text, encoding="utf-8")
         self.site.read(place)
 
-    def lacks(self, said, place, *checks):
+    def lacks(self, said: str, place: str, *checks: Any) -> None:
         """Takes a page away, and sees that checks tell it."""
         page = self.site.pages.pop(place)
         self.site.files.discard(place)
@@ -80,9 +88,9 @@ class Planted:
         self.site.files.add(place)
 
 
-def plants(planted, workers):
+def plants(planted: Planted, workers: running.Workers) -> None:
     """Plants a fault of each kind."""
-    def sliders(site):
+    def sliders(site: siting.Pages) -> Any:
         """Looks at the sliders of a site."""
         return siting.sliders(site, workers)
     planted.tells("docs/PROMISE.html, which is not there", "docs/README.html",
@@ -108,7 +116,7 @@ def plants(planted, workers):
     planted.lacks("claim.script has no slider", "moves/claim.html", sliders)
 
 
-def rows_are_missed(planted):
+def rows_are_missed(planted: Planted) -> None:
     """A sentence of README without its row, a row without its sentence, and one that names no
     law."""
     real = siting.site_documents.proved
@@ -124,7 +132,7 @@ def rows_are_missed(planted):
     siting.site_documents.proved = real
 
 
-def is_out_of_reach(planted):
+def is_out_of_reach(planted: Planted) -> None:
     """A page to which no link leads."""
     planted.site.pages["alone.html"] = siting.Page("alone.html", "<h1>alone</h1>")
     found = planted.looks(siting.out_of_reach)
@@ -133,7 +141,7 @@ def is_out_of_reach(planted):
     del planted.site.pages["alone.html"]
 
 
-def tells_faults(trial):
+def tells_faults(trial: Trial) -> None:
     """A site as it is made is right, and each fault that is planted in it is told."""
     if not shutil.which("pandoc"):
         print("pandoc is not installed: no site was made", flush=True)

@@ -1,11 +1,17 @@
 """Tries suite/weaken, as suite/tools does, in a tree of its own with an rt that only pretends, and
 which plants it finds in the crates of laws: each function takes its Trial."""
 
+from __future__ import annotations
+
 import signal
+from typing import TYPE_CHECKING
 
 from lemdwab import pretended, using, weakening
 from lemdwab.running import TOP
 from lemdwab.weakening import ABOVE, BELOW
+
+if TYPE_CHECKING:
+    from lemdwab.commands.tools import Trial
 
 FILES = ("suite/weaken", "tools/lemdwab/commands/weaken.py", *(
     f"tools/lemdwab/{name}.py" for name in ("weakening", "using", "keeping")))
@@ -101,7 +107,7 @@ class Tree(pretended.Tree):
 
     TOOL, FILES, RT = "weaken", FILES, RT
 
-    def __init__(self, trial, name):
+    def __init__(self, trial: Trial, name: str) -> None:
         super().__init__(trial, name)
         self.write("crates.txt", "# Crates\nbase:\nlow:\nlow_uses: low base\n")
         for file, text in (("base/src/lib.rt", "pub fn one() -> u32 {\n    1\n}\n"),
@@ -116,7 +122,7 @@ class Tree(pretended.Tree):
             self.write(f"crates/{file}", text)
 
 
-def weaken_tells(trial):
+def weaken_tells(trial: Trial) -> None:
     """Clauses, which are noticed by who cites them, and definitions, by what the check names; what
     was tried is not tried again, but what was not read is; and a change of a use changes all."""
     tree = Tree(trial, "told")
@@ -150,7 +156,7 @@ def weaken_tells(trial):
                "weaken changes the repository")
 
 
-def weaken_takes_words(trial):
+def weaken_takes_words(trial: Trial) -> None:
     """Laws and definitions by their names; and where a use notices each, or none can be tried."""
     tree = Tree(trial, "names")
     for status, words, number in ((0, ["low", "Seen"], 2), (1, ["low", "a_bare_law", "Seen"], 4),
@@ -171,7 +177,7 @@ def weaken_takes_words(trial):
     tree.refuses_without_rt()
 
 
-def weaken_is_bounded(trial):
+def weaken_is_bounded(trial: Trial) -> None:
     """A crate that is not proved as it is; a check that takes too long; no minutes; and the tool
     stopped by a signal."""
     tree = Tree(trial, "bounded")
@@ -194,7 +200,7 @@ def weaken_is_bounded(trial):
     tree.sees_no_rt()
 
 
-def places_in_laws(trial):
+def places_in_laws(trial: Trial) -> None:
     """In which ways names stand in what laws say."""
     for text, name, wanted in (
             ("(n : Kind) → A n → B n", "A", {BELOW}), ("(n : Kind) → A n → B n", "B", {ABOVE}),
@@ -213,7 +219,7 @@ def places_in_laws(trial):
         trial.sees(found == wanted, f"{name} is said to stand {found} in {text!r}")
 
 
-def plants_of_the_tree(trial):
+def plants_of_the_tree(trial: Trial) -> None:
     """What is found in the crates of laws: each clause, and plants that can be made, no two the
     same, of definitions that laws name; and the uses, which are moved with all that they need."""
     for crate in ("aia_laws", "aia_isolation", "plans_rules"):

@@ -1,10 +1,16 @@
 """Tries suite/wider, as suite/tools does, in a tree of its own with an rt that only pretends, and
 what lemdwab.documents.strength tells of edits: each function takes its Trial."""
 
+from __future__ import annotations
+
 import signal
+from typing import TYPE_CHECKING
 
 from lemdwab import pretended
 from lemdwab.documents import strength
+
+if TYPE_CHECKING:
+    from lemdwab.commands.tools import Trial
 
 # What the tool needs of a tree, and an edit of its crates.
 FILES = ("suite/wider", "tools/lemdwab/commands/wider.py", *(
@@ -39,7 +45,7 @@ class Tree(pretended.Tree):
 
     TOOL, FILES, RT = "wider", FILES, RT
 
-    def __init__(self, trial, name):
+    def __init__(self, trial: Trial, name: str) -> None:
         super().__init__(trial, name)
         self.write("crates.txt", "# Crates\nlow:\nhigh: low\n")
         for crate in ("low", "high"):
@@ -47,18 +53,18 @@ class Tree(pretended.Tree):
             self.write(f"crates/{crate}/must-fail/tried_by_the_gate.edit",
                        EDIT.format(old="1", new="3"))
 
-    def plant(self, *names, crate="low", old="1"):
+    def plant(self, *names: str, crate: str = "low", old: str = "1") -> None:
         """Writes edits of the wider set, each another one."""
         for at, name in enumerate(names):
             self.write(f"crates/{crate}/more-fail/{name}.edit",
                        EDIT.format(old=old, new=f"{at + 7}"))
 
-    def edits(self):
+    def edits(self) -> list[str]:
         """Gives the edits that rt was given since the last time."""
         return [line.split()[0] for line in self.given()]
 
 
-def wider_goes_on(trial):
+def wider_goes_on(trial: Trial) -> None:
     """All refused; a second run, which tries nothing; and after a change of the crate, or of an
     edit, or where all is wanted anew, which tries what changed."""
     tree = Tree(trial, "refused")
@@ -85,7 +91,7 @@ def wider_goes_on(trial):
                "wider changes must-fail/ of the repository")
 
 
-def wider_takes_words(trial):
+def wider_takes_words(trial: Trial) -> None:
     """A crate by its folder; some edits of it alone; and wrong names, of which each is told what
     is wrong with it, before anything is tried."""
     tree = Tree(trial, "names")
@@ -112,7 +118,7 @@ def wider_takes_words(trial):
     trial.sees(not tree.edits(), "wider with a wrong name runs rt")
 
 
-def wider_tells(trial):
+def wider_tells(trial: Trial) -> None:
     """One let through, and those that can't be tried, which are tried again."""
     tree = Tree(trial, "told")
     tree.plant("fine", "is_proved")
@@ -138,7 +144,7 @@ def wider_tells(trial):
               "high")
 
 
-def wider_is_bounded(trial):
+def wider_is_bounded(trial: Trial) -> None:
     """A call that takes too long, which is stopped with all that it has started; no minutes; and
     the tool stopped by a signal."""
     tree = Tree(trial, "bounded")
@@ -155,7 +161,7 @@ def wider_is_bounded(trial):
     tree.sees_no_rt()
 
 
-def wider_refuses_words(trial):
+def wider_refuses_words(trial: Trial) -> None:
     """Wrong words, and no rt: status 2 and a message."""
     tree = Tree(trial, "words")
     tree.plant("one")
@@ -166,7 +172,7 @@ def wider_refuses_words(trial):
     tree.refuses_without_rt()
 
 
-def planted_bugs(trial):
+def planted_bugs(trial: Trial) -> None:
     """Edits that can be made, and that can't, as suite/documents tells them apart."""
     once, twice = ("pub fn least_one", "pub fn other"), ("None", "Some")
     for is_made, file, *pairs in ((True, "src/bits.rt", once),
@@ -190,7 +196,7 @@ def planted_bugs(trial):
         trial.sees(len(found) == number, f"of {other} beside another is said {found}")
 
 
-def wrong_bodies(trial):
+def wrong_bodies(trial: Trial) -> None:
     """Wrong bodies that edits plant, and that none plants, and a line that names no edit."""
     stood = strength.WRONG_BODIES
     there = next(f"{edit.crate}/{edit.name}" for edit in strength.edits(strength.WIDER))
@@ -206,7 +212,7 @@ def wrong_bodies(trial):
     strength.WRONG_BODIES = stood
 
 
-def rows_of_refusals(trial):
+def rows_of_refusals(trial: Trial) -> None:
     """Rows in order that name functions of their crates, and others."""
     one, two = ("aia_word", "a"), ("aia_word", "b")
     for told, number in (({one: "`refreshed`", two: "`refreshed`: `shows`"}, 0),
@@ -217,7 +223,7 @@ def rows_of_refusals(trial):
         trial.sees(len(found) == number, f"of the refusals {told} is said {found}")
 
 
-def written_proofs(trial):
+def written_proofs(trial: Trial) -> None:
     """In which function a line stands, and whether that has a proof written by hand."""
     text = ("const A: u32 = 1;\n\nimpl<T: Kind<u8>> Iterator for Some<'_, T> {\n"
             "    fn next(&mut self) {\n        two\n    }\n\n    const B: u32 = 3;\n}\n\n"
@@ -239,5 +245,5 @@ def written_proofs(trial):
                "what a refusal names first")
 
 
-PARTS = (wider_goes_on, wider_takes_words, wider_tells, wider_is_bounded, wider_refuses_words, planted_bugs,
-         wrong_bodies, rows_of_refusals, written_proofs)
+PARTS = (wider_goes_on, wider_takes_words, wider_tells, wider_is_bounded, wider_refuses_words,
+         planted_bugs, wrong_bodies, rows_of_refusals, written_proofs)
