@@ -107,11 +107,9 @@ def by_definition(text: str, number: int) -> str:
     for condition, then in re.findall(r"if (.*?) then (?:\()?(\w+)", text.replace("\n", " ")):
         equal = re.match(r"nat_eq select (0x\w+)", condition)
         inside = re.match(r"is_in_range (0x\w+) (0x\w+) select", condition)
-        holds = (number == int(equal[1], 16) if equal
-                 else int(inside[1], 16) <= number <= int(inside[2], 16))
-        if holds and "% 2" in condition:
-            holds = number % 2 == 1
-        if holds:
+        holds = bool(equal and number == int(equal[1], 16)
+                     or inside and int(inside[1], 16) <= number <= int(inside[2], 16))
+        if holds and ("% 2" not in condition or number % 2 == 1):
             return kinds[then]
     return "none"
 
