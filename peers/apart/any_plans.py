@@ -22,16 +22,17 @@ import words as command_line
 class Setting:
     """What is declared: kinds of producers, words, and what the new place is."""
 
-    def __init__(self, producers, words, fresh, memory, heeds, start, end, unset=False):
+    def __init__(self, producers, words, fresh, memory, heeds, start, end, unset=False,
+                 inherited=False):
         self.producers, self.words = producers, words
         self.fresh, self.memory, self.heeds = fresh, memory, heeds
-        self.start, self.end, self.unset = start, end, unset
+        self.start, self.end, self.unset, self.inherited = start, end, unset, inherited
 
     def lines(self):
         """The declarations, as lines of a plan file."""
         out = ['plan', f'words {self.words}', f'numbers {self.start} {self.end}']
         out += [f'producer {kind}' for kind in self.producers]
-        for name in ('fresh', 'memory', 'heeds'):
+        for name in ('fresh', 'memory', 'heeds', 'inherited'):
             if getattr(self, name):
                 out.append(name)
         return out + ['notices unset'] * self.unset
@@ -62,6 +63,15 @@ def hypervisors(words):
            zeroed + kvm + swapped + joined + put)
     yield (Setting(host, words, False, False, False, 'old', 'new'),
            zeroed + kvm + swapped + [('free',)] + joined + put)
+    copied = [('copy', 'delivery'), ('copy', 'threshold')] + both_sets(words, 'copy')
+    cleared = [('zero', 'old', 'delivery'), ('zero', 'old', 'threshold')]
+    cleared += [('zero', 'old', b, w) for w in range(words) for b in ('pending', 'enabled')]
+    yield (Setting(host, words, False, False, False, 'old', 'new', False, True),
+           zeroed + kvm + copied + cleared + joined + put + [('free',)])
+    yield (Setting(host, words, True, False, False, 'hand', 'new', False, True),
+           kvm + copied[2:] + joined + cleared + put + [('free',)])
+    yield (Setting(host, words, True, True, False, 'old', 'hand', False, True),
+           copied[:2] + kvm + copied[2:] + joined + cleared + [('tell',), ('free',)])
     yield (Setting(host, words, True, True, True, 'old', 'new'),
            [('switch', 0), ('route', 1), ('fence', 1)] + swapped
            + [('put', 'delivery'), ('put', 'threshold')] + joined + [('tell',), ('free',)])
@@ -79,10 +89,10 @@ def all_steps(setting):
     for w in range(setting.words):
         out.append(('look', w))
         for bank in ('pending', 'enabled'):
-            out += [(verb, bank, w) for verb in ('take', 'join', 'put')]
+            out += [(verb, bank, w) for verb in ('take', 'copy', 'join', 'put')]
             out += [('zero', place, bank, w) for place in ('old', 'new')]
     for number in ('threshold', 'delivery'):
-        out += [('take', number), ('put', number)]
+        out += [('take', number), ('copy', number), ('put', number)]
         out += [('zero', place, number) for place in ('old', 'new')]
     return out
 
@@ -196,6 +206,14 @@ class Machine:
             self.hand[what] |= taken
             self.old[what] -= taken
 
+    def do_copy(self, what, word=None):
+        self.strayed |= self.freed
+        if word is None:
+            self.number['hand'][what] = self.number['old'][what]
+        else:
+            self.hand[what] -= self.of_word(self.hand[what], word)
+            self.hand[what] |= self.of_word(self.old[what], word)
+
     def do_join(self, bank, word):
         held = self.of_word(self.hand[bank], word)
         self.new[bank] |= held
@@ -221,7 +239,12 @@ class Machine:
         self.notices_reach_the_host = True
 
     def do_free(self):
+        self.strayed |= self.freed
         self.freed = True
+
+    def leaves_numbers(self):
+        """Whether the next owner of an old place that it takes over as it is finds a number there."""
+        return self.s.inherited and self.freed and any(self.number['old'].values())
 
     def is_untold(self):
         """Whether something stands out in the new place, and the host was not told."""
@@ -234,7 +257,7 @@ class Machine:
                 or self.number[self.s.end] != {'threshold': 9, 'delivery': 1}
                 or 'old' in self.written or 'old' in self.force
                 or any(place == 'old' for _, place, _ in self.flights)
-                or (self.s.memory and self.is_untold()))
+                or self.leaves_numbers() or (self.s.memory and self.is_untold()))
 
 
 def is_bad_run(setting, plan, start, events):

@@ -29,7 +29,7 @@ use Rattle.plans_counterexamples.specs.declared.run.Run.{Run}
 use Rattle.plans_counterexamples.specs.declared.run.Extra.{Extra}
 use Rattle.plans_counterexamples.specs.declared.run.Extra.TheVariants as extras
 use Rattle.plans_counterexamples.specs.Trace.{Follows, begins_old, begins_new, flights_by, flight_landed, trace_after, trace_landed, trace_stored, worth}
-use Rattle.plans_counterexamples.specs.Run.{Loses, can_be, differ, extra_at, by_of, first_flight, happenings, is_bad_bit, is_bad_end, is_flying_old, is_quiet, is_routed, shows_route, one_bit, run_upto, start_of, step_at, trace_begun, trace_extra, trace_number, trace_wanted}
+use Rattle.plans_counterexamples.specs.Run.{Loses, can_be, differ, extra_at, by_of, first_flight, happenings, is_bad_bit, is_bad_end, is_flying_old, is_left, is_quiet, is_routed, shows_route, one_bit, run_upto, start_of, step_at, trace_begun, trace_extra, trace_number, trace_wanted}
 use Rattle.plans_counterexamples.proofs.FollowLemmas.{follows_landed, follows_step}
 
 -- ---- lists of happenings
@@ -380,9 +380,15 @@ ends_badly producers terms run t z inside v bad m = elim (or_cases (is_bad_bit r
     | inr last ↦ elim (or_cases (not (trace_number terms.number_to t)) _ last) [
       | inl number ↦ zero_one (sym (ap worth (not_true (trace_number terms.number_to t) number))
           ∙ sym (ended_number run.case t z terms.number_to v) ∙ m.numbers run.case.number ∙ begun_number producers terms run terms.number_from refl)
-      | inr more ↦ elim (or_cases (is_flying_old t.flight) t.strayed more) [
+      | inr more ↦ elim (or_cases (is_flying_old t.flight) _ more) [
         | inl flying ↦ flies_old run.case t.flight flying (subst (AllByRecursion (λ (g : AnyFlight). g.place ≡ New)) v.flights m.flights)
-        | inr strayed ↦ true_false t.strayed strayed (sym v.strayed ∙ m.strayed)
+        | inr reached ↦ elim (or_cases t.strayed _ reached) [
+          | inl strayed ↦ true_false t.strayed strayed (sym v.strayed ∙ m.strayed)
+          | inr left ↦
+              let there = and_right terms.is_inherited _ left in
+              zero_one (sym (m.inherited (and_left terms.is_inherited _ left) (v.freed ∙ and_left t.freed _ there) run.case.number)
+              ∙ v.old_number ∙ ap worth (and_right t.freed _ there))
+        ]
       ]
     ]
   ]

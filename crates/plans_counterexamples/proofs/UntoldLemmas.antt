@@ -131,6 +131,9 @@ hand_after producers terms u (steps.Zero New s k) w z v = v.hand
 hand_after producers terms u (steps.Take s k) w z v =
     λ j other. or_false _ _ (and_false_right (names s k Pending (j / 64)) _ (v.old j other))
     (and_false_right (not (names s k Pending (j / 64))) _ (v.hand j other))
+hand_after producers terms u (steps.Copy s k) w z v =
+    λ j other. or_false _ _ (and_false_right (names s k Pending (j / 64)) _ (v.old j other))
+    (and_false_right (not (names s k Pending (j / 64))) _ (v.hand j other))
 hand_after producers terms u (steps.Join s k) w z v = λ j other. and_false_right (not (names s k Pending (j / 64))) _ (v.hand j other)
 hand_after producers terms u (steps.Put s k) w z v = λ j other. and_false_right (not (names s k Pending (j / 64))) _ (v.hand j other)
 hand_after producers terms u (steps.ZeroNumber Old n) w z v = v.hand

@@ -161,12 +161,16 @@ abbrev pub shows_route : Run → ℕ → Trace → Bool
 shows_route run producers t =
     is_quiet run.extra && (nat_lt run.case.producer producers && is_bad_route t)
 
+-- Whether the next owner of the old place finds the number there, which it takes over.
+abbrev pub is_left : Terms → Trace → Bool
+is_left terms t = terms.is_inherited && (t.freed && t.old_number)
+
 -- Whether the run does not end as it has to, by what was followed.
 abbrev pub is_bad_end : Run → Terms → ℕ → Trace → Bool
 is_bad_end run terms producers t =
     is_bad_bit run t
     || (shows_route run producers t
-    || (not (trace_number terms.number_to t) || (is_flying_old t.flight || t.strayed)))
+    || (not (trace_number terms.number_to t) || (is_flying_old t.flight || (t.strayed || is_left terms t))))
 
 -- Whether a producer is there, and is routed.
 abbrev pub is_routed : Option RouteKind → Bool

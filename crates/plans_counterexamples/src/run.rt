@@ -5,7 +5,7 @@ ghost use Rattle.std.specs.Option.{option_map};
 ghost use Rattle.plans_rules.specs.Setting.{setting_of};
 ghost use Rattle.plans_rules.specs.Machine.{all_happened};
 ghost use Rattle.plans_counterexamples.specs.Trace.{Follows};
-ghost use Rattle.plans_counterexamples.specs.Run.{Loses, can_be, differ, happenings, is_bad_bit, is_bad_end, is_bad_route, is_flying_old, is_routed, shows_route, start_of, trace_begun, trace_extra, trace_number, trace_wanted};
+ghost use Rattle.plans_counterexamples.specs.Run.{Loses, can_be, differ, happenings, is_bad_bit, is_bad_end, is_bad_route, is_flying_old, is_left, is_routed, shows_route, start_of, trace_begun, trace_extra, trace_number, trace_wanted};
 ghost use Rattle.plans_counterexamples.specs.Search.{tried, trace_end};
 
 use crate::trace::{Begin, Case, StoreRoute, Trace};
@@ -127,6 +127,7 @@ impl Run {
             || !trace.number(terms.number_to)
             || is_flying_old(trace.flight)
             || trace.strayed
+            || is_left(terms, trace)
     }
 
     /// Tells whether there can be such a run.
@@ -203,6 +204,13 @@ fn is_bad_route(trace: Trace) -> bool
     ensures { result ≡ is_bad_route trace }
 {
     trace.written == AnyPlace::Old || trace.in_force == AnyPlace::Old
+}
+
+/// Tells whether the next owner of the old place finds the number there, which it takes over.
+fn is_left(terms: Terms, trace: Trace) -> bool
+    ensures { result ≡ is_left terms trace }
+{
+    terms.is_inherited && trace.freed && trace.old_number
 }
 
 /// Tells whether a store is in flight to the old place.

@@ -2,7 +2,7 @@
 
 ghost use Rattle.std.specs.Prelude.{◌≡◌, Some, None};
 ghost use Rattle.plans_counterexamples.specs.Run.{trace_number};
-ghost use Rattle.plans_counterexamples.specs.Trace.{flight_landed, names_bit, trace_after, trace_fenced, trace_first, trace_joined, trace_landed, trace_put, trace_put_number, trace_stored, trace_switched, trace_taken, trace_taken_number, trace_turned, trace_zeroed, trace_zeroed_number};
+ghost use Rattle.plans_counterexamples.specs.Trace.{flight_landed, names_bit, trace_after, trace_copied, trace_copied_number, trace_fenced, trace_first, trace_joined, trace_landed, trace_put, trace_put_number, trace_stored, trace_switched, trace_taken, trace_taken_number, trace_turned, trace_zeroed, trace_zeroed_number};
 
 use plans_rules::{AnyPlace, AnyStep, Number, NumberSpot, Terms, WhichSet};
 
@@ -157,13 +157,16 @@ impl Trace {
             AnyStep::Switch(p) => self.switched(p as usize == case.producer),
             AnyStep::Zero(place, s, w) => self.zeroed(place, case.names_bit(s, w)),
             AnyStep::Take(s, w) => self.taken(case.names_bit(s, w)),
+            AnyStep::Copy(s, w) => self.copied(case.names_bit(s, w)),
             AnyStep::Join(s, w) => self.joined(case.names_bit(s, w)),
             AnyStep::Put(s, w) => self.put(case.names_bit(s, w)),
             AnyStep::ZeroNumber(place, n) => self.zeroed_number(place, n == case.number),
             AnyStep::TakeNumber(n) => self.taken_number(n == case.number),
+            AnyStep::CopyNumber(n) => self.copied_number(n == case.number),
             AnyStep::PutNumber(n) => self.put_number(n == case.number),
             AnyStep::Free => Trace {
                 freed: true,
+                strayed: self.strayed || self.freed,
                 ..self
             },
             _ => self,
@@ -247,6 +250,17 @@ impl Trace {
         }
     }
 
+    /// Gives what a step makes of it that copies the word of the bit, or another one.
+    fn copied(self, is_this: bool) -> Trace
+        ensures { result ≡ trace_copied is_this self }
+    {
+        Trace {
+            hand: is_this && self.old || !is_this && self.hand,
+            strayed: self.strayed || self.freed,
+            ..self
+        }
+    }
+
     /// Gives what a step makes of it that joins it, or another one.
     fn joined(self, is_this: bool) -> Trace
         ensures { result ≡ trace_joined is_this self }
@@ -293,6 +307,17 @@ impl Trace {
         Trace {
             hand_number: is_this && self.old_number || !is_this && self.hand_number,
             old_number: !is_this && self.old_number,
+            strayed: self.strayed || self.freed,
+            ..self
+        }
+    }
+
+    /// Gives what a step makes of it that copies the number, or the other one.
+    fn copied_number(self, is_this: bool) -> Trace
+        ensures { result ≡ trace_copied_number is_this self }
+    {
+        Trace {
+            hand_number: is_this && self.old_number || !is_this && self.hand_number,
             strayed: self.strayed || self.freed,
             ..self
         }

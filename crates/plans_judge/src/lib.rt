@@ -4,6 +4,7 @@
 
 mod judging;
 mod lead;
+mod spots;
 mod standing;
 mod table;
 mod verdict;

@@ -199,6 +199,7 @@ fn a_plan_that_forgets_its_words_is_refused_in_the_end(rt: HostRuntime) -> Resul
         in_memory: false,
         heeds: false,
         notices_go: true,
+        is_inherited: false,
         number_from: NumberSpot::InOld,
         number_to: NumberSpot::InOld,
     };

@@ -71,6 +71,7 @@ first_terms = record {
   in_memory = false;
   heeds = false;
   notices_go = true;
+  is_inherited = false;
   number_from = InOld;
   number_to = InNew;
 }
@@ -100,6 +101,7 @@ terms_with (lines.Words n) terms =
 terms_with lines.Fresh terms = Some (record terms { is_fresh = true })
 terms_with lines.Memory terms = Some (record terms { in_memory = true })
 terms_with lines.Heeds terms = Some (record terms { heeds = true })
+terms_with lines.Inherited terms = Some (record terms { is_inherited = true })
 terms_with lines.NoticesUnset terms = Some (record terms { notices_go = false })
 terms_with (lines.Numbers from to) terms = Some (record terms {
   number_from = from;
@@ -131,6 +133,7 @@ is_known words producers (steps.Fence p) = nat_lt p producers
 is_known words producers (steps.Switch p) = nat_lt p producers
 is_known words producers (steps.Zero place s w) = nat_lt w words
 is_known words producers (steps.Take s w) = nat_lt w words
+is_known words producers (steps.Copy s w) = nat_lt w words
 is_known words producers (steps.Join s w) = nat_lt w words
 is_known words producers (steps.Put s w) = nat_lt w words
 is_known words producers (steps.Look w) = nat_lt w words
@@ -348,7 +351,7 @@ none_read = record { plan = no_plan; lines = 0; answers = []; outcome = NoPlan }
 abbrev pub all_outcomes : FileRead → FileOutcome
 all_outcomes read = worse read.outcome (plan_outcome read.plan)
 
--- A plan begins: the one before it ends.
+-- A plan begins: the one before it ends. Where the line that begins it is bad, so is the plan.
 abbrev pub plan_begun : FileRead → FileRead
 plan_begun read = record {
   plan = record no_plan { is_begun = true };
@@ -356,6 +359,9 @@ plan_begun read = record {
   answers = read.answers ++ plan_answer read.plan;
   outcome = all_outcomes read;
 }
+
+abbrev pub bad_plan_begun : FileRead → FileRead
+bad_plan_begun read = record (plan_begun read) { plan = bad_at read.lines (plan_begun read).plan }
 
 -- A line that is no `plan`; after a bad one nothing more is read of a plan.
 abbrev pub line_read : Text → PlanLine → FileRead → FileRead
@@ -371,6 +377,7 @@ as_read text readings.Bad read = elim read.plan.bad [
   | Some bad ↦ read
   | None ↦ record read { plan = bad_at read.lines read.plan }
 ]
+as_read text readings.BadPlan read = bad_plan_begun read
 as_read text (readings.Line lines.Plan) read = plan_begun read
 as_read text (readings.Line line) read = line_read text line read
 
