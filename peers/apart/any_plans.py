@@ -304,46 +304,89 @@ def has_bad_run(setting, plan):
 
 
 SHOWN = re.compile(
-    r'  run: identity (\d+) is (pending|enabled) (nowhere|in the old place|in the new place) at the start'
-    r'(?:; producer (\d+) stores it (before the first step|behind line (\d+)) by its (written route|route in force)'
-    r'|; a store of producer (\d+) for it is in flight, and lands(?: before the first step| behind line (\d+)| (at its fence))'
-    r'|; a store of producer (\d+) for it is sent(?: before the first step| behind line (\d+)), and lands no sooner than it is fenced)?')
+    r'  run: identity (?P<identity>\d+) is (?P<bank>pending|enabled) '
+    r'(?P<begin>nowhere|in the old place|in the new place) at the start'
+    r'(?:; producer (?P<storer>\d+) stores it (?:before the first step|behind line (?P<behind>\d+))'
+    r' by its (?P<route>written route|route in force)'
+    r'|; a store of producer (?P<sender>\d+) for it is sent (?:before the first step|behind line (?P<sent>\d+)),'
+    r' and lands (?:before the first step|behind line (?P<landing>\d+)), or sooner, at its fence)?'
+    r'(?P<fate>; .*)')
+LED = re.compile('in the end it is in the old place, where the route of producer (\\d+) leads still')
+EARLY = re.compile('in the end it is in the old place, since line (\\d+) takes its word too early')
+LEFT = re.compile('in the end (threshold|delivery) is left in the old place for its next owner')
+MISPLACED = re.compile('in the end (threshold|delivery) is not where it has to be, as it was')
+FATES = {
+    'in the end it is in the old place, since nothing takes its word': 'left',
+    'in the end it is in the hand alone: it is lost': 'held',
+    'in the end it is nowhere: it is lost': 'gone',
+    'in the end it is in the new place, where nobody asked for it': 'left over',
+    'the old place is reached after it was given back': 'strayed',
+}
 
 
-def is_bad_shown(setting, plan, first_line, text):
-    """Whether a run that a program shows, of a plan whose first step is on a line, is one and is bad."""
+def empties(step, bank, word):
+    """Whether a step leaves nothing of a word in the old place."""
+    return step in (('take', bank, word), ('zero', 'old', bank, word))
+
+
+def comes_so(machine, plan, first_line, rule, bank, what, producer, said):
+    """Whether what a run says of its end is so, and shows that the rule is broken."""
+    wanted = machine.due if bank == 'pending' else machine.first_enabled
+    in_old, in_new = what in machine.old[bank], what in machine.new[bank]
+    last = max((at for at, step in enumerate(plan) if empties(step, bank, what[0])), default=None)
+    of_old = rule == 'routes' and bank == 'pending' or rule == 'words' and bank == 'enabled'
+    led, early, left, misplaced = (form.fullmatch(said) for form in (LED, EARLY, LEFT, MISPLACED))
+    if led:
+        return of_old and in_old and int(led[1]) == producer and machine.force[producer] == 'old'
+    if early:
+        return of_old and in_old and last is not None and int(early[1]) == first_line + last
+    if left:
+        return rule == 'freeing' and machine.leaves_numbers() and machine.number['old'][left[1]] != 0
+    if misplaced:
+        return rule == 'numbers' and machine.number[machine.s.end][misplaced[1]] != {'threshold': 9, 'delivery': 1}[misplaced[1]]
+    fate = FATES.get(said)
+    missing = what in wanted and not in_old and not in_new
+    if fate == 'left':
+        return of_old and in_old and last is None
+    if fate == 'held':
+        return rule in ('words', 'blank') and missing and what in machine.hand[bank]
+    if fate == 'gone':
+        return rule in ('words', 'blank') and missing and what not in machine.hand[bank]
+    if fate == 'left over':
+        return rule == 'blank' and in_new and what not in wanted
+    return fate == 'strayed' and rule == 'freeing' and machine.strayed
+
+
+def is_bad_shown(setting, plan, first_line, text, rule):
+    """Whether a run that a program shows, of a plan whose first step is on a line, is one, and is bad as it says."""
     found = SHOWN.fullmatch(text)
-    identity, bank, begin, storer, _, behind, route, flier, landing, at_fence, sender, sent = found.groups()
-    what = (int(identity) // 64, int(identity) % 64)
+    if not found:
+        return False
+    what = (int(found['identity']) // 64, int(found['identity']) % 64)
+    bank, begin = found['bank'], found['begin']
     machine = Machine(setting, (), ())
     machine.new = {'pending': set(), 'enabled': set()}
     if begin == 'in the old place':
         machine.old[bank].add(what)
-        if bank == 'pending':
-            machine.due.add(what)
-        else:
-            machine.first_enabled.add(what)
+        (machine.due if bank == 'pending' else machine.first_enabled).add(what)
     if begin == 'in the new place':
         if setting.fresh:
             return False
         machine.new[bank].add(what)
-    events = []
-    if storer:
-        before = int(behind) - first_line + 1 if behind else 0
-        events.append((before, lambda m: m.store(int(storer), route == 'written route', what)))
-    if flier:
-        if setting.producers[int(flier)] != 'routed':
+    before = lambda line: int(line) - first_line + 1 if line else 0
+    events, producer = [], None
+    if found['storer']:
+        producer = int(found['storer'])
+        written = found['route'] == 'written route'
+        events.append((before(found['behind']), lambda m: m.store(producer, written, what)))
+    if found['sender']:
+        producer = int(found['sender'])
+        if setting.producers[producer] != 'routed':
             return False
-        machine.send(int(flier), False, what)
-        if not at_fence:
-            before = int(landing) - first_line + 1 if landing else 0
-            events.append((before, lambda m: m.land_first()))
-    if sender:
-        if setting.producers[int(sender)] != 'routed':
-            return False
-        before = int(sent) - first_line + 1 if sent else 0
-        events.append((before, lambda m: m.send(int(sender), False, what)))
-    return is_bad_end(machine, plan, events)
+        events.append((before(found['sent']), lambda m: m.send(producer, False, what)))
+        events.append((before(found['landing']), lambda m: m.land_first()))
+    run(machine, plan, events)
+    return machine.is_bad() and comes_so(machine, plan, first_line, rule, bank, what, producer, found['fate'][2:])
 
 
 SPOT = r'in the (old place|hand|new place)'
@@ -354,7 +397,7 @@ UNTOLD = re.compile(
     r'(; at the start delivery is 1 ' + SPOT + r' and 0 elsewhere, and the threshold is '
     r'(?:1 everywhere|0 ' + SPOT + r' and 1 elsewhere))?'
     r'; in the end it is pending(?:, enabled and let through| and enabled) in the new place, and the host was not told')
-NONE = re.compile(r'  run: none was found with one store at most(; the rule asks for more than that the host is told)?')
+NONE = re.compile(r'  run: none was found among those that are tried(; the rule asks for more than that the host is told)?')
 
 
 def is_untold_shown(setting, plan, first_line, text):
@@ -389,8 +432,11 @@ def shown_of(setting, plan, first_line, verdict, text):
     none = NONE.fullmatch(text)
     if none:
         return 'none found' if bool(none.group(1)) == is_notice else 'wrongly shown'
-    is_right_run = is_untold_shown if is_notice else is_bad_shown
-    return 'shown' if is_right_run(setting, plan, first_line, text) else 'wrongly shown'
+    if is_notice:
+        is_right = is_untold_shown(setting, plan, first_line, text)
+    else:
+        is_right = is_bad_shown(setting, plan, first_line, text, verdict.split()[1])
+    return 'shown' if is_right else 'wrongly shown'
 
 
 def verdicts(program, plans):

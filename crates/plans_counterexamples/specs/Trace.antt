@@ -30,14 +30,14 @@ abbrev pub begins_new : Begin → Bool
 begins_new begins.InNew = true
 begins_new begin = false
 
--- What is followed, at the start, with no store in flight.
-abbrev pub trace_first : Begin → Terms → Trace
-trace_first begin terms = record {
+-- What is followed, at the start, where numbers are left in the old place, or are not.
+abbrev pub trace_first : Begin → Bool → Terms → Trace
+trace_first begin left terms = record {
   old = begins_old begin;
   new = begins_new begin;
   hand = false;
   due = begins_old begin;
-  old_number = same_spot terms.number_from InOld;
+  old_number = left || same_spot terms.number_from InOld;
   new_number = same_spot terms.number_from InNew;
   hand_number = same_spot terms.number_from InHand;
   written = Old;

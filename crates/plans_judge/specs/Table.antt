@@ -264,8 +264,8 @@ standing_at d n done = record {
 -- ---- the whole move
 
 -- What the words turn on at a step: whether nobody stores into the old place after it, and whether
--- somebody may into the new one; and whether the move is ready for notices before it: what is heeded
--- is in the new place, and they go to the host.
+-- somebody may into the new one; and whether the move is ready for notices before it: what is
+-- heeded is in the new place, and they go to the host.
 abbrev pub world_at : Setting → AnyStep → Done → World
 world_at d x done = record {
   still = all_led d (x ∷ done);

@@ -3,6 +3,7 @@
 #![tactic(auto)]
 
 mod judging;
+pub mod laws;
 mod lead;
 mod spots;
 mod standing;

@@ -150,7 +150,8 @@ impl Effect {
         self.brings(from, to) && spots.may(from)
     }
 
-    /// Tells whether one comes to those places, of such as stand in the old place before, or do not.
+    /// Tells whether one comes to those places, of such as stand in the old place before, or do
+    /// not.
     fn comes_from(self, spots: Spots, old: bool, to: Places) -> bool
         ensures { result ≡ rules.any_of_two (λ k b. rules.brings self.empties self.lifts
             self.fills self.blanks old k b to.old to.hand to.new && may_by spots old k b) }
@@ -240,7 +241,8 @@ impl Spots {
         self.old_hand_new || self.old_hand || self.hand_new || self.hand
     }
 
-    /// Tells whether one may stand in these places after a step, where stores alone make some stand.
+    /// Tells whether one may stand in these places after a step, where stores alone make some
+    /// stand.
     fn may_after(self, effect: Effect, stores: Stores, at: Places) -> bool
         ensures { result ≡ (rules.brought effect.empties effect.lifts effect.fills effect.blanks
             (may_by self) at.old at.hand at.new

@@ -358,8 +358,8 @@ impl Table {
         self.are_heeded() && self.noticed
     }
 
-    /// Gives what is known of the whole move at a step that the leads have made, which was ready for
-    /// notices before it, or was not.
+    /// Gives what is known of the whole move at a step that the leads have made, which was ready
+    /// for notices before it, or was not.
     fn world(&self, ready: bool) -> World
         ensures { result ≡ record {
           still = all_below (is_led_at self.now.leads.items) (length self.now.leads.items);
