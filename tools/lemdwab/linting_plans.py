@@ -12,12 +12,12 @@ from lemdwab.linting import Fault, bytes_of_no_text, unknown
 LINE_BYTES, MOST_WORDS, MOST_PRODUCERS, MOST_STEPS = 128, 32, 16, 4096
 # What follows the first word of a declaration, and of a step: the names of CHOICES, or numbers.
 DECLARATIONS = {
-    "plan": (), "fresh": (), "memory": (), "heeds": (), "words": ("count",), "producer": ("kind",),
+    "plan": (), "fresh": (), "memory": (), "heeds": (), "inherited": (), "words": ("count",), "producer": ("kind",),
     "numbers": ("spot", "spot"), "notices": ("declared",),
 }
 STEPS = {
     "route": ("producer",), "fence": ("producer",), "switch": ("producer",),
-    "zero": ("place", "thing"), "take": ("thing",), "join": ("set",), "put": ("thing",),
+    "zero": ("place", "thing"), "take": ("thing",), "copy": ("thing",), "join": ("set",), "put": ("thing",),
     "look": ("word",), "post": (), "tell": (), "write": ("written",), "free": (),
 }
 SETS, NUMBERS = ("pending", "enabled"), ("threshold", "delivery")
@@ -32,6 +32,7 @@ FORMS = {
     "notices": "`notices unset`",
     "route": "`route P`", "fence": "`fence P`", "switch": "`switch P`",
     "zero": "`zero PLACE SET W` or `zero PLACE N`", "take": "`take SET W` or `take N`",
+    "copy": "`copy SET W` or `copy N`",
     "join": "`join SET W`", "put": "`put SET W` or `put N`", "look": "`look W`",
     "write": "`write notice`",
 }

@@ -6,7 +6,7 @@ use Rattle.plans_rules.specs.declared.step.Number.TheVariants.{Threshold, Delive
 use Rattle.plans_rules.specs.declared.step.AnyPlace.{AnyPlace}
 use Rattle.plans_rules.specs.declared.step.AnyPlace.TheVariants.{Old, New}
 use Rattle.plans_rules.specs.declared.step.AnyStep.{AnyStep}
-use Rattle.plans_rules.specs.declared.step.AnyStep.TheVariants.{Route, Fence, Switch, Zero, Take, Join, Put, ZeroNumber, TakeNumber, PutNumber, Free}
+use Rattle.plans_rules.specs.declared.step.AnyStep.TheVariants.{Route, Fence, Switch, Zero, Take, Copy, Join, Put, ZeroNumber, TakeNumber, CopyNumber, PutNumber, Free}
 use Rattle.plans_rules.specs.Setting.{Setting, is_old, is_pending, same_number}
 use Rattle.plans_rules.specs.Machine.{AnyFlight, AnyMachine, landed, all_landed, flights_of, flights_beside, led_to, with_number, stepped}
 use Rattle.plans_counterexamples.specs.declared.trace.Case.{Case}
@@ -274,6 +274,23 @@ follows_step d c (Take s w) t z v = record {
   strayed =
       ap₂ (λ a b. a || b) v.strayed v.freed;
 }
+follows_step d c (Copy s w) t z v = record {
+  old = v.old;
+  new = v.new;
+  hand =
+      ap₂ (λ a b. (names_bit c s w && a) || (not (names_bit c s w) && b)) v.old v.hand;
+  due = v.due;
+  old_number = v.old_number;
+  new_number =
+      v.new_number;
+  hand_number = v.hand_number;
+  written = v.written;
+  in_force = v.in_force;
+  flights = v.flights;
+  freed = v.freed;
+  strayed =
+      ap₂ (λ a b. a || b) v.strayed v.freed;
+}
 follows_step d c (Join s w) t z v = record {
   old = v.old;
   new = ap₂ (λ a b. (names_bit c s w && a) || b) v.hand v.new;
@@ -347,6 +364,20 @@ follows_step d c (TakeNumber n) t z v = record {
   freed = v.freed;
   strayed = ap₂ (λ a b. a || b) v.strayed v.freed;
 }
+follows_step d c (CopyNumber n) t z v = record {
+  old = v.old;
+  new = v.new;
+  hand = v.hand;
+  due = v.due;
+  old_number = v.old_number;
+  new_number = v.new_number;
+  hand_number = carried n c.number z.old_number z.hand_number t.old_number t.hand_number v.old_number v.hand_number;
+  written = v.written;
+  in_force = v.in_force;
+  flights = v.flights;
+  freed = v.freed;
+  strayed = ap₂ (λ a b. a || b) v.strayed v.freed;
+}
 follows_step d c (PutNumber n) t z v = record {
   old = v.old;
   new = v.new;
@@ -375,7 +406,7 @@ follows_step d c Free t z v = record {
   in_force = v.in_force;
   flights = v.flights;
   freed = refl;
-  strayed = v.strayed;
+  strayed = ap₂ (λ a b. a || b) v.strayed v.freed;
 }
 follows_step d c x t z v = record {
   old = v.old;

@@ -20,7 +20,7 @@ use Rattle.plans_rules.specs.Machine.{AnyFlight, AnyMachine, AnyHappening, lande
 use Rattle.plans_rules.specs.Machine.By.{InForce as AsInForce}
 use Rattle.plans_rules.specs.Machine.AnyHappening.{Does, Stores, Sends, Lands, Refetches}
 use Rattle.plans_rules.specs.Safe.{IsRouted, CanHappen, IsRun, IsStartOfAny, IsMovedByAny, number_in}
-use Rattle.plans_rules.proofs.BoolLaws.{not_true, and_left, and_right, or_cases}
+use Rattle.plans_rules.proofs.BoolLaws.{not_true, and_left, and_right, or_right, or_cases}
 use Rattle.plans_counterexamples.specs.declared.trace.Case.{Case}
 use Rattle.plans_counterexamples.specs.declared.trace.StoreRoute.{StoreRoute}
 use Rattle.plans_counterexamples.specs.declared.trace.StoreRoute.TheVariants.{Written, InForce}
@@ -29,7 +29,7 @@ use Rattle.plans_counterexamples.specs.declared.run.Run.{Run}
 use Rattle.plans_counterexamples.specs.declared.run.Extra.{Extra}
 use Rattle.plans_counterexamples.specs.declared.run.Extra.TheVariants as extras
 use Rattle.plans_counterexamples.specs.Trace.{Follows, begins_old, begins_new, flights_by, flight_landed, trace_after, trace_landed, trace_stored, worth}
-use Rattle.plans_counterexamples.specs.Run.{Loses, can_be, differ, extra_at, by_of, first_flight, happenings, is_bad_bit, is_bad_end, is_flying_old, is_quiet, is_routed, shows_route, one_bit, run_upto, start_of, step_at, trace_begun, trace_extra, trace_number, trace_wanted}
+use Rattle.plans_counterexamples.specs.Run.{Loses, can_be, differ, extra_at, by_of, happenings, is_bad_bit, is_bad_end, is_flying_old, is_left, is_routed, one_bit, run_upto, start_of, step_at, trace_begun, trace_extra, trace_flown, trace_number, trace_sent, trace_wanted}
 use Rattle.plans_counterexamples.proofs.FollowLemmas.{follows_landed, follows_step}
 
 -- ---- lists of happenings
@@ -114,7 +114,7 @@ stored d c InForce t z v = subst (λ place. Follows c (trace_landed c t.in_force
 
 -- Where a store is sent, none is in flight yet.
 abbrev pub IsUnsent : Run → ℕ → Trace → Type 0
-IsUnsent run k t = (before : ℕ) → run.extra ≡ extras.Lingers before → nat_eq before k ≡ true → t.flight ≡ None
+IsUnsent run k t = (before lands : ℕ) → run.extra ≡ extras.Sends before lands → nat_eq before k ≡ true → t.flight ≡ None
 
 sent : (d : Setting) (c : Case) (t : Trace) (z : AnyMachine) → t.flight ≡ None → Follows c t z
     → Follows c (record t { flight = Some t.in_force }) (happened d (Sends c.producer AsInForce c.identity) z)
@@ -143,23 +143,31 @@ follows_extra d run k t z unsent v = by_extra run.extra refl
     stores_at true route = stored d run.case route t z v
     stores_at false route = v
 
-    flies_at : (b : Bool) → Follows run.case (elim b [ true ↦ record (flight_landed run.case t.flight t) { flight = None } | false ↦ t ])
-        (all_happened d (if b then Lands 0 ∷ [] else []) z)
-    flies_at true = flown d run.case t z v
-    flies_at false = v
-
-    lingers_at : (b : Bool) → (b ≡ true → t.flight ≡ None)
-        → Follows run.case (elim b [ true ↦ record t { flight = Some t.in_force } | false ↦ t ])
+    sent_at : (b : Bool) → (b ≡ true → t.flight ≡ None) → Follows run.case (trace_sent b t)
         (all_happened d (if b then Sends run.case.producer AsInForce run.case.identity ∷ [] else []) z)
-    lingers_at true none = sent d run.case t z (none refl) v
-    lingers_at false none = v
+    sent_at true none = sent d run.case t z (none refl) v
+    sent_at false none = v
+
+    flown_at : (b : Bool) (u : Trace) (y : AnyMachine) → Follows run.case u y
+        → Follows run.case (trace_flown run.case b u) (all_happened d (if b then Lands 0 ∷ [] else []) y)
+    flown_at true u y w = flown d run.case u y w
+    flown_at false u y w = w
+
+    both_at : (before lands : ℕ) → (nat_eq before k ≡ true → t.flight ≡ None)
+        → Follows run.case (trace_flown run.case (nat_eq lands k) (trace_sent (nat_eq before k) t))
+        (all_happened d ((if nat_eq before k then Sends run.case.producer AsInForce run.case.identity ∷ [] else [])
+        ++ (if nat_eq lands k then Lands 0 ∷ [] else [])) z)
+    both_at before lands none =
+        subst (Follows run.case (trace_flown run.case (nat_eq lands k) (trace_sent (nat_eq before k) t)))
+        (sym (all_happened-append d (if nat_eq before k then Sends run.case.producer AsInForce run.case.identity ∷ [] else [])
+        (if nat_eq lands k then Lands 0 ∷ [] else []) z))
+        (flown_at (nat_eq lands k) _ _ (sent_at (nat_eq before k) none))
 
     by_extra : (extra : Extra) → run.extra ≡ extra
         → Follows run.case (trace_extra (record run { extra = extra }) k t) (all_happened d (extra_at (record run { extra = extra }) k) z)
     by_extra extras.Nothing is = v
     by_extra (extras.Stores before route) is = stores_at (nat_eq before k) route
-    by_extra (extras.Flies before) is = flies_at (nat_eq before k)
-    by_extra (extras.Lingers before) is = lingers_at (nat_eq before k) (unsent before is)
+    by_extra (extras.Sends before lands) is = both_at before lands (unsent before lands is)
 
 -- ---- the loop over the steps
 
@@ -212,19 +220,8 @@ abbrev pub MayStore : List RouteKind → Run → Extra → Bool
 MayStore producers run extra = elim extra [
   | extras.Nothing ↦ true
   | extras.Stores before route ↦ nat_lt run.case.producer (length producers)
-  | extras.Flies before ↦ is_routed (slice_get producers run.case.producer)
-  | extras.Lingers before ↦ is_routed (slice_get producers run.case.producer)
+  | extras.Sends before lands ↦ is_routed (slice_get producers run.case.producer)
 ]
-
-begin_flights : (producers : List RouteKind) (terms : Terms) (run : Run) (extra : Extra) → MayStore producers run extra ≡ true
-    → AllByRecursion (λ (f : AnyFlight). IsRouted (setting_of producers terms) f.producer × (f.place ≡ Old))
-    (flights_by run.case (first_flight extra))
-begin_flights producers terms run extras.Nothing e = tt
-begin_flights producers terms run (extras.Stores before route) e = tt
-begin_flights producers terms run (extras.Lingers before) e = tt
-begin_flights producers terms run (extras.Flies before) e =
-    let is = routed_is (slice_get producers run.case.producer) e in
-    (((slice_get_within producers run.case.producer Routed is, is), refl), tt)
 
 none_new : (n fresh : Bool) (s : WhichSet) (i : ℕ) (u : WhichSet) (j : ℕ) → (not n || not fresh) ≡ true → fresh ≡ true → one_bit n s i u j ≡ false
 none_new false fresh s i u j e f = refl
@@ -232,11 +229,11 @@ none_new true true s i u j e f = absurd (false≢true e)
 none_new true false s i u j e f = absurd (false≢true f)
 
 begins_well : (producers : List RouteKind) (terms : Terms) (run : Run) → (not (begins_new run.begin) || not terms.is_fresh) ≡ true
-    → MayStore producers run run.extra ≡ true → IsStartOfAny (setting_of producers terms) (start_of (setting_of producers terms) run)
-begins_well producers terms run fresh may = record {
+    → IsStartOfAny (setting_of producers terms) (start_of (setting_of producers terms) run)
+begins_well producers terms run fresh = record {
   written = λ p is. refl;
   in_force = λ p is. refl;
-  flights = begin_flights producers terms run run.extra may;
+  flights = tt;
   due = λ s i. refl;
   hand = λ s i. refl;
   fresh = λ e s i. none_new (begins_new run.begin) terms.is_fresh run.case.bank run.case.identity s i fresh e;
@@ -255,8 +252,11 @@ extra_steps run k = by_extra run.extra
     by_extra : (extra : Extra) → steps_in (extra_at (record run { extra = extra }) k) ≡ []
     by_extra extras.Nothing = refl
     by_extra (extras.Stores before route) = one_store (nat_eq before k) (Stores run.case.producer (by_of route) run.case.identity) refl
-    by_extra (extras.Flies before) = one_store (nat_eq before k) (Lands 0) refl
-    by_extra (extras.Lingers before) = one_store (nat_eq before k) (Sends run.case.producer AsInForce run.case.identity) refl
+    by_extra (extras.Sends before lands) =
+        steps_in-append (if nat_eq before k then Sends run.case.producer AsInForce run.case.identity ∷ [] else [])
+        (if nat_eq lands k then Lands 0 ∷ [] else [])
+        ∙ ap₂ (λ a b. a ++ b) (one_store (nat_eq before k) (Sends run.case.producer AsInForce run.case.identity) refl)
+        (one_store (nat_eq lands k) (Lands 0) refl)
 
 steps_upto : (plan : List AnyStep) (run : Run) (k : ℕ) → k ≤ length plan → steps_in (run_upto plan run k) ≡ take k plan
 steps_upto plan run zero within = refl
@@ -288,10 +288,12 @@ extra_can producers terms run k may = by_extra run.extra may
     by_extra extras.Nothing e = tt
     by_extra (extras.Stores before route) e = one_store (nat_eq before k) (Stores run.case.producer (by_of route) run.case.identity)
         (below_is run.case.producer (length producers) e)
-    by_extra (extras.Flies before) e = one_store (nat_eq before k) (Lands 0) tt
-    by_extra (extras.Lingers before) e =
+    by_extra (extras.Sends before lands) e =
         let is = routed_is (slice_get producers run.case.producer) e in
-        one_store (nat_eq before k) (Sends run.case.producer AsInForce run.case.identity) (slice_get_within producers run.case.producer Routed is, is)
+        all-append (CanHappen (setting_of producers terms)) (if nat_eq before k then Sends run.case.producer AsInForce run.case.identity ∷ [] else [])
+        (if nat_eq lands k then Lands 0 ∷ [] else [])
+        (one_store (nat_eq before k) (Sends run.case.producer AsInForce run.case.identity) (slice_get_within producers run.case.producer Routed is, is))
+        (one_store (nat_eq lands k) (Lands 0) tt)
 
 step_can : (d : Setting) (o : Option AnyStep) → AllByRecursion (CanHappen d) (elim o [ None ↦ [] | Some x ↦ Does x ∷ [] ])
 step_can d None = tt
@@ -342,7 +344,7 @@ right_bit producers terms run Enabled z t same inside m new due =
 
 begun_number : (producers : List RouteKind) (terms : Terms) (run : Run) (from : NumberSpot) → terms.number_from ≡ from
     → number_in from run.case.number (start_of (setting_of producers terms) run) ≡ 1
-begun_number producers terms run InOld e = ap (λ f. worth (same_spot f InOld)) e
+begun_number producers terms run InOld e = ap (λ f. worth (run.left || same_spot f InOld)) e ∙ ap worth (or_right run.left true refl)
 begun_number producers terms run InHand e = ap (λ f. worth (same_spot f InHand)) e
 begun_number producers terms run InNew e = ap (λ f. worth (same_spot f InNew)) e
 
@@ -362,27 +364,24 @@ pub true_false : (b : Bool) → b ≡ true → b ≡ false → ⊥
 true_false b e f = false≢true (sym f ∙ e)
 
 ends_badly : (producers : List RouteKind) (terms : Terms) (run : Run) (t : Trace) (z : AnyMachine) → run.case.identity / 64 < terms.words
-    → Follows run.case t z → is_bad_end run terms (length producers) t ≡ true
+    → Follows run.case t z → is_bad_end run terms t ≡ true
     → IsMovedByAny (setting_of producers terms) (start_of (setting_of producers terms) run) z → ⊥
 ends_badly producers terms run t z inside v bad m = elim (or_cases (is_bad_bit run t) _ bad) [
   | inl bit ↦ elim (or_cases (differ t.new (trace_wanted run t)) t.old bit) [
     | inl wrong ↦ not_same t.new (trace_wanted run t) wrong (right_bit producers terms run run.case.bank z t refl inside m v.new v.due)
     | inr left ↦ true_false t.old left (sym v.old ∙ m.none_left run.case.bank run.case.identity inside)
   ]
-  | inr others ↦ elim (or_cases (shows_route run (length producers) t) _ others) [
-    | inl shown ↦
-        let route = and_right (is_quiet run.extra) _ shown in
-        let p = below_is run.case.producer (length producers) (and_left _ _ route) in
-        elim (or_cases (is_old t.written) (is_old t.in_force) (and_right (nat_lt run.case.producer (length producers)) _ route)) [
-          | inl written ↦ old_new t.written written (sym v.written ∙ m.written run.case.producer p)
-          | inr force ↦ old_new t.in_force force (sym v.in_force ∙ m.in_force run.case.producer p)
-        ]
-    | inr last ↦ elim (or_cases (not (trace_number terms.number_to t)) _ last) [
-      | inl number ↦ zero_one (sym (ap worth (not_true (trace_number terms.number_to t) number))
-          ∙ sym (ended_number run.case t z terms.number_to v) ∙ m.numbers run.case.number ∙ begun_number producers terms run terms.number_from refl)
-      | inr more ↦ elim (or_cases (is_flying_old t.flight) t.strayed more) [
-        | inl flying ↦ flies_old run.case t.flight flying (subst (AllByRecursion (λ (g : AnyFlight). g.place ≡ New)) v.flights m.flights)
-        | inr strayed ↦ true_false t.strayed strayed (sym v.strayed ∙ m.strayed)
+  | inr last ↦ elim (or_cases (not (trace_number terms.number_to t)) _ last) [
+    | inl number ↦ zero_one (sym (ap worth (not_true (trace_number terms.number_to t) number))
+        ∙ sym (ended_number run.case t z terms.number_to v) ∙ m.numbers run.case.number ∙ begun_number producers terms run terms.number_from refl)
+    | inr more ↦ elim (or_cases (is_flying_old t.flight) _ more) [
+      | inl flying ↦ flies_old run.case t.flight flying (subst (AllByRecursion (λ (g : AnyFlight). g.place ≡ New)) v.flights m.flights)
+      | inr reached ↦ elim (or_cases t.strayed _ reached) [
+        | inl strayed ↦ true_false t.strayed strayed (sym v.strayed ∙ m.strayed)
+        | inr left ↦
+            let there = and_right terms.is_inherited _ left in
+            zero_one (sym (m.inherited (and_left terms.is_inherited _ left) (v.freed ∙ and_left t.freed _ there) run.case.number)
+            ∙ v.old_number ∙ ap worth (and_right t.freed _ there))
       ]
     ]
   ]
@@ -390,13 +389,13 @@ ends_badly producers terms run t z inside v bad m = elim (or_cases (is_bad_bit r
 
 pub it_loses : (producers : List RouteKind) (terms : Terms) (plan : List AnyStep) (run : Run) (t : Trace) → can_be run terms producers ≡ true
     → Follows run.case t (all_happened (setting_of producers terms) (happenings plan run) (start_of (setting_of producers terms) run))
-    → is_bad_end run terms (length producers) t ≡ true → Loses (setting_of producers terms) plan run
+    → is_bad_end run terms t ≡ true → Loses (setting_of producers terms) plan run
 it_loses producers terms plan run t can v bad =
     let inside = below_is (run.case.identity / 64) terms.words (and_left _ _ can) in
     let rest = and_right (nat_lt (run.case.identity / 64) terms.words) _ can in
     let may = and_right (not (begins_new run.begin) || not terms.is_fresh) _ rest in
     record {
-      begins = begins_well producers terms run (and_left _ _ rest) may;
+      begins = begins_well producers terms run (and_left _ _ rest);
       happens = happens_well producers terms plan run may;
       ends = ends_badly producers terms run t _ inside v bad;
     }

@@ -24,8 +24,8 @@ use Rattle.plans_counterexamples.specs.declared.trace.StoreRoute.TheVariants.{Wr
 use Rattle.plans_counterexamples.specs.declared.watch.Watch.{Watch}
 use Rattle.plans_counterexamples.specs.declared.untold.Store.{Store}
 use Rattle.plans_counterexamples.specs.declared.untold.UntoldRun.{UntoldRun}
-use Rattle.plans_counterexamples.specs.Search.{or_else}
-use Rattle.plans_counterexamples.specs.UntoldSearch.{stored_before, stored_by, tried_untold, untold_of, untold_run_of, untold_word, with_delivery, untold_with_numbers}
+use Rattle.plans_counterexamples.specs.Search.{first_of, or_else}
+use Rattle.plans_counterexamples.specs.UntoldSearch.{is_small, stored_before, stored_by, tried_untold, untold_of, untold_run_of, untold_word, with_delivery, untold_with_numbers}
 use Rattle.plans_counterexamples.specs.Run.{by_of, extra_at, run_upto, step_at}
 use Rattle.plans_counterexamples.specs.Untold.{IsAlone, IsWatched, LeavesUntold, can_come, can_store, enabled_bit, extra_of, is_unstored, is_untold, pending_bit, producer_of, run_in, watch_sees, watch_tells, untold_end, untold_start, watch_after, watch_begun, watch_end, watch_extra, watch_landed, watch_out, watch_route, watch_stepped, watch_upto}
 use Rattle.plans_counterexamples.proofs.FollowLemmas.{follows_landed, follows_step}
@@ -129,6 +129,9 @@ hand_after producers terms u (steps.Fence p) w z v =
 hand_after producers terms u (steps.Zero Old s k) w z v = v.hand
 hand_after producers terms u (steps.Zero New s k) w z v = v.hand
 hand_after producers terms u (steps.Take s k) w z v =
+    λ j other. or_false _ _ (and_false_right (names s k Pending (j / 64)) _ (v.old j other))
+    (and_false_right (not (names s k Pending (j / 64))) _ (v.hand j other))
+hand_after producers terms u (steps.Copy s k) w z v =
     λ j other. or_false _ _ (and_false_right (names s k Pending (j / 64)) _ (v.old j other))
     (and_false_right (not (names s k Pending (j / 64))) _ (v.hand j other))
 hand_after producers terms u (steps.Join s k) w z v = λ j other. and_false_right (not (names s k Pending (j / 64))) _ (v.hand j other)
@@ -365,7 +368,12 @@ word_leaves : (producers : List RouteKind) (terms : Terms) (plan : List AnyStep)
     → IfFound (LeavesUntold (setting_of producers terms) plan) (untold_word producers terms plan word)
 unfolding untold_word
 word_leaves producers terms plan word = either _ _ _ (numbers_leave producers terms plan word None)
-    (first _ _ 0 (length producers) (λ p. by_leaves producers terms plan word p))
+    (by_test (is_small (length producers) terms.words (length plan)))
+  where
+    by_test : (b : Bool) → IfFound (LeavesUntold (setting_of producers terms) plan)
+        (if b then first_of (stored_by producers terms plan word) 0 (length producers) else None)
+    by_test true = first _ _ 0 (length producers) (λ p. by_leaves producers terms plan word p)
+    by_test false = λ x e. absurd (cc)
 
 pub found_leaves_untold : (producers : List RouteKind) (terms : Terms) (plan : List AnyStep) (u : UntoldRun)
     → untold_run_of producers terms plan ≡ Some u → LeavesUntold (setting_of producers terms) plan u

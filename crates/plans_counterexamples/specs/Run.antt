@@ -5,21 +5,27 @@ use Rattle.plans_rules.specs.declared.step.WhichSet.TheVariants.{Pending, Enable
 use Rattle.plans_rules.specs.declared.step.AnyPlace.{AnyPlace}
 use Rattle.plans_rules.specs.declared.step.AnyPlace.TheVariants.{Old}
 use Rattle.plans_rules.specs.declared.step.AnyStep.{AnyStep}
+use Rattle.plans_rules.specs.declared.rule.Rule.{Rule}
+use Rattle.plans_rules.specs.declared.rule.Rule.TheVariants as rules
+use Rattle.plans_rules.specs.Rules.{empties}
 use Rattle.plans_rules.specs.declared.setting.RouteKind.{RouteKind}
 use Rattle.plans_rules.specs.declared.setting.RouteKind.TheVariants.{Routed}
 use Rattle.plans_rules.specs.declared.setting.NumberSpot.{NumberSpot}
 use Rattle.plans_rules.specs.declared.setting.NumberSpot.TheVariants.{InOld, InHand, InNew}
 use Rattle.plans_rules.specs.declared.setting.Terms.{Terms}
-use Rattle.plans_rules.specs.Setting.{Setting, is_old, same_bank, same_spot}
+use Rattle.plans_rules.specs.Setting.{Setting, is_old, is_pending, same_bank, same_spot}
 use Rattle.plans_rules.specs.Machine.{By, AnyMachine, Sets, AnyHappening, all_happened}
 use Rattle.plans_rules.specs.Machine.By.{Written as AsWritten, InForce as AsInForce}
 use Rattle.plans_rules.specs.Machine.AnyHappening.{Does, Stores, Sends, Lands}
 use Rattle.plans_rules.specs.Safe.{IsMovedByAny, IsRun, IsStartOfAny}
+use Rattle.plans_counterexamples.specs.declared.trace.Case.{Case}
 use Rattle.plans_counterexamples.specs.declared.trace.StoreRoute.{StoreRoute}
 use Rattle.plans_counterexamples.specs.declared.trace.StoreRoute.TheVariants.{Written, InForce}
 use Rattle.plans_counterexamples.specs.declared.trace.Trace.{Trace}
 use Rattle.plans_counterexamples.specs.declared.run.Run.{Run}
 use Rattle.plans_counterexamples.specs.declared.run.Extra.{Extra}
+use Rattle.plans_counterexamples.specs.declared.run.Fate.{Fate}
+use Rattle.plans_counterexamples.specs.declared.run.Fate.TheVariants as fates
 use Rattle.plans_counterexamples.specs.declared.run.Extra.TheVariants as extras
 use Rattle.plans_counterexamples.specs.Trace.{trace_first, begins_old, begins_new, flights_by, trace_stored, flight_landed, worth}
 
@@ -29,25 +35,21 @@ use Rattle.plans_counterexamples.specs.Trace.{trace_first, begins_old, begins_ne
 abbrev pub one_bit : Bool → WhichSet → ℕ → Sets
 one_bit is_there s i t j = is_there && (same_bank s t && nat_eq i j)
 
--- Where the store leads that is in flight from the start on, if the run has one.
-abbrev pub first_flight : Extra → Option AnyPlace
-first_flight (extras.Flies before) = Some Old
-first_flight extra = None
-
 -- The identity that is followed, and no other one; each number is 1 where the numbers are, and 0
--- elsewhere; all leads to the old place.
+-- elsewhere, but in the old place 1 too, if the run has numbers left there; all leads to the old
+-- place.
 abbrev pub start_of : Setting → Run → AnyMachine
 start_of d run = record {
   old = one_bit (begins_old run.begin) run.case.bank run.case.identity;
   new = one_bit (begins_new run.begin) run.case.bank run.case.identity;
   hand = λ s i. false;
   due = one_bit (begins_old run.begin) run.case.bank run.case.identity;
-  old_number = λ n. worth (same_spot d.number_from InOld);
+  old_number = λ n. worth (run.left || same_spot d.number_from InOld);
   new_number = λ n. worth (same_spot d.number_from InNew);
   hand_number = λ n. worth (same_spot d.number_from InHand);
   written = λ p. Old;
   in_force = λ p. Old;
-  flights = flights_by run.case (first_flight run.extra);
+  flights = [];
   freed = false;
   strayed = false;
   noticed = d.notices_go;
@@ -68,9 +70,9 @@ extra_at run k = elim run.extra [
   | extras.Nothing ↦ []
   | extras.Stores before route ↦
       if nat_eq before k then Stores run.case.producer (by_of route) run.case.identity ∷ [] else []
-  | extras.Flies before ↦ if nat_eq before k then Lands 0 ∷ [] else []
-  | extras.Lingers before ↦
-      if nat_eq before k then Sends run.case.producer AsInForce run.case.identity ∷ [] else []
+  | extras.Sends before lands ↦
+      (if nat_eq before k then Sends run.case.producer AsInForce run.case.identity ∷ [] else [])
+      ++ (if nat_eq lands k then Lands 0 ∷ [] else [])
 ]
 
 -- The step after so many, if the plan has one.
@@ -97,10 +99,19 @@ pub record Loses (d : Setting) (plan : List AnyStep) (run : Run) : Type 0 where
 
 -- ---- as the trace tells it
 
--- What is followed of a run, at the start: `trace_first`, with the store in flight that the run
--- begins with.
+-- What is followed of a run, at the start.
 abbrev pub trace_begun : Run → Terms → Trace
-trace_begun run terms = record (trace_first run.begin terms) { flight = first_flight run.extra }
+trace_begun run terms = trace_first run.begin run.left terms
+
+-- What is followed, once the store is sent, and once it has landed.
+abbrev pub trace_sent : Bool → Trace → Trace
+trace_sent comes t = elim comes [ true ↦ record t { flight = Some t.in_force } | false ↦ t ]
+
+abbrev pub trace_flown : Case → Bool → Trace → Trace
+trace_flown c comes t = elim comes [
+  | true ↦ record (flight_landed c t.flight t) { flight = None }
+  | false ↦ t
+]
 
 -- What is followed, once that has come which the run has after so many steps.
 abbrev pub trace_extra : Run → ℕ → Trace → Trace
@@ -110,14 +121,8 @@ trace_extra run k t = elim run.extra [
     | true ↦ trace_stored run.case route t
     | false ↦ t
   ]
-  | extras.Flies before ↦ elim (nat_eq before k) [
-    | true ↦ record (flight_landed run.case t.flight t) { flight = None }
-    | false ↦ t
-  ]
-  | extras.Lingers before ↦ elim (nat_eq before k) [
-    | true ↦ record t { flight = Some t.in_force }
-    | false ↦ t
-  ]
+  | extras.Sends before lands ↦
+      trace_flown run.case (nat_eq lands k) (trace_sent (nat_eq before k) t)
 ]
 
 -- Whether the number stands in a spot as at the start.
@@ -146,27 +151,76 @@ is_flying_old (Some place) = is_old place
 abbrev pub is_bad_bit : Run → Trace → Bool
 is_bad_bit run t = differ t.new (trace_wanted run t) || t.old
 
--- Whether a route of the producer leads to the old place.
-abbrev pub is_bad_route : Trace → Bool
-is_bad_route t = is_old t.written || is_old t.in_force
-
--- Whether a run is without a store.
-abbrev pub is_quiet : Extra → Bool
-is_quiet extras.Nothing = true
-is_quiet extra = false
-
--- Whether a run shows that its producer's route leads to the old place in the end: one without a
--- store does; one with a store shows what becomes of the store.
-abbrev pub shows_route : Run → ℕ → Trace → Bool
-shows_route run producers t =
-    is_quiet run.extra && (nat_lt run.case.producer producers && is_bad_route t)
+-- Whether the next owner of the old place finds the number there, which it takes over.
+abbrev pub is_left : Terms → Trace → Bool
+is_left terms t = terms.is_inherited && (t.freed && t.old_number)
 
 -- Whether the run does not end as it has to, by what was followed.
-abbrev pub is_bad_end : Run → Terms → ℕ → Trace → Bool
-is_bad_end run terms producers t =
+abbrev pub is_bad_end : Run → Terms → Trace → Bool
+is_bad_end run terms t =
     is_bad_bit run t
-    || (shows_route run producers t
-    || (not (trace_number terms.number_to t) || (is_flying_old t.flight || t.strayed)))
+    || (not (trace_number terms.number_to t)
+    || (is_flying_old t.flight || (t.strayed || is_left terms t)))
+
+-- ---- it shows that a rule is broken
+
+-- Whether the bit has to stand in the new place in the end, and does not.
+abbrev pub is_missing : Run → Trace → Bool
+is_missing run t = trace_wanted run t && not t.new
+
+-- Whether an end shows that a rule of safety is broken: a pending bit is left in the old place; a
+-- bit is missing, or an enable is left there; a bit is missing, or left over in the new place; the
+-- number is not where it has to be; the old place is reached after it was given back, or the number
+-- is left there. No such end shows that the rule on notices is.
+abbrev pub shows : Rule → Run → Terms → Trace → Bool
+shows rules.Routes run terms t = is_pending run.case.bank && t.old
+shows rules.Words run terms t =
+    (is_missing run t && not t.old) || (not (is_pending run.case.bank) && t.old)
+shows rules.Blank run terms t = differ t.new (trace_wanted run t)
+shows rules.Numbers run terms t = not (trace_number terms.number_to t)
+shows rules.Freeing run terms t = t.strayed || is_left terms t
+shows rules.Notice run terms t = false
+
+-- The last step, of so many, that leaves nothing of a word in the old place, if there is one: by
+-- how many are before it.
+abbrev pub last_emptied : List AnyStep → WhichSet → ℕ → ℕ → Option ℕ
+last_emptied plan s w zero = None
+last_emptied plan s w (suc k) = elim (slice_get plan k) [
+  | None ↦ last_emptied plan s w k
+  | Some x ↦ if empties s w x then Some k else last_emptied plan s w k
+]
+
+-- Why the bit is left in the old place: its producer's route leads there to the end, or nothing
+-- takes its word, or what takes it comes too early.
+abbrev pub left_by : List AnyStep → Run → ℕ → Trace → Fate
+left_by plan run producers t = elim (nat_lt run.case.producer producers && is_old t.in_force) [
+  | true ↦ fates.NotLed
+  | false ↦ elim (last_emptied plan run.case.bank (run.case.identity / 64) (length plan)) [
+    | None ↦ fates.NotTaken
+    | Some before ↦ fates.TakenEarly before
+  ]
+]
+
+-- What becomes of the bit: it is left in the old place, it is left over in the new one, it is in
+-- the hand alone, or it is nowhere.
+abbrev pub bit_fate : List AnyStep → Run → ℕ → Trace → Fate
+bit_fate plan run producers t = elim t.old [
+  | true ↦ left_by plan run producers t
+  | false ↦ elim t.new [
+    | true ↦ fates.LeftOver
+    | false ↦ elim t.hand [ true ↦ fates.Held | false ↦ fates.Gone ]
+  ]
+]
+
+-- What becomes of what is followed: the number is not where it has to be; the old place is reached
+-- after it was given back, or the number is left there; or what becomes of the bit.
+abbrev pub fate_of : Rule → List AnyStep → Run → ℕ → Trace → Fate
+fate_of rules.Numbers plan run producers t = fates.Misplaced
+fate_of rules.Freeing plan run producers t = elim t.strayed [
+  | true ↦ fates.Strayed
+  | false ↦ fates.Inherited
+]
+fate_of rule plan run producers t = bit_fate plan run producers t
 
 -- Whether a producer is there, and is routed.
 abbrev pub is_routed : Option RouteKind → Bool
@@ -182,6 +236,5 @@ can_be run terms producers =
     && (elim run.extra [
       | extras.Nothing ↦ true
       | extras.Stores before route ↦ nat_lt run.case.producer (length producers)
-      | extras.Flies before ↦ is_routed (slice_get producers run.case.producer)
-      | extras.Lingers before ↦ is_routed (slice_get producers run.case.producer)
+      | extras.Sends before lands ↦ is_routed (slice_get producers run.case.producer)
     ]))

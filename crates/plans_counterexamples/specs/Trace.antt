@@ -30,14 +30,14 @@ abbrev pub begins_new : Begin → Bool
 begins_new begins.InNew = true
 begins_new begin = false
 
--- What is followed, at the start, with no store in flight.
-abbrev pub trace_first : Begin → Terms → Trace
-trace_first begin terms = record {
+-- What is followed, at the start, where numbers are left in the old place, or are not.
+abbrev pub trace_first : Begin → Bool → Terms → Trace
+trace_first begin left terms = record {
   old = begins_old begin;
   new = begins_new begin;
   hand = false;
   due = begins_old begin;
-  old_number = same_spot terms.number_from InOld;
+  old_number = left || same_spot terms.number_from InOld;
   new_number = same_spot terms.number_from InNew;
   hand_number = same_spot terms.number_from InHand;
   written = Old;
@@ -102,6 +102,13 @@ trace_taken is_this t = record t {
   strayed = t.strayed || t.freed;
 }
 
+-- The word is copied from the old place.
+abbrev pub trace_copied : Bool → Trace → Trace
+trace_copied is_this t = record t {
+  hand = (is_this && t.old) || (not is_this && t.hand);
+  strayed = t.strayed || t.freed;
+}
+
 -- What the hand has of the word is joined to the new place.
 abbrev pub trace_joined : Bool → Trace → Trace
 trace_joined is_this t = record t {
@@ -132,6 +139,13 @@ trace_taken_number is_this t = record t {
   strayed = t.strayed || t.freed;
 }
 
+-- The number is copied from the old place.
+abbrev pub trace_copied_number : Bool → Trace → Trace
+trace_copied_number is_this t = record t {
+  hand_number = (is_this && t.old_number) || (not is_this && t.hand_number);
+  strayed = t.strayed || t.freed;
+}
+
 -- The number is put in the new place.
 abbrev pub trace_put_number : Bool → Trace → Trace
 trace_put_number is_this t = record t {
@@ -145,12 +159,14 @@ trace_after c (steps.Fence p) t = trace_fenced c (nat_eq p c.producer) t
 trace_after c (steps.Switch p) t = trace_switched (nat_eq p c.producer) t
 trace_after c (steps.Zero place s w) t = trace_zeroed place (names_bit c s w) t
 trace_after c (steps.Take s w) t = trace_taken (names_bit c s w) t
+trace_after c (steps.Copy s w) t = trace_copied (names_bit c s w) t
 trace_after c (steps.Join s w) t = trace_joined (names_bit c s w) t
 trace_after c (steps.Put s w) t = trace_put (names_bit c s w) t
 trace_after c (steps.ZeroNumber place n) t = trace_zeroed_number place (same_number n c.number) t
 trace_after c (steps.TakeNumber n) t = trace_taken_number (same_number n c.number) t
+trace_after c (steps.CopyNumber n) t = trace_copied_number (same_number n c.number) t
 trace_after c (steps.PutNumber n) t = trace_put_number (same_number n c.number) t
-trace_after c steps.Free t = record t { freed = true }
+trace_after c steps.Free t = record t { freed = true; strayed = t.strayed || t.freed }
 trace_after c step t = t
 
 -- ---- a trace follows the machine

@@ -78,6 +78,7 @@ run_in u = record {
   case = pending_bit u.identity (producer_of u.store);
   begin = begin_of u.store;
   extra = extra_of u.store;
+  left = false;
 }
 
 -- ---- how it begins

@@ -1,7 +1,8 @@
 -- Which run is found after which the host was not told: the first one, among those with one store
 -- at most. Profile.
-use Rattle.std.specs.Prelude.{ℕ, ◌+◌, ◌*◌, ◌&&◌, if◌then◌else◌, List, length, Option, Some, None}
+use Rattle.std.specs.Prelude.{ℕ, ◌+◌, ◌*◌, Bool, nat_le, ◌&&◌, if◌then◌else◌, List, length, Option, Some, None}
 use Rattle.plans_rules.specs.declared.step.AnyStep.{AnyStep}
+use Rattle.plans_counterexamples.specs.declared.limits.TheConstants.{SMALL_PRODUCERS, SMALL_WORDS, SMALL_STEPS}
 use Rattle.plans_rules.specs.declared.setting.RouteKind.{RouteKind}
 use Rattle.plans_rules.specs.declared.setting.NumberSpot.{NumberSpot}
 use Rattle.plans_rules.specs.declared.setting.NumberSpot.TheVariants.{InOld, InHand, InNew}
@@ -68,11 +69,17 @@ unfoldable pub stored_by : List RouteKind → Terms → List AnyStep → ℕ →
 stored_by producers terms plan word producer =
     first_of (stored_before producers terms plan word producer) 0 (length plan + 1)
 
--- The first such run of a word, without a store or with one.
+-- Whether a plan is so small that runs of it with a store are looked for.
+abbrev pub is_small : ℕ → ℕ → ℕ → Bool
+is_small producers words steps =
+    nat_le producers SMALL_PRODUCERS && (nat_le words SMALL_WORDS && nat_le steps SMALL_STEPS)
+
+-- The first such run of a word: without a store, or, of a small plan, with one.
 unfoldable pub untold_word : List RouteKind → Terms → List AnyStep → ℕ → Option UntoldRun
 untold_word producers terms plan word =
     or_else (untold_with_numbers producers terms plan word None)
-    (first_of (stored_by producers terms plan word) 0 (length producers))
+    (if is_small (length producers) terms.words (length plan)
+    then first_of (stored_by producers terms plan word) 0 (length producers) else None)
 
 -- The first run of any word after which the host was not told.
 unfoldable pub untold_run_of : List RouteKind → Terms → List AnyStep → Option UntoldRun

@@ -3,6 +3,7 @@
 #![tactic(auto)]
 
 pub mod laws;
+mod limits;
 mod run;
 mod search;
 mod trace;
@@ -10,8 +11,9 @@ mod untold;
 mod untold_search;
 mod watch;
 
-pub use run::{Extra, Run};
-pub use search::losing_run;
+pub use limits::{SMALL_PRODUCERS, SMALL_STEPS, SMALL_WORDS};
+pub use run::{Extra, Fate, Run};
+pub use search::{Losing, losing_run};
 pub use trace::{Begin, Case, StoreRoute};
 pub use untold::{Store, UntoldRun};
 pub use untold_search::untold_run;

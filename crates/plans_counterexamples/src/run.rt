@@ -5,11 +5,14 @@ ghost use Rattle.std.specs.Option.{option_map};
 ghost use Rattle.plans_rules.specs.Setting.{setting_of};
 ghost use Rattle.plans_rules.specs.Machine.{all_happened};
 ghost use Rattle.plans_counterexamples.specs.Trace.{Follows};
-ghost use Rattle.plans_counterexamples.specs.Run.{Loses, can_be, differ, happenings, is_bad_bit, is_bad_end, is_bad_route, is_flying_old, is_routed, shows_route, start_of, trace_begun, trace_extra, trace_number, trace_wanted};
+ghost use Rattle.plans_rules.specs.Rules as rules;
+ghost use Rattle.plans_rules.specs.Setting.{is_pending};
+ghost use Rattle.plans_counterexamples.specs.Run.{Loses, bit_fate, can_be, differ, fate_of, happenings, is_left, is_missing, is_routed, last_emptied, left_by, shows, start_of, trace_begun, trace_extra, trace_number, trace_wanted};
 ghost use Rattle.plans_counterexamples.specs.Search.{tried, trace_end};
 
+use crate::search::Losing;
 use crate::trace::{Begin, Case, StoreRoute, Trace};
-use plans_rules::{AnyPlace, AnyStep, RouteKind, Terms, WhichSet};
+use plans_rules::{AnyPlace, AnyStep, RouteKind, Rule, Terms, WhichSet};
 
 /// The one store that comes between the steps of a run.
 #[derive(Clone, Copy, Debug, PartialEq, Eq)]
@@ -21,13 +24,9 @@ pub enum Extra {
     /// at once.
     Stores { before: usize, route: StoreRoute },
 
-    /// It is in flight to the old place from the start on, and lands with so many steps before it,
-    /// or sooner, at its producer's fence.
-    Flies { before: usize },
-
-    /// It is sent with so many steps before it, by the route in force, and stays in flight up to
-    /// its producer's next fence, or to the end.
-    Lingers { before: usize },
+    /// It is sent with so many steps before it, by the route in force, and lands with so many
+    /// before it, or sooner, at its producer's fence.
+    Sends { before: usize, lands: usize },
 }
 
 /// A run of a plan: what is followed in it, where the bit stands at the start, and the store.
@@ -36,6 +35,42 @@ pub struct Run {
     pub case: Case,
     pub begin: Begin,
     pub extra: Extra,
+
+    /// Whether threshold and delivery are 1 in the old place at the start, though they are declared
+    /// to be elsewhere.
+    pub left: bool,
+}
+
+/// What becomes in the end of what a run follows.
+#[derive(Clone, Copy, Debug, PartialEq, Eq)]
+pub enum Fate {
+    /// It is in the old place, and its producer's route leads there still.
+    NotLed,
+
+    /// It is in the old place, and nothing takes its word.
+    NotTaken,
+
+    /// It is in the old place, and what takes its word, or zeroes it, with so many steps before it,
+    /// comes too early.
+    TakenEarly { before: usize },
+
+    /// It is in the hand alone.
+    Held,
+
+    /// It is nowhere.
+    Gone,
+
+    /// It is in the new place, and nobody asked for it.
+    LeftOver,
+
+    /// The number is not where it has to be, as it was.
+    Misplaced,
+
+    /// The old place is reached after it was given back.
+    Strayed,
+
+    /// The number is left in the old place, whose next owner takes it over.
+    Inherited,
 }
 
 /// Tells whether two bits differ.
@@ -47,21 +82,14 @@ fn differ(a: bool, b: bool) -> bool
 
 impl Run {
     /// Gives what is followed at the start.
-    fn begun(self, terms: Terms) -> Trace
+    pub(crate) fn begun(self, terms: Terms) -> Trace
         ensures { result ≡ trace_begun self terms }
     {
-        let flight = match self.extra {
-            Extra::Flies { .. } => Some(AnyPlace::Old),
-            _ => None,
-        };
-        Trace {
-            flight,
-            ..Trace::first(self.begin, terms)
-        }
+        Trace::first(self.begin, self.left, terms)
     }
 
     /// Gives what the store makes of what is followed, where it comes with so many steps before it.
-    fn extra(self, trace: Trace, before_it: usize) -> Trace
+    pub(crate) fn extra(self, trace: Trace, before_it: usize) -> Trace
         ensures { result ≡ trace_extra self before_it trace }
     {
         match self.extra {
@@ -73,19 +101,9 @@ impl Run {
                     trace
                 }
             }
-            Extra::Flies { before } => {
-                if before == before_it {
-                    trace.flown(self.case)
-                } else {
-                    trace
-                }
-            }
-            Extra::Lingers { before } => {
-                if before == before_it {
-                    trace.sent()
-                } else {
-                    trace
-                }
+            Extra::Sends { before, lands } => {
+                let sent = trace.sent_if(before == before_it);
+                sent.flown_if(self.case, lands == before_it)
             }
         }
     }
@@ -100,33 +118,82 @@ impl Run {
         }
     }
 
-    /// Tells whether the bit does not stand where it has to, or stands in the old place too.
-    fn is_bad_bit(self, trace: Trace) -> bool
-        ensures { result ≡ is_bad_bit self trace }
+    /// Tells whether the bit has to stand in the new place in the end, and does not.
+    fn is_missing(self, trace: Trace) -> bool
+        ensures { result ≡ is_missing self trace }
     {
-        differ(trace.new, self.wanted(trace)) || trace.old
+        self.wanted(trace) && !trace.new
     }
 
-    /// Tells whether a run without a store shows that its producer's route leads to the old place.
-    fn shows_route(self, producers: usize, trace: Trace) -> bool
-        ensures { result ≡ shows_route self producers trace }
+    /// Tells whether it is one of the pending set.
+    fn is_pending(self) -> bool
+        ensures { result ≡ is_pending self.case.bank }
     {
-        let is_quiet = match self.extra {
-            Extra::Nothing => true,
-            _ => false,
-        };
-        is_quiet && self.case.producer < producers && is_bad_route(trace)
+        match self.case.bank {
+            WhichSet::Pending => true,
+            WhichSet::Enabled => false,
+        }
     }
 
-    /// Tells whether an end is not as it has to be, where there are so many producers.
-    fn is_bad_end(self, terms: Terms, producers: usize, trace: Trace) -> bool
-        ensures { result ≡ is_bad_end self terms producers trace }
+    /// Tells whether an end shows that a rule of safety is broken.
+    fn shows(self, rule: Rule, terms: Terms, trace: Trace) -> bool
+        ensures { result ≡ shows rule self terms trace }
     {
-        self.is_bad_bit(trace)
-            || self.shows_route(producers, trace)
-            || !trace.number(terms.number_to)
-            || is_flying_old(trace.flight)
-            || trace.strayed
+        match rule {
+            Rule::Routes => self.is_pending() && trace.old,
+            Rule::Words => {
+                self.is_missing(trace) && !trace.old || !self.is_pending() && trace.old
+            }
+            Rule::Blank => differ(trace.new, self.wanted(trace)),
+            Rule::Numbers => !trace.number(terms.number_to),
+            Rule::Freeing => trace.strayed || is_left(terms, trace),
+            Rule::Notice => false,
+        }
+    }
+
+    /// Gives why the bit is left in the old place.
+    fn left_by(self, producers: usize, plan: &[AnyStep], trace: Trace) -> Fate
+        ensures { result ≡ left_by plan.now self producers trace }
+    {
+        if self.case.producer < producers && trace.in_force == AnyPlace::Old {
+            return Fate::NotLed;
+        }
+        match last_emptied(plan, self.case.bank, self.case.identity / 64) {
+            None => Fate::NotTaken,
+            Some(before) => Fate::TakenEarly { before },
+        }
+    }
+
+    /// Gives what becomes of the bit in the end.
+    fn bit_fate(self, producers: usize, plan: &[AnyStep], trace: Trace) -> Fate
+        ensures { result ≡ bit_fate plan.now self producers trace }
+    {
+        if trace.old {
+            self.left_by(producers, plan, trace)
+        } else if trace.new {
+            Fate::LeftOver
+        } else if trace.hand {
+            Fate::Held
+        } else {
+            Fate::Gone
+        }
+    }
+
+    /// Gives what becomes in the end of what is followed, of a plan that breaks a rule.
+    pub(crate) fn fate(self, rule: Rule, producers: usize, plan: &[AnyStep], trace: Trace) -> Fate
+        ensures { result ≡ fate_of rule plan.now self producers trace }
+    {
+        match rule {
+            Rule::Numbers => Fate::Misplaced,
+            Rule::Freeing => {
+                if trace.strayed {
+                    Fate::Strayed
+                } else {
+                    Fate::Inherited
+                }
+            }
+            _ => self.bit_fate(producers, plan, trace),
+        }
     }
 
     /// Tells whether there can be such a run.
@@ -138,8 +205,7 @@ impl Run {
             && match self.extra {
                 Extra::Nothing => true,
                 Extra::Stores { .. } => self.case.producer < producers.len(),
-                Extra::Flies { .. } => is_routed(producers.get(self.case.producer)),
-                Extra::Lingers { .. } => is_routed(producers.get(self.case.producer)),
+                Extra::Sends { .. } => is_routed(producers.get(self.case.producer)),
             }
     }
 
@@ -158,33 +224,60 @@ impl Run {
         self.extra(trace, plan.len())
     }
 
-    /// Tells whether a plan has this run, and it loses something.
-    fn loses(self, producers: &[RouteKind], terms: Terms, plan: &[AnyStep]) -> bool
-        ensures exact { result ≡ (can_be self terms producers.now
-            && is_bad_end self terms (length producers.now) (trace_end self terms plan.now)) }
-        ensures loses { result ≡ true → Loses (setting_of producers.now terms) plan.now self }
+    /// Tells whether a plan has this run, which ends so, and it shows that a rule is broken.
+    fn is_shown(self, rule: Rule, producers: &[RouteKind], terms: Terms, end: Trace) -> bool
+        ensures { result ≡ (can_be self terms producers.now && shows rule self terms end) }
     {
-        self.can_be(terms, producers)
-            && self.is_bad_end(terms, producers.len(), self.end(terms, plan))
+        self.can_be(terms, producers) && self.shows(rule, terms, end)
     }
 
-    /// Gives this run, if a plan has it and it loses something. `None`: it has it not, or the run
-    /// ends as it has to.
+    /// Gives this run, if a plan has it and it shows that a rule is broken, and what becomes of
+    /// what it follows. `None`: it has it not, or the run shows it not.
     #[tactic(auto, unfolding(crate::specs::Search::tried))]
     pub(crate) fn tried(
         self,
+        rule: Rule,
         producers: &[RouteKind],
         terms: Terms,
         plan: &[AnyStep],
-    ) -> Option<Run>
-        ensures exact { result ≡ tried producers.now terms plan.now self }
-        ensures loses { IfSome result (λ run. Loses (setting_of producers.now terms) plan.now run) }
+    ) -> Option<Losing>
+        ensures exact { result ≡ tried rule producers.now terms plan.now self }
+        ensures loses { IfSome result
+            (λ found. Loses (setting_of producers.now terms) plan.now found.run) }
     {
-        if self.loses(producers, terms, plan) {
-            Some(self)
+        let end = self.end(terms, plan);
+        if self.is_shown(rule, producers, terms, end) {
+            Some(Losing {
+                run: self,
+                fate: self.fate(rule, producers.len(), plan, end),
+            })
         } else {
             None
         }
+    }
+}
+
+/// Finds the last step that leaves nothing of a word in the old place: how many are before it.
+/// `None`: none does.
+fn last_emptied(plan: &[AnyStep], bank: WhichSet, word: u64) -> Option<usize>
+    ensures { result ≡ last_emptied plan.now bank word (length plan.now) }
+{
+    let mut last = None;
+    for at in 0..plan.len() {
+        if empties(plan[at], bank, word) {
+            last = Some(at);
+        }
+    }
+    last
+}
+
+/// Tells whether a step leaves nothing of a word in the old place.
+fn empties(step: AnyStep, bank: WhichSet, word: u64) -> bool
+    ensures { result ≡ rules.empties bank word step }
+{
+    match step {
+        AnyStep::Take(s, w) | AnyStep::Zero(AnyPlace::Old, s, w) => s == bank && w as u64 == word,
+        _ => false,
     }
 }
 
@@ -198,19 +291,9 @@ fn is_routed(kind: Option<&RouteKind>) -> bool
     }
 }
 
-/// Tells whether a route leads to the old place at the end, as it is written or as it is in force.
-fn is_bad_route(trace: Trace) -> bool
-    ensures { result ≡ is_bad_route trace }
+/// Tells whether the next owner of the old place finds the number there, which it takes over.
+fn is_left(terms: Terms, trace: Trace) -> bool
+    ensures { result ≡ is_left terms trace }
 {
-    trace.written == AnyPlace::Old || trace.in_force == AnyPlace::Old
-}
-
-/// Tells whether a store is in flight to the old place.
-fn is_flying_old(flight: Option<AnyPlace>) -> bool
-    ensures { result ≡ is_flying_old flight }
-{
-    match flight {
-        None => false,
-        Some(place) => place == AnyPlace::Old,
-    }
+    terms.is_inherited && trace.freed && trace.old_number
 }

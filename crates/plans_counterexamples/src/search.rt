@@ -1,15 +1,36 @@
-//! A losing run is looked for, among those with one store at most.
+//! A run is looked for that shows that a plan breaks a rule of safety, among those with one store
+//! at most.
 
-ghost use Rattle.std.specs.Prelude.{◌≡◌, IfSome, length};
-ghost use Rattle.plans_rules.specs.Setting.{setting_of};
+ghost use Rattle.std.specs.Prelude.{◌≡◌, ◌≤◌, if◌then◌else◌, IfSome, Some, length};
+ghost use Rattle.plans_rules.specs.Setting.{is_old, setting_of};
 ghost use Rattle.plans_counterexamples.specs.Run.{Loses};
 ghost use Rattle.plans_counterexamples.specs.declared.run.Extra.TheVariants as extras;
+ghost use Rattle.plans_counterexamples.specs.declared.search.Scope.TheVariants as scopes;
 ghost use Rattle.plans_counterexamples.specs.Search as search_;
-ghost use Rattle.plans_counterexamples.specs.Search.{by_producer, enabled_case, first_of, losing_run_of, pending_case, quiet_word, stored_word, with_flight, with_store, without_store};
+ghost use Rattle.plans_counterexamples.specs.Search.{at_most, by_producer, enabled_case, first_of, found_in, last_lift, last_old, losing_run_of, one_more, pending_case, quiet_word, scope_by, stored_ahead, stored_old, stored_word, without_store};
+ghost use Rattle.plans_rules.specs.declared.step.WhichSet.TheVariants.{Pending};
+ghost use Rattle.plans_rules.specs.Rules as rules;
 
-use crate::run::{Extra, Run};
+use crate::run::{Extra, Fate, Run};
 use crate::trace::{Begin, Case, StoreRoute};
-use plans_rules::{AnyStep, Number, RouteKind, Terms, WhichSet};
+use plans_rules::{AnyPlace, AnyStep, Number, RouteKind, Rule, Terms, WhichSet};
+
+/// A run that shows that a rule is broken, and what becomes in the end of what it follows.
+#[derive(Clone, Copy, Debug, PartialEq, Eq)]
+pub struct Losing {
+    pub run: Run,
+    pub fate: Fate,
+}
+
+/// Where a run is looked for.
+#[derive(Clone, Copy)]
+pub(crate) enum Scope {
+    /// In a word of a set.
+    One(WhichSet, u32),
+
+    /// In all words.
+    All,
+}
 
 /// Names the second identity of a word of the pending set, and a producer.
 fn pending_case(word: u32, producer: usize) -> Case
@@ -39,58 +60,73 @@ fn enabled_case(word: u32) -> Case
 fn run_of(case: Case, begin: Begin, extra: Extra) -> Run
     ensures { result ≡ search_.run_of case begin extra }
 {
-    Run { case, begin, extra }
+    Run {
+        case,
+        begin,
+        extra,
+        left: false,
+    }
 }
 
-/// Looks for a losing run without a store, from each begin. `None`: there is none.
+/// Makes the run without a store that begins with numbers left in the old place.
+fn left_run(case: Case) -> Run
+    ensures { result ≡ search_.left_run case }
+{
+    Run {
+        case,
+        begin: Begin::Nowhere,
+        extra: Extra::Nothing,
+        left: true,
+    }
+}
+
+/// Looks for a run without a store. `None`: there is none.
 #[tactic(auto, unfolding(crate::specs::Search::without_store))]
-fn without_store(producers: &[RouteKind], terms: Terms, plan: &[AnyStep], case: Case) -> Option<Run>
-    ensures exact { result ≡ without_store producers.now terms plan.now case }
-    ensures loses { IfSome result (λ run. Loses (setting_of producers.now terms) plan.now run) }
-{
-    if let Some(run) = run_of(case, Begin::InOld, Extra::Nothing).tried(producers, terms, plan) {
-        return Some(run);
-    }
-    if let Some(run) = run_of(case, Begin::Nowhere, Extra::Nothing).tried(producers, terms, plan) {
-        return Some(run);
-    }
-    run_of(case, Begin::InNew, Extra::Nothing).tried(producers, terms, plan)
-}
-
-/// Looks for one that shows what becomes of a word, or of a number. `None`: there is none.
-#[tactic(auto, unfolding(crate::specs::Search::quiet_word))]
-fn quiet_word(producers: &[RouteKind], terms: Terms, plan: &[AnyStep], word: u32) -> Option<Run>
-    ensures exact { result ≡ quiet_word producers.now terms plan.now word }
-    ensures loses { IfSome result (λ run. Loses (setting_of producers.now terms) plan.now run) }
-{
-    if let Some(run) = without_store(producers, terms, plan, pending_case(word, usize::MAX)) {
-        return Some(run);
-    }
-    without_store(producers, terms, plan, enabled_case(word))
-}
-
-/// Looks for a losing run with a store that comes with so many steps before it. `None`: there is
-/// none.
-#[tactic(auto, unfolding(crate::specs::Search::with_store))]
-fn with_store(
+fn without_store(
+    rule: Rule,
     producers: &[RouteKind],
     terms: Terms,
     plan: &[AnyStep],
     case: Case,
-    before: usize,
-) -> Option<Run>
-    ensures exact { result ≡ with_store producers.now terms plan.now case before }
-    ensures loses { IfSome result (λ run. Loses (setting_of producers.now terms) plan.now run) }
+) -> Option<Losing>
+    ensures { result ≡ without_store rule producers.now terms plan.now case }
 {
-    let by_force = run_of(case, Begin::Nowhere, stores(before, StoreRoute::InForce));
-    if let Some(run) = by_force.tried(producers, terms, plan) {
-        return Some(run);
+    let in_old = run_of(case, Begin::InOld, Extra::Nothing);
+    if let Some(found) = in_old.tried(rule, producers, terms, plan) {
+        return Some(found);
     }
-    let by_written = run_of(case, Begin::Nowhere, stores(before, StoreRoute::Written));
-    if let Some(run) = by_written.tried(producers, terms, plan) {
-        return Some(run);
+    let nowhere = run_of(case, Begin::Nowhere, Extra::Nothing);
+    if let Some(found) = nowhere.tried(rule, producers, terms, plan) {
+        return Some(found);
     }
-    run_of(case, Begin::Nowhere, Extra::Flies { before }).tried(producers, terms, plan)
+    let in_new = run_of(case, Begin::InNew, Extra::Nothing);
+    if let Some(found) = in_new.tried(rule, producers, terms, plan) {
+        return Some(found);
+    }
+    left_run(case).tried(rule, producers, terms, plan)
+}
+
+/// Gives how many steps at most, of so many, are done where the producer's route in force still
+/// leads to the old place.
+fn last_old(case: Case, terms: Terms, plan: &[AnyStep], count: usize) -> usize
+    requires { count ≤ length plan.now }
+    ensures { result ≡ last_old case terms plan.now count }
+{
+    let run = run_of(case, Begin::Nowhere, Extra::Nothing);
+    let mut trace = run.begun(terms);
+    let mut last = 0;
+    for at in 0..count {
+        trace = trace.after(case, plan[at]);
+        last = if_old(trace.in_force, at + 1, last);
+    }
+    last
+}
+
+/// Gives one number where a place is the old one, else another.
+fn if_old(place: AnyPlace, now: usize, last: usize) -> usize
+    ensures { result ≡ if is_old place then now else last }
+{
+    if place == AnyPlace::Old { now } else { last }
 }
 
 /// Makes a store that lands at once.
@@ -100,144 +136,303 @@ fn stores(before: usize, route: StoreRoute) -> Extra
     Extra::Stores { before, route }
 }
 
-/// Makes a store that stays in flight.
-fn lingers(before: usize) -> Extra
-    ensures { result ≡ extras.Lingers before }
+/// Makes a store that is sent.
+fn sends(before: usize, lands: usize) -> Extra
+    ensures { result ≡ extras.Sends before lands }
 {
-    Extra::Lingers { before }
+    Extra::Sends { before, lands }
 }
 
-/// Looks for a losing run with a store between any two steps. `None`: there is none.
-fn between_steps(producers: &[RouteKind], terms: Terms, plan: &[AnyStep], case: Case) -> Option<Run>
-    ensures exact { result
-        ≡ first_of (with_store producers.now terms plan.now case) 0 (length plan.now) }
-    ensures loses { IfSome result (λ run. Loses (setting_of producers.now terms) plan.now run) }
-{
-    for before in 0..plan.len() {
-        match with_store(producers, terms, plan, case, before) {
-            Some(run) => return Some(run),
-            None => {}
-        }
-    }
-    None
-}
-
-/// Looks for a losing run with a store that is sent with so many steps before it. `None`: there is
-/// none.
-#[tactic(auto, unfolding(crate::specs::Search::with_flight))]
-fn with_flight(
+/// Looks for a run with a store that reaches the old place with so many steps before it, or as late
+/// as it can before that. `None`: there is none.
+#[tactic(auto, unfolding(crate::specs::Search::stored_old))]
+fn stored_old(
+    rule: Rule,
     producers: &[RouteKind],
     terms: Terms,
     plan: &[AnyStep],
     case: Case,
-    before: usize,
-) -> Option<Run>
-    ensures exact { result ≡ with_flight producers.now terms plan.now case before }
-    ensures loses { IfSome result (λ run. Loses (setting_of producers.now terms) plan.now run) }
+    at: usize,
+) -> Option<Losing>
+    requires { at ≤ length plan.now }
+    ensures { result ≡ stored_old rule producers.now terms plan.now case at }
 {
-    run_of(case, Begin::Nowhere, lingers(before)).tried(producers, terms, plan)
+    let last = last_old(case, terms, plan, at);
+    let made = run_of(case, Begin::Nowhere, stores(last, StoreRoute::InForce));
+    if let Some(found) = made.tried(rule, producers, terms, plan) {
+        return Some(found);
+    }
+    run_of(case, Begin::Nowhere, sends(last, at)).tried(rule, producers, terms, plan)
 }
 
-/// Looks for a losing run with a store that is sent between any two steps, and stays in flight.
-/// `None`: there is none.
-fn in_flight(producers: &[RouteKind], terms: Terms, plan: &[AnyStep], case: Case) -> Option<Run>
-    ensures exact { result
-        ≡ first_of (with_flight producers.now terms plan.now case) 0 (length plan.now) }
-    ensures loses { IfSome result (λ run. Loses (setting_of producers.now terms) plan.now run) }
+/// Looks for a run with a store by the written route with so many steps before it. `None`: there is
+/// none.
+#[tactic(auto, unfolding(crate::specs::Search::stored_ahead))]
+fn stored_ahead(
+    rule: Rule,
+    producers: &[RouteKind],
+    terms: Terms,
+    plan: &[AnyStep],
+    case: Case,
+    at: usize,
+) -> Option<Losing>
+    ensures { result ≡ stored_ahead rule producers.now terms plan.now case at }
 {
-    for before in 0..plan.len() {
-        match with_flight(producers, terms, plan, case, before) {
-            Some(run) => return Some(run),
-            None => {}
+    run_of(case, Begin::Nowhere, stores(at, StoreRoute::Written)).tried(
+        rule, producers, terms, plan,
+    )
+}
+
+/// Tells whether a step lifts a pending word.
+fn lifts(step: AnyStep, word: u32) -> bool
+    ensures { result ≡ rules.lifts Pending word step }
+{
+    match step {
+        AnyStep::Take(s, w) | AnyStep::Copy(s, w) => s == WhichSet::Pending && w == word,
+        _ => false,
+    }
+}
+
+/// Gives how many steps are before the last one, of so many, that lifts a pending word; 0 if there
+/// is none.
+fn last_lift(plan: &[AnyStep], word: u32, count: usize) -> usize
+    requires { count ≤ length plan.now }
+    ensures value { result ≡ last_lift plan.now word count }
+    ensures within { result ≤ length plan.now }
+{
+    let mut last = 0;
+    for at in 0..count {
+        if lifts(plan[at], word) {
+            last = at;
         }
     }
-    None
+    last
 }
 
-/// Looks for a losing run with a store of a producer. `None`: there is none.
+/// Gives one step more, where a plan has it.
+fn one_more(plan: &[AnyStep], at: usize) -> usize
+    requires { at ≤ length plan.now }
+    ensures value { result ≡ one_more plan.now at }
+    ensures within { result ≤ length plan.now }
+{
+    if plan.len() <= at { at } else { at + 1 }
+}
+
+/// Looks for a run with a store of a producer into a word, which a rule that is broken with so many
+/// steps before it asks for. `None`: there is none.
 #[tactic(auto, unfolding(crate::specs::Search::by_producer))]
 fn by_producer(
+    rule: Rule,
     producers: &[RouteKind],
     terms: Terms,
     plan: &[AnyStep],
     word: u32,
+    at: usize,
     producer: usize,
-) -> Option<Run>
-    ensures exact { result ≡ by_producer producers.now terms plan.now word producer }
-    ensures loses { IfSome result (λ run. Loses (setting_of producers.now terms) plan.now run) }
+) -> Option<Losing>
+    requires { at ≤ length plan.now }
+    ensures { result ≡ by_producer rule producers.now terms plan.now word at producer }
 {
     let case = pending_case(word, producer);
-    if let Some(run) = between_steps(producers, terms, plan, case) {
-        return Some(run);
+    let behind = one_more(plan, at);
+    if let Some(found) = stored_old(rule, producers, terms, plan, case, behind) {
+        return Some(found);
     }
-    if let Some(run) = with_store(producers, terms, plan, case, plan.len()) {
-        return Some(run);
+    if let Some(found) = stored_old(rule, producers, terms, plan, case, at) {
+        return Some(found);
     }
-    if let Some(run) = with_store(producers, terms, plan, case, usize::MAX) {
-        return Some(run);
+    let lift = last_lift(plan, word, at);
+    if let Some(found) = stored_old(rule, producers, terms, plan, case, lift) {
+        return Some(found);
     }
-    if let Some(run) = in_flight(producers, terms, plan, case) {
-        return Some(run);
-    }
-    without_store(producers, terms, plan, case)
+    stored_ahead(rule, producers, terms, plan, case, at)
 }
 
-/// Looks for a losing run with a store into a word. `None`: there is none.
+/// Looks for such a run of any producer. `None`: there is none.
 #[tactic(auto, unfolding(crate::specs::Search::stored_word))]
-fn stored_word(producers: &[RouteKind], terms: Terms, plan: &[AnyStep], word: u32) -> Option<Run>
-    ensures exact { result ≡ stored_word producers.now terms plan.now word }
-    ensures loses { IfSome result (λ run. Loses (setting_of producers.now terms) plan.now run) }
+fn stored_word(
+    rule: Rule,
+    producers: &[RouteKind],
+    terms: Terms,
+    plan: &[AnyStep],
+    at: usize,
+    word: u32,
+) -> Option<Losing>
+    requires { at ≤ length plan.now }
+    ensures { result ≡ stored_word rule producers.now terms plan.now at word }
 {
     for producer in 0..producers.len() {
-        match by_producer(producers, terms, plan, word, producer) {
-            Some(run) => return Some(run),
+        match by_producer(rule, producers, terms, plan, word, at, producer) {
+            Some(found) => return Some(found),
             None => {}
         }
     }
     None
 }
 
-/// Looks for a losing run without a store. `None`: there is none.
-fn quiet_words(producers: &[RouteKind], terms: Terms, plan: &[AnyStep]) -> Option<Run>
-    ensures exact { result ≡ first_of (quiet_word producers.now terms plan.now) 0 terms.words }
-    ensures loses { IfSome result (λ run. Loses (setting_of producers.now terms) plan.now run) }
+/// Looks for a run without a store, of the pending bit and of the enable of a word. `None`: there
+/// is none.
+#[tactic(auto, unfolding(crate::specs::Search::quiet_word))]
+fn quiet_word(
+    rule: Rule,
+    producers: &[RouteKind],
+    terms: Terms,
+    plan: &[AnyStep],
+    word: u32,
+) -> Option<Losing>
+    ensures { result ≡ quiet_word rule producers.now terms plan.now word }
+{
+    let pending = pending_case(word, usize::MAX);
+    if let Some(found) = without_store(rule, producers, terms, plan, pending) {
+        return Some(found);
+    }
+    without_store(rule, producers, terms, plan, enabled_case(word))
+}
+
+/// Looks for one in all words. `None`: there is none.
+fn quiet_words(
+    rule: Rule,
+    producers: &[RouteKind],
+    terms: Terms,
+    plan: &[AnyStep],
+) -> Option<Losing>
+    ensures { result ≡ first_of (quiet_word rule producers.now terms plan.now) 0 terms.words }
 {
     for word in 0..terms.words {
-        match quiet_word(producers, terms, plan, word) {
-            Some(run) => return Some(run),
+        match quiet_word(rule, producers, terms, plan, word) {
+            Some(found) => return Some(found),
             None => {}
         }
     }
     None
 }
 
-/// Looks for a losing run with a store. `None`: there is none.
-fn stored_words(producers: &[RouteKind], terms: Terms, plan: &[AnyStep]) -> Option<Run>
-    ensures exact { result ≡ first_of (stored_word producers.now terms plan.now) 0 terms.words }
-    ensures loses { IfSome result (λ run. Loses (setting_of producers.now terms) plan.now run) }
+/// Looks for a run with a store in all words. `None`: there is none.
+fn stored_words(
+    rule: Rule,
+    producers: &[RouteKind],
+    terms: Terms,
+    plan: &[AnyStep],
+    at: usize,
+) -> Option<Losing>
+    requires { at ≤ length plan.now }
+    ensures { result
+        ≡ first_of (stored_word rule producers.now terms plan.now at) 0 terms.words }
 {
     for word in 0..terms.words {
-        match stored_word(producers, terms, plan, word) {
-            Some(run) => return Some(run),
+        match stored_word(rule, producers, terms, plan, at, word) {
+            Some(found) => return Some(found),
             None => {}
         }
     }
     None
 }
 
-/// Looks for a run of a plan that loses something, doubles it, leaves it behind, or reaches what
-/// was given back. `None`: none was found.
+/// Gives where a run is looked for, by the step that breaks a rule.
+fn scope_of(step: AnyStep) -> Scope
+    ensures { result ≡ scope_by (Some step) }
+{
+    match step {
+        AnyStep::Zero(_, s, w) => Scope::One(s, w),
+        AnyStep::Take(s, w) | AnyStep::Copy(s, w) => Scope::One(s, w),
+        AnyStep::Join(s, w) | AnyStep::Put(s, w) => Scope::One(s, w),
+        _ => Scope::All,
+    }
+}
+
+/// Looks for a run in a word of the pending set. `None`: there is none.
+#[tactic(auto, unfolding(crate::specs::Search::found_in))]
+fn in_pending(
+    rule: Rule,
+    producers: &[RouteKind],
+    terms: Terms,
+    plan: &[AnyStep],
+    at: usize,
+    word: u32,
+) -> Option<Losing>
+    requires { at ≤ length plan.now }
+    ensures { result
+        ≡ found_in rule producers.now terms plan.now at (scopes.One Pending word) }
+{
+    let pending = pending_case(word, usize::MAX);
+    if let Some(found) = without_store(rule, producers, terms, plan, pending) {
+        return Some(found);
+    }
+    stored_word(rule, producers, terms, plan, at, word)
+}
+
+/// Looks for a run in all words. `None`: there is none.
+#[tactic(auto, unfolding(crate::specs::Search::found_in))]
+fn in_all(
+    rule: Rule,
+    producers: &[RouteKind],
+    terms: Terms,
+    plan: &[AnyStep],
+    at: usize,
+) -> Option<Losing>
+    requires { at ≤ length plan.now }
+    ensures { result ≡ found_in rule producers.now terms plan.now at scopes.All }
+{
+    if let Some(found) = quiet_words(rule, producers, terms, plan) {
+        return Some(found);
+    }
+    stored_words(rule, producers, terms, plan, at)
+}
+
+/// Looks for a run in such a scope. `None`: there is none.
+#[tactic(auto, unfolding(crate::specs::Search::found_in))]
+fn found_in(
+    rule: Rule,
+    producers: &[RouteKind],
+    terms: Terms,
+    plan: &[AnyStep],
+    at: usize,
+    scope: Scope,
+) -> Option<Losing>
+    requires { at ≤ length plan.now }
+    ensures { result ≡ found_in rule producers.now terms plan.now at scope }
+{
+    match scope {
+        Scope::One(WhichSet::Pending, word) => in_pending(rule, producers, terms, plan, at, word),
+        Scope::One(WhichSet::Enabled, word) => {
+            without_store(rule, producers, terms, plan, enabled_case(word))
+        }
+        Scope::All => in_all(rule, producers, terms, plan, at),
+    }
+}
+
+/// Looks for a run which shows that a plan breaks a rule of safety with so many steps before it: it
+/// loses something, doubles it, leaves it behind, or reaches what was given back. `None`: none was
+/// found.
 ///
-/// The runs are those with one store at most, of the second identity of a word. Nothing is
-/// allocated. It takes time of the order of four times the words, the producers and the square of
-/// the steps.
+/// The runs are those with one store at most, of the second identity of a word, and of the word in
+/// which the rule is broken, where a step breaks it; and that store comes at a place that the break
+/// tells. Nothing is allocated. It takes time of the order of the steps, with some thirty runs of
+/// the plan for each word and producer.
 #[tactic(auto, unfolding(crate::specs::Search::losing_run_of))]
-pub fn losing_run(producers: &[RouteKind], terms: Terms, plan: &[AnyStep]) -> Option<Run>
-    ensures exact { result ≡ losing_run_of producers.now terms plan.now }
-    ensures loses { IfSome result (λ run. Loses (setting_of producers.now terms) plan.now run) }
+pub fn losing_run(
+    rule: Rule,
+    producers: &[RouteKind],
+    terms: Terms,
+    plan: &[AnyStep],
+    before: usize,
+) -> Option<Losing>
+    ensures exact { result ≡ losing_run_of rule producers.now terms plan.now before }
+    ensures loses { IfSome result
+        (λ found. Loses (setting_of producers.now terms) plan.now found.run) }
 {
-    if let Some(run) = quiet_words(producers, terms, plan) {
-        return Some(run);
-    }
-    stored_words(producers, terms, plan)
+    let scope = match plan.get(before) {
+        None => Scope::All,
+        Some(step) => scope_of(*step),
+    };
+    let at = at_most(before, plan.len());
+    found_in(rule, producers, terms, plan, at, scope)
+}
+
+/// Gives a number, and no more than a bound.
+fn at_most(number: usize, bound: usize) -> usize
+    ensures value { result ≡ at_most number bound }
+    ensures within { result ≤ bound }
+{
+    if number <= bound { number } else { bound }
 }

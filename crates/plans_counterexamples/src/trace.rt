@@ -1,8 +1,8 @@
 //! What a run does to one bit, one number and one producer.
 
 ghost use Rattle.std.specs.Prelude.{◌≡◌, Some, None};
-ghost use Rattle.plans_counterexamples.specs.Run.{trace_number};
-ghost use Rattle.plans_counterexamples.specs.Trace.{flight_landed, names_bit, trace_after, trace_fenced, trace_first, trace_joined, trace_landed, trace_put, trace_put_number, trace_stored, trace_switched, trace_taken, trace_taken_number, trace_turned, trace_zeroed, trace_zeroed_number};
+ghost use Rattle.plans_counterexamples.specs.Run.{trace_flown, trace_number, trace_sent};
+ghost use Rattle.plans_counterexamples.specs.Trace.{names_bit, trace_after, trace_copied, trace_copied_number, trace_fenced, trace_first, trace_joined, trace_landed, trace_put, trace_put_number, trace_stored, trace_switched, trace_taken, trace_taken_number, trace_turned, trace_zeroed, trace_zeroed_number};
 
 use plans_rules::{AnyPlace, AnyStep, Number, NumberSpot, Terms, WhichSet};
 
@@ -66,9 +66,9 @@ impl Case {
 }
 
 impl Trace {
-    /// Gives what is followed at the start.
-    pub(crate) fn first(begin: Begin, terms: Terms) -> Trace
-        ensures { result ≡ trace_first begin terms }
+    /// Gives what is followed at the start, where numbers are left in the old place, or are not.
+    pub(crate) fn first(begin: Begin, left: bool, terms: Terms) -> Trace
+        ensures { result ≡ trace_first begin left terms }
     {
         let in_old = begin == Begin::InOld;
         Trace {
@@ -76,7 +76,7 @@ impl Trace {
             new: begin == Begin::InNew,
             hand: false,
             due: in_old,
-            old_number: terms.number_from == NumberSpot::InOld,
+            old_number: left || terms.number_from == NumberSpot::InOld,
             new_number: terms.number_from == NumberSpot::InNew,
             hand_number: terms.number_from == NumberSpot::InHand,
             written: AnyPlace::Old,
@@ -112,10 +112,13 @@ impl Trace {
         }
     }
 
-    /// Gives what it is once the store in flight has landed, where there is one.
-    pub(crate) fn flown(self, case: Case) -> Trace
-        ensures { result ≡ record (flight_landed case self.flight self) { flight = None } }
+    /// Gives what it is once the store in flight has landed, where that is so and there is one.
+    pub(crate) fn flown_if(self, case: Case, comes: bool) -> Trace
+        ensures { result ≡ trace_flown case comes self }
     {
+        if !comes {
+            return self;
+        }
         let landed = match self.flight {
             Some(place) => self.landed(case, place),
             None => self,
@@ -126,13 +129,17 @@ impl Trace {
         }
     }
 
-    /// Gives what it is once a store is in flight by the route in force, where none was.
-    pub(crate) fn sent(self) -> Trace
-        ensures { result ≡ record self { flight = Some self.in_force } }
+    /// Gives what it is once a store is in flight by the route in force, where that is so.
+    pub(crate) fn sent_if(self, comes: bool) -> Trace
+        ensures { result ≡ trace_sent comes self }
     {
-        Trace {
-            flight: Some(self.in_force),
-            ..self
+        if comes {
+            Trace {
+                flight: Some(self.in_force),
+                ..self
+            }
+        } else {
+            self
         }
     }
 
@@ -157,13 +164,16 @@ impl Trace {
             AnyStep::Switch(p) => self.switched(p as usize == case.producer),
             AnyStep::Zero(place, s, w) => self.zeroed(place, case.names_bit(s, w)),
             AnyStep::Take(s, w) => self.taken(case.names_bit(s, w)),
+            AnyStep::Copy(s, w) => self.copied(case.names_bit(s, w)),
             AnyStep::Join(s, w) => self.joined(case.names_bit(s, w)),
             AnyStep::Put(s, w) => self.put(case.names_bit(s, w)),
             AnyStep::ZeroNumber(place, n) => self.zeroed_number(place, n == case.number),
             AnyStep::TakeNumber(n) => self.taken_number(n == case.number),
+            AnyStep::CopyNumber(n) => self.copied_number(n == case.number),
             AnyStep::PutNumber(n) => self.put_number(n == case.number),
             AnyStep::Free => Trace {
                 freed: true,
+                strayed: self.strayed || self.freed,
                 ..self
             },
             _ => self,
@@ -247,6 +257,17 @@ impl Trace {
         }
     }
 
+    /// Gives what a step makes of it that copies the word of the bit, or another one.
+    fn copied(self, is_this: bool) -> Trace
+        ensures { result ≡ trace_copied is_this self }
+    {
+        Trace {
+            hand: is_this && self.old || !is_this && self.hand,
+            strayed: self.strayed || self.freed,
+            ..self
+        }
+    }
+
     /// Gives what a step makes of it that joins it, or another one.
     fn joined(self, is_this: bool) -> Trace
         ensures { result ≡ trace_joined is_this self }
@@ -293,6 +314,17 @@ impl Trace {
         Trace {
             hand_number: is_this && self.old_number || !is_this && self.hand_number,
             old_number: !is_this && self.old_number,
+            strayed: self.strayed || self.freed,
+            ..self
+        }
+    }
+
+    /// Gives what a step makes of it that copies the number, or the other one.
+    fn copied_number(self, is_this: bool) -> Trace
+        ensures { result ≡ trace_copied_number is_this self }
+    {
+        Trace {
+            hand_number: is_this && self.old_number || !is_this && self.hand_number,
             strayed: self.strayed || self.freed,
             ..self
         }

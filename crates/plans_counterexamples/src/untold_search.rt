@@ -4,8 +4,9 @@ ghost use Rattle.std.specs.Prelude.{◌≡◌, IfSome, length};
 ghost use Rattle.plans_rules.specs.Setting.{setting_of};
 ghost use Rattle.plans_counterexamples.specs.Search.{first_of};
 ghost use Rattle.plans_counterexamples.specs.Untold.{LeavesUntold};
-ghost use Rattle.plans_counterexamples.specs.UntoldSearch.{stored_before, stored_by, untold_of, untold_run_of, untold_word, with_delivery, untold_with_numbers};
+ghost use Rattle.plans_counterexamples.specs.UntoldSearch.{is_small, stored_before, stored_by, untold_of, untold_run_of, untold_word, with_delivery, untold_with_numbers};
 
+use crate::limits::{SMALL_PRODUCERS, SMALL_STEPS, SMALL_WORDS};
 use crate::trace::StoreRoute;
 use crate::untold::{Store, UntoldRun};
 use plans_rules::{AnyStep, NumberSpot, RouteKind, Terms};
@@ -174,16 +175,27 @@ fn untold_word(
     if let Some(run) = untold_with_numbers(producers, terms, plan, word, None) {
         return Some(run);
     }
-    stored_any(producers, terms, plan, word)
+    if is_small(producers.len(), terms.words, plan.len()) {
+        stored_any(producers, terms, plan, word)
+    } else {
+        None
+    }
+}
+
+/// Tells whether a plan is so small that runs of it with a store are looked for.
+fn is_small(producers: usize, words: u32, steps: usize) -> bool
+    ensures { result ≡ is_small producers words steps }
+{
+    producers <= SMALL_PRODUCERS && words <= SMALL_WORDS && steps <= SMALL_STEPS
 }
 
 /// Looks for a run of a plan after which an identity stands out in the new place, and the host was
 /// not told. `None`: none was found.
 ///
-/// The runs are those with one store at most that lands at once, of the second identity of a word,
-/// which is enabled in the old place at the start. Nothing is allocated. It takes time of the order
-/// of two times the words, the producers and the square of the steps; where the numbers are heeded,
-/// twelve times that.
+/// The runs are those without a store and, of a small plan, those with one that lands at once, of the
+/// second identity of a word, which is enabled in the old place at the start. Nothing is allocated.
+/// It takes time of the order of the steps and the words, and for a small plan of the square of the
+/// steps, the words and the producers; where the numbers are heeded, twelve times that.
 #[tactic(auto, unfolding(crate::specs::UntoldSearch::untold_run_of))]
 pub fn untold_run(producers: &[RouteKind], terms: Terms, plan: &[AnyStep]) -> Option<UntoldRun>
     ensures exact { result ≡ untold_run_of producers.now terms plan.now }

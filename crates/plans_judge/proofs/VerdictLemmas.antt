@@ -6,14 +6,14 @@ use Rattle.std.proofs.lemmas.Bool.{false≢true}
 use Rattle.std.proofs.lemmas.List.{drop_more, drop_all}
 use Rattle.std.proofs.lemmas.Option.{slice_get-get_or, same_Some}
 use Rattle.plans_rules.specs.declared.rule.Rule.{Rule}
-use Rattle.plans_rules.specs.declared.rule.Rule.TheVariants.{Notice}
+use Rattle.plans_rules.specs.declared.rule.Rule.TheVariants.{Routes, Words, Blank, Numbers, Freeing, Notice}
 use Rattle.plans_rules.specs.declared.step.AnyStep.{AnyStep}
 use Rattle.plans_rules.specs.Setting.{Setting, setting_of}
 use Rattle.plans_rules.specs.declared.setting.RouteKind.{RouteKind}
 use Rattle.plans_rules.specs.declared.setting.Terms.{Terms}
 use Rattle.plans_rules.specs.Rules.{Done, lets, lets_end, lets_rest, moves, accepts}
 use Rattle.plans_rules.specs.Safe.{IsInFile, IsSafe, IsTold}
-use Rattle.plans_rules.proofs.BoolLaws.{and_of, and_left, and_false_left, and_false_right}
+use Rattle.plans_rules.proofs.BoolLaws.{and_of, and_left, and_right, and_false_left, and_false_right}
 use Rattle.plans_rules.proofs.Safety.{IsOfSafety}
 use Rattle.plans_rules.proofs.RulesAreSafe.{five_kept, rules_are_safe, only_these, rules_are_told}
 use Rattle.plans_judge.specs.declared.judging.Part.TheVariants.{Safety, Telling}
@@ -188,6 +188,23 @@ broken_unsafe d plan rule before inside e ne safe = elim (refused_some (break_in
       (break_of IsOfSafety (rules_of Safety) d [] 0 plan (at_step before rule) (tt, (tt, (tt, (tt, (tt, tt))))) broken))
   | inr nones ↦ ne (break_of (λ r. r ≡ Notice) (rules_of Telling) d [] 0 plan (at_step before rule) (refl, tt) nones.1)
 ]
+
+no_break : (o : Option Break) → ((broken : Break) → o ≡ Some broken → ⊥) → o ≡ None
+no_break None none = refl
+no_break (Some broken) none = absurd (none broken refl)
+
+-- where all of some rules are kept there is no break of them
+kept_unbroken : (rules : List Rule) (d : Setting) (plan : List AnyStep) → AllByRecursion (λ rule. lets_rest rule d [] plan ≡ true) rules
+    → first_break rules d [] 0 plan ≡ None
+kept_unbroken rules d plan all = no_break (first_break rules d [] 0 plan) (λ broken e. false≢true (sym (some_break rules d [] 0 plan broken e)
+    ∙ break_of (λ rule. lets_rest rule d [] plan ≡ true) rules d [] 0 plan broken all e))
+
+pub keeps_accepted : (d : Setting) (plan : List AnyStep) → accepts d plan ≡ true → verdict_on d plan ≡ Accepted
+keeps_accepted d plan e =
+    let five = five_kept d plan (and_left (moves d plan) _ e) in
+    ap₂ part_verdict
+    (kept_unbroken (rules_of Safety) d plan (five Routes tt, (five Words tt, (five Blank tt, (five Numbers tt, (five Freeing tt, tt))))))
+    (kept_unbroken (rules_of Telling) d plan (and_right (moves d plan) _ e, tt))
 
 -- ---- what a verdict is worth
 

@@ -1,6 +1,6 @@
 -- What a table of flags, kept from step to step, says of the steps that are done: of each the same
 -- as the rules do. Profile.
-use Rattle.std.specs.Prelude.{◌≡◌, ℕ, ◌<◌, length, Bool, true, false, not, ◌&&◌, ◌||◌, List, Some, None, slice_get, option_map}
+use Rattle.std.specs.Prelude.{◌≡◌, ℕ, ◌<◌, length, Bool, true, false, not, ◌&&◌, ◌||◌, List, ◌∷◌, Some, None, slice_get, option_map}
 use Rattle.std.specs.List.{list_any}
 use Rattle.plans_rules.specs.declared.step.WhichSet.{WhichSet}
 use Rattle.plans_rules.specs.declared.step.WhichSet.TheVariants.{Pending, Enabled}
@@ -8,16 +8,17 @@ use Rattle.plans_rules.specs.declared.step.Number.{Number}
 use Rattle.plans_rules.specs.declared.step.Number.TheVariants.{Threshold, Delivery}
 use Rattle.plans_rules.specs.declared.step.AnyPlace.TheVariants.{Old, New}
 use Rattle.plans_rules.specs.declared.step.AnyStep.{AnyStep}
-use Rattle.plans_rules.specs.declared.step.AnyStep.TheVariants.{ZeroNumber, TakeNumber, PutNumber}
+use Rattle.plans_rules.specs.declared.step.AnyStep.TheVariants.{ZeroNumber, TakeNumber, CopyNumber, PutNumber}
 use Rattle.plans_rules.specs.declared.setting.RouteKind.{RouteKind}
 use Rattle.plans_rules.specs.declared.setting.RouteKind.TheVariants.{Routed, Switched}
 use Rattle.plans_rules.specs.declared.setting.NumberSpot.{NumberSpot}
 use Rattle.plans_rules.specs.declared.setting.NumberSpot.TheVariants.{InOld, InHand, InNew}
 use Rattle.plans_rules.specs.Setting.{Setting, setting_of, same_number, same_spot}
-use Rattle.plans_rules.specs.Rules.{turns, fences, switches, takes, fills, blanks, frees, looks, posts, tells, Done, is_turned, is_fenced, old_holds, hand_holds, is_filled, is_blank, has_number, are_heeded, is_noticed, all_led, is_looked, is_reported}
+use Rattle.plans_rules.specs.Rules.{turns, fences, switches, empties, lifts, fills, blanks, shuts, frees, looks, posts, tells, Done, is_turned, is_fenced, all_led, is_reached, any_of_two, brought, alone_by, may_stand, is_blank, was_shut, has_number, are_heeded, is_noticed, is_looked, is_reported}
 use Rattle.plans_judge.specs.declared.lead.Lead.{Lead}
 use Rattle.plans_judge.specs.declared.standing.Standing.{Standing}
 use Rattle.plans_judge.specs.declared.table.Table.{Table}
+use Rattle.plans_judge.specs.declared.spots.Spots.{Spots}
 use Rattle.plans_judge.specs.declared.word.Flags.{Flags}
 use Rattle.plans_judge.specs.declared.word.Word.{Word}
 use Rattle.plans_judge.specs.declared.word.World.{World}
@@ -70,36 +71,61 @@ lead_at done p kind = record {
 
 -- ---- a word
 
--- Whether a word of a set is moved for good: neither the old place nor the hand may hold anything
--- of it.
-abbrev pub flags_moved : Flags → Bool
-flags_moved flags = not flags.old_holds && not flags.hand_holds
+-- Whether an identity that is due may stand in just these places: the old one, the hand, the new
+-- one; by what is kept of it.
+abbrev pub may_by : Spots → Bool → Bool → Bool → Bool
+may_by spots true true true = spots.old_hand_new
+may_by spots true true false = spots.old_hand
+may_by spots true false true = spots.old_new
+may_by spots true false false = spots.old
+may_by spots false true true = spots.hand_new
+may_by spots false true false = spots.hand
+may_by spots false false true = spots.new
+may_by spots false false false = spots.nowhere
 
--- What a step makes of the flags of word w of set s, given whether nobody stores into that set of
--- the old place.
-abbrev pub flags_after : WhichSet → Bool → AnyStep → ℕ → Flags → Flags
-flags_after s still x w flags = record {
-  old_holds = elim (takes s w x) [
-    | true ↦ flags.old_holds && not still
-    | false ↦ flags.old_holds
-  ];
-  hand_holds = elim (takes s w x) [
-    | true ↦ flags.old_holds
-    | false ↦ elim (fills s w x) [ true ↦ false | false ↦ flags.hand_holds ]
-  ];
-  filled = elim (fills s w x) [
-    | true ↦ flags.hand_holds || flags.filled
-    | false ↦ flags.filled
-  ];
+-- What is kept of where one may stand.
+abbrev pub spots_of : (Bool → Bool → Bool → Bool) → Spots
+spots_of stands = record {
+  nowhere = stands false false false;
+  new = stands false false true;
+  hand = stands false true false;
+  hand_new = stands false true true;
+  old = stands true false false;
+  old_new = stands true false true;
+  old_hand = stands true true false;
+  old_hand_new = stands true true true;
+}
+
+-- Whether one may stand in the old place, or in the hand, wherever else.
+abbrev pub spots_any_old : Spots → Bool
+spots_any_old spots = any_of_two (λ h n. may_by spots true h n)
+
+abbrev pub spots_any_hand : Spots → Bool
+spots_any_hand spots = any_of_two (λ o n. may_by spots o true n)
+
+-- Whether a word of a set is moved for good.
+abbrev pub flags_moved : Flags → Bool
+flags_moved flags = not (spots_any_old flags.spots) && not (spots_any_hand flags.spots)
+
+-- Where one may stand, once a step empties, lifts, fills or blanks the word, and once nobody stores
+-- into the old place (still), or somebody may into the new one (reached).
+abbrev pub spots_after : Bool → Bool → Bool → Bool → Bool → Bool → Spots → Spots
+spots_after e l f z still reached spots =
+    spots_of (λ o h n. brought e l f z (may_by spots) o h n || alone_by still reached o h n)
+
+-- What a step makes of the flags of word w of set s, given who stores into that set of the two
+-- places after it.
+abbrev pub flags_after : WhichSet → Bool → Bool → AnyStep → ℕ → Flags → Flags
+flags_after s still reached x w flags = record {
+  spots = spots_after (empties s w x) (lifts s w x) (fills s w x) (blanks s w x) still reached
+      flags.spots;
   blank = blanks s w x || flags.blank;
 }
 
 -- The flags of a word of a set before the first step, given whether the new place is fresh.
 abbrev pub flags_first : Bool → Flags
 flags_first is_fresh = record {
-  old_holds = true;
-  hand_holds = false;
-  filled = false;
+  spots = spots_of (λ o h n. o && (not h && not n));
   blank = is_fresh;
 }
 
@@ -136,26 +162,34 @@ reported_after ready x word = elim (posts x) [
 -- What a step makes of all that is kept of word w.
 abbrev pub word_after : World → AnyStep → ℕ → Word → Word
 word_after world x w word = record {
-  pending = flags_after Pending world.still x w word.pending;
-  enabled = flags_after Enabled true x w word.enabled;
+  pending = flags_after Pending world.still world.reached x w word.pending;
+  enabled = flags_after Enabled true false x w word.enabled;
   looked = looked_after world.ready x w word;
   reported = reported_after world.ready x word;
 }
 
--- Whether the word in a place of the list passes what an end asks of it: the old place holds
--- nothing of its pending bits.
+-- Whether the word in a place of the list passes what an end asks of it: nothing due of its pending
+-- bits may stand in the old place.
 abbrev pub is_taken_at : List Word → ℕ → Bool
 is_taken_at words w = elim (slice_get words w) [
   | None ↦ false
-  | Some word ↦ not word.pending.old_holds
+  | Some word ↦ not (spots_any_old word.pending.spots)
 ]
 
--- Whether the word in a place of the list passes what an end asks of what was taken: the hand holds
--- nothing of its pending bits, and its enables are moved for good.
+-- Whether the word in a place of the list passes what an end asks of what was lifted: nothing due
+-- may stand in the hand alone, and none of its enables in the old place.
 abbrev pub is_kept_at : List Word → ℕ → Bool
 is_kept_at words w = elim (slice_get words w) [
   | None ↦ false
-  | Some word ↦ not word.pending.hand_holds && flags_moved word.enabled
+  | Some word ↦ not word.pending.spots.hand
+      && (not (spots_any_old word.enabled.spots) && not word.enabled.spots.hand)
+]
+
+-- Whether the word in a place of the list is blank in the new place.
+abbrev pub is_blank_at : List Word → ℕ → Bool
+is_blank_at words w = elim (slice_get words w) [
+  | None ↦ false
+  | Some word ↦ word.pending.blank && word.enabled.blank
 ]
 
 -- Whether the word in a place of the list was reported.
@@ -168,9 +202,7 @@ is_reported_at words w = elim (slice_get words w) [
 -- What the rules say of word w of set s after the steps that are done.
 abbrev pub flags_at : Setting → Done → WhichSet → ℕ → Flags
 flags_at d done s w = record {
-  old_holds = old_holds d s w done;
-  hand_holds = hand_holds d s w done;
-  filled = is_filled d s w done;
+  spots = spots_of (may_stand d s w done);
   blank = is_blank d s w done;
 }
 
@@ -203,6 +235,10 @@ standing_after (TakeNumber m) n s = elim (same_number m n) [
   | true ↦ record { old = false; hand = s.old; new = s.new }
   | false ↦ s
 ]
+standing_after (CopyNumber m) n s = elim (same_number m n) [
+  | true ↦ record { old = s.old; hand = s.old; new = s.new }
+  | false ↦ s
+]
 standing_after (PutNumber m) n s = elim (same_number m n) [
   | true ↦ record { old = s.old; hand = s.hand; new = s.hand }
   | false ↦ s
@@ -227,13 +263,23 @@ standing_at d n done = record {
 
 -- ---- the whole move
 
--- What the words turn on: whether nobody stores into the old place any more, and whether the move
--- is ready for notices: what is heeded is in the new place, and they go to the host.
-abbrev pub world_at : Setting → Done → World
-world_at d done = record {
-  still = all_led d done;
+-- What the words turn on at a step: whether nobody stores into the old place after it, and whether
+-- somebody may into the new one; and whether the move is ready for notices before it: what is
+-- heeded is in the new place, and they go to the host.
+abbrev pub world_at : Setting → AnyStep → Done → World
+world_at d x done = record {
+  still = all_led d (x ∷ done);
+  reached = is_reached d Pending (x ∷ done);
   ready = are_heeded d done && is_noticed d done;
 }
+
+-- Whether nothing is left to the next owner of the old place, where that takes it over, by whether
+-- threshold and delivery were left 0.
+abbrev pub shut_by : Bool → Bool → Bool → Bool
+shut_by is_inherited threshold_shut delivery_shut = elim is_inherited [
+  | true ↦ threshold_shut && delivery_shut
+  | false ↦ true
+]
 
 -- ---- the table
 
@@ -248,4 +294,6 @@ pub record Stands (t : Table) (producers : List RouteKind) (done : Done) : Type 
   pub threshold : t.threshold ≡ standing_at (setting_of producers t.terms) Threshold done
   pub delivery : t.delivery ≡ standing_at (setting_of producers t.terms) Delivery done
   pub freed : t.freed ≡ list_any frees done
+  pub threshold_shut : t.threshold_shut ≡ was_shut Threshold done
+  pub delivery_shut : t.delivery_shut ≡ was_shut Delivery done
   pub noticed : t.noticed ≡ is_noticed (setting_of producers t.terms) done

@@ -3,7 +3,9 @@
 #![tactic(auto)]
 
 mod judging;
+pub mod laws;
 mod lead;
+mod spots;
 mod standing;
 mod table;
 mod verdict;

@@ -44,6 +44,11 @@ impl Standing {
                 hand: self.old,
                 new: self.new,
             },
+            AnyStep::CopyNumber(m) if m == number => Standing {
+                old: self.old,
+                hand: self.old,
+                new: self.new,
+            },
             AnyStep::PutNumber(m) if m == number => Standing {
                 old: self.old,
                 hand: self.hand,

@@ -1,19 +1,20 @@
 //! What is known of a plan after some of its steps, so that each step is judged in one look.
 
-ghost use Rattle.std.specs.Prelude.{◌≡◌, ◌<◌, ◌&&◌, ℕ, length, List, [], ◌∷◌, map, replicate, IfOk};
+ghost use Rattle.std.specs.Prelude.{◌≡◌, ◌<◌, ◌&&◌, ◌||◌, not, ℕ, length, List, [], ◌∷◌, map, replicate, IfOk};
 ghost use Rattle.plans_rules.specs.Rules as rules;
 ghost use Rattle.plans_rules.specs.Rules.{Done};
 ghost use Rattle.plans_rules.specs.Safe.{IsInFile};
-ghost use Rattle.plans_rules.specs.Setting.{setting_of};
-ghost use Rattle.plans_judge.specs.Table.{Stands, flags_at, lead_first, word_first, world_at};
+ghost use Rattle.plans_rules.specs.Setting.{all_below, any_below, setting_of};
+ghost use Rattle.plans_judge.specs.Table.{AllAfter, Stands, flags_at, is_led_at, lead_after, is_turned_at, lead_first, shut_by, word_after, word_first};
 ghost use Rattle.plans_judge.specs.Verdicts.{refusing, refusing_end, rules_of};
 ghost use Rattle.plans_rules.specs.declared.rule.Rule.TheVariants as rule_;
+ghost use Rattle.plans_rules.specs.declared.step.AnyStep.TheVariants.{Free};
 ghost use Rattle.plans_rules.specs.declared.setting.NumberSpot.TheVariants as spot;
 
 use crate::judging::Part;
 use crate::lead::{Lead, all_led, any_turned, lead_all};
 use crate::standing::Standing;
-use crate::word::{Flags, Word, World, all_kept, all_reported, all_taken, step_all};
+use crate::word::{Flags, Word, World, all_blank, all_kept, all_reported, all_taken, step_all};
 use plans_rules::{AnyPlace, AnyStep, Number, NumberSpot, RouteKind, Rule, Terms, WhichSet};
 use std::alloc::{AllocError, Global};
 
@@ -27,6 +28,10 @@ pub(crate) struct Table {
 
     /// The old place was given back.
     freed: bool,
+
+    /// Its threshold, and its delivery, were left 0.
+    threshold_shut: bool,
+    delivery_shut: bool,
 
     /// Notices go to the host.
     noticed: bool,
@@ -43,6 +48,20 @@ fn first_leads(alloc: Global, producers: &[RouteKind]) -> Result<Vec<Lead>, Allo
         leads.push(Lead::first(*kind))?;
     }
     Ok(leads)
+}
+
+/// Makes of the leads of a list what a step makes of them.
+fn lead_list(leads: &mut Vec<Lead>, step: AnyStep)
+    ensures { AllAfter (lead_after step) leads.old.items leads.new.items }
+{
+    lead_all(leads, step);
+}
+
+/// Makes of the words of a list what a step makes of them.
+fn step_list(words: &mut Vec<Word>, step: AnyStep, world: World)
+    ensures { AllAfter (word_after world step) words.old.items words.new.items }
+{
+    step_all(words, step, world);
 }
 
 /// Makes the words of a file before the first step. `Err`: there is no memory for them.
@@ -76,6 +95,8 @@ impl Table {
             threshold: Standing::first(terms.number_from),
             delivery: Standing::first(terms.number_from),
             freed: false,
+            threshold_shut: false,
+            delivery_shut: false,
             noticed: terms.notices_go,
             terms,
         })
@@ -103,18 +124,6 @@ impl Table {
         all_led(&self.leads)
     }
 
-    /// Tells whether somebody may store into a set of the new place.
-    #[tactic(auto, using(crate::proofs::StandsLemmas::all_turned_is))]
-    fn is_reached(&self, bank: WhichSet) -> bool
-        ensures { (producers : List RouteKind) (done : Done) → Stands self.now producers done
-            → result ≡ rules.is_reached (setting_of producers self.now.terms) bank done }
-    {
-        match bank {
-            WhichSet::Pending => any_turned(&self.leads),
-            WhichSet::Enabled => false,
-        }
-    }
-
     /// Tells whether a number stands in a spot as it was at the start.
     fn has_number(&self, number: Number, spot: NumberSpot) -> bool
         ensures { (producers : List RouteKind) (done : Done) → Stands self.now producers done
@@ -139,14 +148,17 @@ impl Table {
         }
     }
 
-    /// Tells whether a word of the new place may hold something that is due there.
-    fn new_holds(&self, bank: WhichSet, word: u32) -> bool
-        requires word { word < self.now.terms.words }
-        requires width { length self.now.words.items ≡ self.now.terms.words }
+    /// Tells whether nothing is left to the next owner of the old place that takes it over.
+    #[tactic(auto, using(crate::proofs::StandsLemmas::shut_is))]
+    fn is_shut(&self) -> bool
         ensures { (producers : List RouteKind) (done : Done) → Stands self.now producers done
-            → result ≡ rules.new_holds (setting_of producers self.now.terms) bank word done }
+            → result ≡ rules.is_shut (setting_of producers self.now.terms) done }
     {
-        self.is_reached(bank) || self.flags(bank, word).filled
+        shut_by(
+            self.terms.is_inherited,
+            self.threshold_shut,
+            self.delivery_shut,
+        )
     }
 
     /// Tells whether the rule on words lets a step stand.
@@ -157,9 +169,9 @@ impl Table {
             → result ≡ rules.lets rule_.Words (setting_of producers self.now.terms) step done }
     {
         match step {
-            AnyStep::Take(s, w) => !self.flags(s, w).hand_holds,
-            AnyStep::Put(s, w) | AnyStep::Zero(AnyPlace::New, s, w) => !self.new_holds(s, w),
-            AnyStep::Zero(AnyPlace::Old, s, w) => !self.flags(s, w).old_holds,
+            AnyStep::Take(s, w) | AnyStep::Copy(s, w) => !self.flags(s, w).spots.hand,
+            AnyStep::Put(s, w) | AnyStep::Zero(AnyPlace::New, s, w) => !self.flags(s, w).spots.new,
+            AnyStep::Zero(AnyPlace::Old, s, w) => !self.flags(s, w).spots.old,
             _ => true,
         }
     }
@@ -174,10 +186,19 @@ impl Table {
         match step {
             AnyStep::Join(s, w) => {
                 let flags = self.flags(s, w);
-                !flags.hand_holds || flags.blank
+                !flags.spots.hand || flags.blank
             }
             _ => true,
         }
+    }
+
+    /// Tells whether the old place may be given back.
+    #[tactic(auto, using(crate::proofs::StandsLemmas::free_is))]
+    fn lets_free(&self) -> bool
+        ensures { (producers : List RouteKind) (done : Done) → Stands self.now producers done
+            → result ≡ rules.lets rule_.Freeing (setting_of producers self.now.terms) Free done }
+    {
+        free_by(self.all_led(), self.freed, self.is_shut())
     }
 
     /// Tells whether the rule on giving the old place back does.
@@ -186,10 +207,12 @@ impl Table {
             → result ≡ rules.lets rule_.Freeing (setting_of producers self.now.terms) step done }
     {
         match step {
-            AnyStep::Free => self.all_led(),
+            AnyStep::Free => self.lets_free(),
             AnyStep::Take(..)
+            | AnyStep::Copy(..)
             | AnyStep::Zero(AnyPlace::Old, ..)
             | AnyStep::TakeNumber(_)
+            | AnyStep::CopyNumber(_)
             | AnyStep::ZeroNumber(AnyPlace::Old, _) => !self.freed,
             _ => true,
         }
@@ -264,6 +287,15 @@ impl Table {
         all_kept(&self.words)
     }
 
+    /// Tells whether the rule on what is left over does.
+    #[tactic(auto, using(crate::proofs::StandsLemmas::blank_is))]
+    fn ends_blank(&self) -> bool
+        ensures { (producers : List RouteKind) (done : Done) → Stands self.now producers done
+            → result ≡ rules.lets_end rule_.Blank (setting_of producers self.now.terms) done }
+    {
+        all_blank(&self.words)
+    }
+
     /// Tells whether the rule on numbers does.
     fn ends_numbers(&self) -> bool
         ensures { (producers : List RouteKind) (done : Done) → Stands self.now producers done
@@ -299,6 +331,9 @@ impl Table {
                 if !self.ends_words() {
                     return Some(Rule::Words);
                 }
+                if !self.ends_blank() {
+                    return Some(Rule::Blank);
+                }
                 if !self.ends_numbers() {
                     return Some(Rule::Numbers);
                 }
@@ -313,14 +348,29 @@ impl Table {
         }
     }
 
-    /// Gives what is known of the whole move.
-    fn world(&self) -> World
+    /// Tells whether the move is ready for notices: what is heeded is in the new place, and they go
+    /// to the host.
+    fn is_ready(&self) -> bool
         ensures { (producers : List RouteKind) (done : Done) → Stands self.now producers done
-            → result ≡ world_at (setting_of producers self.now.terms) done }
+            → result ≡ (rules.are_heeded (setting_of producers self.now.terms) done
+            && rules.is_noticed (setting_of producers self.now.terms) done) }
+    {
+        self.are_heeded() && self.noticed
+    }
+
+    /// Gives what is known of the whole move at a step that the leads have made, which was ready
+    /// for notices before it, or was not.
+    fn world(&self, ready: bool) -> World
+        ensures { result ≡ record {
+          still = all_below (is_led_at self.now.leads.items) (length self.now.leads.items);
+          reached = any_below (is_turned_at self.now.leads.items) (length self.now.leads.items);
+          ready = ready;
+        } }
     {
         World {
-            still: self.all_led(),
-            ready: self.are_heeded() && self.noticed,
+            still: all_led(&self.leads),
+            reached: any_turned(&self.leads),
+            ready,
         }
     }
 
@@ -332,14 +382,43 @@ impl Table {
         ensures terms { self.new.terms ≡ self.old.terms }
         ensures width { length self.new.words.items ≡ length self.old.words.items }
     {
-        let world = self.world();
-        step_all(&mut self.words, step, world);
-        lead_all(&mut self.leads, step);
+        let ready = self.is_ready();
+        lead_list(&mut self.leads, step);
+        let world = self.world(ready);
+        step_list(&mut self.words, step, world);
         self.threshold = self.threshold.after(step, Number::Threshold);
         self.delivery = self.delivery.after(step, Number::Delivery);
-        self.freed = frees(step) || self.freed;
-        self.noticed = writes_notice(step) || self.noticed;
+        self.freed = either(frees(step), self.freed);
+        self.threshold_shut = either(shuts(step, Number::Threshold), self.threshold_shut);
+        self.delivery_shut = either(shuts(step, Number::Delivery), self.delivery_shut);
+        self.noticed = either(writes_notice(step), self.noticed);
     }
+}
+
+/// Tells whether nothing is left to the next owner of the old place, where that takes it over.
+fn shut_by(is_inherited: bool, threshold_shut: bool, delivery_shut: bool) -> bool
+    ensures { result ≡ shut_by is_inherited threshold_shut delivery_shut }
+{
+    if is_inherited {
+        threshold_shut && delivery_shut
+    } else {
+        true
+    }
+}
+
+/// Tells whether the old place may be given back: nobody stores there, it was not given back, and
+/// nothing is left to its next owner.
+fn free_by(led: bool, freed: bool, shut: bool) -> bool
+    ensures { result ≡ (led && (not freed && shut)) }
+{
+    led && !freed && shut
+}
+
+/// Tells whether either is so.
+fn either(a: bool, b: bool) -> bool
+    ensures { result ≡ (a || b) }
+{
+    a || b
 }
 
 /// Tells whether a step writes where notices go.
@@ -348,6 +427,16 @@ fn writes_notice(step: AnyStep) -> bool
 {
     match step {
         AnyStep::WriteNotice => true,
+        _ => false,
+    }
+}
+
+/// Tells whether a step leaves a number of the old place 0.
+fn shuts(step: AnyStep, number: Number) -> bool
+    ensures { result ≡ rules.shuts number step }
+{
+    match step {
+        AnyStep::TakeNumber(m) | AnyStep::ZeroNumber(AnyPlace::Old, m) => m == number,
         _ => false,
     }
 }

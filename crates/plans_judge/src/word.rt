@@ -1,23 +1,18 @@
 //! What is known of a word of 64 identities.
 
-ghost use Rattle.std.specs.Prelude.{◌≡◌, length};
+ghost use Rattle.std.specs.Prelude.{◌≡◌, ◌&&◌, not, length};
 ghost use Rattle.plans_rules.specs.Rules as rules;
 ghost use Rattle.plans_rules.specs.Setting.{all_below};
-ghost use Rattle.plans_judge.specs.Table.{AllAfter, flags_after, flags_moved, is_kept_at, is_reported_at, is_taken_at, looked_after, reported_after, word_after, word_first, word_settled};
+ghost use Rattle.plans_judge.specs.Table.{AllAfter, flags_after, flags_moved, is_blank_at, is_kept_at, is_reported_at, is_taken_at, looked_after, reported_after, spots_any_old, word_after, word_first, word_settled};
 
-use plans_rules::{AnyPlace, AnyStep, WhichSet};
+use crate::spots::{Effect, Spots, Stores};
+use plans_rules::{AnyStep, WhichSet};
 
 /// What the steps so far have made of a word of one set.
 #[derive(Clone, Copy)]
 pub(crate) struct Flags {
-    /// It may hold something in the old place.
-    pub(crate) old_holds: bool,
-
-    /// It may hold something in the hand.
-    pub(crate) hand_holds: bool,
-
-    /// What might hold something was moved to the new place.
-    pub(crate) filled: bool,
+    /// Where an identity of it that is due may stand.
+    pub(crate) spots: Spots,
 
     /// Nothing stands in the new place but what is due.
     pub(crate) blank: bool,
@@ -36,47 +31,21 @@ pub(crate) struct Word {
     pub(crate) reported: bool,
 }
 
-/// What is known of the whole move before a step.
+/// What is known of the whole move at a step.
 #[derive(Clone, Copy)]
 pub(crate) struct World {
-    /// Nobody stores into the old place.
+    /// Nobody stores into the old place after it.
     pub(crate) still: bool,
 
-    /// Both numbers are in the new place, if they are heeded there, and notices go to the host.
+    /// Somebody may store into the new place after it.
+    pub(crate) reached: bool,
+
+    /// Before it both numbers are in the new place, if they are heeded there, and notices go to the
+    /// host.
     pub(crate) ready: bool,
 }
 
-/// Tells whether a step takes a word.
-fn takes(step: AnyStep, bank: WhichSet, word: usize) -> bool
-    ensures { result ≡ rules.takes bank word step }
-{
-    match step {
-        AnyStep::Take(s, w) => s == bank && w as usize == word,
-        _ => false,
-    }
-}
-
-/// Tells whether it moves a word from the hand to the new place.
-fn fills(step: AnyStep, bank: WhichSet, word: usize) -> bool
-    ensures { result ≡ rules.fills bank word step }
-{
-    match step {
-        AnyStep::Join(s, w) | AnyStep::Put(s, w) => s == bank && w as usize == word,
-        _ => false,
-    }
-}
-
-/// Tells whether it leaves nothing of what stood in a word of the new place.
-fn blanks(step: AnyStep, bank: WhichSet, word: usize) -> bool
-    ensures { result ≡ rules.blanks bank word step }
-{
-    match step {
-        AnyStep::Zero(AnyPlace::New, s, w) | AnyStep::Put(s, w) => s == bank && w as usize == word,
-        _ => false,
-    }
-}
-
-/// Tells whether it looks at a word.
+/// Tells whether a step looks at a word.
 fn looks(step: AnyStep, word: usize) -> bool
     ensures { result ≡ rules.looks word step }
 {
@@ -91,33 +60,17 @@ impl Flags {
     fn is_moved(self) -> bool
         ensures { result ≡ flags_moved self }
     {
-        !self.old_holds && !self.hand_holds
+        !self.spots.any_old() && !self.spots.any_hand()
     }
 
-    /// Gives what a step makes of word `word` of a set, where nobody stores into that set of the
-    /// old place, or somebody may.
-    fn after(self, step: AnyStep, bank: WhichSet, word: usize, still: bool) -> Flags
-        ensures { result ≡ flags_after bank still step word self }
+    /// Gives what a step makes of word `word` of a set, given who stores into that set after it.
+    fn after(self, step: AnyStep, bank: WhichSet, word: usize, stores: Stores) -> Flags
+        ensures { result ≡ flags_after bank stores.still stores.reached step word self }
     {
+        let effect = Effect::of(step, bank, word);
         Flags {
-            old_holds: if takes(step, bank, word) {
-                self.old_holds && !still
-            } else {
-                self.old_holds
-            },
-            hand_holds: if takes(step, bank, word) {
-                self.old_holds
-            } else if fills(step, bank, word) {
-                false
-            } else {
-                self.hand_holds
-            },
-            filled: if fills(step, bank, word) {
-                self.hand_holds || self.filled
-            } else {
-                self.filled
-            },
-            blank: blanks(step, bank, word) || self.blank,
+            spots: self.spots.after(effect, stores),
+            blank: effect.blanks || self.blank,
         }
     }
 }
@@ -128,9 +81,7 @@ impl Word {
         ensures { result ≡ word_first is_fresh }
     {
         let flags = Flags {
-            old_holds: true,
-            hand_holds: false,
-            filled: false,
+            spots: Spots::first(),
             blank: is_fresh,
         };
         Word {
@@ -174,11 +125,17 @@ impl Word {
     fn after(self, step: AnyStep, word: usize, world: World) -> Word
         ensures { result ≡ word_after world step word self }
     {
+        let pending = Stores {
+            still: world.still,
+            reached: world.reached,
+        };
+        let enabled = Stores {
+            still: true,
+            reached: false,
+        };
         Word {
-            pending: self
-                .pending
-                .after(step, WhichSet::Pending, word, world.still),
-            enabled: self.enabled.after(step, WhichSet::Enabled, word, true),
+            pending: self.pending.after(step, WhichSet::Pending, word, pending),
+            enabled: self.enabled.after(step, WhichSet::Enabled, word, enabled),
             looked: self.is_looked_after(step, word, world.ready),
             reported: self.is_reported_after(step, world.ready),
         }
@@ -194,25 +151,44 @@ pub(crate) fn step_all(words: &mut [Word], step: AnyStep, world: World)
     }
 }
 
-/// Tells whether each pending word was taken while nobody stored into the old place.
+/// Tells whether nothing due of the pending words may stand in the old place.
 pub(crate) fn all_taken(words: &[Word]) -> bool
     ensures { result ≡ all_below (is_taken_at words.now) (length words.now) }
 {
     let mut holds = true;
     for word in 0..words.len() {
-        holds = !words[word].pending.old_holds && holds;
+        holds = !words[word].pending.spots.any_old() && holds;
     }
     holds
 }
 
-/// Tells whether all enables were taken, and nothing is left in the hand.
+/// Tells whether no enable may stand in the old place, and nothing due in the hand alone.
 pub(crate) fn all_kept(words: &[Word]) -> bool
     ensures { result ≡ all_below (is_kept_at words.now) (length words.now) }
 {
     let mut holds = true;
     for word in 0..words.len() {
         let now = words[word];
-        holds = !now.pending.hand_holds && now.enabled.is_moved() && holds;
+        holds = !now.pending.spots.hand && is_lifted(now.enabled) && holds;
+    }
+    holds
+}
+
+/// Tells whether nothing of a word may stand in the old place, nor in the hand alone.
+fn is_lifted(flags: Flags) -> bool
+    ensures { result ≡ (not (spots_any_old flags.spots) && not flags.spots.hand) }
+{
+    !flags.spots.any_old() && !flags.spots.hand
+}
+
+/// Tells whether all words are blank in the new place.
+pub(crate) fn all_blank(words: &[Word]) -> bool
+    ensures { result ≡ all_below (is_blank_at words.now) (length words.now) }
+{
+    let mut holds = true;
+    for word in 0..words.len() {
+        let now = words[word];
+        holds = now.pending.blank && now.enabled.blank && holds;
     }
     holds
 }

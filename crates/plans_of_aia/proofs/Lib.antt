@@ -1,3 +1,4 @@
+mod Flags
 mod Onward
 mod RoutesKept
 mod WordsKept

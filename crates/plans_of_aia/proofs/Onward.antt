@@ -5,7 +5,8 @@ use Rattle.plans_rules.specs.declared.step.WhichSet.{WhichSet}
 use Rattle.plans_rules.specs.declared.step.AnyStep.{AnyStep}
 use Rattle.plans_rules.specs.declared.step.AnyStep.TheVariants.{Take, Join, Put}
 use Rattle.plans_rules.specs.Setting.{Setting, names}
-use Rattle.plans_rules.specs.Rules.{Done, turns, fences, takes, is_turned, is_fenced, is_still, old_holds, hand_holds, is_filled, is_blank}
+use Rattle.plans_rules.specs.Rules.{Done, turns, fences, empties, is_turned, is_fenced, is_still, is_blank}
+use Rattle.plans_of_aia.proofs.Flags.{old_holds, hand_holds, is_filled}
 use Rattle.plans_rules.proofs.BoolLaws.{or_right}
 use Rattle.plans_of_aia.specs.Translated.{onto}
 
@@ -42,7 +43,7 @@ emptied_by false old still e = e
 pub emptied_on : (d : Setting) (s : WhichSet) (w : ℕ) (step : Option AnyStep) (done : Done) → old_holds d s w done ≡ false
     → old_holds d s w (onto step done) ≡ false
 emptied_on d s w None done e = e
-emptied_on d s w (Some x) done e = emptied_by (takes s w x) (old_holds d s w done) (is_still d s done) e
+emptied_on d s w (Some x) done e = emptied_by (empties s w x) (old_holds d s w done) (is_still d s done) e
 
 emptied_late : (here old still : Bool) → here ≡ true → still ≡ true → elim here [ true ↦ old && not still | false ↦ old ] ≡ false
 emptied_late true true true e f = refl

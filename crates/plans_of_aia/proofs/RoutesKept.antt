@@ -10,7 +10,8 @@ use Rattle.aia_plan.specs.declared.step.Step.TheVariants.{Word0, Fence, Map, Unm
 use Rattle.plans_rules.specs.declared.step.WhichSet.TheVariants.{Pending}
 use Rattle.plans_rules.specs.declared.rule.Rule.TheVariants.{Routes}
 use Rattle.plans_rules.specs.declared.step.AnyStep.TheVariants as steps
-use Rattle.plans_rules.specs.Rules.{Done, is_turned, is_fenced, all_led, old_holds, lets_rest}
+use Rattle.plans_rules.specs.Rules.{Done, is_turned, is_fenced, all_led, any_old, lets_rest}
+use Rattle.plans_of_aia.proofs.Flags.{old_holds, none_old}
 use Rattle.plans_rules.proofs.BoolLaws.{by_case, all_of, and_left, and_right, and_of, or_left, or_false, not_true}
 use Rattle.plans_of_aia.specs.Translated.{access_of, onto, translated, shape_setting}
 use Rattle.plans_of_aia.proofs.Onward.{turned_on, fenced_on, emptied_on, emptied_now}
@@ -120,7 +121,8 @@ pub routes_kept : (kind : Kind) (words : ℕ) (rest : WrittenPlan) (done : Done)
     → lets_rest Routes (shape_setting words) done (translated rest) ≡ true
 routes_kept kind words [] done led =
     and_of (all_led (shape_setting words) done) _ (both_led words done (led.fence refl) (led.gfence refl))
-    (all_of (λ w. not (old_holds (shape_setting words) Pending w done)) words (λ w low. ap not ((led.late w low).emptied refl)))
+    (all_of (λ w. not (any_old (shape_setting words) Pending w done)) words
+    (λ w low. ap not (none_old (shape_setting words) Pending w done ((led.late w low).emptied refl))))
 routes_kept kind words (Word0 ∷ later) done led = routes_kept kind words later (steps.Route 0 ∷ done) (record {
   entry = λ none. refl;
   fence = λ none. fenced_on 0 (access_of Word0) done (led.fence none);

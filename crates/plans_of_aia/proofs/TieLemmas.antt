@@ -1,5 +1,5 @@
 -- A plan that the rule on plans of our shape accepts is accepted as anybody's plan.
-use Rattle.std.proofs.Common.{◌≡◌, ℕ, true, false, not, ◌||◌, [], ◌∷◌, None, inl, refl, ap}
+use Rattle.std.proofs.Common.{◌&&◌, ◌≡◌, ℕ, true, false, not, ◌||◌, [], ◌∷◌, None, inl, refl, ap}
 use Rattle.std.specs.List.{All, list_any}
 use Rattle.std.proofs.lemmas.Bool.{false≢true, and_parts}
 use Rattle.aia_plan.specs.Plan.{WrittenPlan, IsInside}
@@ -14,9 +14,9 @@ use Rattle.plans_rules.specs.declared.step.Number.TheVariants.{Threshold, Delive
 use Rattle.plans_rules.specs.declared.setting.NumberSpot.TheVariants.{InOld}
 use Rattle.plans_rules.specs.declared.rule.Rule.TheVariants.{Routes, Words, Blank, Numbers, Freeing}
 use Rattle.plans_rules.specs.declared.step.AnyStep.TheVariants as steps
-use Rattle.plans_rules.specs.Rules.{Done, hand_holds, is_blank, has_number, frees, lets_rest, moves}
+use Rattle.plans_rules.specs.Rules.{Done, only_hand, is_blank, has_number, frees, lets_rest, moves}
 use Rattle.plans_rules.specs.Safe.{IsSafe}
-use Rattle.plans_rules.proofs.BoolLaws.{and_of, or_right, clash}
+use Rattle.plans_rules.proofs.BoolLaws.{and_of, or_right, clash, all_of}
 use Rattle.plans_rules.proofs.RulesAreSafe.{rules_are_safe}
 use Rattle.plans_of_aia.specs.Translated.{access_of, onto, translated, shape_setting}
 use Rattle.plans_of_aia.proofs.Onward.{no_number, fresh_is_blank}
@@ -28,9 +28,11 @@ stood : {A : Type 0} (step : OurStep) (plan : WrittenPlan) → is_once step plan
 stood step plan once none = clash (stands step plan) (once_stands step plan once) none
 
 blank_kept : (words : ℕ) (rest : WrittenPlan) (done : Done) → lets_rest Blank (shape_setting words) done (translated rest) ≡ true
-blank_kept words [] done = refl
+blank_kept words [] done = all_of (λ w. is_blank (shape_setting words) Pending w done && is_blank (shape_setting words) Enabled w done) words
+    (λ w low. and_of (is_blank (shape_setting words) Pending w done) _ (fresh_is_blank (shape_setting words) Pending w done refl)
+    (fresh_is_blank (shape_setting words) Enabled w done refl))
 blank_kept words (PutP v ∷ later) done =
-    and_of (not (hand_holds (shape_setting words) Pending v done) || is_blank (shape_setting words) Pending v done) _
+    and_of (not (only_hand (shape_setting words) Pending v done) || is_blank (shape_setting words) Pending v done) _
     (or_right _ (is_blank (shape_setting words) Pending v done) (fresh_is_blank (shape_setting words) Pending v done refl))
     (blank_kept words later (steps.Join Pending v ∷ done))
 blank_kept words (x ∷ later) done = blank_kept words later (onto (access_of x) done)

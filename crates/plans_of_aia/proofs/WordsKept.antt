@@ -10,7 +10,8 @@ use Rattle.aia_plan.specs.declared.step.Step.TheVariants.{TakeP, PutP, TakeE, Pu
 use Rattle.plans_rules.specs.declared.step.WhichSet.TheVariants.{Pending, Enabled}
 use Rattle.plans_rules.specs.declared.rule.Rule.TheVariants.{Words}
 use Rattle.plans_rules.specs.declared.step.AnyStep.TheVariants as steps
-use Rattle.plans_rules.specs.Rules.{Done, old_holds, hand_holds, is_filled, is_moved, lets_rest}
+use Rattle.plans_rules.specs.Rules.{Done, any_old, only_hand, lets_rest}
+use Rattle.plans_of_aia.proofs.Flags.{old_holds, hand_holds, is_filled, none_old, none_hand, none_new}
 use Rattle.plans_rules.proofs.BoolLaws.{by_case, all_of, false_of, and_left, and_right, and_of, not_true, or_false_left, or_false_right, clash}
 use Rattle.plans_of_aia.specs.Translated.{access_of, onto, translated, shape_setting}
 use Rattle.plans_of_aia.proofs.Onward.{same_number, numbers_are_one, no_number, emptied_on, emptied_now, hand_beside, hand_joined, hand_put, filled_beside}
@@ -63,12 +64,12 @@ words_end : (words : ℕ) (pending enables : Option ℕ) (done : Done) → pendi
     → lets_rest Words (shape_setting words) done [] ≡ true
 words_end words pending enables done p e held =
     let d = shape_setting words in
-    all_of (λ w. not (hand_holds d Pending w done) && is_moved d Enabled w done) words (λ w low.
+    all_of (λ w. not (only_hand d Pending w done) && (not (any_old d Enabled w done) && not (only_hand d Enabled w done))) words (λ w low.
     let no_pending = false_of (hand_holds d Pending w done) (λ h. empty_hand pending w p (held.pending_held w h)) in
     let no_enables = false_of (hand_holds d Enabled w done) (λ h. empty_hand enables w e (held.enables_held w h)) in
     let emptied : old_holds d Enabled w done ≡ false = elim (held.once w low) [ inl once ↦ absurd (false≢true once) | inr gone ↦ gone.1 ] in
-    and_of (not (hand_holds d Pending w done)) (is_moved d Enabled w done) (ap not no_pending)
-    (and_of (not (old_holds d Enabled w done)) (not (hand_holds d Enabled w done)) (ap not emptied) (ap not no_enables)))
+    and_of _ _ (ap not (none_hand d Pending w done no_pending))
+    (and_of _ _ (ap not (none_old d Enabled w done emptied)) (ap not (none_hand d Enabled w done no_enables))))
 
 -- a pending word is taken
 pending_taken : (words v : ℕ) (pending enables : Option ℕ) (later : WrittenPlan) (done : Done) → pending ≡ None → enables ≡ None
@@ -152,7 +153,7 @@ words_kept words (TakeP v ∷ later) pending enables done inside p e held =
     let no_pending = none_same pending (and_left _ _ p) in
     let no_enables = none_same enables (and_left _ _ e) in
     let free = false_of (hand_holds (shape_setting words) Pending v done) (λ h. empty_hand pending v no_pending (held.pending_held v h)) in
-    and_of (not (hand_holds (shape_setting words) Pending v done)) _ (ap not free)
+    and_of _ _ (ap not (none_hand (shape_setting words) Pending v done free))
     (words_kept words later (Some v) None (steps.Take Pending v ∷ done) inside.1 (and_right _ _ p) (and_right _ _ e)
     (pending_taken words v pending enables later done no_pending no_enables held))
 words_kept words (PutP v ∷ later) pending enables done inside p e held =
@@ -162,13 +163,13 @@ words_kept words (TakeE v ∷ later) pending enables done inside p e held =
     let no_pending = none_same pending (and_left _ _ p) in
     let no_enables = none_same enables (and_left _ _ e) in
     let free = false_of (hand_holds (shape_setting words) Enabled v done) (λ h. empty_hand enables v no_enables (held.enables_held v h)) in
-    and_of (not (hand_holds (shape_setting words) Enabled v done)) _ (ap not free)
+    and_of _ _ (ap not (none_hand (shape_setting words) Enabled v done free))
     (words_kept words later None (Some v) (steps.Take Enabled v ∷ done) inside.1 (and_right _ _ p) (and_right _ _ e)
     (enables_taken words v pending enables later done inside.0 no_pending no_enables held))
 words_kept words (PutE v ∷ later) pending enables done inside p e held =
     let in_hand = some_same enables v (and_left _ _ e) in
     let no_pending = none_same pending (and_left _ _ p) in
-    and_of (not (is_filled (shape_setting words) Enabled v done)) _ (ap not (not_filled words v pending enables (PutE v ∷ later) done in_hand held))
+    and_of _ _ (ap not (none_new (shape_setting words) Enabled v done (not_filled words v pending enables (PutE v ∷ later) done in_hand held)))
     (words_kept words later None None (steps.Put Enabled v ∷ done) inside.1 (and_right _ _ p) (and_right _ _ e)
     (enables_put words v pending enables later done no_pending in_hand held))
 words_kept words (x ∷ later) pending enables done inside p e held =

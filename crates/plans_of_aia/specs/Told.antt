@@ -73,6 +73,7 @@ told_setting from to words = record {
   in_memory = not (is_file to);
   heeds = false;
   notices_go = is_file to;
+  is_inherited = false;
   number_from = number_at InOld from;
   number_to = number_at InNew to;
 }

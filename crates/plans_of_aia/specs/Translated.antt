@@ -54,6 +54,7 @@ shape_setting words = record {
   in_memory = false;
   heeds = false;
   notices_go = true;
+  is_inherited = false;
   number_from = InOld;
   number_to = InOld;
 }

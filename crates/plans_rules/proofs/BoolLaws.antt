@@ -75,3 +75,22 @@ more_law false b s t h k e = any_law b t (k e)
 pub any_more : (f g : ℕ → Bool) (count : ℕ) → ((p : ℕ) → f p ≡ true → g p ≡ true) → any_below f count ≡ true → any_below g count ≡ true
 any_more f g zero h e = absurd (false≢true e)
 any_more f g (suc n) h e = more_law (f n) (g n) _ _ (h n) (any_more f g n h) e
+
+-- one that does not pass, where not all do; one that does, where any does
+pub all_find : (is : ℕ → Bool) (count : ℕ) → all_below is count ≡ false → (p : ℕ) × (p < count) × (is p ≡ false)
+all_find is zero e = absurd (false≢true (sym e))
+all_find is (suc n) e = find (is n) refl (all_find is n) e
+  where
+    find : (b : Bool) → b ≡ is n → (all_below is n ≡ false → (p : ℕ) × (p < n) × (is p ≡ false)) → (b && all_below is n) ≡ false → (p : ℕ)
+        × (p < suc n) × (is p ≡ false)
+    find true same again e = (let found = again e in (found.0, omega (arith, found.1), found.2))
+    find false same again e = (n, omega arith, sym same)
+
+pub any_find : (is : ℕ → Bool) (count : ℕ) → any_below is count ≡ true → (p : ℕ) × (p < count) × (is p ≡ true)
+any_find is zero e = absurd (false≢true e)
+any_find is (suc n) e = find (is n) refl (any_find is n) e
+  where
+    find : (b : Bool) → b ≡ is n → (any_below is n ≡ true → (p : ℕ) × (p < n) × (is p ≡ true))
+        → (elim b [ true ↦ true | false ↦ any_below is n ]) ≡ true → (p : ℕ) × (p < suc n) × (is p ≡ true)
+    find true same again e = (n, omega arith, sym same)
+    find false same again e = (let found = again e in (found.0, omega (arith, found.1), found.2))

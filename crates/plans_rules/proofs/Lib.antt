@@ -1,5 +1,6 @@
 pub mod Throughout
 pub mod BoolLaws
+pub mod Brought
 pub mod Reached
 pub mod Safety
 pub mod Telling

@@ -1,14 +1,13 @@
 -- What was reached stays reached.
-use Rattle.std.proofs.Common.{◌≡◌, ℕ, Bool, true, false, not, ◌&&◌, ◌||◌, length, ◌∷◌, Option, Some, None, refl, sym}
+use Rattle.std.proofs.Common.{◌≡◌, ℕ, Bool, true, false, ◌||◌, length, ◌∷◌, Option, Some, None, refl}
 use Rattle.std.specs.Prelude.{slice_get}
-use Rattle.std.proofs.lemmas.Bool.{false≢true}
 use Rattle.plans_rules.specs.declared.step.WhichSet.{WhichSet}
 use Rattle.plans_rules.specs.declared.step.WhichSet.TheVariants.{Pending, Enabled}
 use Rattle.plans_rules.specs.declared.setting.RouteKind.{RouteKind}
 use Rattle.plans_rules.specs.declared.setting.RouteKind.TheVariants.{Routed, Switched}
 use Rattle.plans_rules.specs.declared.step.AnyStep.{AnyStep}
 use Rattle.plans_rules.specs.Setting.{Setting}
-use Rattle.plans_rules.specs.Rules.{turns, fences, switches, takes, Done, is_fenced, is_led_as, all_led, is_reached, old_holds}
+use Rattle.plans_rules.specs.Rules.{turns, fences, switches, Done, is_fenced, is_led_as, all_led, is_reached, is_still}
 use Rattle.plans_rules.proofs.BoolLaws.{or_right, or_left, added_stays, all_more, any_more}
 
 either_more : (a b c e : Bool) → (a ≡ true → c ≡ true) → (b ≡ true → e ≡ true) → (a || b) ≡ true → (c || e) ≡ true
@@ -27,13 +26,6 @@ pub reached_more : (d : Setting) (s : WhichSet) (x : AnyStep) (done : Done) → 
 reached_more d Pending x done e = any_more _ _ (length d.producers) (λ p. or_right (turns p x) _) e
 reached_more d Enabled x done e = e
 
-late_law : (m o still now : Bool) → (still ≡ true → now ≡ true) → (o ≡ false → still ≡ true)
-    → (elim m [ true ↦ o && not still | false ↦ o ]) ≡ false → now ≡ true
-late_law true true true now h k e = h refl
-late_law true true false now h k e = absurd (false≢true (sym e))
-late_law true false still now h k e = h (k refl)
-late_law false o still now h k e = h (k e)
-
-pub late_more : (d : Setting) (x : AnyStep) (done : Done) → ((w : ℕ) → old_holds d Pending w done ≡ false → all_led d done ≡ true)
-    → (w : ℕ) → old_holds d Pending w (x ∷ done) ≡ false → all_led d (x ∷ done) ≡ true
-late_more d x done h w e = late_law (takes Pending w x) _ _ _ (all_led_more d x done) (h w) e
+pub still_more : (d : Setting) (s : WhichSet) (x : AnyStep) (done : Done) → is_still d s done ≡ true → is_still d s (x ∷ done) ≡ true
+still_more d Pending x done e = all_led_more d x done e
+still_more d Enabled x done e = refl

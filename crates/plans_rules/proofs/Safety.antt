@@ -16,27 +16,36 @@ use Rattle.plans_rules.specs.declared.setting.NumberSpot.TheVariants.{InOld, InH
 use Rattle.plans_rules.specs.declared.setting.RouteKind.{RouteKind}
 use Rattle.plans_rules.specs.declared.setting.RouteKind.TheVariants.{Routed, Switched}
 use Rattle.plans_rules.specs.declared.step.AnyStep.{AnyStep}
-use Rattle.plans_rules.specs.declared.step.AnyStep.TheVariants.{Route, Fence, Switch, Zero, Take, Join, Put, ZeroNumber, TakeNumber, PutNumber, Free}
-use Rattle.plans_rules.specs.Setting.{Setting, is_old, same_bank, same_spot, names}
+use Rattle.plans_rules.specs.declared.step.AnyStep.TheVariants.{Route, Fence, Switch, Zero, Take, Copy, Join, Put, ZeroNumber, TakeNumber, CopyNumber, PutNumber, Free}
+use Rattle.plans_rules.specs.Setting.{Setting, is_old, same_bank, same_number, same_spot, names}
 use Rattle.plans_rules.specs.Machine.{AnyFlight, AnyMachine, landed, flight_landed, all_landed, flights_of, flights_beside, led_to, stepped, By, route_of, AnyHappening, one_landed, all_but, happened, all_happened, steps_in}
 use Rattle.plans_rules.specs.Machine.By.{Written, InForce}
 use Rattle.plans_rules.specs.Machine.AnyHappening.{Does, Stores, Sends, Lands, Refetches}
 use Rattle.plans_rules.specs.Safe.{IsProducer, IsRouted, CanHappen, IsRun, IsStartOfAny, number_in, IsMovedByAny, IsSafe}
-use Rattle.plans_rules.specs.Rules.{switches, frees, Done, is_turned, is_fenced, is_led_as, is_led, all_led, is_reached, is_still, old_holds, hand_holds, is_filled, is_blank, is_moved, has_number, lets, lets_end, lets_rest}
-use Rattle.plans_rules.proofs.BoolLaws.{false_of, true_of, or_false_left, or_false_right, clash, not_true, and_left, and_right, or_left, or_right, or_false, or_cases, added_cases, all_at, any_at}
-use Rattle.plans_rules.proofs.Reached.{all_led_more, reached_more, late_more}
+use Rattle.plans_rules.specs.Rules.{empties, lifts, fills, blanks, shuts, switches, frees, Done, is_turned, is_fenced, is_led_as, is_led, all_led, is_reached, any_of_two, brought, may_stand, only_old, only_hand, only_new, any_old, is_blank, was_shut, is_shut, has_number, lets, lets_end, lets_rest}
+use Rattle.plans_rules.proofs.BoolLaws.{false_of, true_of, clash, not_true, and_left, and_right, and_of, or_left, or_right, or_false, or_cases, added_cases, all_at, any_at}
+use Rattle.plans_rules.proofs.Reached.{all_led_more}
+use Rattle.plans_rules.proofs.Brought.{Places, two_at, two_find, old_after, hand_after, new_after, brought_at, busy_old, reached_new, take_somewhere, copy_somewhere, join_somewhere, put_somewhere, wipe_somewhere, zero_somewhere}
 
 -- ---- the invariant
 
--- Of one bit: its word of the new place is blank (c), reached (u) and filled (f), that in the hand (h) and in the old place (g) may hold something;
--- the bit is due (q), and stands in the old place (a), the new one (b), the hand (k).
-pub record Kept (c u h g f q a b k : Bool) : Type 0 where
-  pub union : (c || not u) ≡ true → q ≡ (a || ((c && b) || k))
-  pub unheld : h ≡ false → k ≡ false
-  pub drained : g ≡ false → a ≡ false
-  pub clear : u ≡ false → f ≡ false → (c && b) ≡ false
-  pub sure : f ≡ true → c ≡ true
-  pub moved : g ≡ false → h ≡ false → f ≡ true
+-- Some places in which an identity may stand are among the old one (a), the hand (k), the new one (b).
+pub record Within (stands : Places) (a k b : Bool) : Type 0 where
+  pub o : Bool
+  pub h : Bool
+  pub n : Bool
+  pub may : stands o h n ≡ true
+  pub old : o ≡ true → a ≡ true
+  pub hand : h ≡ true → k ≡ true
+  pub new : n ≡ true → b ≡ true
+
+-- Of one bit, given where one that is due may stand, and whether its word of the new place is blank (c): it is due (q), and stands in the old place (a),
+-- the new one (b), the hand (k).
+pub record Kept (stands : Places) (c q a b k : Bool) : Type 0 where
+  pub cover : q ≡ true → Within stands a k b
+  pub from_old : a ≡ true → (q ≡ true) × (any_of_two (stands true) ≡ true)
+  pub from_hand : k ≡ true → (q ≡ true) × (any_of_two (λ o n. stands o true n) ≡ true)
+  pub from_new : c ≡ true → b ≡ true → q ≡ true
 
 -- Of one producer: its route is turned (t), and led (l).
 pub record Leads (t l : Bool) (written in_force : AnyPlace) : Type 0 where
@@ -54,13 +63,14 @@ Flies d done f = IsRouted d f.producer × MayLand (is_turned f.producer done) (i
 pub record Invariant (d : Setting) (start : AnyMachine) (done : Done) (z : AnyMachine) : Type 0 where
   pub leads : (p : ℕ) → IsProducer d p → Leads (is_turned p done) (is_led d p done) (z.written p) (z.in_force p)
   pub flights : AllByRecursion (Flies d done) z.flights
-  pub kept : (s : WhichSet) (i : ℕ) → Kept (is_blank d s (i / 64) done) (is_reached d s done) (hand_holds d s (i / 64) done)
-      (old_holds d s (i / 64) done) (is_filled d s (i / 64) done) (z.due s i) (z.old s i) (z.new s i) (z.hand s i)
-  pub late : (w : ℕ) → old_holds d Pending w done ≡ false → all_led d done ≡ true
+  pub kept : (s : WhichSet) (i : ℕ) → Kept (may_stand d s (i / 64) done) (is_blank d s (i / 64) done) (z.due s i) (z.old s i) (z.new s i) (z.hand s i)
+  pub somewhere : (s : WhichSet) (w : ℕ) → may_stand d s w done false false false ≡ false
   pub enables : (i : ℕ) → z.due Enabled i ≡ start.old Enabled i
   pub freed : z.freed ≡ list_any frees done
   pub safe : list_any frees done ≡ true → all_led d done ≡ true
   pub strayed : z.strayed ≡ false
+  pub shut : (n : Number) → was_shut n done ≡ true → z.old_number n ≡ 0
+  pub left : d.is_inherited ≡ true → list_any frees done ≡ true → (n : Number) → was_shut n done ≡ true
   pub numbers : (n : Number) (spot : NumberSpot) → has_number d n spot done ≡ true → number_in spot n z ≡ number_in d.number_from n start
 
 -- ---- a store lands
@@ -80,46 +90,48 @@ pub may_by : (by : By) (p : ℕ) (t l : Bool) (z : AnyMachine) → Leads t l (z.
 may_by Written p t l z v = may_written t l (z.written p) (z.in_force p) v
 may_by InForce p t l z v = may_force t l (z.written p) (z.in_force p) v
 
-new_law : (a c k : Bool) → c ≡ true → true ≡ (a || ((c && true) || k))
-new_law true c k e = refl
-new_law false true k e = refl
-new_law false false k e = absurd (false≢true e)
-
-or_not : (c u : Bool) → (c || not u) ≡ true → u ≡ true → c ≡ true
-or_not true u e f = refl
-or_not false true e f = e
-or_not false false e f = absurd (false≢true f)
-
-land_law : (m o c u h g f q a b k : Bool) → (m ≡ true → o ≡ true → g ≡ true) → (m ≡ true → o ≡ false → u ≡ true)
-    → Kept c u h g f q a b k → Kept c u h g f ((m && true) || q) ((m && o) || a) ((m && not o) || b) k
-land_law false o c u h g f q a b k past ahead v = v
-land_law true true c u h g f q a b k past ahead v = record {
-  union = λ e. refl;
-  unheld = v.unheld;
-  drained = λ e. clash g (past refl refl) e;
-  clear = v.clear;
-  sure = v.sure;
-  moved = v.moved;
+land_law : (m o : Bool) (stands : Places) (c q a b k : Bool) → (m ≡ true → o ≡ true → stands true false false ≡ true)
+    → (m ≡ true → o ≡ false → stands false false true ≡ true)
+    → Kept stands c q a b k → Kept stands c ((m && true) || q) ((m && o) || a) ((m && not o) || b) k
+land_law false o stands c q a b k past ahead v = v
+land_law true true stands c q a b k past ahead v = record {
+  cover = λ e. record {
+    o = true;
+    h = false;
+    n = false;
+    may = past refl refl;
+    old = λ f. refl;
+    hand = λ f. absurd (false≢true f);
+    new = λ f. absurd (false≢true f);
+  };
+  from_old = λ e. (refl, two_at (stands true) false false (past refl refl));
+  from_hand = λ e. (refl, (v.from_hand e).1);
+  from_new = λ e f. refl;
 }
-land_law true false c u h g f q a b k past ahead v = record {
-  union = λ e. new_law a c k (or_not c u e (ahead refl refl));
-  unheld = v.unheld;
-  drained = v.drained;
-  clear = λ e. clash u (ahead refl refl) e;
-  sure = v.sure;
-  moved = v.moved;
+land_law true false stands c q a b k past ahead v = record {
+  cover = λ e. record {
+    o = false;
+    h = false;
+    n = true;
+    may = ahead refl refl;
+    old = λ f. absurd (false≢true f);
+    hand = λ f. absurd (false≢true f);
+    new = λ f. refl;
+  };
+  from_old = λ e. (refl, (v.from_old e).1);
+  from_hand = λ e. (refl, (v.from_hand e).1);
+  from_new = λ e f. refl;
 }
 
 -- what a landing does to the bits, with the place known
 kept_land : (d : Setting) (start : AnyMachine) (done : Done) (place : AnyPlace) (x : ℕ) (z : AnyMachine)
     → (is_old place ≡ true → all_led d done ≡ false) → (is_old place ≡ false → is_reached d Pending done ≡ true)
     → Invariant d start done z → (s : WhichSet) (i : ℕ)
-    → Kept (is_blank d s (i / 64) done) (is_reached d s done) (hand_holds d s (i / 64) done) (old_holds d s (i / 64) done)
-    (is_filled d s (i / 64) done) ((landed d place x z).due s i) ((landed d place x z).old s i) ((landed d place x z).new s i)
-    ((landed d place x z).hand s i)
+    → Kept (may_stand d s (i / 64) done) (is_blank d s (i / 64) done) ((landed d place x z).due s i) ((landed d place x z).old s i)
+    ((landed d place x z).new s i) ((landed d place x z).hand s i)
 kept_land d start done place x z past ahead v Pending i =
-    land_law (nat_eq x i) (is_old place) _ _ _ _ _ _ _ _ _ (λ m o. true_of _ (λ g. clash _ (v.late (i / 64) g) (past o))) (λ m o. ahead o)
-    (v.kept Pending i)
+    land_law (nat_eq x i) (is_old place) _ _ _ _ _ _ (λ m o. busy_old d Pending (i / 64) done (past o))
+    (λ m o. reached_new d Pending (i / 64) done (ahead o)) (v.kept Pending i)
 kept_land d start done place x z past ahead v Enabled i = v.kept Enabled i
 
 land_at : (d : Setting) (start : AnyMachine) (done : Done) (place : AnyPlace) (x : ℕ) (z : AnyMachine)
@@ -129,11 +141,13 @@ land_at d start done place x z past ahead v = record {
   leads = v.leads;
   flights = v.flights;
   kept = kept_land d start done place x z past ahead v;
-  late = v.late;
+  somewhere = v.somewhere;
   enables = v.enables;
   freed = v.freed;
   safe = v.safe;
   strayed = or_false z.strayed _ v.strayed (stray_law (is_old place) z.freed (λ o. v.freed ∙ false_of _ (λ e. clash _ (v.safe e) (past o))));
+  shut = v.shut;
+  left = v.left;
   numbers = v.numbers;
 }
   where
@@ -191,12 +205,13 @@ with_flights d start done z fs all v = record {
   leads = v.leads;
   flights = all;
   kept = v.kept;
-  late = v.late;
+  somewhere = v.somewhere;
   enables = v.enables;
-  freed =
-      v.freed;
+  freed = v.freed;
   safe = v.safe;
   strayed = v.strayed;
+  shut = v.shut;
+  left = v.left;
   numbers = v.numbers;
 }
 
@@ -220,11 +235,13 @@ between d start done (Refetches p) z is can v = record {
       (v.leads q declared);
   flights = v.flights;
   kept = v.kept;
-  late = v.late;
+  somewhere = v.somewhere;
   enables = v.enables;
   freed = v.freed;
   safe = v.safe;
   strayed = v.strayed;
+  shut = v.shut;
+  left = v.left;
   numbers = v.numbers;
 }
 
@@ -343,126 +360,6 @@ fly_fence d q done f other may = (
   ),
 )
 
--- the bits at a step that turns a route
-reached_law : (c u now h g f q a b k : Bool) → (u ≡ true → now ≡ true) → Kept c u h g f q a b k → Kept c now h g f q a b k
-reached_law c true now h g f q a b k more v = record {
-  union = λ e. v.union (or_left c _ (or_not c now e (more refl)));
-  unheld = v.unheld;
-  drained = v.drained;
-  clear = λ e. clash now (more refl) e;
-  sure = v.sure;
-  moved = v.moved;
-}
-reached_law c false now h g f q a b k more v = record {
-  union = λ e. v.union (or_right c true refl);
-  unheld = v.unheld;
-  drained = v.drained;
-  clear = λ e. v.clear refl;
-  sure = v.sure;
-  moved = v.moved;
-}
-
--- the bits at a step that takes, joins, puts or zeros their word (m)
-take_sum : (a x k : Bool) → k ≡ false → (a || (x || k)) ≡ (false || (x || (a || false)))
-take_sum true true k e = refl
-take_sum true false k e = refl
-take_sum false true k e = refl
-take_sum false false k e = e
-
-take_law : (m c u h g f still q a b k : Bool) → (m ≡ true → h ≡ false) → Kept c u h g f q a b k
-    → Kept c u (elim m [ true ↦ g | false ↦ h ]) (elim m [ true ↦ g && not still | false ↦ g ]) f q (not m && a) b ((m && a) || (not m && k))
-take_law true c u h g f still q a b k free v = record {
-  union = λ e. v.union e ∙ take_sum a (c && b) k (v.unheld (free refl));
-  unheld = λ e. or_false a false (v.drained e) refl;
-  drained = λ e. refl;
-  clear = v.clear;
-  sure = v.sure;
-  moved = λ e gone. v.moved gone (free refl);
-}
-take_law false c u h g f still q a b k free v = v
-
-join_sum : (a c b k : Bool) → (k ≡ true → c ≡ true) → (a || ((c && b) || k)) ≡ (a || ((c && (k || b)) || false))
-join_sum true c b k e = refl
-join_sum false true true true e = refl
-join_sum false true true false e = refl
-join_sum false true false true e = refl
-join_sum false true false false e = refl
-join_sum false false b true e = absurd (false≢true (e refl))
-join_sum false false b false e = refl
-
--- what the hand holds may be joined
-may_join : (c h k : Bool) → (not h || c) ≡ true → (h ≡ false → k ≡ false) → k ≡ true → c ≡ true
-may_join c true k e unheld is = e
-may_join c false k e unheld is = clash k is (unheld refl)
-
-join_clear : (c h f b k : Bool) → (h || f) ≡ false → (h ≡ false → k ≡ false) → (f ≡ false → (c && b) ≡ false) → (c && (k || b)) ≡ false
-join_clear c true f b k e unheld clear = absurd (false≢true (sym e))
-join_clear c false f b k e unheld clear = ap (λ x. c && (x || b)) (unheld refl) ∙ clear e
-
-filled_more : (h f : Bool) → (h ≡ false → f ≡ true) → (h || f) ≡ true
-filled_more true f e = refl
-filled_more false f e = e refl
-
-join_sure : (c h f : Bool) → (not h || c) ≡ true → (f ≡ true → c ≡ true) → (h || f) ≡ true → c ≡ true
-join_sure c true f e sure is = e
-join_sure c false f e sure is = sure is
-
-join_law : (m c u h g f q a b k : Bool) → (m ≡ true → (not h || c) ≡ true) → Kept c u h g f q a b k
-    → Kept c u (elim m [ true ↦ false | false ↦ h ]) g (elim m [ true ↦ h || f | false ↦ f ]) q a ((m && k) || b) (not m && k)
-join_law true c u h g f q a b k blank v = record {
-  union = λ e. v.union e ∙ join_sum a c b k (may_join c h k (blank refl) v.unheld);
-  unheld = λ e. refl;
-  drained = v.drained;
-  clear = λ e empty. join_clear c h f b k empty v.unheld (v.clear e);
-  sure = λ e. join_sure c h f (blank refl) v.sure e;
-  moved = λ e gone. filled_more h f (v.moved e);
-}
-join_law false c u h g f q a b k blank v = v
-
-put_sum : (a x k : Bool) → x ≡ false → (a || (x || k)) ≡ (a || ((k || false) || false))
-put_sum true x k e = refl
-put_sum false x true e = ap (λ y. y || true) e
-put_sum false x false e = ap (λ y. y || false) e
-
-put_clear : (h f k : Bool) → (h || f) ≡ false → (h ≡ false → k ≡ false) → (k || false) ≡ false
-put_clear true f k e unheld = absurd (false≢true (sym e))
-put_clear false f k e unheld = or_false k false (unheld refl) refl
-
-put_law : (m c u h g f q a b k : Bool) → (m ≡ true → u ≡ false) → (m ≡ true → f ≡ false) → Kept c u h g f q a b k
-    → Kept (m || c) u (elim m [ true ↦ false | false ↦ h ]) g (elim m [ true ↦ h || f | false ↦ f ]) q a ((m && k) || (not m && b)) (not m && k)
-put_law true c u h g f q a b k calm empty v = record {
-  union = λ e. v.union (or_right c _ (ap not (calm refl))) ∙ put_sum a (c && b) k (v.clear (calm refl) (empty refl));
-  unheld = λ e. refl;
-  drained = v.drained;
-  clear = λ e none. put_clear h f k none v.unheld;
-  sure = λ e. refl;
-  moved = λ e gone. filled_more h f (v.moved e);
-}
-put_law false c u h g f q a b k calm empty v = v
-
-zero_law : (m c u h g f q a b k : Bool) → (m ≡ true → u ≡ false) → (m ≡ true → f ≡ false) → Kept c u h g f q a b k
-    → Kept (m || c) u h g f q a (not m && b) k
-zero_law true c u h g f q a b k calm empty v = record {
-  union = λ e. v.union (or_right c _ (ap not (calm refl))) ∙ ap (λ x. a || (x || k)) (v.clear (calm refl) (empty refl));
-  unheld = v.unheld;
-  drained = v.drained;
-  clear = λ e free. refl;
-  sure = λ e. refl;
-  moved = v.moved;
-}
-zero_law false c u h g f q a b k calm empty v = v
-
-wipe_law : (m c u h g f q a b k : Bool) → (m ≡ true → g ≡ false) → Kept c u h g f q a b k → Kept c u h g f q (not m && a) b k
-wipe_law true c u h g f q a b k gone v = record {
-  union = λ e. v.union e ∙ ap (λ x. x || ((c && b) || k)) (v.drained (gone refl));
-  unheld = v.unheld;
-  drained = λ e. refl;
-  clear = v.clear;
-  sure = v.sure;
-  moved = v.moved;
-}
-wipe_law false c u h g f q a b k gone v = v
-
 -- a word that is named is the word
 pub bank_is : (s t : WhichSet) → same_bank s t ≡ true → s ≡ t
 bank_is Pending Pending e = refl
@@ -473,6 +370,116 @@ bank_is Enabled Enabled e = refl
 pub named : (P : WhichSet → ℕ → Type 0) (s : WhichSet) (w : ℕ) (t : WhichSet) (v : ℕ) → P s w → names s w t v ≡ true → P t v
 named P s w t v h m = subst (λ u. P u v) (bank_is s t (and_left (same_bank s t) _ m))
     (subst (λ u. P s u) (eqb-true w v (and_right (same_bank s t) _ m)) h)
+
+-- nothing due is nowhere after a step that the rule on words lets stand
+somewhere_step : (d : Setting) (s : WhichSet) (w : ℕ) (x : AnyStep) (done : Done) → lets Words d x done ≡ true
+    → may_stand d s w done false false false ≡ false → may_stand d s w (x ∷ done) false false false ≡ false
+somewhere_step d s w (Take t u) done guard none = or_false _ _ (take_somewhere (names t u s w) (may_stand d s w done)
+    (named (λ t v. only_hand d t v done ≡ false) t u s w (not_true _ guard)) none) refl
+somewhere_step d s w (Copy t u) done guard none = or_false _ _ (copy_somewhere (names t u s w) (may_stand d s w done)
+    (named (λ t v. only_hand d t v done ≡ false) t u s w (not_true _ guard)) none) refl
+somewhere_step d s w (Join t u) done guard none = or_false _ _ (join_somewhere (names t u s w) (may_stand d s w done) none) refl
+somewhere_step d s w (Put t u) done guard none = or_false _ _ (put_somewhere (names t u s w) (may_stand d s w done)
+    (named (λ t v. only_new d t v done ≡ false) t u s w (not_true _ guard)) none) refl
+somewhere_step d s w (Zero Old t u) done guard none = or_false _ _ (wipe_somewhere (names t u s w) (may_stand d s w done)
+    (named (λ t v. only_old d t v done ≡ false) t u s w (not_true _ guard)) none) refl
+somewhere_step d s w (Zero New t u) done guard none = or_false _ _ (zero_somewhere (names t u s w) (may_stand d s w done)
+    (named (λ t v. only_new d t v done ≡ false) t u s w (not_true _ guard)) none) refl
+somewhere_step d s w (ZeroNumber Old n) done guard none = or_false _ _ none refl
+somewhere_step d s w (ZeroNumber New n) done guard none = or_false _ _ none refl
+somewhere_step d s w x done guard none = or_false _ _ none refl
+
+-- the bits at a step
+pub not_left : (z b : Bool) → (not z && b) ≡ true → (z ≡ false) × (b ≡ true)
+not_left true b e = absurd (false≢true e)
+not_left false b e = (refl, e)
+
+blank_before : (z c : Bool) → z ≡ false → (z || c) ≡ true → c ≡ true
+blank_before true c e f = absurd (false≢true (sym e))
+blank_before false c e f = f
+
+hand_more : (l f o h a k : Bool) → (o ≡ true → a ≡ true) → (h ≡ true → k ≡ true) → hand_after l f o h ≡ true → hand_after l f a k ≡ true
+hand_more true f o h a k old hand e = or_left _ _ (old (elim (or_cases o false e) [ inl is ↦ is | inr none ↦ absurd (false≢true none) ]))
+hand_more false true o h a k old hand e = absurd (false≢true e)
+hand_more false false o h a k old hand e = hand e
+
+new_more : (f z h n k b : Bool) → (h ≡ true → k ≡ true) → (n ≡ true → b ≡ true) → new_after f z h n ≡ true → new_after f z k b ≡ true
+new_more true z h n k b hand new e = elim (or_cases h _ e) [
+  | inl is ↦ or_left k _ (hand is)
+  | inr is ↦ (let both = not_left z n is in or_right k _ (and_of (not z) b (ap not both.0) (new both.1)))
+]
+new_more false z h n k b hand new e = let both = not_left z n e in and_of (not z) b (ap not both.0) (new both.1)
+
+old_more : (e o a : Bool) → (o ≡ true → a ≡ true) → old_after e o ≡ true → old_after e a ≡ true
+old_more e o a old is = let both = not_left e o is in and_of (not e) a (ap not both.0) (old both.1)
+
+-- where one is in the hand after it, it was in the old place, or in the hand
+pub hand_cases : (l f a k : Bool) → hand_after l f a k ≡ true → ((l ≡ true) × (a ≡ true)) ⊎ ((l ≡ false) × (f ≡ false) × (k ≡ true))
+hand_cases true f a k e = elim (or_cases a false e) [ inl is ↦ inl (refl, is) | inr none ↦ absurd (false≢true none) ]
+hand_cases false true a k e = absurd (false≢true e)
+hand_cases false false a k e = inr (refl, refl, e)
+
+kept_step : (e l f z : Bool) (stands now : Places) (c q a b k : Bool)
+    → ((o h n : Bool) → brought e l f z stands o h n ≡ true → now o h n ≡ true) → Kept stands c q a b k
+    → Kept now (z || c) q (old_after e a) (new_after f z k b) (hand_after l f a k)
+kept_step e l f z stands now c q a b k more v = record {
+  cover = λ due. (let in_ = v.cover due in record {
+    o = old_after e in_.o;
+    h = hand_after l f in_.o in_.h;
+    n = new_after f z in_.h in_.n;
+    may = more _ _ _ (brought_at e l f z stands in_.o in_.h in_.n in_.may);
+    old = old_more e in_.o a in_.old;
+    hand = hand_more l f in_.o in_.h a k in_.old in_.hand;
+    new = new_more f z in_.h in_.n k b in_.hand in_.new;
+  });
+  from_old = λ is. (let there = not_left e a is in (
+    (v.from_old there.1).0,
+    (let found = two_find (stands true) (v.from_old there.1).1 in two_at (now true) _ _ (more true _ _
+        (subst (λ o. brought e l f z stands o (hand_after l f true found.0) (new_after f z found.0 found.1) ≡ true)
+        (and_of (not e) true (ap not there.0) refl) (brought_at e l f z stands true found.0 found.1 found.2)))),
+  ));
+  from_hand = λ is. elim (hand_cases l f a k is) [
+    | inl lifted ↦ (
+      (v.from_old lifted.1).0,
+      (let found = two_find (stands true) (v.from_old lifted.1).1 in two_at (λ o n. now o true n) _ _ (more _ true _
+          (subst (λ h. brought e l f z stands (old_after e true) h (new_after f z found.0 found.1) ≡ true)
+          (or_left (l && true) _ (and_of l true lifted.0 refl)) (brought_at e l f z stands true found.0 found.1 found.2)))),
+    )
+    | inr held ↦ (
+      (v.from_hand held.2).0,
+      (let found = two_find (λ o n. stands o true n) (v.from_hand held.2).1 in two_at (λ o n. now o true n) _ _ (more _ true _
+          (subst (λ h. brought e l f z stands (old_after e found.0) h (new_after f z true found.1) ≡ true)
+          (or_right (l && found.0) _ (and_of (not l) _ (ap not held.0) (and_of (not f) true (ap not held.1) refl)))
+          (brought_at e l f z stands found.0 true found.1 found.2)))),
+    )
+  ];
+  from_new = λ blank is. elim (or_cases (f && k) _ is) [
+    | inl filled ↦ (v.from_hand (and_right f k filled)).0
+    | inr there ↦ (let both = not_left z b there in v.from_new (blank_before z c both.0 blank) both.1)
+  ];
+}
+
+-- where one may stand after a step more, at least
+more_stands : (d : Setting) (s : WhichSet) (w : ℕ) (x : AnyStep) (done : Done) (o h n : Bool)
+    → brought (empties s w x) (lifts s w x) (fills s w x) (blanks s w x) (may_stand d s w done) o h n ≡ true → may_stand d s w (x ∷ done) o h n ≡ true
+more_stands d s w x done o h n e = or_left _ _ e
+
+kept_next : (d : Setting) (x : AnyStep) (done : Done) (s : WhichSet) (i : ℕ) (q a b k : Bool)
+    → Kept (may_stand d s (i / 64) done) (is_blank d s (i / 64) done) q a b k
+    → Kept (may_stand d s (i / 64) (x ∷ done)) (is_blank d s (i / 64) (x ∷ done)) q (old_after (empties s (i / 64) x) a)
+    (new_after (fills s (i / 64) x) (blanks s (i / 64) x) k b) (hand_after (lifts s (i / 64) x) (fills s (i / 64) x) a k)
+kept_next d x done s i q a b k v = kept_step (empties s (i / 64) x) (lifts s (i / 64) x) (fills s (i / 64) x) (blanks s (i / 64) x)
+    (may_stand d s (i / 64) done) (may_stand d s (i / 64) (x ∷ done)) _ q a b k (more_stands d s (i / 64) x done) v
+
+-- the numbers of the old place
+shut_law : (m was : Bool) (value : ℕ) → (was ≡ true → value ≡ 0) → (m || was) ≡ true → (if m then 0 else value) ≡ 0
+shut_law true was value h e = refl
+shut_law false was value h e = h e
+
+shut_kept : (d : Setting) (start : AnyMachine) (x : AnyStep) (done : Done) (z : AnyMachine) → Invariant d start done z
+    → list_any frees (x ∷ done) ≡ list_any frees done → d.is_inherited ≡ true → list_any frees (x ∷ done) ≡ true → (n : Number)
+    → was_shut n (x ∷ done) ≡ true
+shut_kept d start x done z v same inherited freed n = or_right (shuts n x) _ (v.left inherited (sym same ∙ freed) n)
 
 -- the numbers
 pub spot_is : (a b : NumberSpot) → same_spot a b ≡ true → a ≡ b
@@ -500,6 +507,17 @@ number_taken d Delivery Delivery done z value v InHand e = v InOld e
 number_taken d Delivery Delivery done z value v InNew e = v InNew e
 number_taken d Threshold Delivery done z value v spot e = v spot e
 number_taken d Delivery Threshold done z value v spot e = v spot e
+
+number_copied : (d : Setting) (m n : Number) (done : Done) (z : AnyMachine) (value : ℕ) → Tells d n done z value
+    → Tells d n (CopyNumber m ∷ done) (stepped d (CopyNumber m) z) value
+number_copied d Threshold Threshold done z value v InOld e = v InOld e
+number_copied d Threshold Threshold done z value v InHand e = v InOld e
+number_copied d Threshold Threshold done z value v InNew e = v InNew e
+number_copied d Delivery Delivery done z value v InOld e = v InOld e
+number_copied d Delivery Delivery done z value v InHand e = v InOld e
+number_copied d Delivery Delivery done z value v InNew e = v InNew e
+number_copied d Threshold Delivery done z value v spot e = v spot e
+number_copied d Delivery Threshold done z value v spot e = v spot e
 
 number_put : (d : Setting) (m n : Number) (done : Done) (z : AnyMachine) (value : ℕ) → Tells d n done z value
     → Tells d n (PutNumber m ∷ done) (stepped d (PutNumber m) z) value
@@ -548,6 +566,16 @@ landed_written : (d : Setting) (fs : List AnyFlight) (z : AnyMachine) (p : ℕ) 
 landed_written d [] z p = refl
 landed_written d (f ∷ later) z p = landed_written d later (flight_landed d f z) p
 
+-- the old place is given back with nothing left to its next owner
+left_shut : (inherited threshold delivery : Bool) → (elim inherited [ true ↦ threshold && delivery | false ↦ true ]) ≡ true → inherited ≡ true
+    → (threshold ≡ true) × (delivery ≡ true)
+left_shut true threshold delivery e is = (and_left threshold _ e, and_right threshold _ e)
+left_shut false threshold delivery e is = absurd (false≢true is)
+
+freed_shut : (d : Setting) (done : Done) → is_shut d done ≡ true → d.is_inherited ≡ true → (n : Number) → was_shut n done ≡ true
+freed_shut d done e is Threshold = (left_shut d.is_inherited _ _ e is).0
+freed_shut d done e is Delivery = (left_shut d.is_inherited _ _ e is).1
+
 -- **A step that the rules let stand keeps the invariant.**
 pub does : (d : Setting) (start : AnyMachine) (done : Done) (x : AnyStep) (z : AnyMachine) → Guard d x done → Invariant d start done z
     → Invariant d start (x ∷ done) (stepped d x z)
@@ -555,143 +583,159 @@ does d start done (Route q) z guard v = record {
   leads = λ p declared. route_law (nat_eq q p) _ _ _ (z.written p) (z.in_force p) (led_by_route (slice_get d.producers p) p q done)
       (v.leads p declared);
   flights = all_mapped (Flies d done) (Flies d (Route q ∷ done)) (fly_route d q done) z.flights v.flights;
-  kept = λ s i. reached_law _ _ _ _ _ _ _ _ _ _ (reached_more d s (Route q) done) (v.kept s i);
-  late = late_more d (Route q) done v.late;
+  kept = λ s i. kept_next d (Route q) done s i _ _ _ _ (v.kept s i);
+  somewhere = λ s w. somewhere_step d s w (Route q) done (guard Words tt) (v.somewhere s w);
   enables = v.enables;
   freed = v.freed;
   safe = safe_more d start (Route q) done z v;
   strayed = v.strayed;
+  shut = v.shut;
+  left = shut_kept d start (Route q) done z v refl;
   numbers = v.numbers;
 }
 does d start done (Switch q) z guard v = record {
   leads = λ p declared. switch_law (nat_eq q p) _ _ _ (z.written p) (z.in_force p) (led_by_switch (slice_get d.producers p) p q done)
       (v.leads p declared);
   flights = all_mapped (Flies d done) (Flies d (Switch q ∷ done)) (fly_switch d q done) z.flights v.flights;
-  kept = λ s i. reached_law _ _ _ _ _ _ _ _ _ _ (reached_more d s (Switch q) done) (v.kept s i);
-  late = late_more d (Switch q) done v.late;
+  kept = λ s i. kept_next d (Switch q) done s i _ _ _ _ (v.kept s i);
+  somewhere = λ s w. somewhere_step d s w (Switch q) done (guard Words tt) (v.somewhere s w);
   enables = v.enables;
   freed = v.freed;
   safe = safe_more d start (Switch q) done z v;
   strayed = v.strayed;
+  shut = v.shut;
+  left = shut_kept d start (Switch q) done z v refl;
   numbers = v.numbers;
 }
-does d start done (Zero Old s w) z guard v = record {
+does d start done (Zero Old t u) z guard v = record {
   leads = v.leads;
   flights = v.flights;
-  kept = λ t i. wipe_law (names s w t (i / 64)) _ _ _ _ _ _ _ _ _
-      (named (λ t v. old_holds d t v done ≡ false) s w t (i / 64) (not_true _ (guard Words tt))) (v.kept t i);
-  late = late_more d (Zero Old s w) done v.late;
+  kept = λ s i. kept_next d (Zero Old t u) done s i _ _ _ _ (v.kept s i);
+  somewhere = λ s w. somewhere_step d s w (Zero Old t u) done (guard Words tt) (v.somewhere s w);
   enables = v.enables;
   freed = v.freed;
-  safe = safe_more d start (Zero Old s w) done z v;
+  safe = safe_more d start (Zero Old t u) done z v;
   strayed = unstrayed d start done z v (guard Freeing tt);
+  shut = v.shut;
+  left = shut_kept d start (Zero Old t u) done z v refl;
   numbers = v.numbers;
 }
-does d start done (Zero New s w) z guard v = record {
+does d start done (Zero New t u) z guard v = record {
   leads = v.leads;
   flights = v.flights;
-  kept = λ t i. zero_law (names s w t (i / 64)) _ _ _ _ _ _ _ _ _
-      (named (λ t v. is_reached d t done ≡ false) s w t (i / 64) (or_false_left _ _ (not_true _ (guard Words tt))))
-      (named (λ t v. is_filled d t v done ≡ false) s w t (i / 64) (or_false_right (is_reached d s done) _ (not_true _ (guard Words tt))))
-      (v.kept t i);
-  late = late_more d (Zero New s w) done v.late;
+  kept = λ s i. kept_next d (Zero New t u) done s i _ _ _ _ (v.kept s i);
+  somewhere = λ s w. somewhere_step d s w (Zero New t u) done (guard Words tt) (v.somewhere s w);
   enables = v.enables;
   freed = v.freed;
-  safe = safe_more d start (Zero New s w) done z v;
+  safe = safe_more d start (Zero New t u) done z v;
   strayed = v.strayed;
+  shut = v.shut;
+  left = shut_kept d start (Zero New t u) done z v refl;
   numbers = v.numbers;
 }
-does d start done (Take s w) z guard v = record {
+does d start done (Take t u) z guard v = record {
   leads = v.leads;
   flights = v.flights;
-  kept = λ t i. take_law (names s w t (i / 64)) _ _ _ _ _ (is_still d t done) _ _ _ _
-      (named (λ t v. hand_holds d t v done ≡ false) s w t (i / 64) (not_true _ (guard Words tt))) (v.kept t i);
-  late = late_more d (Take s w) done v.late;
+  kept = λ s i. kept_next d (Take t u) done s i _ _ _ _ (v.kept s i);
+  somewhere = λ s w. somewhere_step d s w (Take t u) done (guard Words tt) (v.somewhere s w);
   enables = v.enables;
   freed = v.freed;
-  safe = safe_more d start (Take s w) done z v;
+  safe = safe_more d start (Take t u) done z v;
   strayed = unstrayed d start done z v (guard Freeing tt);
+  shut = v.shut;
+  left = shut_kept d start (Take t u) done z v refl;
   numbers = v.numbers;
 }
-does d start done (Join s w) z guard v = record {
+does d start done (Copy t u) z guard v = record {
   leads = v.leads;
   flights = v.flights;
-  kept = λ t i. join_law (names s w t (i / 64)) _ _ _ _ _ _ _ _ _
-      (named (λ t v. (not (hand_holds d t v done) || is_blank d t v done) ≡ true) s w t (i / 64) (guard Blank tt)) (v.kept t i);
-  late = late_more d (Join s w) done v.late;
+  kept = λ s i. kept_next d (Copy t u) done s i _ _ _ _ (v.kept s i);
+  somewhere = λ s w. somewhere_step d s w (Copy t u) done (guard Words tt) (v.somewhere s w);
   enables = v.enables;
   freed = v.freed;
-  safe = safe_more d start (Join s w) done z v;
-  strayed = v.strayed;
-  numbers = v.numbers;
-}
-does d start done (Put s w) z guard v = record {
-  leads = v.leads;
-  flights = v.flights;
-  kept = λ t i. put_law (names s w t (i / 64)) _ _ _ _ _ _ _ _ _
-      (named (λ t v. is_reached d t done ≡ false) s w t (i / 64) (or_false_left _ _ (not_true _ (guard Words tt))))
-      (named (λ t v. is_filled d t v done ≡ false) s w t (i / 64) (or_false_right (is_reached d s done) _ (not_true _ (guard Words tt))))
-      (v.kept t i);
-  late = late_more d (Put s w) done v.late;
-  enables = v.enables;
-  freed = v.freed;
-  safe = safe_more d start (Put s w) done z v;
-  strayed = v.strayed;
+  safe = safe_more d start (Copy t u) done z v;
+  strayed = unstrayed d start done z v (guard Freeing tt);
+  shut = v.shut;
+  left = shut_kept d start (Copy t u) done z v refl;
   numbers = v.numbers;
 }
 does d start done (ZeroNumber Old n) z guard v = record {
   leads = v.leads;
   flights = v.flights;
-  kept = v.kept;
-  late = late_more d (ZeroNumber Old n) done v.late;
+  kept = λ s i. kept_next d (ZeroNumber Old n) done s i _ _ _ _ (v.kept s i);
+  somewhere = λ s w. somewhere_step d s w (ZeroNumber Old n) done (guard Words tt) (v.somewhere s w);
   enables = v.enables;
   freed = v.freed;
   safe = safe_more d start (ZeroNumber Old n) done z v;
   strayed = unstrayed d start done z v (guard Freeing tt);
+  shut = λ m. shut_law (same_number n m) (was_shut m done) (z.old_number m) (v.shut m);
+  left = shut_kept d start (ZeroNumber Old n) done z v refl;
   numbers = λ m. zeroed_old d n m done z (number_in d.number_from m start) (v.numbers m);
 }
 does d start done (ZeroNumber New n) z guard v = record {
   leads = v.leads;
   flights = v.flights;
-  kept = v.kept;
-  late = late_more d (ZeroNumber New n) done v.late;
+  kept = λ s i. kept_next d (ZeroNumber New n) done s i _ _ _ _ (v.kept s i);
+  somewhere = λ s w. somewhere_step d s w (ZeroNumber New n) done (guard Words tt) (v.somewhere s w);
   enables = v.enables;
   freed = v.freed;
   safe = safe_more d start (ZeroNumber New n) done z v;
   strayed = v.strayed;
+  shut = v.shut;
+  left = shut_kept d start (ZeroNumber New n) done z v refl;
   numbers = λ m. zeroed_new d n m done z (number_in d.number_from m start) (v.numbers m);
 }
 does d start done (TakeNumber n) z guard v = record {
   leads = v.leads;
   flights = v.flights;
-  kept = v.kept;
-  late = late_more d (TakeNumber n) done v.late;
+  kept = λ s i. kept_next d (TakeNumber n) done s i _ _ _ _ (v.kept s i);
+  somewhere = λ s w. somewhere_step d s w (TakeNumber n) done (guard Words tt) (v.somewhere s w);
   enables = v.enables;
   freed = v.freed;
   safe = safe_more d start (TakeNumber n) done z v;
   strayed = unstrayed d start done z v (guard Freeing tt);
+  shut = λ m. shut_law (same_number n m) (was_shut m done) (z.old_number m) (v.shut m);
+  left = shut_kept d start (TakeNumber n) done z v refl;
   numbers = λ m. number_taken d n m done z (number_in d.number_from m start) (v.numbers m);
+}
+does d start done (CopyNumber n) z guard v = record {
+  leads = v.leads;
+  flights = v.flights;
+  kept = λ s i. kept_next d (CopyNumber n) done s i _ _ _ _ (v.kept s i);
+  somewhere = λ s w. somewhere_step d s w (CopyNumber n) done (guard Words tt) (v.somewhere s w);
+  enables = v.enables;
+  freed = v.freed;
+  safe = safe_more d start (CopyNumber n) done z v;
+  strayed = unstrayed d start done z v (guard Freeing tt);
+  shut = v.shut;
+  left = shut_kept d start (CopyNumber n) done z v refl;
+  numbers = λ m. number_copied d n m done z (number_in d.number_from m start) (v.numbers m);
 }
 does d start done (PutNumber n) z guard v = record {
   leads = v.leads;
   flights = v.flights;
-  kept = v.kept;
-  late = late_more d (PutNumber n) done v.late;
+  kept = λ s i. kept_next d (PutNumber n) done s i _ _ _ _ (v.kept s i);
+  somewhere = λ s w. somewhere_step d s w (PutNumber n) done (guard Words tt) (v.somewhere s w);
   enables = v.enables;
   freed = v.freed;
   safe = safe_more d start (PutNumber n) done z v;
   strayed = v.strayed;
+  shut = v.shut;
+  left = shut_kept d start (PutNumber n) done z v refl;
   numbers = λ m. number_put d n m done z (number_in d.number_from m start) (v.numbers m);
 }
 does d start done Free z guard v = record {
   leads = v.leads;
   flights = v.flights;
-  kept = v.kept;
-  late = late_more d Free done v.late;
+  kept = λ s i. kept_next d Free done s i _ _ _ _ (v.kept s i);
+  somewhere = λ s w. somewhere_step d s w Free done (guard Words tt) (v.somewhere s w);
   enables = v.enables;
   freed = refl;
-  safe = λ e. all_led_more d Free done (guard Freeing tt);
-  strayed = v.strayed;
+  safe = λ e. all_led_more d Free done (and_left (all_led d done) _ (guard Freeing tt));
+  strayed = unstrayed d start done z v (and_left (not (list_any frees done)) _ (and_right (all_led d done) _ (guard Freeing tt)));
+  shut = v.shut;
+  left = λ inherited freed n. freed_shut d done
+      (and_right (not (list_any frees done)) _ (and_right (all_led d done) _ (guard Freeing tt))) inherited n;
   numbers = v.numbers;
 }
 does d start done (Fence q) z guard v =
@@ -703,23 +747,27 @@ does d start done (Fence q) z guard v =
           (fence_law (nat_eq q p) _ _ _ (z.written q) (z.written p) (z.in_force p) (λ m. ap z.written (eqb-true q p m))
           (led_by_fence (slice_get d.producers p) p q done) (v.leads p declared));
       flights = beside_all (Flies d done) (Flies d (Fence q ∷ done)) q z.flights (fly_fence d q done) v.flights;
-      kept = u.kept;
-      late = late_more d (Fence q) done v.late;
+      kept = λ s i. kept_next d (Fence q) done s i _ _ _ _ (u.kept s i);
+      somewhere = λ s w. somewhere_step d s w (Fence q) done (guard Words tt) (v.somewhere s w);
       enables = u.enables;
       freed = u.freed;
       safe = safe_more d start (Fence q) done z v;
       strayed = u.strayed;
+      shut = u.shut;
+      left = shut_kept d start (Fence q) done z v refl;
       numbers = u.numbers;
     }
 does d start done x z guard v = record {
   leads = v.leads;
   flights = v.flights;
-  kept = v.kept;
-  late = late_more d x done v.late;
+  kept = λ s i. kept_next d x done s i _ _ _ _ (v.kept s i);
+  somewhere = λ s w. somewhere_step d s w x done (guard Words tt) (v.somewhere s w);
   enables = v.enables;
   freed = v.freed;
   safe = safe_more d start x done z v;
   strayed = v.strayed;
+  shut = v.shut;
+  left = shut_kept d start x done z v refl;
   numbers = v.numbers;
 }
 
@@ -751,15 +799,6 @@ runs d start done (Refetches p ∷ later) z can guards v = runs d start done lat
 
 -- ---- its beginning and its end
 
-start_sum : (c u a b k : Bool) → (c ≡ true → b ≡ false) → k ≡ false → a ≡ (a || ((c && b) || k))
-start_sum c u true b k e f = refl
-start_sum true u false b k e f = sym (or_false b k (e refl) f)
-start_sum false u false b k e f = sym f
-
-clear_start : (c b : Bool) → (c ≡ true → b ≡ false) → (c && b) ≡ false
-clear_start true b e = e refl
-clear_start false b e = refl
-
 old_lead : (k : Option RouteKind) (p : ℕ) → is_led_as k p [] ≡ false
 old_lead None p = refl
 old_lead (Some Routed) p = refl
@@ -778,58 +817,76 @@ begins d z is = record {
     (λ e. old_lead (slice_get d.producers f.producer) f.producer, λ e. old_is_new f.place old.1 e),
   )) z.flights is.flights;
   kept = λ s i. record {
-    union = λ e. is.due s i ∙ start_sum d.is_fresh true (z.old s i) (z.new s i) (z.hand s i) (λ fresh. is.fresh fresh s i) (is.hand s i);
-    unheld = λ e. is.hand s i;
-    drained = λ e. absurd (false≢true (sym e));
-    moved = λ e. absurd (false≢true (sym e));
-    clear = λ e f. clear_start d.is_fresh (z.new s i) (λ fresh. is.fresh fresh s i);
-    sure = λ e. absurd (false≢true e);
+    cover = λ e. record {
+      o = true;
+      h = false;
+      n = false;
+      may = refl;
+      old = λ f. sym (is.due s i) ∙ e;
+      hand = λ f. absurd (false≢true f);
+      new = λ f. absurd (false≢true f);
+    };
+    from_old = λ e. (is.due s i ∙ e, two_at (λ h n. may_stand d s (i / 64) [] true h n) false false refl);
+    from_hand = λ e. clash (z.hand s i) e (is.hand s i);
+    from_new = λ fresh e. clash (z.new s i) e (is.fresh fresh s i);
   };
-  late = λ w e. absurd (false≢true (sym e));
+  somewhere = λ s w. refl;
   enables = λ i. is.due Enabled i;
   freed = is.freed;
   safe = λ e. absurd (false≢true e);
   strayed = is.strayed;
+  shut = λ n e. absurd (false≢true e);
+  left = λ inherited e. absurd (false≢true e);
   numbers = λ n spot e. ap (λ k. number_in k n z) (sym (spot_is d.number_from spot e));
 }
 
--- a bit whose word is moved
-moved_sum : (c u h g f q a b k : Bool) → g ≡ false → h ≡ false → Kept c u h g f q a b k → b ≡ q
-moved_sum c u h g f q a b k taken free v =
-    let blank = v.sure (v.moved taken free) in
-    sum c a b k blank (v.drained taken) (v.unheld free) ∙ sym (v.union (or_left c _ blank))
-  where
-    sum : (c a b k : Bool) → c ≡ true → a ≡ false → k ≡ false → b ≡ (a || ((c && b) || k))
-    sum false a b k e f g = absurd (false≢true e)
-    sum true true b k e f g = absurd (false≢true (sym f))
-    sum true false true k e f g = refl
-    sum true false false k e f g = sym g
+-- a bit whose word is moved: nothing due may stand in the old place, nor in the hand alone, nor nowhere
+alone_new : (stands : Places) (o h n : Bool) → any_of_two (stands true) ≡ false → stands false true false ≡ false
+    → stands false false false ≡ false → stands o h n ≡ true → n ≡ true
+alone_new stands o h true left alone none may = refl
+alone_new stands true h false left alone none may = clash (any_of_two (stands true)) (two_at (stands true) h false may) left
+alone_new stands false true false left alone none may = clash (stands false true false) may alone
+alone_new stands false false false left alone none may = clash (stands false false false) may none
 
-moved : (d : Setting) (start z : AnyMachine) (done : Done) (s : WhichSet) (i : ℕ) → Invariant d start done z → old_holds d s (i / 64) done ≡ false
-    → hand_holds d s (i / 64) done ≡ false → z.new s i ≡ z.due s i
-moved d start z done s i v taken free = moved_sum _ _ _ _ _ _ _ _ _ taken free (v.kept s i)
+moved : (stands : Places) (c q a b k : Bool) → any_of_two (stands true) ≡ false → stands false true false ≡ false
+    → stands false false false ≡ false → c ≡ true → Kept stands c q a b k → b ≡ q
+moved stands c true a b k left alone none blank v =
+    let in_ = v.cover refl in in_.new (alone_new stands in_.o in_.h in_.n left alone none in_.may)
+moved stands c false a b k left alone none blank v = false_of b (λ is. absurd (false≢true (v.from_new blank is)))
 
-pub record Settled (d : Setting) (w : ℕ) (done : Done) : Type 0 where
-  pub pending : old_holds d Pending w done ≡ false
-  pub no_pending : hand_holds d Pending w done ≡ false
-  pub enabled : old_holds d Enabled w done ≡ false
-  pub no_enabled : hand_holds d Enabled w done ≡ false
+-- What an end that the rules let stand says of a word.
+pub record Ended (d : Setting) (s : WhichSet) (w : ℕ) (done : Done) : Type 0 where
+  pub left : any_old d s w done ≡ false
+  pub alone : only_hand d s w done ≡ false
+  pub blank : is_blank d s w done ≡ true
 
-pub settled_end : (d : Setting) (done : Done) (w : ℕ) → GuardEnd d done → w < d.words → Settled d w done
-settled_end d done w guard inside =
-    let words = all_at (λ w. not (hand_holds d Pending w done) && is_moved d Enabled w done) d.words w (guard Words tt) inside in
-    let enables = and_right (not (hand_holds d Pending w done)) _ words in
+pub ended : (d : Setting) (done : Done) (s : WhichSet) (w : ℕ) → GuardEnd d done → w < d.words → Ended d s w done
+ended d done Pending w guard inside = record {
+  left = not_true _ (all_at (λ w. not (any_old d Pending w done)) d.words w (and_right (all_led d done) _ (guard Routes tt)) inside);
+  alone = not_true _ (and_left (not (only_hand d Pending w done)) _ (all_at
+      (λ w. not (only_hand d Pending w done) && (not (any_old d Enabled w done) && not (only_hand d Enabled w done))) d.words w
+      (guard Words tt) inside));
+  blank = and_left (is_blank d Pending w done) _
+      (all_at (λ w. is_blank d Pending w done && is_blank d Enabled w done) d.words w (guard Blank tt) inside);
+}
+ended d done Enabled w guard inside =
+    let enables = and_right (not (only_hand d Pending w done)) _ (all_at
+    (λ w. not (only_hand d Pending w done) && (not (any_old d Enabled w done) && not (only_hand d Enabled w done))) d.words w
+    (guard Words tt) inside) in
     record {
-      pending = not_true _ (all_at (λ w. not (old_holds d Pending w done)) d.words w (and_right (all_led d done) _ (guard Routes tt)) inside);
-      no_pending = not_true _ (and_left (not (hand_holds d Pending w done)) _ words);
-      enabled = not_true _ (and_left (not (old_holds d Enabled w done)) _ enables);
-      no_enabled = not_true _ (and_right (not (old_holds d Enabled w done)) _ enables);
+      left = not_true _ (and_left (not (any_old d Enabled w done)) _ enables);
+      alone = not_true _ (and_right (not (any_old d Enabled w done)) _ enables);
+      blank = and_right (is_blank d Pending w done) _
+          (all_at (λ w. is_blank d Pending w done && is_blank d Enabled w done) d.words w (guard Blank tt) inside);
     }
 
-left_over : (d : Setting) (start z : AnyMachine) (done : Done) (s : WhichSet) (i : ℕ) → Invariant d start done z → Settled d (i / 64) done
+moved_end : (d : Setting) (start z : AnyMachine) (done : Done) (s : WhichSet) (i : ℕ) → Invariant d start done z → Ended d s (i / 64) done
+    → z.new s i ≡ z.due s i
+moved_end d start z done s i v end = moved (may_stand d s (i / 64) done) _ _ _ _ _ end.left end.alone (v.somewhere s (i / 64)) end.blank (v.kept s i)
+
+left_over : (d : Setting) (start z : AnyMachine) (done : Done) (s : WhichSet) (i : ℕ) → Invariant d start done z → Ended d s (i / 64) done
     → z.old s i ≡ false
-left_over d start z done Pending i v settled = (v.kept Pending i).drained settled.pending
-left_over d start z done Enabled i v settled = (v.kept Enabled i).drained settled.enabled
+left_over d start z done s i v end = false_of (z.old s i) (λ is. clash _ ((v.kept s i).from_old is).1 end.left)
 
 number_end : (d : Setting) (done : Done) (n : Number) → GuardEnd d done → has_number d n d.number_to done ≡ true
 number_end d done Threshold guard = and_left _ _ (guard Numbers tt)
@@ -846,16 +903,15 @@ ends d start z fin =
     let led : (p : ℕ) → IsProducer d p → is_led d p fin.done ≡ true =
     λ p declared. all_at (λ p. is_led d p fin.done) (length d.producers) p all declared in
     record {
-      pending = λ i inside. let settled = settled_end d fin.done (i / 64) fin.guard inside in
-          moved d start z fin.done Pending i v settled.pending settled.no_pending;
-      enabled = λ i inside. let settled = settled_end d fin.done (i / 64) fin.guard inside in
-          moved d start z fin.done Enabled i v settled.enabled settled.no_enabled ∙ v.enables i;
-      none_left = λ s i inside. left_over d start z fin.done s i v (settled_end d fin.done (i / 64) fin.guard inside);
+      pending = λ i inside. moved_end d start z fin.done Pending i v (ended d fin.done Pending (i / 64) fin.guard inside);
+      enabled = λ i inside. moved_end d start z fin.done Enabled i v (ended d fin.done Enabled (i / 64) fin.guard inside) ∙ v.enables i;
+      none_left = λ s i inside. left_over d start z fin.done s i v (ended d fin.done s (i / 64) fin.guard inside);
       numbers = λ n. v.numbers n d.number_to (number_end d fin.done n fin.guard);
       written = λ p declared. (v.leads p declared).after ((v.leads p declared).led (led p declared)).1;
       in_force = λ p declared. ((v.leads p declared).led (led p declared)).0;
       flights = all_mapped (Flies d fin.done) _ (λ f may. lands_new f.place _ _ (led f.producer may.0.0) may.1) z.flights v.flights;
       strayed = v.strayed;
+      inherited = λ is freed n. v.shut n (v.left is (sym v.freed ∙ freed) n);
     }
 
 pub finishes : (d : Setting) (plan : List AnyStep) (start : AnyMachine) (run : List AnyHappening) → GuardRest d [] plan → IsStartOfAny d start

@@ -15,14 +15,15 @@ use Rattle.plans_rules.specs.declared.setting.NumberSpot.TheVariants.{InOld, InH
 use Rattle.plans_rules.specs.declared.setting.RouteKind.{RouteKind}
 use Rattle.plans_rules.specs.declared.setting.RouteKind.TheVariants.{Routed, Switched}
 use Rattle.plans_rules.specs.declared.step.AnyStep.{AnyStep}
-use Rattle.plans_rules.specs.declared.step.AnyStep.TheVariants.{Route, Fence, Switch, Zero, ZeroNumber, TakeNumber, PutNumber, Free}
-use Rattle.plans_rules.specs.Setting.{Setting, is_old, is_pending, names, all_below, any_below}
+use Rattle.plans_rules.specs.declared.step.AnyStep.TheVariants.{Route, Fence, Switch, Zero, ZeroNumber, TakeNumber, CopyNumber, PutNumber, Free}
+use Rattle.plans_rules.specs.Setting.{Setting, is_old, is_pending, same_number}
 use Rattle.plans_rules.specs.Machine.{AnyMachine, landed, all_landed, flights_of, flights_beside, stepped, By, route_of, one_landed, all_but, AnyHappening, happened, all_happened, steps_in}
 use Rattle.plans_rules.specs.Machine.By.{Written, InForce}
 use Rattle.plans_rules.specs.Machine.AnyHappening.{Does, Stores, Sends, Lands}
 use Rattle.plans_rules.specs.Safe.{IsProducer, IsRouted, CanHappen, number_in, IsMovedByAny}
-use Rattle.plans_rules.specs.Rules.{fences, switches, takes, fills, blanks, frees, Done, is_turned, is_fenced, is_led_as, is_led, old_holds, hand_holds, is_filled, is_blank, has_number}
+use Rattle.plans_rules.specs.Rules.{fences, switches, empties, lifts, fills, blanks, frees, Done, is_turned, is_fenced, is_led_as, is_led, may_stand, is_blank, was_shut, has_number}
 use Rattle.plans_rules.proofs.BoolLaws.{or_false_left, or_false_right}
+use Rattle.plans_rules.proofs.Brought.{old_after, hand_after, new_after}
 
 -- ---- all runs of what is left of a plan end well
 
@@ -58,10 +59,6 @@ pub record At (d : Setting) (rest : List AnyStep) (s : WhichSet) (i : ℕ) (q a 
   pub new : z.new s i ≡ b
   pub hand : z.hand s i ≡ k
 
-abbrev pub wipes : WhichSet → ℕ → AnyStep → Bool
-wipes t v (Zero Old s w) = names s w t v
-wipes t v x = false
-
 -- a step lands nothing
 abbrev LandsNone : AnyStep → AnyMachine → Type 0
 LandsNone (Fence p) z = flights_of p z.flights ≡ []
@@ -71,11 +68,11 @@ lands_none : (x : AnyStep) (z : AnyMachine) → z.flights ≡ [] → LandsNone x
 lands_none (Fence p) z e = ap (flights_of p) e
 lands_none x z e = tt
 
-fence_same : (d : Setting) (p : ℕ) (z : AnyMachine) → flights_of p z.flights ≡ [] → all_landed d (flights_of p z.flights) z ≡ z
+pub fence_same : (d : Setting) (p : ℕ) (z : AnyMachine) → flights_of p z.flights ≡ [] → all_landed d (flights_of p z.flights) z ≡ z
 fence_same d p z e = subst (λ fs. all_landed d fs z ≡ z) (sym e) refl
 
 old_bit : (d : Setting) (x : AnyStep) (z : AnyMachine) (s : WhichSet) (i : ℕ) → LandsNone x z
-    → (stepped d x z).old s i ≡ (not (takes s (i / 64) x) && (not (wipes s (i / 64) x) && z.old s i))
+    → (stepped d x z).old s i ≡ old_after (empties s (i / 64) x) (z.old s i)
 old_bit d (Fence p) z s i e = ap (λ (y : AnyMachine). y.old s i) (fence_same d p z e)
 old_bit d (Zero Old t w) z s i e = refl
 old_bit d (Zero New t w) z s i e = refl
@@ -84,7 +81,7 @@ old_bit d (ZeroNumber New n) z s i e = refl
 old_bit d x z s i e = refl
 
 new_bit : (d : Setting) (x : AnyStep) (z : AnyMachine) (s : WhichSet) (i : ℕ) → LandsNone x z
-    → (stepped d x z).new s i ≡ ((fills s (i / 64) x && z.hand s i) || (not (blanks s (i / 64) x) && z.new s i))
+    → (stepped d x z).new s i ≡ new_after (fills s (i / 64) x) (blanks s (i / 64) x) (z.hand s i) (z.new s i)
 new_bit d (Fence p) z s i e = ap (λ (y : AnyMachine). y.new s i) (fence_same d p z e)
 new_bit d (Zero Old t w) z s i e = refl
 new_bit d (Zero New t w) z s i e = refl
@@ -93,7 +90,7 @@ new_bit d (ZeroNumber New n) z s i e = refl
 new_bit d x z s i e = refl
 
 hand_bit : (d : Setting) (x : AnyStep) (z : AnyMachine) (s : WhichSet) (i : ℕ) → LandsNone x z
-    → (stepped d x z).hand s i ≡ ((takes s (i / 64) x && z.old s i) || (not (takes s (i / 64) x) && (not (fills s (i / 64) x) && z.hand s i)))
+    → (stepped d x z).hand s i ≡ hand_after (lifts s (i / 64) x) (fills s (i / 64) x) (z.old s i) (z.hand s i)
 hand_bit d (Fence p) z s i e = ap (λ (y : AnyMachine). y.hand s i) (fence_same d p z e)
 hand_bit d (Zero Old t w) z s i e = refl
 hand_bit d (Zero New t w) z s i e = refl
@@ -119,8 +116,8 @@ still_none d x z e = e
 
 -- after a step
 pub at_step : (d : Setting) (x : AnyStep) (rest : List AnyStep) (s : WhichSet) (i : ℕ) (q a b k : Bool) → At d (x ∷ rest) s i q a b k
-    → At d rest s i q (not (takes s (i / 64) x) && (not (wipes s (i / 64) x) && a)) ((fills s (i / 64) x && k) || (not (blanks s (i / 64) x) && b))
-    ((takes s (i / 64) x && a) || (not (takes s (i / 64) x) && (not (fills s (i / 64) x) && k)))
+    → At d rest s i q (old_after (empties s (i / 64) x) a) (new_after (fills s (i / 64) x) (blanks s (i / 64) x) k b)
+    (hand_after (lifts s (i / 64) x) (fills s (i / 64) x) a k)
 at_step d x rest s i q a b k v =
     let z : AnyMachine = v.z in
     record {
@@ -130,13 +127,13 @@ at_step d x rest s i q a b k v =
       flights = still_none d x v.z v.flights;
       base = v.base;
       due = λ e. due_bit d x v.z s i (lands_none x v.z v.flights) ∙ v.due e;
-      old = old_bit d x v.z s i (lands_none x v.z v.flights) ∙ ap (λ y. not (takes s (i / 64) x) && (not (wipes s (i / 64) x) && y)) v.old;
+      old = old_bit d x v.z s i (lands_none x v.z v.flights) ∙ ap (old_after (empties s (i / 64) x)) v.old;
       new = new_bit d x v.z s i (lands_none x v.z v.flights)
-          ∙ ap (λ y. (fills s (i / 64) x && y) || (not (blanks s (i / 64) x) && v.z.new s i)) v.hand
-          ∙ ap (λ y. (fills s (i / 64) x && k) || (not (blanks s (i / 64) x) && y)) v.new;
+          ∙ ap (λ y. new_after (fills s (i / 64) x) (blanks s (i / 64) x) y (v.z.new s i)) v.hand
+          ∙ ap (new_after (fills s (i / 64) x) (blanks s (i / 64) x) k) v.new;
       hand = hand_bit d x v.z s i (lands_none x v.z v.flights)
-          ∙ ap (λ y. (takes s (i / 64) x && y) || (not (takes s (i / 64) x) && (not (fills s (i / 64) x) && v.z.hand s i))) v.old
-          ∙ ap (λ y. (takes s (i / 64) x && a) || (not (takes s (i / 64) x) && (not (fills s (i / 64) x) && y))) v.hand;
+          ∙ ap (λ y. hand_after (lifts s (i / 64) x) (fills s (i / 64) x) y (v.z.hand s i)) v.old
+          ∙ ap (hand_after (lifts s (i / 64) x) (fills s (i / 64) x) a) v.hand;
     }
 
 -- the same state, with the bits said otherwise
@@ -146,26 +143,25 @@ at_is d rest s i q a b k a' b' k' e f g v = record
     { start = v.start; z = v.z; live = v.live; flights = v.flights; base = v.base; due = v.due; old = v.old ∙ e; new = v.new ∙ f; hand = v.hand ∙ g }
 
 -- bits that are nowhere stay so
-pub no_old : (t w : Bool) → (not t && (not w && false)) ≡ false
-no_old true w = refl
-no_old false true = refl
-no_old false false = refl
+pub no_old : (e : Bool) → old_after e false ≡ false
+no_old true = refl
+no_old false = refl
 
-pub no_new : (f l : Bool) → ((f && false) || (not l && false)) ≡ false
+pub no_new : (f z : Bool) → new_after f z false false ≡ false
 no_new true true = refl
 no_new true false = refl
 no_new false true = refl
 no_new false false = refl
 
-pub no_hand : (t f : Bool) → ((t && false) || (not t && (not f && false))) ≡ false
+pub no_hand : (l f : Bool) → hand_after l f false false ≡ false
 no_hand true f = refl
 no_hand false true = refl
 no_hand false false = refl
 
 step_nowhere : (d : Setting) (x : AnyStep) (rest : List AnyStep) (s : WhichSet) (i : ℕ) (q : Bool) → At d (x ∷ rest) s i q false false false
     → At d rest s i q false false false
-step_nowhere d x rest s i q v = at_is d rest s i q _ _ _ _ _ _ (no_old (takes s (i / 64) x) (wipes s (i / 64) x))
-    (no_new (fills s (i / 64) x) (blanks s (i / 64) x)) (no_hand (takes s (i / 64) x) (fills s (i / 64) x))
+step_nowhere d x rest s i q v = at_is d rest s i q _ _ _ _ _ _ (no_old (empties s (i / 64) x))
+    (no_new (fills s (i / 64) x) (blanks s (i / 64) x)) (no_hand (lifts s (i / 64) x) (fills s (i / 64) x))
     (at_step d x rest s i q false false false v)
 
 -- at the end the bit stands where it has to
@@ -253,6 +249,14 @@ worth_step d (TakeNumber Delivery) done z Delivery e v InHand = v InOld
 worth_step d (TakeNumber Delivery) done z Delivery e v InNew = v InNew
 worth_step d (TakeNumber Threshold) done z Delivery e v spot = v spot
 worth_step d (TakeNumber Delivery) done z Threshold e v spot = v spot
+worth_step d (CopyNumber Threshold) done z Threshold e v InOld = v InOld
+worth_step d (CopyNumber Threshold) done z Threshold e v InHand = v InOld
+worth_step d (CopyNumber Threshold) done z Threshold e v InNew = v InNew
+worth_step d (CopyNumber Delivery) done z Delivery e v InOld = v InOld
+worth_step d (CopyNumber Delivery) done z Delivery e v InHand = v InOld
+worth_step d (CopyNumber Delivery) done z Delivery e v InNew = v InNew
+worth_step d (CopyNumber Threshold) done z Delivery e v spot = v spot
+worth_step d (CopyNumber Delivery) done z Threshold e v spot = v spot
 worth_step d (PutNumber Threshold) done z Threshold e v InOld = v InOld
 worth_step d (PutNumber Threshold) done z Threshold e v InHand = v InHand
 worth_step d (PutNumber Threshold) done z Threshold e v InNew = v InHand
@@ -347,22 +351,56 @@ pub flying_on : (d : Setting) (x : AnyStep) (done : Done) (rest : List AnyStep) 
 flying_on d x done rest p i other v =
     let z : AnyMachine = v.z in
     let none = lands_other d x v.z p i other v.flights in
-    let t = takes Pending (i / 64) x in
+    let e = empties Pending (i / 64) x in
+    let l = lifts Pending (i / 64) x in
     let f = fills Pending (i / 64) x in
-    let l = blanks Pending (i / 64) x in
-    let w = wipes Pending (i / 64) x in
+    let b = blanks Pending (i / 64) x in
     record {
       start = v.start;
       z = stepped d x v.z;
       live = live_step d v.start x rest v.z v.live;
       flights = still_other d x v.z p i other v.flights;
       due = due_bit d x v.z Pending i none ∙ v.due;
-      old = old_bit d x v.z Pending i none ∙ ap (λ y. not t && (not w && y)) v.old ∙ no_old t w;
-      new = new_bit d x v.z Pending i none ∙ ap (λ y. (f && y) || (not l && v.z.new Pending i)) v.hand
-          ∙ ap (λ y. (f && false) || (not l && y)) v.new ∙ no_new f l;
-      hand = hand_bit d x v.z Pending i none ∙ ap (λ y. (t && y) || (not t && (not f && v.z.hand Pending i))) v.old
-          ∙ ap (λ y. (t && false) || (not t && (not f && y))) v.hand ∙ no_hand t f;
+      old = old_bit d x v.z Pending i none ∙ ap (old_after e) v.old ∙ no_old e;
+      new = new_bit d x v.z Pending i none ∙ ap (λ y. new_after f b y (v.z.new Pending i)) v.hand ∙ ap (new_after f b false) v.new ∙ no_new f b;
+      hand = hand_bit d x v.z Pending i none ∙ ap (λ y. hand_after l f y (v.z.hand Pending i)) v.old ∙ ap (hand_after l f false) v.hand ∙ no_hand l f;
       freed = freed_step d x done v.z none v.freed;
+    }
+
+-- ---- numbers that are left in the old place
+
+pub record Unshut (d : Setting) (done : Done) (rest : List AnyStep) : Type 0 where
+  pub start : AnyMachine
+  pub z : AnyMachine
+  pub live : Live d start rest z
+  pub flights : z.flights ≡ []
+  pub freed : z.freed ≡ list_any frees done
+  pub numbers : (n : Number) → z.old_number n ≡ worth (not (was_shut n done))
+
+unshut_law : (m was : Bool) (value : ℕ) → value ≡ worth (not was) → (if m then 0 else value) ≡ worth (not (m || was))
+unshut_law true was value e = refl
+unshut_law false was value e = e
+
+unshut_number : (d : Setting) (x : AnyStep) (done : Done) (z : AnyMachine) (n : Number) → LandsNone x z → z.old_number n ≡ worth (not (was_shut n done))
+    → (stepped d x z).old_number n ≡ worth (not (was_shut n (x ∷ done)))
+unshut_number d (TakeNumber m) done z n e v = unshut_law (same_number m n) (was_shut n done) (z.old_number n) v
+unshut_number d (ZeroNumber Old m) done z n e v = unshut_law (same_number m n) (was_shut n done) (z.old_number n) v
+unshut_number d (ZeroNumber New m) done z n e v = v
+unshut_number d (Zero Old s w) done z n e v = v
+unshut_number d (Zero New s w) done z n e v = v
+unshut_number d (Fence p) done z n e v = ap (λ (y : AnyMachine). y.old_number n) (fence_same d p z e) ∙ v
+unshut_number d x done z n e v = v
+
+pub unshut_step : (d : Setting) (x : AnyStep) (done : Done) (rest : List AnyStep) → Unshut d done (x ∷ rest) → Unshut d (x ∷ done) rest
+unshut_step d x done rest v =
+    let none = lands_none x v.z v.flights in
+    record {
+      start = v.start;
+      z = stepped d x v.z;
+      live = live_step d v.start x rest v.z v.live;
+      flights = still_none d x v.z v.flights;
+      freed = freed_step d x done v.z none v.freed;
+      numbers = λ n. unshut_number d x done v.z n none (v.numbers n);
     }
 
 -- ---- what was reached can be shown by a state
@@ -370,10 +408,9 @@ flying_on d x done rest p i other v =
 pub record Witness (d : Setting) (done : Done) (rest : List AnyStep) : Type 0 where
   pub plain : (i : ℕ) → Plain d done rest i
   pub flying : (p i : ℕ) → IsRouted d p → is_fenced p done ≡ false → Flying d done rest p i
-  pub old : (s : WhichSet) (i : ℕ) → old_holds d s (i / 64) done ≡ true → At d rest s i true true false false
-  pub hand : (s : WhichSet) (i : ℕ) → hand_holds d s (i / 64) done ≡ true → At d rest s i true false false true
-  pub filled : (s : WhichSet) (i : ℕ) → is_filled d s (i / 64) done ≡ true → At d rest s i true false true false
+  pub stands : (s : WhichSet) (i : ℕ) (o h n : Bool) → may_stand d s (i / 64) done o h n ≡ true → At d rest s i true o n h
   pub dirty : (s : WhichSet) (i : ℕ) → is_blank d s (i / 64) done ≡ false → At d rest s i false false true false
+  pub unshut : Unshut d done rest
 
 -- whoever is not led can store into the old place
 bits_at : (m o a : Bool) → m ≡ true → ((true && m) && o) ≡ o
@@ -441,22 +478,3 @@ unled_old d done rest p i declared e plain flying = elim (kind_of d p declared) 
   | inr switched ↦ (let none = unled_switched d p done switched e in
       stored d done rest p i InForce Old declared plain ((plain.ways p).behind (or_false_left _ _ none) (or_false_right (is_fenced p done) _ none)))
 ]
-
--- who is not led, where not all are; who is turned, where someone is
-pub all_find : (is : ℕ → Bool) (count : ℕ) → all_below is count ≡ false → (p : ℕ) × (p < count) × (is p ≡ false)
-all_find is zero e = absurd (false≢true (sym e))
-all_find is (suc n) e = find (is n) refl (all_find is n) e
-  where
-    find : (b : Bool) → b ≡ is n → (all_below is n ≡ false → (p : ℕ) × (p < n) × (is p ≡ false)) → (b && all_below is n) ≡ false → (p : ℕ)
-        × (p < suc n) × (is p ≡ false)
-    find true same again e = (let found = again e in (found.0, omega (arith, found.1), found.2))
-    find false same again e = (n, omega arith, sym same)
-
-pub any_find : (is : ℕ → Bool) (count : ℕ) → any_below is count ≡ true → (p : ℕ) × (p < count) × (is p ≡ true)
-any_find is zero e = absurd (false≢true e)
-any_find is (suc n) e = find (is n) refl (any_find is n) e
-  where
-    find : (b : Bool) → b ≡ is n → (any_below is n ≡ true → (p : ℕ) × (p < n) × (is p ≡ true))
-        → (elim b [ true ↦ true | false ↦ any_below is n ]) ≡ true → (p : ℕ) × (p < suc n) × (is p ≡ true)
-    find true same again e = (n, omega arith, sym same)
-    find false same again e = (let found = again e in (found.0, omega (arith, found.1), found.2))

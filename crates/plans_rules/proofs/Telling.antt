@@ -13,37 +13,88 @@ use Rattle.plans_rules.specs.declared.step.Number.{Number}
 use Rattle.plans_rules.specs.declared.step.Number.TheVariants.{Threshold, Delivery}
 use Rattle.plans_rules.specs.declared.setting.NumberSpot.TheVariants.{InHand, InNew}
 use Rattle.plans_rules.specs.declared.step.AnyStep.{AnyStep}
-use Rattle.plans_rules.specs.declared.step.AnyStep.TheVariants.{Fence, Zero, Take, Join, Put, ZeroNumber, TakeNumber, PutNumber, Look, Post, Tell, WriteNotice}
+use Rattle.plans_rules.specs.declared.step.AnyStep.TheVariants.{Fence, Zero, Take, Join, Put, ZeroNumber, TakeNumber, CopyNumber, PutNumber, Look, Post, Tell, WriteNotice}
 use Rattle.plans_rules.specs.Setting.{Setting, is_old, names}
 use Rattle.plans_rules.specs.Machine.{lets_out, stands_out, word_stands_out, AnyFlight, AnyMachine, landed, flight_landed, all_landed, flights_of, stepped, route_of, AnyHappening, one_landed, happened, all_happened, steps_in}
 use Rattle.plans_rules.specs.Machine.AnyHappening.{Does, Stores, Sends, Lands, Refetches}
 use Rattle.plans_rules.specs.Safe.{CanHappen, IsStartOfAny, IsTold}
-use Rattle.plans_rules.specs.Rules.{takes, fills, looks, posts, tells, Done, old_holds, hand_holds, is_filled, is_blank, is_moved, is_reached, has_number, heeds_there, is_noticed, is_settled, is_looked, is_reported, writes_notice, lets, lets_end, lets_rest}
-use Rattle.plans_rules.proofs.BoolLaws.{or_false_right, clash, not_true, and_left, and_right, and_of, or_left, or_right, or_false, or_cases, added_cases, added_stays, all_at, any_at}
-use Rattle.plans_rules.proofs.Safety.{Kept, IsBetween, Invariant, does, between, begins, named}
+use Rattle.plans_rules.specs.Rules.{empties, lifts, fills, blanks, looks, posts, tells, Done, is_still, brought, may_stand, only_new, any_old, any_hand, is_moved, has_number, heeds_there, is_noticed, is_settled, is_looked, is_reported, writes_notice, lets, lets_end, lets_rest}
+use Rattle.plans_rules.proofs.BoolLaws.{false_of, true_of, clash, not_true, and_left, and_right, and_of, or_left, or_right, or_cases, added_cases, all_at, any_at}
+use Rattle.plans_rules.proofs.Reached.{still_more}
+use Rattle.plans_rules.proofs.Brought.{two_at, two_find, old_after, hand_after, new_after, brought_at, came, stored_cases, busy_old}
+use Rattle.plans_rules.proofs.Safety.{IsBetween, Invariant, does, between, begins, named, hand_cases}
 
 -- ---- what is moved for good stays so
 
--- It was once.
-abbrev pub was_moved : Setting → WhichSet → ℕ → Done → Bool
-was_moved d s w [] = false
-was_moved d s w (x ∷ done) = is_moved d s w (x ∷ done) || was_moved d s w done
+still_there : (d : Setting) (s : WhichSet) (w : ℕ) (done : Done) → any_old d s w done ≡ false → is_still d s done ≡ true
+still_there d s w done none = true_of _ (λ busy. clash (any_old d s w done)
+    (two_at (λ h n. may_stand d s w done true h n) false false (busy_old d s w done busy)) none)
 
-drained_law : (m o still : Bool) → o ≡ false → (elim m [ true ↦ o && not still | false ↦ o ]) ≡ false
-drained_law true true still e = absurd (false≢true (sym e))
-drained_law true false still e = refl
-drained_law false o still e = e
+not_old : (e a : Bool) → old_after e a ≡ true → a ≡ true
+not_old true a is = absurd (false≢true is)
+not_old false a is = is
 
-was_drained : (d : Setting) (s : WhichSet) (w : ℕ) (done : Done) → was_moved d s w done ≡ true → old_holds d s w done ≡ false
-was_drained d s w [] e = absurd (false≢true e)
-was_drained d s w (x ∷ done) e = elim (or_cases (is_moved d s w (x ∷ done)) _ e) [
-  | inl now ↦ not_true _ (and_left (not (old_holds d s w (x ∷ done))) _ now)
-  | inr before ↦ drained_law (takes s w x) _ _ (was_drained d s w done before)
-]
+moved_stays : (d : Setting) (s : WhichSet) (w : ℕ) (x : AnyStep) (done : Done) → is_moved d s w done ≡ true → is_moved d s w (x ∷ done) ≡ true
+moved_stays d s w x done is =
+    let no_old = not_true _ (and_left (not (any_old d s w done)) _ is) in
+    let no_hand = not_true _ (and_right (not (any_old d s w done)) _ is) in
+    and_of (not (any_old d s w (x ∷ done))) (not (any_hand d s w (x ∷ done)))
+    (ap not (false_of _ (λ some. let found = two_find (λ h n. may_stand d s w (x ∷ done) true h n) some in
+    in_old no_old no_hand found.0 found.1 found.2)))
+    (ap not (false_of _ (λ some. let found = two_find (λ o n. may_stand d s w (x ∷ done) o true n) some in
+    in_hand no_old no_hand found.0 found.1 found.2)))
+  where
+    in_old : any_old d s w done ≡ false → any_hand d s w done ≡ false → (h n : Bool) → may_stand d s w (x ∷ done) true h n ≡ true → ⊥
+    in_old no_old no_hand h n may =
+        elim (or_cases (brought (empties s w x) (lifts s w x) (fills s w x) (blanks s w x) (may_stand d s w done) true h n) _ may) [
+          | inl there ↦ (let from = came (empties s w x) (lifts s w x) (fills s w x) (blanks s w x) (may_stand d s w done) true h n there in
+              clash (any_old d s w done) (two_at (λ h n. may_stand d s w done true h n) from.k from.b
+              (subst (λ a. may_stand d s w done a from.k from.b ≡ true) (not_old (empties s w x) from.a from.old) from.stood)) no_old)
+          | inr alone ↦ elim (stored_cases d s (x ∷ done) true h n alone) [
+            | inl old ↦ clash (is_still d s (x ∷ done)) (still_more d s x done (still_there d s w done no_old)) old.3
+            | inr new ↦ false≢true (sym new.0)
+          ]
+        ]
 
-moved_once : (d : Setting) (s : WhichSet) (w : ℕ) (done : Done) → is_moved d s w done ≡ true → was_moved d s w done ≡ true
-moved_once d s w [] e = absurd (false≢true e)
-moved_once d s w (x ∷ done) e = or_left _ _ e
+    in_hand : any_old d s w done ≡ false → any_hand d s w done ≡ false → (o n : Bool) → may_stand d s w (x ∷ done) o true n ≡ true → ⊥
+    in_hand no_old no_hand o n may =
+        elim (or_cases (brought (empties s w x) (lifts s w x) (fills s w x) (blanks s w x) (may_stand d s w done) o true n) _ may) [
+          | inl there ↦ (let from = came (empties s w x) (lifts s w x) (fills s w x) (blanks s w x) (may_stand d s w done) o true n there in
+              elim (hand_cases (lifts s w x) (fills s w x) from.a from.k from.hand) [
+                | inl lifted ↦ clash (any_old d s w done) (two_at (λ h n. may_stand d s w done true h n) from.k from.b
+                    (subst (λ a. may_stand d s w done a from.k from.b ≡ true) lifted.1 from.stood)) no_old
+                | inr held ↦ clash (any_hand d s w done) (two_at (λ o n. may_stand d s w done o true n) from.a from.b
+                    (subst (λ k. may_stand d s w done from.a k from.b ≡ true) held.2 from.stood)) no_hand
+              ])
+          | inr alone ↦ elim (stored_cases d s (x ∷ done) o true n alone) [
+            | inl old ↦ false≢true (sym old.1)
+            | inr new ↦ false≢true (sym new.1)
+          ]
+        ]
+
+-- something due stands somewhere, so in the new place, once nothing does elsewhere
+some_place : (d : Setting) (s : WhichSet) (w : ℕ) (done : Done) → (o : Bool) × (h : Bool) × (n : Bool) × (may_stand d s w done o h n ≡ true)
+some_place d s w [] = (true, false, false, refl)
+some_place d s w (x ∷ done) =
+    let before = some_place d s w done in (
+      old_after (empties s w x) before.0,
+      hand_after (lifts s w x) (fills s w x) before.0 before.1,
+      new_after (fills s w x) (blanks s w x) before.1 before.2,
+      or_left _ _ (brought_at (empties s w x) (lifts s w x) (fills s w x) (blanks s w x) (may_stand d s w done) before.0 before.1 before.2 before.3),
+    )
+
+moved_new : (d : Setting) (s : WhichSet) (w : ℕ) (done : Done) → may_stand d s w done false false false ≡ false → is_moved d s w done ≡ true
+    → only_new d s w done ≡ true
+moved_new d s w done somewhere is =
+    let there = some_place d s w done in
+    alone (not_true _ (and_left (not (any_old d s w done)) _ is)) (not_true _ (and_right (not (any_old d s w done)) _ is))
+    there.0 there.1 there.2 there.3
+  where
+    alone : any_old d s w done ≡ false → any_hand d s w done ≡ false → (o h n : Bool) → may_stand d s w done o h n ≡ true → only_new d s w done ≡ true
+    alone no_old no_hand true h n may = clash (any_old d s w done) (two_at (λ h n. may_stand d s w done true h n) h n may) no_old
+    alone no_old no_hand false true n may = clash (any_hand d s w done) (two_at (λ o n. may_stand d s w done o true n) false n may) no_hand
+    alone no_old no_hand false false true may = may
+    alone no_old no_hand false false false may = clash (may_stand d s w done false false false) may somewhere
 
 -- ---- the invariant
 
@@ -60,15 +111,14 @@ GuardEnd d done = (rule : Rule) → lets_end rule d done ≡ true
 abbrev pub numbers_settled : Setting → Done → Bool
 numbers_settled d done = elim d.heeds [ true ↦ has_number d Threshold InNew done && has_number d Delivery InNew done | false ↦ true ]
 
--- Of a word, whether it was settled once; all that was needed for it still stands.
+-- A word is settled, and stays so.
 pub record Settled (d : Setting) (w : ℕ) (done : Done) : Type 0 where
-  pub pending : was_moved d Pending w done ≡ true
-  pub enabled : was_moved d Enabled w done ≡ true
+  pub pending : is_moved d Pending w done ≡ true
+  pub enabled : is_moved d Enabled w done ≡ true
   pub numbers : numbers_settled d done ≡ true
   pub notices : is_noticed d done ≡ true
 
 pub record Noted (d : Setting) (done : Done) (z : AnyMachine) : Type 0 where
-  pub emptied : (s : WhichSet) (i : ℕ) → was_moved d s (i / 64) done ≡ true → (z.hand s i ≡ false) × (is_filled d s (i / 64) done ≡ true)
   pub looked : (i : ℕ) → is_looked d (i / 64) done ≡ true → Settled d (i / 64) done
       × (stands_out d z.new z.new_number i ≡ true → (z.told || z.seen) ≡ true)
   pub reported : (i : ℕ) → i / 64 < d.words → is_reported d (i / 64) done ≡ true → Settled d (i / 64) done
@@ -80,8 +130,8 @@ settled_now d w done e =
     let later = and_right (is_moved d Pending w done) _ e in
     let needed = and_right (is_moved d Enabled w done) _ later in
     record {
-      pending = moved_once d Pending w done (and_left (is_moved d Pending w done) _ e);
-      enabled = moved_once d Enabled w done (and_left (is_moved d Enabled w done) _ later);
+      pending = and_left (is_moved d Pending w done) _ e;
+      enabled = and_left (is_moved d Enabled w done) _ later;
       numbers = and_left (numbers_settled d done) _ needed;
       notices = and_right (numbers_settled d done) _ needed;
     }
@@ -104,7 +154,6 @@ past_seen false x false e = or_left x false e
 
 noted_land : (d : Setting) (done : Done) (place : AnyPlace) (x : ℕ) (z : AnyMachine) → Noted d done z → Noted d done (landed d place x z)
 noted_land d done place x z v = record {
-  emptied = v.emptied;
   looked = λ i e. (
     (v.looked i e).0,
     λ out. past_seen z.told _ z.seen
@@ -133,37 +182,17 @@ noted_one d done (Some f) z v = noted_land d done f.place f.identity z v
 noted_between : (d : Setting) (done : Done) (x : AnyHappening) (z : AnyMachine) → IsBetween x → Noted d done z → Noted d done (happened d x z)
 noted_between d done (Does step) z is v = absurd is
 noted_between d done (Stores p by x) z is v = noted_land d done (route_of by p z) x z v
-noted_between d done (Sends p by x) z is v = record { emptied = v.emptied; looked = v.looked; reported = v.reported; noticed = v.noticed }
+noted_between d done (Sends p by x) z is v = record { looked = v.looked; reported = v.reported; noticed = v.noticed }
 noted_between d done (Lands k) z is v =
     let u = noted_one d done (slice_get z.flights k) z v in
-    record { emptied = u.emptied; looked = u.looked; reported = u.reported; noticed = u.noticed }
-noted_between d done (Refetches p) z is v = record { emptied = v.emptied; looked = v.looked; reported = v.reported; noticed = v.noticed }
+    record { looked = u.looked; reported = u.reported; noticed = u.noticed }
+noted_between d done (Refetches p) z is v = record { looked = v.looked; reported = v.reported; noticed = v.noticed }
 
 -- ---- a step that is no fence
 
 abbrev pub IsNoFence : AnyStep → Type 0
 IsNoFence (Fence p) = ⊥
 IsNoFence x = Unit {0}
-
-take_empty : (m a k : Bool) → a ≡ false → k ≡ false → ((m && a) || (not m && k)) ≡ false
-take_empty true a k e f = or_false a false e refl
-take_empty false a k e f = f
-
-out_empty : (m k : Bool) → k ≡ false → (not m && k) ≡ false
-out_empty true k e = refl
-out_empty false k e = e
-
-still_empty : (d : Setting) (x : AnyStep) (z : AnyMachine) (s : WhichSet) (i : ℕ) → IsNoFence x → z.old s i ≡ false → z.hand s i ≡ false
-    → (stepped d x z).hand s i ≡ false
-still_empty d (Fence p) z s i is e f = absurd is
-still_empty d (Take t w) z s i is e f = take_empty (names t w s (i / 64)) _ _ e f
-still_empty d (Join t w) z s i is e f = out_empty (names t w s (i / 64)) _ f
-still_empty d (Put t w) z s i is e f = out_empty (names t w s (i / 64)) _ f
-still_empty d (Zero Old t w) z s i is e f = f
-still_empty d (Zero New t w) z s i is e f = f
-still_empty d (ZeroNumber Old n) z s i is e f = f
-still_empty d (ZeroNumber New n) z s i is e f = f
-still_empty d x z s i is e f = f
 
 join_same : (m k b : Bool) → k ≡ false → ((m && k) || b) ≡ b
 join_same true k b e = ap (λ y. y || b) e
@@ -179,15 +208,15 @@ zero_same false b h = refl
 
 -- the bits of a word that was moved
 steady : (d : Setting) (done : Done) (x : AnyStep) (z : AnyMachine) (s : WhichSet) (i : ℕ) → IsNoFence x → Guard d x done
-    → is_filled d s (i / 64) done ≡ true → z.hand s i ≡ false → (stepped d x z).new s i ≡ z.new s i
+    → only_new d s (i / 64) done ≡ true → z.hand s i ≡ false → (stepped d x z).new s i ≡ z.new s i
 steady d done (Fence p) z s i is guard filled e = absurd is
 steady d done (Join t w) z s i is guard filled e = join_same (names t w s (i / 64)) _ _ e
 steady d done (Put t w) z s i is guard filled e =
     put_same (names t w s (i / 64)) _ _ (λ m. clash _ filled
-    (named (λ t v. is_filled d t v done ≡ false) t w s (i / 64) (or_false_right (is_reached d t done) _ (not_true _ (guard Words))) m))
+    (named (λ t v. only_new d t v done ≡ false) t w s (i / 64) (not_true _ (guard Words)) m))
 steady d done (Zero New t w) z s i is guard filled e =
     zero_same (names t w s (i / 64)) _ (λ m. clash _ filled
-    (named (λ t v. is_filled d t v done ≡ false) t w s (i / 64) (or_false_right (is_reached d t done) _ (not_true _ (guard Words))) m))
+    (named (λ t v. only_new d t v done ≡ false) t w s (i / 64) (not_true _ (guard Words)) m))
 steady d done (Zero Old t w) z s i is guard filled e = refl
 steady d done (ZeroNumber Old n) z s i is guard filled e = refl
 steady d done (ZeroNumber New n) z s i is guard filled e = refl
@@ -210,6 +239,10 @@ number_there d done (TakeNumber Threshold) Threshold heeds guard e = e
 number_there d done (TakeNumber Delivery) Delivery heeds guard e = e
 number_there d done (TakeNumber Threshold) Delivery heeds guard e = e
 number_there d done (TakeNumber Delivery) Threshold heeds guard e = e
+number_there d done (CopyNumber Threshold) Threshold heeds guard e = e
+number_there d done (CopyNumber Threshold) Delivery heeds guard e = e
+number_there d done (CopyNumber Delivery) Threshold heeds guard e = e
+number_there d done (CopyNumber Delivery) Delivery heeds guard e = e
 number_there d done (PutNumber Threshold) Threshold heeds guard e = put_itself _ _ _ heeds e (guard Notice)
 number_there d done (PutNumber Delivery) Delivery heeds guard e = put_itself _ _ _ heeds e (guard Notice)
 number_there d done (PutNumber Threshold) Delivery heeds guard e = e
@@ -252,8 +285,8 @@ heeded_stays false a b c e f g both = refl
 
 settled_stays : (d : Setting) (w : ℕ) (done : Done) (x : AnyStep) → d.in_memory ≡ true → Guard d x done → Settled d w done → Settled d w (x ∷ done)
 settled_stays d w done x memory guard v = record {
-  pending = or_right (is_moved d Pending w (x ∷ done)) _ v.pending;
-  enabled = or_right (is_moved d Enabled w (x ∷ done)) _ v.enabled;
+  pending = moved_stays d Pending w x done v.pending;
+  enabled = moved_stays d Enabled w x done v.enabled;
   numbers = heeded_stays d.heeds _ _ _ _ (λ h. number_there d done x Threshold (and_of _ _ memory h) guard)
       (λ h. number_there d done x Delivery (and_of _ _ memory h) guard) v.numbers;
   notices = or_right (writes_notice x) _ v.notices;
@@ -280,14 +313,20 @@ same_lets d start done x z i memory is guard v e =
     lets_by (stepped d x z).new_number z.new_number i (number_stays d start done x z Threshold (and_of _ _ memory h) is guard v both.0)
     (number_stays d start done x z Delivery (and_of _ _ memory h) is guard v both.1))
 
+-- of a word that is moved nothing is in the hand
+no_hand : (d : Setting) (start : AnyMachine) (done : Done) (z : AnyMachine) (s : WhichSet) (i : ℕ) → Invariant d start done z
+    → is_moved d s (i / 64) done ≡ true → z.hand s i ≡ false
+no_hand d start done z s i v is = false_of (z.hand s i) (λ held. clash (any_hand d s (i / 64) done) ((v.kept s i).from_hand held).1
+    (not_true _ (and_right (not (any_old d s (i / 64) done)) _ is)))
+
 same_out : (d : Setting) (start : AnyMachine) (done : Done) (x : AnyStep) (z : AnyMachine) (i : ℕ) → d.in_memory ≡ true → IsNoFence x
-    → Guard d x done → Invariant d start done z → Noted d done z → Settled d (i / 64) done
+    → Guard d x done → Invariant d start done z → Settled d (i / 64) done
     → stands_out d (stepped d x z).new (stepped d x z).new_number i ≡ stands_out d z.new z.new_number i
-same_out d start done x z i memory is guard w v settled =
+same_out d start done x z i memory is guard w settled =
     ap (λ p. p && ((stepped d x z).new Enabled i && lets_out d (stepped d x z).new_number i))
-    (steady d done x z Pending i is guard (v.emptied Pending i settled.pending).1 (v.emptied Pending i settled.pending).0)
+    (steady d done x z Pending i is guard (moved_new d Pending (i / 64) done (w.somewhere Pending (i / 64)) settled.pending) (no_hand d start done z Pending i w settled.pending))
     ∙ ap (λ e. z.new Pending i && (e && lets_out d (stepped d x z).new_number i))
-    (steady d done x z Enabled i is guard (v.emptied Enabled i settled.enabled).1 (v.emptied Enabled i settled.enabled).0)
+    (steady d done x z Enabled i is guard (moved_new d Enabled (i / 64) done (w.somewhere Enabled (i / 64)) settled.enabled) (no_hand d start done z Enabled i w settled.enabled))
     ∙ ap (λ n. z.new Pending i && (z.new Enabled i && n)) (same_lets d start done x z i memory is guard w settled.numbers)
 
 -- what was told, or seen, stays so
@@ -361,62 +400,43 @@ report_cases true n s true r e = inl (refl, refl)
 report_cases true n s false r e = inr (inr e)
 report_cases false n s l r e = inr (added_cases n s r e)
 
-emptied_now : (d : Setting) (s : WhichSet) (w : ℕ) (done : Done) (q a b k : Bool) → is_moved d s w done ≡ true
-    → Kept (is_blank d s w done) (is_reached d s done) (hand_holds d s w done) (old_holds d s w done) (is_filled d s w done) q a b k
-    → (k ≡ false) × (is_filled d s w done ≡ true)
-emptied_now d s w done q a b k is v =
-    let free = not_true _ (and_right (not (old_holds d s w done)) _ is) in
-    (v.unheld free, v.moved (not_true _ (and_left (not (old_holds d s w done)) _ is)) free)
-
 -- **A step that the rules let stand keeps what was noted.**
 pub notes : (d : Setting) (start : AnyMachine) (done : Done) (x : AnyStep) (z : AnyMachine) → d.in_memory ≡ true → IsNoFence x → Guard d x done
     → Invariant d start done z → Noted d done z → Noted d (x ∷ done) (stepped d x z)
 notes d start done x z memory is guard w v = record {
-  emptied = λ s i e. elim (or_cases (is_moved d s (i / 64) (x ∷ done)) _ e) [
-    | inl now ↦ emptied_now d s (i / 64) (x ∷ done) _ _ _ _ now ((does d start done x z (λ rule of. guard rule) w).kept s i)
-    | inr before ↦ (
-      still_empty d x z s i is ((w.kept s i).drained (was_drained d s (i / 64) done before)) (v.emptied s i before).0,
-      added_stays (fills s (i / 64) x) _ _ (v.emptied s i before).1,
-    )
-  ];
   looked = λ i e. elim (added_cases (looks (i / 64) x) _ _ e) [
     | inl now ↦ (let settled = settled_now d (i / 64) done now.1 in (
       settled_stays d (i / 64) done x memory guard settled,
-      λ out. looked_now d x z i now.0 (sym (same_out d start done x z i memory is guard w v settled) ∙ out),
+      λ out. looked_now d x z i now.0 (sym (same_out d start done x z i memory is guard w settled) ∙ out),
     ))
     | inr before ↦ (let was = v.looked i before in (
       settled_stays d (i / 64) done x memory guard was.0,
-      λ out. seen_stays d x z is (was.1 (sym (same_out d start done x z i memory is guard w v was.0) ∙ out)),
+      λ out. seen_stays d x z is (was.1 (sym (same_out d start done x z i memory is guard w was.0) ∙ out)),
     ))
   ];
   reported = λ i inside e. elim (report_cases (posts x) (tells x) _ _ _ e) [
     | inl now ↦ (let was = v.looked i now.1 in (
       settled_stays d (i / 64) done x memory guard was.0,
-      λ out. posted_now d x z now.0 (was.1 (sym (same_out d start done x z i memory is guard w v was.0) ∙ out)),
+      λ out. posted_now d x z now.0 (was.1 (sym (same_out d start done x z i memory is guard w was.0) ∙ out)),
     ))
     | inr (inl now) ↦ (let settled = settled_now d (i / 64) done now.1 in (
       settled_stays d (i / 64) done x memory guard settled,
-      λ out. told_now d x z i inside now.0 (sym (same_out d start done x z i memory is guard w v settled) ∙ out),
+      λ out. told_now d x z i inside now.0 (sym (same_out d start done x z i memory is guard w settled) ∙ out),
     ))
     | inr (inr before) ↦ (let was = v.reported i inside before in (
       settled_stays d (i / 64) done x memory guard was.0,
-      λ out. told_stays d x z is (was.1 (sym (same_out d start done x z i memory is guard w v was.0) ∙ out)),
+      λ out. told_stays d x z is (was.1 (sym (same_out d start done x z i memory is guard w was.0) ∙ out)),
     ))
   ];
   noticed = noticed_stays d done x z is v.noticed;
 }
 
 -- a fence only lands stores
-fence_moved : (a b : Bool) → (a ≡ true → b ≡ true) → (a || b) ≡ true → b ≡ true
-fence_moved true b h e = h refl
-fence_moved false b h e = e
-
 notes_fence : (d : Setting) (done : Done) (p : ℕ) (z : AnyMachine) → d.in_memory ≡ true → Guard d (Fence p) done → Noted d done z
     → Noted d (Fence p ∷ done) (stepped d (Fence p) z)
 notes_fence d done p z memory guard v =
     let u = noted_all d done (flights_of p z.flights) z v in
     record {
-      emptied = λ s i e. u.emptied s i (fence_moved (is_moved d s (i / 64) done) _ (moved_once d s (i / 64) done) e);
       looked = λ i e. (settled_stays d (i / 64) done (Fence p) memory guard (u.looked i e).0, (u.looked i e).1);
       reported = λ i inside e. (settled_stays d (i / 64) done (Fence p) memory guard (u.reported i inside e).0, (u.reported i inside e).1);
       noticed = u.noticed;
@@ -452,7 +472,6 @@ hears d start done (Refetches p ∷ later) z memory can guards w v =
 
 noted_start : (d : Setting) (z : AnyMachine) → IsStartOfAny d z → Noted d [] z
 noted_start d z is = record {
-  emptied = λ s i e. absurd (false≢true e);
   looked = λ i e. absurd (false≢true e);
   reported =
       λ i inside e. absurd (false≢true e);

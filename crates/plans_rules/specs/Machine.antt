@@ -8,7 +8,7 @@ use Rattle.plans_rules.specs.declared.step.WhichSet.TheVariants.{Pending, Enable
 use Rattle.plans_rules.specs.declared.step.Number.{Number}
 use Rattle.plans_rules.specs.declared.step.Number.TheVariants.{Threshold, Delivery}
 use Rattle.plans_rules.specs.declared.step.AnyStep.{AnyStep}
-use Rattle.plans_rules.specs.declared.step.AnyStep.TheVariants.{Route, Fence, Switch, Zero, Take, Join, Put, ZeroNumber, TakeNumber, PutNumber, Look, Post, Tell, WriteNotice, Free}
+use Rattle.plans_rules.specs.declared.step.AnyStep.TheVariants.{Route, Fence, Switch, Zero, Take, Copy, Join, Put, ZeroNumber, TakeNumber, CopyNumber, PutNumber, Look, Post, Tell, WriteNotice, Free}
 use Rattle.plans_rules.specs.Setting.{Setting, is_old, is_pending, same_number, names, any_below}
 
 -- For each set the identities that stand in it.
@@ -25,7 +25,7 @@ pub record AnyFlight : Type 0 where
 pub record AnyMachine : Type 0 where
   pub old : Sets
   pub new : Sets
-  -- what was taken and is not yet in the new place: any number of words
+  -- what was taken or copied: any number of words
   pub hand : Sets
   -- what stood in the old place at the start, and what stores that have landed since asked for
   pub due : Sets
@@ -36,7 +36,8 @@ pub record AnyMachine : Type 0 where
   pub written : ℕ → AnyPlace
   pub in_force : ℕ → AnyPlace
   pub flights : List AnyFlight
-  -- whether the old place was given back, and whether anything reached it after that
+  -- whether the old place was given back, and whether anything reached it after that, a second time
+  -- that it is given back too
   pub freed : Bool
   pub strayed : Bool
   -- whether the notices of the new place go to the host
@@ -149,6 +150,10 @@ stepped d (Take s w) z = record z {
   old = without s w z.old;
   strayed = z.strayed || z.freed;
 }
+stepped d (Copy s w) z = record z {
+  hand = both (only s w z.old) (without s w z.hand);
+  strayed = z.strayed || z.freed;
+}
 stepped d (Join s w) z = record z {
   new = both (only s w z.hand) z.new;
   hand = without s w z.hand;
@@ -167,6 +172,10 @@ stepped d (TakeNumber n) z = record z {
   old_number = with_number n 0 z.old_number;
   strayed = z.strayed || z.freed;
 }
+stepped d (CopyNumber n) z = record z {
+  hand_number = with_number n (z.old_number n) z.hand_number;
+  strayed = z.strayed || z.freed;
+}
 stepped d (PutNumber n) z = record z {
   new_number = with_number n (z.hand_number n) z.new_number;
 }
@@ -174,7 +183,7 @@ stepped d (Look w) z = record z { seen = z.seen || word_stands_out d z.new z.new
 stepped d Post z = record z { told = z.told || z.seen }
 stepped d Tell z = record z { told = z.told || any_stands_out d z.new z.new_number }
 stepped d WriteNotice z = record z { noticed = true }
-stepped d Free z = record z { freed = true }
+stepped d Free z = record z { freed = true; strayed = z.strayed || z.freed }
 
 -- ---- what may happen
 

@@ -92,6 +92,7 @@ kvm_moves producers words = record {
   in_memory = false;
   heeds = false;
   notices_go = true;
+  is_inherited = false;
   number_from = InOld;
   number_to = InNew;
 }
@@ -105,6 +106,7 @@ kvm_leaves producers words = record {
   in_memory = true;
   heeds = true;
   notices_go = true;
+  is_inherited = false;
   number_from = InOld;
   number_to = InNew;
 }

@@ -49,6 +49,7 @@ plainly is_fresh = record {
   in_memory = false;
   heeds = false;
   notices_go = true;
+  is_inherited = false;
   number_from = InOld;
   number_to = InOld;
 }

@@ -1,8 +1,7 @@
 -- The rules of plans: what each says of a step that stands after the steps `done`, the newest
--- first, and of an end after these. A word *may hold something* in the old place until it was taken
--- while nobody stored there; in the hand from a take of such a word until it is joined or put; in
--- the new place once such a word was joined or put, or, of the pending set, once somebody may store
--- there. Profile.
+-- first, and of an end after these. They turn on the places in which an identity of a word *may
+-- stand* that is due: one stands in the old place at the start, and steps bring it on; and a store
+-- alone may make one stand in the old place, or in the new one, while it may reach that. Profile.
 use Rattle.std.specs.Prelude.{ℕ, length, Bool, true, false, not, ◌&&◌, ◌||◌, nat_eq, List, [], ◌∷◌, Option, Some, None, slice_get}
 use Rattle.std.specs.List.{list_any}
 use Rattle.plans_rules.specs.declared.step.AnyPlace.TheVariants.{Old, New}
@@ -17,7 +16,7 @@ use Rattle.plans_rules.specs.declared.setting.RouteKind.TheVariants.{Routed, Swi
 use Rattle.plans_rules.specs.declared.rule.Rule.{Rule}
 use Rattle.plans_rules.specs.declared.rule.Rule.TheVariants.{Routes, Blank, Words, Numbers, Freeing, Notice}
 use Rattle.plans_rules.specs.declared.step.AnyStep.{AnyStep}
-use Rattle.plans_rules.specs.declared.step.AnyStep.TheVariants.{Route, Fence, Switch, Zero, Take, Join, Put, ZeroNumber, TakeNumber, PutNumber, Look, Post, Tell, WriteNotice, Free}
+use Rattle.plans_rules.specs.declared.step.AnyStep.TheVariants.{Route, Fence, Switch, Zero, Take, Copy, Join, Put, ZeroNumber, TakeNumber, CopyNumber, PutNumber, Look, Post, Tell, WriteNotice, Free}
 use Rattle.plans_rules.specs.Setting.{Setting, same_number, same_spot, names, all_below, any_below}
 
 -- ---- what a step does
@@ -38,10 +37,17 @@ abbrev pub switches : ℕ → AnyStep → Bool
 switches p (Switch q) = nat_eq q p
 switches p x = false
 
--- Whether a step takes a word.
-abbrev pub takes : WhichSet → ℕ → AnyStep → Bool
-takes t v (Take s w) = names s w t v
-takes t v x = false
+-- Whether a step leaves nothing of a word in the old place.
+abbrev pub empties : WhichSet → ℕ → AnyStep → Bool
+empties t v (Take s w) = names s w t v
+empties t v (Zero Old s w) = names s w t v
+empties t v x = false
+
+-- Whether it brings the word from the old place into the hand, over what the hand has of it.
+abbrev pub lifts : WhichSet → ℕ → AnyStep → Bool
+lifts t v (Take s w) = names s w t v
+lifts t v (Copy s w) = names s w t v
+lifts t v x = false
 
 -- Whether it moves the word from the hand to the new place.
 abbrev pub fills : WhichSet → ℕ → AnyStep → Bool
@@ -54,6 +60,12 @@ abbrev pub blanks : WhichSet → ℕ → AnyStep → Bool
 blanks t v (Zero New s w) = names s w t v
 blanks t v (Put s w) = names s w t v
 blanks t v x = false
+
+-- Whether it leaves a number of the old place 0.
+abbrev pub shuts : Number → AnyStep → Bool
+shuts n (TakeNumber m) = same_number m n
+shuts n (ZeroNumber Old m) = same_number m n
+shuts n x = false
 
 -- Whether it gives the old place back.
 abbrev pub frees : AnyStep → Bool
@@ -126,33 +138,72 @@ is_reached d s done = elim s [
 abbrev pub is_still : Setting → WhichSet → Done → Bool
 is_still d s done = elim s [ Pending ↦ all_led d done | Enabled ↦ true ]
 
--- A word may hold something in the old place.
-abbrev pub old_holds : Setting → WhichSet → ℕ → Done → Bool
-old_holds d s w [] = true
-old_holds d s w (x ∷ done) = elim (takes s w x) [
-  | true ↦ old_holds d s w done && not (is_still d s done)
-  | false ↦ old_holds d s w done
+-- ---- where an identity that is due may stand
+
+-- Whether two are so, or two are not.
+abbrev pub alike : Bool → Bool → Bool
+alike true b = b
+alike false b = not b
+
+-- Whether a step that empties the old place of a word (e), lifts it into the hand (l), fills the
+-- new place from there (f), or blanks that (z), brings an identity from the old place (a), the
+-- hand (k), the new place (b), where it stands there, to just these: the old place (o), the hand
+-- (h), the new place (n).
+abbrev pub brings : Bool → Bool → Bool → Bool → Bool → Bool → Bool → Bool → Bool → Bool → Bool
+brings e l f z a k b o h n =
+    alike o (not e && a)
+    && (alike h ((l && a) || (not l && (not f && k)))
+    && alike n ((f && k) || (not z && b)))
+
+-- Whether any of these passes: places that an identity stands in, or not.
+abbrev pub any_of_two : (Bool → Bool → Bool) → Bool
+any_of_two passes =
+    passes true true || (passes true false || (passes false true || passes false false))
+
+abbrev pub any_of_three : (Bool → Bool → Bool → Bool) → Bool
+any_of_three passes = any_of_two (passes true) || any_of_two (passes false)
+
+-- Where such a step may bring an identity from where one may stand.
+abbrev pub brought : Bool → Bool → Bool → Bool → (Bool → Bool → Bool → Bool) → Bool → Bool → Bool
+    → Bool
+brought e l f z stands o h n = elim (e || (l || (f || z))) [
+  | true ↦ any_of_three (λ a k b. brings e l f z a k b o h n && stands a k b)
+  | false ↦ stands o h n
 ]
 
--- A word may hold something in the hand.
-abbrev pub hand_holds : Setting → WhichSet → ℕ → Done → Bool
-hand_holds d s w [] = false
-hand_holds d s w (x ∷ done) = elim (takes s w x) [
-  | true ↦ old_holds d s w done
-  | false ↦ elim (fills s w x) [ true ↦ false | false ↦ hand_holds d s w done ]
-]
+-- Where a store alone may make one stand: in the old place, unless nobody stores there (still), or
+-- in the new one, if somebody may (reached).
+abbrev pub alone_by : Bool → Bool → Bool → Bool → Bool → Bool
+alone_by still reached o h n =
+    not h && ((o && (not n && not still)) || (not o && (n && reached)))
 
--- A word that might hold something was joined or put.
-abbrev pub is_filled : Setting → WhichSet → ℕ → Done → Bool
-is_filled d s w [] = false
-is_filled d s w (x ∷ done) = elim (fills s w x) [
-  | true ↦ hand_holds d s w done || is_filled d s w done
-  | false ↦ is_filled d s w done
-]
+abbrev pub stored_alone : Setting → WhichSet → Done → Bool → Bool → Bool → Bool
+stored_alone d s done = alone_by (is_still d s done) (is_reached d s done)
 
--- A word may hold something in the new place that is due there.
-abbrev pub new_holds : Setting → WhichSet → ℕ → Done → Bool
-new_holds d s w done = is_reached d s done || is_filled d s w done
+-- An identity of word w of a set that is due may stand in just these places: the old one (o), the
+-- hand (h), the new one (n). At the start all that is due stands in the old one.
+abbrev pub may_stand : Setting → WhichSet → ℕ → Done → Bool → Bool → Bool → Bool
+may_stand d s w [] o h n = o && (not h && not n)
+may_stand d s w (x ∷ done) o h n =
+    brought (empties s w x) (lifts s w x) (fills s w x) (blanks s w x) (may_stand d s w done) o h n
+    || stored_alone d s (x ∷ done) o h n
+
+-- One may stand in the old place, the hand, the new place alone.
+abbrev pub only_old : Setting → WhichSet → ℕ → Done → Bool
+only_old d s w done = may_stand d s w done true false false
+
+abbrev pub only_hand : Setting → WhichSet → ℕ → Done → Bool
+only_hand d s w done = may_stand d s w done false true false
+
+abbrev pub only_new : Setting → WhichSet → ℕ → Done → Bool
+only_new d s w done = may_stand d s w done false false true
+
+-- One may stand in the old place, or in the hand, wherever else it stands.
+abbrev pub any_old : Setting → WhichSet → ℕ → Done → Bool
+any_old d s w done = any_of_two (λ h n. may_stand d s w done true h n)
+
+abbrev pub any_hand : Setting → WhichSet → ℕ → Done → Bool
+any_hand d s w done = any_of_two (λ o n. may_stand d s w done o true n)
 
 -- Nothing of a word stands in the new place but what is due: it was fresh, zeroed or put over.
 abbrev pub is_blank : Setting → WhichSet → ℕ → Done → Bool
@@ -165,6 +216,14 @@ has_number d n spot [] = same_spot d.number_from spot
 has_number d n spot (TakeNumber m ∷ done) = elim (same_number m n) [
   | true ↦ elim spot [
     | InOld ↦ false
+    | InHand ↦ has_number d n InOld done
+    | InNew ↦ has_number d n InNew done
+  ]
+  | false ↦ has_number d n spot done
+]
+has_number d n spot (CopyNumber m ∷ done) = elim (same_number m n) [
+  | true ↦ elim spot [
+    | InOld ↦ has_number d n InOld done
     | InHand ↦ has_number d n InOld done
     | InNew ↦ has_number d n InNew done
   ]
@@ -196,9 +255,20 @@ has_number d n spot (ZeroNumber New m ∷ done) = elim (same_number m n) [
 ]
 has_number d n spot (x ∷ done) = has_number d n spot done
 
--- A word is moved for good: neither the old place nor the hand may hold anything of it.
+-- A number of the old place was left 0. Nobody puts another value there.
+abbrev pub was_shut : Number → Done → Bool
+was_shut n done = list_any (shuts n) done
+
+-- The old place may be given back, as to what its next owner takes over.
+abbrev pub is_shut : Setting → Done → Bool
+is_shut d done = elim d.is_inherited [
+  | true ↦ was_shut Threshold done && was_shut Delivery done
+  | false ↦ true
+]
+
+-- A word is moved for good: nothing of it that is due may stand in the old place or in the hand.
 abbrev pub is_moved : Setting → WhichSet → ℕ → Done → Bool
-is_moved d s w done = not (old_holds d s w done) && not (hand_holds d s w done)
+is_moved d s w done = not (any_old d s w done) && not (any_hand d s w done)
 
 -- Both numbers are in the new place, if they are heeded.
 abbrev pub are_heeded : Setting → Done → Bool
@@ -245,19 +315,23 @@ heeds_there d = d.in_memory && d.heeds
 
 -- Whether a rule lets a step stand.
 abbrev pub lets : Rule → Setting → AnyStep → Done → Bool
--- What may hold something is not overwritten: a word in the hand by a take, one of the new place by
--- a put, one of either place by zeros.
-lets Words d (Take s w) done = not (hand_holds d s w done)
-lets Words d (Put s w) done = not (new_holds d s w done)
-lets Words d (Zero Old s w) done = not (old_holds d s w done)
-lets Words d (Zero New s w) done = not (new_holds d s w done)
--- What may hold something is joined to a blank word alone.
-lets Blank d (Join s w) done = not (hand_holds d s w done) || is_blank d s w done
--- The old place is given back once nobody stores there, and not accessed after that.
-lets Freeing d Free done = all_led d done
+-- The only place where something due may stand is not overwritten: a word in the hand by a take or
+-- a copy, one of the new place by a put, one of either place by zeros.
+lets Words d (Take s w) done = not (only_hand d s w done)
+lets Words d (Copy s w) done = not (only_hand d s w done)
+lets Words d (Put s w) done = not (only_new d s w done)
+lets Words d (Zero Old s w) done = not (only_old d s w done)
+lets Words d (Zero New s w) done = not (only_new d s w done)
+-- What may stand in the hand alone is joined to a blank word.
+lets Blank d (Join s w) done = not (only_hand d s w done) || is_blank d s w done
+-- The old place is given back once, when nobody stores there and nothing is left to its next owner,
+-- and not accessed after that.
+lets Freeing d Free done = all_led d done && (not (list_any frees done) && is_shut d done)
 lets Freeing d (Take s w) done = not (list_any frees done)
+lets Freeing d (Copy s w) done = not (list_any frees done)
 lets Freeing d (Zero Old s w) done = not (list_any frees done)
 lets Freeing d (TakeNumber n) done = not (list_any frees done)
+lets Freeing d (CopyNumber n) done = not (list_any frees done)
 lets Freeing d (ZeroNumber Old n) done = not (list_any frees done)
 -- Where a notice heeds the numbers, one that stands in the new place as it was at the start is not
 -- zeroed there, and only the same number, from the hand, is put over it. A put of another one
@@ -269,12 +343,16 @@ lets rule d x done = true
 
 -- Whether a rule lets a plan end.
 abbrev pub lets_end : Rule → Setting → Done → Bool
--- All producers are led to the new place, and each pending word was taken after that.
+-- All producers are led to the new place, and no pending word may stand in the old one.
 lets_end Routes d done =
-    all_led d done && all_below (λ w. not (old_holds d Pending w done)) d.words
--- The enables were taken, and nothing is left in the hand.
+    all_led d done && all_below (λ w. not (any_old d Pending w done)) d.words
+-- No enables may stand in the old place, and no word in the hand alone.
 lets_end Words d done =
-    all_below (λ w. not (hand_holds d Pending w done) && is_moved d Enabled w done) d.words
+    all_below (λ w. not (only_hand d Pending w done)
+    && (not (any_old d Enabled w done) && not (only_hand d Enabled w done))) d.words
+-- Each word of the new place is blank.
+lets_end Blank d done =
+    all_below (λ w. is_blank d Pending w done && is_blank d Enabled w done) d.words
 -- Threshold and delivery are where they have to be.
 lets_end Numbers d done =
     has_number d Threshold d.number_to done && has_number d Delivery d.number_to done

@@ -10,7 +10,7 @@ use Rattle.plans_rules.specs.declared.setting.NumberSpot.{NumberSpot}
 use Rattle.plans_rules.specs.declared.setting.NumberSpot.TheVariants.{InOld, InHand, InNew}
 use Rattle.plans_rules.specs.declared.setting.RouteKind.TheVariants.{Routed}
 use Rattle.plans_rules.specs.declared.step.AnyStep.{AnyStep}
-use Rattle.plans_rules.specs.declared.step.AnyStep.TheVariants.{Zero, Take, Join, Put}
+use Rattle.plans_rules.specs.declared.step.AnyStep.TheVariants.{Zero, Take, Copy, Join, Put}
 use Rattle.plans_rules.specs.Setting.{Setting}
 use Rattle.plans_rules.specs.Machine.{AnyFlight, AnyMachine, stands_out, AnyHappening, all_happened, steps_in}
 use Rattle.plans_rules.specs.Machine.AnyHappening.{Stores, Sends, Refetches}
@@ -63,7 +63,8 @@ number_in spot n z = elim spot [
 -- How a move has to end, as to the words of the file. In the new place just what is due is
 -- pending, and just what was enabled at the start is enabled; nothing is left in the sets of the
 -- old place; the numbers are where they have to be, as they were, whatever they are elsewhere; all
--- leads to the new place; and nothing reached the old one after it was given back.
+-- leads to the new place; nothing reached the old one after it was given back; and if it was, and
+-- its next owner takes its numbers over as they are, these are 0.
 pub record IsMovedByAny (d : Setting) (start z : AnyMachine) : Type 0 where
   pub pending : (i : ℕ) → i / 64 < d.words → z.new Pending i ≡ z.due Pending i
   pub enabled : (i : ℕ) → i / 64 < d.words → z.new Enabled i ≡ start.old Enabled i
@@ -73,6 +74,7 @@ pub record IsMovedByAny (d : Setting) (start z : AnyMachine) : Type 0 where
   pub in_force : (p : ℕ) → IsProducer d p → z.in_force p ≡ New
   pub flights : AllByRecursion (λ (f : AnyFlight). f.place ≡ New) z.flights
   pub strayed : z.strayed ≡ false
+  pub inherited : d.is_inherited ≡ true → z.freed ≡ true → (n : Number) → z.old_number n ≡ 0
 
 -- A plan is safe: from every start, each of its runs ends so.
 abbrev pub IsSafe : Setting → List AnyStep → Type 0
@@ -97,6 +99,7 @@ IsTold d plan =
 abbrev pub IsInFile : ℕ → AnyStep → Type 0
 IsInFile words (Zero place s w) = w < words
 IsInFile words (Take s w) = w < words
+IsInFile words (Copy s w) = w < words
 IsInFile words (Join s w) = w < words
 IsInFile words (Put s w) = w < words
 IsInFile words x = Unit {0}

@@ -25,6 +25,8 @@ pub record Setting : Type 0 where
   pub heeds : Bool
   -- whether the notices of the new place go to the host from the start on
   pub notices_go : Bool
+  -- whether the next owner of the old place takes its numbers over as they are
+  pub is_inherited : Bool
   -- where threshold and delivery are at the start, and where they have to be at the end
   pub number_from : NumberSpot
   pub number_to : NumberSpot
@@ -38,6 +40,7 @@ setting_of producers terms = record {
   in_memory = terms.in_memory;
   heeds = terms.heeds;
   notices_go = terms.notices_go;
+  is_inherited = terms.is_inherited;
   number_from = terms.number_from;
   number_to = terms.number_to;
 }

@@ -35,6 +35,10 @@ pub struct Terms {
     /// Whether the notices of the new place go to the host from the start on.
     pub notices_go: bool,
 
+    /// Whether the next owner of the old place, once that is given back, takes its threshold and
+    /// delivery over as they are.
+    pub is_inherited: bool,
+
     /// Where the numbers are at the start.
     pub number_from: NumberSpot,
 

@@ -48,6 +48,10 @@ pub enum AnyStep {
     /// place keeps none of it.
     Take(WhichSet, u32),
 
+    /// Reads a word of the old place into the hand, over what the hand has of that word; the old
+    /// place keeps it.
+    Copy(WhichSet, u32),
+
     /// Adds what the hand has of a word to that word of the new place; the hand keeps none of it.
     Join(WhichSet, u32),
 
@@ -59,6 +63,9 @@ pub enum AnyStep {
 
     /// Takes a number of the old place into the hand; the old place keeps 0.
     TakeNumber(Number),
+
+    /// Reads a number of the old place into the hand; the old place keeps it.
+    CopyNumber(Number),
 
     /// Writes what the hand has of a number over that of the new place; the hand keeps it.
     PutNumber(Number),

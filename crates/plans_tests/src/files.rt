@@ -27,7 +27,8 @@ fn one_without_its_fence_is_refused_and_loses_what_is_stored(rt: HostRuntime) ->
     assert!(rt;
         found.text.as_slice()
             == b"refused routes in the end\n  run: identity 1 is pending \
-nowhere at the start; producer 0 stores it behind line 5 by its route in force\n"
+nowhere at the start; producer 0 stores it behind line 8 by its route in force; in the end it is in \
+the old place, where the route of producer 0 leads still\n"
                 .as_slice()
     );
     Ok(())
@@ -137,7 +138,7 @@ fn where_the_rule_asks_for_more_no_run_is_found(rt: HostRuntime) -> Result<(), F
     let found = answers(rt.alloc(), ZEROED_FIRST)?;
     assert!(rt;
         found.text.as_slice()
-            == b"refused notice in the end\n  run: none was found with one store at most; the \
+            == b"refused notice in the end\n  run: none was found among those that are tried; the \
 rule asks for more than that the host is told\n"
                 .as_slice()
     );
@@ -199,6 +200,7 @@ fn a_plan_that_forgets_its_words_is_refused_in_the_end(rt: HostRuntime) -> Resul
         in_memory: false,
         heeds: false,
         notices_go: true,
+        is_inherited: false,
         number_from: NumberSpot::InOld,
         number_to: NumberSpot::InOld,
     };
@@ -209,7 +211,7 @@ fn a_plan_that_forgets_its_words_is_refused_in_the_end(rt: HostRuntime) -> Resul
         before: 2,
     };
     assert!(rt; verdict == refused);
-    assert!(rt; losing_run(&[RouteKind::Routed], terms, &plan).is_some());
+    assert!(rt; losing_run(Rule::Routes, &[RouteKind::Routed], terms, &plan, 2).is_some());
     assert!(rt; untold_run(&[RouteKind::Routed], terms, &plan).is_none());
     Ok(())
 }
@@ -218,6 +220,79 @@ fn a_plan_that_forgets_its_words_is_refused_in_the_end(rt: HostRuntime) -> Resul
 fn outcome_of(alloc: Global, file: &[u8]) -> Result<FileOutcome, AllocError> {
     let found = answers(alloc, file)?;
     Ok(found.outcome)
+}
+
+/// Tells whether a file is answered so.
+fn answers_so(alloc: Global, file: &[u8], answer: &[u8]) -> Result<bool, AllocError> {
+    let found = answers(alloc, file)?;
+    Ok(found.text.as_slice() == answer)
+}
+
+/// A word that is read and then cleared is lost what is stored between the two.
+#[test]
+fn a_word_that_is_copied_while_it_is_stored_is_refused(rt: HostRuntime) -> Result<(), Fail> {
+    let early = b"fresh\nproducer routed\nnumbers old old\nroute 0\ncopy pending 0\nfence 0\n\
+zero old pending 0\njoin pending 0\n";
+    let lost =
+        b"refused words at line 7: zero old pending 0\n  run: identity 1 is pending nowhere at \
+the start; producer 0 stores it behind line 5 by its route in force; in the end it is nowhere: it \
+is lost\n";
+    let is_lost = answers_so(rt.alloc(), early, lost)?;
+    assert!(rt; is_lost);
+    let late = b"fresh\nproducer routed\nnumbers old old\nroute 0\nfence 0\ncopy pending 0\n\
+zero old pending 0\njoin pending 0\ncopy enabled 0\nput enabled 0\nzero old enabled 0\n";
+    let is_kept = answers_so(rt.alloc(), late, b"accepted\n")?;
+    assert!(rt; is_kept);
+    Ok(())
+}
+
+/// A plan that moves all and gives the old place back, whose next owner takes its numbers over.
+const INHERITED: &[u8] = b"fresh\ninherited\ntake pending 0\njoin pending 0\ntake enabled 0\n\
+join enabled 0\ntake threshold\ncopy delivery\nput threshold\nput delivery\n";
+
+#[test]
+fn what_is_left_to_the_next_owner_is_told(rt: HostRuntime) -> Result<(), Fail> {
+    let mut open = Vec::new(rt.alloc());
+    open.extend_from_slice(INHERITED)?;
+    open.extend_from_slice(b"free\n")?;
+    let left =
+        b"refused freeing at line 11: free\n  run: identity 1 is enabled in the old place at \
+the start; in the end delivery is left in the old place for its next owner\n";
+    let is_left = answers_so(rt.alloc(), &open, left)?;
+    assert!(rt; is_left);
+    let mut shut = Vec::new(rt.alloc());
+    shut.extend_from_slice(INHERITED)?;
+    shut.extend_from_slice(b"zero old delivery\nfree\n")?;
+    let is_shut = answers_so(rt.alloc(), &shut, b"accepted\n")?;
+    assert!(rt; is_shut);
+    Ok(())
+}
+
+#[test]
+fn the_old_place_is_given_back_once(rt: HostRuntime) -> Result<(), Fail> {
+    let mut twice = Vec::new(rt.alloc());
+    twice.extend_from_slice(GOOD)?;
+    twice.extend_from_slice(b"free\nfree\n")?;
+    let strayed =
+        b"refused freeing at line 11: free\n  run: identity 1 is pending in the old place \
+at the start; the old place is reached after it was given back\n";
+    let is_strayed = answers_so(rt.alloc(), &twice, strayed)?;
+    assert!(rt; is_strayed);
+    Ok(())
+}
+
+#[test]
+fn a_bad_line_may_begin_a_plan(rt: HostRuntime) -> Result<(), Fail> {
+    let mut file = Vec::new(rt.alloc());
+    file.extend_from_slice(GOOD)?;
+    file.extend_from_slice(b"plan two\nfree\nplan\nwords 2\nplan again\n")?;
+    let answer =
+        b"accepted\nbad line 10\nrefused routes in the end\n  run: identity 1 is pending in \
+the old place at the start; in the end it is in the old place, since nothing takes its word\n\
+bad line 14\n";
+    let is_so = answers_so(rt.alloc(), &file, answer)?;
+    assert!(rt; is_so);
+    Ok(())
 }
 
 #[test]

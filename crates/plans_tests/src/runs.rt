@@ -9,7 +9,7 @@ use std::test::Fail;
 const FILE: &[u8] = b"words 1\nplan\nnonsense\n";
 
 const ANSWERS: &[u8] = b"refused routes in the end\n  run: identity 1 is pending in the old place \
-at the start\nbad line 3\n";
+at the start; in the end it is in the old place, since nothing takes its word\nbad line 3\n";
 
 /// Which calls of a source and of a sink fail, counted from 1; 0 is none.
 #[derive(Clone, Copy)]
@@ -36,7 +36,7 @@ fn copied(alloc: Global, bytes: &[u8]) -> Result<Vec<u8>, AllocError> {
 /// What is answered of its first plan.
 const FIRST: &[u8] =
     b"refused routes in the end\n  run: identity 1 is pending in the old place at the \
-start\n";
+start; in the end it is in the old place, since nothing takes its word\n";
 
 /// Judges the file, in pieces of 5 bytes.
 fn judged(alloc: Global, words: &[&str], failing: Failing) -> Result<Ended, AllocError> {

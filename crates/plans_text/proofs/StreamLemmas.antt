@@ -40,12 +40,15 @@ bad_after given r = by_bad r.plan.bad
 as_after : (given text : Text) (x : Reading) (r : FileRead) → as_read text x (after given r) ≡ after given (as_read text x r)
 as_after given text readings.Skip r = refl
 as_after given text readings.Bad r = bad_after given r
+as_after given text readings.BadPlan r =
+    ap (λ a. record (as_read text readings.BadPlan r) { answers = a }) (append_assoc given r.answers (plan_answer r.plan))
 as_after given text (readings.Line lines.Plan) r =
     ap (λ a. record (as_read text (readings.Line lines.Plan) r) { answers = a }) (append_assoc given r.answers (plan_answer r.plan))
 as_after given text (readings.Line (lines.Words n)) r = line_after given text (lines.Words n) r
 as_after given text (readings.Line lines.Fresh) r = line_after given text lines.Fresh r
 as_after given text (readings.Line lines.Memory) r = line_after given text lines.Memory r
 as_after given text (readings.Line lines.Heeds) r = line_after given text lines.Heeds r
+as_after given text (readings.Line lines.Inherited) r = line_after given text lines.Inherited r
 as_after given text (readings.Line lines.NoticesUnset) r = line_after given text lines.NoticesUnset r
 as_after given text (readings.Line (lines.Numbers from to)) r = line_after given text (lines.Numbers from to) r
 as_after given text (readings.Line (lines.Producer kind)) r = line_after given text (lines.Producer kind) r

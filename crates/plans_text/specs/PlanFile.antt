@@ -24,6 +24,11 @@ use Rattle.plans_counterexamples.specs.declared.trace.StoreRoute.TheVariants.{Wr
 use Rattle.plans_counterexamples.specs.declared.run.Extra.{Extra}
 use Rattle.plans_counterexamples.specs.declared.run.Extra.TheVariants as extras
 use Rattle.plans_counterexamples.specs.declared.run.Run.{Run}
+use Rattle.plans_counterexamples.specs.declared.run.Fate.{Fate}
+use Rattle.plans_counterexamples.specs.declared.run.Fate.TheVariants as fates
+use Rattle.plans_counterexamples.specs.declared.search.Losing.{Losing}
+use Rattle.plans_rules.specs.declared.step.Number.{Number}
+use Rattle.plans_rules.specs.declared.step.Number.TheVariants.{Threshold, Delivery}
 use Rattle.plans_counterexamples.specs.declared.untold.Store.{Store}
 use Rattle.plans_counterexamples.specs.declared.untold.UntoldRun.{UntoldRun}
 use Rattle.plans_counterexamples.specs.Search.{losing_run_of}
@@ -71,6 +76,7 @@ first_terms = record {
   in_memory = false;
   heeds = false;
   notices_go = true;
+  is_inherited = false;
   number_from = InOld;
   number_to = InNew;
 }
@@ -100,6 +106,7 @@ terms_with (lines.Words n) terms =
 terms_with lines.Fresh terms = Some (record terms { is_fresh = true })
 terms_with lines.Memory terms = Some (record terms { in_memory = true })
 terms_with lines.Heeds terms = Some (record terms { heeds = true })
+terms_with lines.Inherited terms = Some (record terms { is_inherited = true })
 terms_with lines.NoticesUnset terms = Some (record terms { notices_go = false })
 terms_with (lines.Numbers from to) terms = Some (record terms {
   number_from = from;
@@ -131,6 +138,7 @@ is_known words producers (steps.Fence p) = nat_lt p producers
 is_known words producers (steps.Switch p) = nat_lt p producers
 is_known words producers (steps.Zero place s w) = nat_lt w words
 is_known words producers (steps.Take s w) = nat_lt w words
+is_known words producers (steps.Copy s w) = nat_lt w words
 is_known words producers (steps.Join s w) = nat_lt w words
 is_known words producers (steps.Put s w) = nat_lt w words
 is_known words producers (steps.Look w) = nat_lt w words
@@ -197,40 +205,68 @@ abbrev pub between_text : List StepLine → ℕ → Text
 between_text places before =
     if nat_eq before 0 then behind_text None else behind_text (slice_get places (before - 1))
 
--- A store that lands with more steps before it than there are lands at its fence alone.
-abbrev pub landing_text : List StepLine → ℕ → Text
-landing_text places before =
-    if nat_le before (length places) then codes ", and lands" ++ between_text places before
-    else codes ", and lands at its fence"
-
 -- What comes between the steps of the run.
 abbrev pub extra_text : List StepLine → ℕ → Extra → Text
 extra_text places producer extras.Nothing = []
 extra_text places producer (extras.Stores before route) =
     codes "; producer " ++ (decimal producer ++ (codes " stores it"
     ++ (between_text places before ++ route_word route)))
-extra_text places producer (extras.Lingers before) =
+extra_text places producer (extras.Sends before lands) =
     codes "; a store of producer " ++ (decimal producer ++ (codes " for it is sent"
-    ++ (between_text places before ++ codes ", and lands no sooner than it is fenced")))
-extra_text places producer (extras.Flies before) =
-    codes "; a store of producer " ++ (decimal producer ++ (codes " for it is in flight"
-    ++ landing_text places before))
+    ++ (between_text places before ++ (codes ", and lands" ++ (between_text places lands
+    ++ codes ", or sooner, at its fence")))))
 
 -- Which identity is followed, in which set, and where it stands at the start.
 abbrev pub case_text : Run → Text
 case_text run =
     decimal run.case.identity ++ (bank_word run.case.bank ++ begin_word run.begin)
 
--- What is shown where no run is found: runs with more stores were not looked for.
+-- How a number is named.
+abbrev pub number_word : Number → Text
+number_word Threshold = codes "threshold"
+number_word Delivery = codes "delivery"
+
+-- Which line it is that a step with so many steps before it stands at.
+abbrev pub line_text : List StepLine → ℕ → Text
+line_text places before = elim (slice_get places before) [
+  | None ↦ codes "a line"
+  | Some place ↦ codes "line " ++ decimal place.line
+]
+
+-- What becomes in the end of what is followed: a sentence, of the identity or of a number.
+abbrev pub fate_text : List StepLine → Run → Fate → Text
+fate_text places run fates.NotLed =
+    codes "; in the end it is in the old place, where the route of producer "
+    ++ (decimal run.case.producer ++ codes " leads still")
+fate_text places run fates.NotTaken =
+    codes "; in the end it is in the old place, since nothing takes its word"
+fate_text places run (fates.TakenEarly before) =
+    codes "; in the end it is in the old place, since "
+    ++ (line_text places before ++ codes " takes its word too early")
+fate_text places run fates.Held = codes "; in the end it is in the hand alone: it is lost"
+fate_text places run fates.Gone = codes "; in the end it is nowhere: it is lost"
+fate_text places run fates.LeftOver =
+    codes "; in the end it is in the new place, where nobody asked for it"
+fate_text places run fates.Misplaced =
+    codes "; in the end " ++ (number_word run.case.number
+    ++ codes " is not where it has to be, as it was")
+fate_text places run fates.Strayed =
+    codes "; the old place is reached after it was given back"
+fate_text places run fates.Inherited =
+    codes "; in the end " ++ (number_word run.case.number
+    ++ codes " is left in the old place for its next owner")
+
+-- What is shown where no run is found: others were not looked for.
 abbrev pub none_text : Text
-none_text = 10 ∷ codes "  run: none was found with one store at most"
+none_text = 10 ∷ codes "  run: none was found among those that are tried"
 
 -- The run that is shown, if one is found.
-abbrev pub run_text : List StepLine → Option Run → Text
+abbrev pub run_text : List StepLine → Option Losing → Text
 run_text places None = none_text
-run_text places (Some run) =
+run_text places (Some found) =
     (10 ∷ codes "  run: identity ")
-    ++ (case_text run ++ extra_text places run.case.producer run.extra)
+    ++ (case_text found.run ++ (extra_text places found.run.case.producer found.run.extra
+    ++ fate_text places found.run found.fate))
 
 -- ---- the run that is shown of a plan that may leave its host untold
 
@@ -301,7 +337,7 @@ shown_of producers terms plan Accepted = shows.Nothing
 shown_of producers terms plan (Refused rules.Notice before) =
     shows.Untold (untold_run_of producers terms plan) terms.heeds
 shown_of producers terms plan (Refused rule before) =
-    shows.Losing (losing_run_of producers terms plan)
+    shows.Losing (losing_run_of rule producers terms plan before)
 
 -- The text of the verdict on a plan.
 abbrev pub found_text : List StepLine → List RouteKind → Terms → List AnyStep → Judgement → Text
@@ -348,7 +384,7 @@ none_read = record { plan = no_plan; lines = 0; answers = []; outcome = NoPlan }
 abbrev pub all_outcomes : FileRead → FileOutcome
 all_outcomes read = worse read.outcome (plan_outcome read.plan)
 
--- A plan begins: the one before it ends.
+-- A plan begins: the one before it ends. Where the line that begins it is bad, so is the plan.
 abbrev pub plan_begun : FileRead → FileRead
 plan_begun read = record {
   plan = record no_plan { is_begun = true };
@@ -356,6 +392,9 @@ plan_begun read = record {
   answers = read.answers ++ plan_answer read.plan;
   outcome = all_outcomes read;
 }
+
+abbrev pub bad_plan_begun : FileRead → FileRead
+bad_plan_begun read = record (plan_begun read) { plan = bad_at read.lines (plan_begun read).plan }
 
 -- A line that is no `plan`; after a bad one nothing more is read of a plan.
 abbrev pub line_read : Text → PlanLine → FileRead → FileRead
@@ -371,6 +410,7 @@ as_read text readings.Bad read = elim read.plan.bad [
   | Some bad ↦ read
   | None ↦ record read { plan = bad_at read.lines read.plan }
 ]
+as_read text readings.BadPlan read = bad_plan_begun read
 as_read text (readings.Line lines.Plan) read = plan_begun read
 as_read text (readings.Line line) read = line_read text line read
 

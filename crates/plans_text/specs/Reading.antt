@@ -148,6 +148,11 @@ abbrev pub take_of : Thing → AnyStep
 take_of (things.Word bank word) = steps.Take bank word
 take_of (things.Number number) = steps.TakeNumber number
 
+-- The step that copies it from the old place.
+abbrev pub copy_of : Thing → AnyStep
+copy_of (things.Word bank word) = steps.Copy bank word
+copy_of (things.Number number) = steps.CopyNumber number
+
 -- The step that puts it in the new place.
 abbrev pub put_of : Thing → AnyStep
 put_of (things.Word bank word) = steps.Put bank word
@@ -180,6 +185,12 @@ take_at text = do
   thing ← thing_at text
   at_end thing.1 (take_of thing.0)
 
+-- What follows `copy`.
+unfoldable pub copy_at : Text → Option AnyStep
+copy_at text = do
+  thing ← thing_at text
+  at_end thing.1 (copy_of thing.0)
+
 -- What follows `put`.
 unfoldable pub put_at : Text → Option AnyStep
 put_at text = do
@@ -205,6 +216,7 @@ abbrev pub moving_named : Text → Text → Option AnyStep
 moving_named name text =
     if bytes_eq name (codes "zero") then zero_at text
     else if bytes_eq name (codes "take") then take_at text
+    else if bytes_eq name (codes "copy") then copy_at text
     else if bytes_eq name (codes "join") then join_at text
     else if bytes_eq name (codes "put") then put_at text else None
 
@@ -276,7 +288,8 @@ flag_named name text =
     if bytes_eq name (codes "plan") then at_end text lines.Plan
     else if bytes_eq name (codes "fresh") then at_end text lines.Fresh
     else if bytes_eq name (codes "memory") then at_end text lines.Memory
-    else if bytes_eq name (codes "heeds") then at_end text lines.Heeds else None
+    else if bytes_eq name (codes "heeds") then at_end text lines.Heeds
+    else if bytes_eq name (codes "inherited") then at_end text lines.Inherited else None
 
 -- A declaration, or the begin of a plan, by its name and the text behind it.
 abbrev pub declaration_named : Text → Text → Option PlanLine
@@ -298,18 +311,27 @@ line_named name text =
 
 -- ---- a text
 
+-- What a text is that spells no line, by its first word: a plan that begins there is bad.
+abbrev pub bad_by : Text → Reading
+bad_by word = if bytes_eq word (codes "plan") then readings.BadPlan else readings.Bad
+
 -- What a text says that has a word: a line, or it is bad.
-abbrev pub line_or_bad : Option PlanLine → Reading
-line_or_bad None = readings.Bad
-line_or_bad (Some line) = readings.Line line
+abbrev pub line_or_bad : Text → Option PlanLine → Reading
+line_or_bad word None = bad_by word
+line_or_bad word (Some line) = readings.Line line
 
 -- What a text says, by its first word and the text behind that.
 abbrev pub words_read : Option (Text × Text) → Reading
 words_read None = readings.Skip
-words_read (Some word) = line_or_bad (line_named word.0 word.1)
+words_read (Some word) = line_or_bad word.0 (line_named word.0 word.1)
+
+-- What one that is too long is, likewise.
+abbrev pub long_read : Option (Text × Text) → Reading
+long_read None = readings.Bad
+long_read (Some word) = bad_by word.0
 
 -- What a text says: nothing, where it has no word; one that is too long is bad.
 unfoldable pub reading : Text → Reading
 reading text =
     if nat_le (length text) LINE_BYTES then words_read (next_word (before_comment text))
-    else readings.Bad
+    else long_read (next_word (before_comment text))

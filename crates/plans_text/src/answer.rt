@@ -1,16 +1,16 @@
 //! What is answered of a plan.
 
-ghost use Rattle.std.specs.Prelude.{◌≡◌, ◌++◌, Some, OnOk, map, decimal, slice_get};
+ghost use Rattle.std.specs.Prelude.{◌≡◌, ◌++◌, Some, OnOk, codes, map, decimal, slice_get};
 ghost use Rattle.plans_counterexamples.specs.declared.run.Extra.TheVariants as extras;
 ghost use Rattle.plans_text.specs.PlanFile as file;
 ghost use Rattle.plans_text.specs.PlanFile.{place_of};
 
 use crate::draft::Mark;
 use crate::shown::Shown;
-use crate::untold::push_untold;
+use crate::untold::{push_untold, push_words};
 use itoa::Buffer;
-use plans_counterexamples::{Begin, Extra, Run, StoreRoute};
-use plans_judge::{Judgement, Rule, WhichSet};
+use plans_counterexamples::{Begin, Extra, Fate, Losing, Run, StoreRoute};
+use plans_judge::{Judgement, Number, Rule, WhichSet};
 use std::alloc::AllocError;
 
 /// Gives the word of a rule.
@@ -94,20 +94,6 @@ fn push_behind(out: &mut Vec<u8>, mark: &Mark) -> Result<(), AllocError>
     push_number(out, mark.line as u64)
 }
 
-/// Appends where a store in flight lands. `Err`: there is no memory for it.
-#[tactic(auto, using(crate::proofs::FileLemmas::place_lemmas))]
-fn push_landing(out: &mut Vec<u8>, marks: &[Mark], before: usize) -> Result<(), AllocError>
-    ensures { OnOk result (out.new.items
-        ≡ out.old.items ++ file.landing_text (map place_of marks.now) before) }
-{
-    if before <= marks.len() {
-        out.extend_from_slice(b", and lands")?;
-        push_between(out, marks, before)
-    } else {
-        out.extend_from_slice(b", and lands at its fence")
-    }
-}
-
 /// Gives the words for a route.
 fn route_word(route: StoreRoute) -> &'static [u8]
     ensures { result.now ≡ file.route_word route }
@@ -157,37 +143,33 @@ pub(crate) fn push_store(
     out.extend_from_slice(route_word(route))
 }
 
-/// Appends a store that is in flight. `Err`: there is no memory for it.
-fn push_flight(
-    out: &mut Vec<u8>,
-    marks: &[Mark],
-    producer: usize,
-    before: usize,
-) -> Result<(), AllocError>
-    ensures { OnOk result (out.new.items ≡ out.old.items
-        ++ file.extra_text (map place_of marks.now) producer (extras.Flies before)) }
-{
-    out.extend_from_slice(b"; a store of producer ")?;
-    push_number(out, producer as u64)?;
-    out.extend_from_slice(b" for it is in flight")?;
-    push_landing(out, marks, before)
-}
-
 /// Appends a store that is sent. `Err`: there is no memory for it.
 fn push_sent(
     out: &mut Vec<u8>,
     marks: &[Mark],
     producer: usize,
     before: usize,
+    lands: usize,
 ) -> Result<(), AllocError>
     ensures { OnOk result (out.new.items ≡ out.old.items
-        ++ file.extra_text (map place_of marks.now) producer (extras.Lingers before)) }
+        ++ file.extra_text (map place_of marks.now) producer (extras.Sends before lands)) }
 {
     out.extend_from_slice(b"; a store of producer ")?;
     push_number(out, producer as u64)?;
     out.extend_from_slice(b" for it is sent")?;
     push_between(out, marks, before)?;
-    out.extend_from_slice(b", and lands no sooner than it is fenced")
+    push_lands(out, marks, lands)
+}
+
+/// Appends where a store that is sent lands. `Err`: there is no memory for it.
+fn push_lands(out: &mut Vec<u8>, marks: &[Mark], lands: usize) -> Result<(), AllocError>
+    ensures { OnOk result (out.new.items ≡ out.old.items
+        ++ (codes ", and lands" ++ (file.between_text (map place_of marks.now) lands
+        ++ codes ", or sooner, at its fence"))) }
+{
+    out.extend_from_slice(b", and lands")?;
+    push_between(out, marks, lands)?;
+    push_words(out, b", or sooner, at its fence")
 }
 
 /// Appends the store of a run, where it has one. `Err`: there is no memory for it.
@@ -203,8 +185,7 @@ fn push_extra(
     match extra {
         Extra::Nothing => Ok(()),
         Extra::Stores { before, route } => push_store(out, marks, producer, before, route),
-        Extra::Flies { before } => push_flight(out, marks, producer, before),
-        Extra::Lingers { before } => push_sent(out, marks, producer, before),
+        Extra::Sends { before, lands } => push_sent(out, marks, producer, before, lands),
     }
 }
 
@@ -217,31 +198,136 @@ fn push_case(out: &mut Vec<u8>, run: Run) -> Result<(), AllocError>
     out.extend_from_slice(begin_word(run.begin))
 }
 
-/// Appends a run in a line of its own. `Err`: there is no memory for it.
-fn push_whole_run(out: &mut Vec<u8>, marks: &[Mark], run: Run) -> Result<(), AllocError>
+/// Gives the word for a number.
+fn number_word(number: Number) -> &'static [u8]
+    ensures { result.now ≡ file.number_word number }
+{
+    match number {
+        Number::Threshold => b"threshold",
+        Number::Delivery => b"delivery",
+    }
+}
+
+/// Appends the line of a step. `Err`: there is no memory for it.
+fn push_line(out: &mut Vec<u8>, mark: &Mark) -> Result<(), AllocError>
     ensures { OnOk result (out.new.items
-        ≡ out.old.items ++ file.run_text (map place_of marks.now) (Some run)) }
+        ≡ out.old.items ++ (codes "line " ++ decimal (place_of mark.now).line)) }
+{
+    out.extend_from_slice(b"line ")?;
+    push_number(out, mark.line as u64)
+}
+
+/// Appends which line it is that a step with so many before it stands at. `Err`: there is no memory
+/// for it.
+#[tactic(auto, using(crate::proofs::FileLemmas::place_lemmas))]
+fn push_line_of(out: &mut Vec<u8>, marks: &[Mark], before: usize) -> Result<(), AllocError>
+    ensures { OnOk result (out.new.items
+        ≡ out.old.items ++ file.line_text (map place_of marks.now) before) }
+{
+    match marks.get(before) {
+        None => out.extend_from_slice(b"a line"),
+        Some(mark) => push_line(out, mark),
+    }
+}
+
+/// Appends that a route leads to the old place still. `Err`: there is no memory for it.
+fn push_not_led(out: &mut Vec<u8>, producer: usize) -> Result<(), AllocError>
+    ensures { OnOk result (out.new.items ≡ out.old.items
+        ++ (codes "; in the end it is in the old place, where the route of producer "
+        ++ (decimal producer ++ codes " leads still"))) }
+{
+    out.extend_from_slice(b"; in the end it is in the old place, where the route of producer ")?;
+    push_number(out, producer as u64)?;
+    out.extend_from_slice(b" leads still")
+}
+
+/// Appends that a line takes a word too early. `Err`: there is no memory for it.
+fn push_early(out: &mut Vec<u8>, marks: &[Mark], before: usize) -> Result<(), AllocError>
+    ensures { OnOk result (out.new.items ≡ out.old.items
+        ++ (codes "; in the end it is in the old place, since "
+        ++ (file.line_text (map place_of marks.now) before ++ codes " takes its word too early"))) }
+{
+    out.extend_from_slice(b"; in the end it is in the old place, since ")?;
+    push_line_of(out, marks, before)?;
+    out.extend_from_slice(b" takes its word too early")
+}
+
+/// Appends what becomes of a number: it is not where it has to be, or is left in the old place.
+/// `Err`: there is no memory for it.
+fn push_number_fate(out: &mut Vec<u8>, number: Number, words: &[u8]) -> Result<(), AllocError>
+    ensures { OnOk result (out.new.items ≡ out.old.items
+        ++ (codes "; in the end " ++ (file.number_word number ++ words.now))) }
+{
+    out.extend_from_slice(b"; in the end ")?;
+    out.extend_from_slice(number_word(number))?;
+    out.extend_from_slice(words)
+}
+
+/// Appends what becomes of what a run follows. `Err`: there is no memory for it.
+fn push_fate(out: &mut Vec<u8>, marks: &[Mark], run: Run, fate: Fate) -> Result<(), AllocError>
+    ensures { OnOk result (out.new.items
+        ≡ out.old.items ++ file.fate_text (map place_of marks.now) run fate) }
+{
+    let number = run.case.number;
+    match fate {
+        Fate::NotLed => push_not_led(out, run.case.producer),
+        Fate::NotTaken => {
+            out.extend_from_slice(
+                b"; in the end it is in the old place, since nothing takes its word",
+            )
+        }
+        Fate::TakenEarly { before } => push_early(out, marks, before),
+        Fate::Held => out.extend_from_slice(b"; in the end it is in the hand alone: it is lost"),
+        Fate::Gone => out.extend_from_slice(b"; in the end it is nowhere: it is lost"),
+        Fate::LeftOver => {
+            out.extend_from_slice(b"; in the end it is in the new place, where nobody asked for it")
+        }
+        Fate::Misplaced => push_number_fate(out, number, b" is not where it has to be, as it was"),
+        Fate::Strayed => out.extend_from_slice(
+            b"; the old place is reached after it was given back",
+        ),
+        Fate::Inherited => {
+            push_number_fate(out, number, b" is left in the old place for its next owner")
+        }
+    }
+}
+
+/// Appends the store of a run, and what becomes of what it follows. `Err`: there is no memory for
+/// it.
+fn push_course(out: &mut Vec<u8>, marks: &[Mark], found: Losing) -> Result<(), AllocError>
+    ensures { OnOk result (out.new.items ≡ out.old.items
+        ++ (file.extra_text (map place_of marks.now) found.run.case.producer found.run.extra
+        ++ file.fate_text (map place_of marks.now) found.run found.fate)) }
+{
+    push_extra(out, marks, found.run.case.producer, found.run.extra)?;
+    push_fate(out, marks, found.run, found.fate)
+}
+
+/// Appends a run in a line of its own. `Err`: there is no memory for it.
+fn push_whole_run(out: &mut Vec<u8>, marks: &[Mark], found: Losing) -> Result<(), AllocError>
+    ensures { OnOk result (out.new.items
+        ≡ out.old.items ++ file.run_text (map place_of marks.now) (Some found)) }
 {
     out.extend_from_slice(b"\n  run: identity ")?;
-    push_case(out, run)?;
-    push_extra(out, marks, run.case.producer, run.extra)
+    push_case(out, found.run)?;
+    push_course(out, marks, found)
 }
 
 /// Appends that no run was found. `Err`: there is no memory for it.
 pub(crate) fn push_none(out: &mut Vec<u8>) -> Result<(), AllocError>
     ensures { OnOk result (out.new.items ≡ out.old.items ++ file.none_text) }
 {
-    out.extend_from_slice(b"\n  run: none was found with one store at most")
+    out.extend_from_slice(b"\n  run: none was found among those that are tried")
 }
 
 /// Appends a run, or that none was found. `Err`: there is no memory for it.
-fn push_run(out: &mut Vec<u8>, marks: &[Mark], run: Option<Run>) -> Result<(), AllocError>
+fn push_run(out: &mut Vec<u8>, marks: &[Mark], found: Option<Losing>) -> Result<(), AllocError>
     ensures { OnOk result (out.new.items
-        ≡ out.old.items ++ file.run_text (map place_of marks.now) run) }
+        ≡ out.old.items ++ file.run_text (map place_of marks.now) found) }
 {
-    match run {
+    match found {
         None => push_none(out),
-        Some(run) => push_whole_run(out, marks, run),
+        Some(found) => push_whole_run(out, marks, found),
     }
 }
 
@@ -252,7 +338,7 @@ fn push_shown(out: &mut Vec<u8>, marks: &[Mark], shown: Shown) -> Result<(), All
 {
     match shown {
         Shown::Nothing => Ok(()),
-        Shown::Losing(run) => push_run(out, marks, run),
+        Shown::Losing(found) => push_run(out, marks, found),
         Shown::Untold { run, heeds } => push_untold(out, marks, heeds, run),
     }
 }

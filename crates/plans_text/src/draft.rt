@@ -46,6 +46,7 @@ fn first_terms() -> Terms
         in_memory: false,
         heeds: false,
         notices_go: true,
+        is_inherited: false,
         number_from: NumberSpot::InOld,
         number_to: NumberSpot::InNew,
     }
@@ -76,6 +77,10 @@ fn terms_with(line: PlanLine, terms: Terms) -> Option<Terms>
             heeds: true,
             ..terms
         }),
+        PlanLine::Inherited => Some(Terms {
+            is_inherited: true,
+            ..terms
+        }),
         PlanLine::NoticesUnset => Some(Terms {
             notices_go: false,
             ..terms
@@ -95,8 +100,9 @@ fn is_known(words: u32, producers: usize, step: AnyStep) -> bool
 {
     match step {
         AnyStep::Route(p) | AnyStep::Fence(p) | AnyStep::Switch(p) => (p as usize) < producers,
-        AnyStep::Zero(_, _, w) | AnyStep::Take(_, w) | AnyStep::Join(_, w) | AnyStep::Put(_, w) => w
-            < words,
+        AnyStep::Zero(_, _, w) => w < words,
+        AnyStep::Take(_, w) | AnyStep::Copy(_, w) => w < words,
+        AnyStep::Join(_, w) | AnyStep::Put(_, w) => w < words,
         AnyStep::Look(w) => w < words,
         _ => true,
     }

@@ -24,6 +24,9 @@ pub enum PlanLine {
     /// `notices unset`: the notices of the new place go nowhere at the start.
     NoticesUnset,
 
+    /// `inherited`: the next owner of the old place takes its numbers over as they are.
+    Inherited,
+
     /// `numbers FROM TO`: where threshold and delivery are, and have to be.
     Numbers(NumberSpot, NumberSpot),
 
@@ -40,8 +43,11 @@ pub enum Reading {
     /// It spells a line.
     Line(PlanLine),
 
-    /// It spells none.
+    /// It spells none, and its first word is not `plan`.
     Bad,
+
+    /// It spells none, but its first word is `plan`, so that a plan begins here.
+    BadPlan,
 }
 
 /// What a step moves.

@@ -64,6 +64,16 @@ fn take_of(thing: Thing) -> AnyStep
     }
 }
 
+/// Gives the step that copies it.
+fn copy_of(thing: Thing) -> AnyStep
+    ensures { result ≡ reading.copy_of thing }
+{
+    match thing {
+        Thing::Word(bank, word) => AnyStep::Copy(bank, word),
+        Thing::Number(number) => AnyStep::CopyNumber(number),
+    }
+}
+
 /// Gives the step that puts it.
 fn put_of(thing: Thing) -> AnyStep
     ensures { result ≡ reading.put_of thing }
@@ -102,6 +112,15 @@ fn take_at(text: &[u8]) -> Option<AnyStep>
 {
     let (thing, rest) = thing_at(text)?;
     at_end(rest, take_of(thing))
+}
+
+/// Reads the thing of a `copy`. `None`: it is none.
+#[tactic(auto, unfolding(crate::specs::Reading::copy_at))]
+fn copy_at(text: &[u8]) -> Option<AnyStep>
+    ensures { result ≡ reading.copy_at text.now }
+{
+    let (thing, rest) = thing_at(text)?;
+    at_end(rest, copy_of(thing))
 }
 
 /// Reads the thing of a `put`. `None`: it is none.
@@ -155,6 +174,8 @@ fn moving_named(name: &[u8], text: &[u8]) -> Option<AnyStep>
         zero_at(text)
     } else if name == b"take".as_slice() {
         take_at(text)
+    } else if name == b"copy".as_slice() {
+        copy_at(text)
     } else if name == b"join".as_slice() {
         join_at(text)
     } else if name == b"put".as_slice() {
@@ -282,6 +303,8 @@ fn flag_named(name: &[u8], text: &[u8]) -> Option<PlanLine>
         at_end(text, PlanLine::Memory)
     } else if name == b"heeds".as_slice() {
         at_end(text, PlanLine::Heeds)
+    } else if name == b"inherited".as_slice() {
+        at_end(text, PlanLine::Inherited)
     } else {
         None
     }
@@ -315,6 +338,17 @@ fn line_named(name: &[u8], text: &[u8]) -> Option<PlanLine>
     Some(PlanLine::Step(step))
 }
 
+/// Gives what a text is that spells no line, by its first word.
+fn bad_by(name: &[u8]) -> Reading
+    ensures { result ≡ reading.bad_by name.now }
+{
+    if name == b"plan".as_slice() {
+        Reading::BadPlan
+    } else {
+        Reading::Bad
+    }
+}
+
 /// Reads the words of a text that is not too long.
 fn read_words(text: &[u8]) -> Reading
     ensures { result ≡ reading.words_read (reading.next_word text.now) }
@@ -323,13 +357,24 @@ fn read_words(text: &[u8]) -> Reading
         None => Reading::Skip,
         Some((name, rest)) => match line_named(name, rest) {
             Some(line) => Reading::Line(line),
-            None => Reading::Bad,
+            None => bad_by(name),
         },
     }
 }
 
+/// Reads the first word of a text that is too long.
+fn read_long(text: &[u8]) -> Reading
+    ensures { result ≡ reading.long_read (reading.next_word text.now) }
+{
+    match next_word(text) {
+        None => Reading::Bad,
+        Some((name, _)) => bad_by(name),
+    }
+}
+
 /// Reads a text of a plan file, its LF left out: at most 128 bytes, words with any number of spaces
-/// between them, and a comment from `#` on.
+/// between them, and a comment from `#` on. Of one that is longer, or spells no line, the first word
+/// tells whether a plan begins there.
 #[tactic(auto, unfolding(crate::specs::Reading::reading))]
 pub fn parse_line(text: &[u8]) -> Reading
     ensures { result ≡ reading.reading text.now }
@@ -337,6 +382,6 @@ pub fn parse_line(text: &[u8]) -> Reading
     if text.len() <= LINE_BYTES {
         read_words(before_comment(text))
     } else {
-        Reading::Bad
+        read_long(before_comment(text))
     }
 }

@@ -71,6 +71,11 @@ impl PlanFile {
                 }
                 Ok(())
             }
+            Reading::BadPlan => {
+                self.begin(alloc)?;
+                self.draft.mark_bad(self.lines);
+                Ok(())
+            }
             Reading::Line(PlanLine::Plan) => self.begin(alloc),
             Reading::Line(line) => {
                 if self.draft.is_bad() {

@@ -3,7 +3,7 @@
 ghost use Rattle.std.specs.Prelude.{◌≡◌};
 ghost use Rattle.plans_text.specs.PlanFile as file;
 
-use plans_counterexamples::{Run, UntoldRun, losing_run, untold_run};
+use plans_counterexamples::{Losing, UntoldRun, losing_run, untold_run};
 use plans_judge::{AnyStep, Judgement, RouteKind, Rule, Terms};
 
 /// What is shown of a plan beside its verdict.
@@ -12,8 +12,8 @@ pub(crate) enum Shown {
     /// Nothing, since it is accepted.
     Nothing,
 
-    /// A run that loses something. `None`: none was found.
-    Losing(Option<Run>),
+    /// A run that shows that a rule of safety is broken. `None`: none was found.
+    Losing(Option<Losing>),
 
     /// A run that leaves the host untold, and whether a notice heeds the numbers. `None`: none was
     /// found.
@@ -38,6 +38,8 @@ pub(crate) fn shown_of(
             run: untold_run(producers, terms, plan),
             heeds: terms.heeds,
         },
-        Judgement::Refused { .. } => Shown::Losing(losing_run(producers, terms, plan)),
+        Judgement::Refused { rule, before } => {
+            Shown::Losing(losing_run(rule, producers, terms, plan, before))
+        }
     }
 }

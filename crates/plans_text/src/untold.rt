@@ -22,7 +22,7 @@ fn spot_word(spot: NumberSpot) -> &'static [u8]
 }
 
 /// Appends words. `Err`: there is no memory for them.
-fn push_words(out: &mut Vec<u8>, words: &[u8]) -> Result<(), AllocError>
+pub(crate) fn push_words(out: &mut Vec<u8>, words: &[u8]) -> Result<(), AllocError>
     ensures { OnOk result (out.new.items ≡ out.old.items ++ words.now) }
 {
     out.extend_from_slice(words)

@@ -25,16 +25,16 @@ class Setting:
     """What is declared: kinds of producers, words, and what the new place is."""
 
     def __init__(self, producers: list[str], words: int, fresh: bool, memory: bool, heeds: bool,
-                 start: str, end: str, unset: bool = False) -> None:
+                 start: str, end: str, unset: bool = False, inherited: bool = False) -> None:
         self.producers, self.words = producers, words
         self.fresh, self.memory, self.heeds = fresh, memory, heeds
-        self.start, self.end, self.unset = start, end, unset
+        self.start, self.end, self.unset, self.inherited = start, end, unset, inherited
 
     def lines(self) -> list[str]:
         """The declarations, as lines of a plan file."""
         out = ['plan', f'words {self.words}', f'numbers {self.start} {self.end}']
         out += [f'producer {kind}' for kind in self.producers]
-        for name in ('fresh', 'memory', 'heeds'):
+        for name in ('fresh', 'memory', 'heeds', 'inherited'):
             if getattr(self, name):
                 out.append(name)
         return out + ['notices unset'] * self.unset
@@ -66,6 +66,15 @@ def hypervisors(words: int) -> Iterator[tuple[Setting, list[tuple[int | str, ...
            zeroed + kvm + swapped + joined + put)
     yield (Setting(host, words, False, False, False, 'old', 'new'),
            zeroed + kvm + swapped + [('free',)] + joined + put)
+    copied = [('copy', 'delivery'), ('copy', 'threshold')] + both_sets(words, 'copy')
+    cleared = [('zero', 'old', 'delivery'), ('zero', 'old', 'threshold')]
+    cleared += [('zero', 'old', b, w) for w in range(words) for b in ('pending', 'enabled')]
+    yield (Setting(host, words, False, False, False, 'old', 'new', False, True),
+           zeroed + kvm + copied + cleared + joined + put + [('free',)])
+    yield (Setting(host, words, True, False, False, 'hand', 'new', False, True),
+           kvm + copied[2:] + joined + cleared + put + [('free',)])
+    yield (Setting(host, words, True, True, False, 'old', 'hand', False, True),
+           copied[:2] + kvm + copied[2:] + joined + cleared + [('tell',), ('free',)])
     yield (Setting(host, words, True, True, True, 'old', 'new'),
            [('switch', 0), ('route', 1), ('fence', 1)] + swapped
            + [('put', 'delivery'), ('put', 'threshold')] + joined + [('tell',), ('free',)])
@@ -83,10 +92,10 @@ def all_steps(setting: Setting) -> list[tuple[int | str, ...]]:
     for w in range(setting.words):
         out.append(('look', w))
         for bank in ('pending', 'enabled'):
-            out += [(verb, bank, w) for verb in ('take', 'join', 'put')]
+            out += [(verb, bank, w) for verb in ('take', 'copy', 'join', 'put')]
             out += [('zero', place, bank, w) for place in ('old', 'new')]
     for number in ('threshold', 'delivery'):
-        out += [('take', number), ('put', number)]
+        out += [('take', number), ('copy', number), ('put', number)]
         out += [('zero', place, number) for place in ('old', 'new')]
     return out
 
@@ -205,6 +214,14 @@ class Machine:
             self.hand[what] |= taken
             self.old[what] -= taken
 
+    def do_copy(self, what: str, word: int | None = None) -> None:
+        self.strayed |= self.freed
+        if word is None:
+            self.number['hand'][what] = self.number['old'][what]
+        else:
+            self.hand[what] -= self.of_word(self.hand[what], word)
+            self.hand[what] |= self.of_word(self.old[what], word)
+
     def do_join(self, bank: str, word: int) -> None:
         held = self.of_word(self.hand[bank], word)
         self.new[bank] |= held
@@ -230,7 +247,12 @@ class Machine:
         self.notices_reach_the_host = True
 
     def do_free(self) -> None:
+        self.strayed |= self.freed
         self.freed = True
+
+    def leaves_numbers(self) -> bool:
+        """Whether the next owner of an old place, which takes it as it is, finds a number there."""
+        return self.s.inherited and self.freed and any(self.number['old'].values())
 
     def is_untold(self) -> bool:
         """Whether something stands out in the new place, and the host was not told."""
@@ -243,7 +265,7 @@ class Machine:
                 or self.number[self.s.end] != {'threshold': 9, 'delivery': 1}
                 or 'old' in self.written or 'old' in self.force
                 or any(place == 'old' for _, place, _ in self.flights)
-                or (self.s.memory and self.is_untold()))
+                or self.leaves_numbers() or (self.s.memory and self.is_untold()))
 
 
 def is_bad_run(setting: Setting, plan: list[tuple[int | str, ...]],
@@ -292,52 +314,104 @@ def has_bad_run(setting: Setting, plan: list[tuple[int | str, ...]]) -> bool:
 
 
 SHOWN = re.compile(
-    r'  run: identity (\d+) is (pending|enabled) (nowhere|in the old place|in the new place)'
-    r' at the start(?:; producer (\d+) stores it (before the first step|behind line (\d+))'
-    r' by its (written route|route in force)'
-    r'|; a store of producer (\d+) for it is in flight, and lands'
-    r'(?: before the first step| behind line (\d+)| (at its fence))'
-    r'|; a store of producer (\d+) for it is sent'
-    r'(?: before the first step| behind line (\d+)), and lands no sooner than it is fenced)?')
+    r'  run: identity (?P<identity>\d+) is (?P<bank>pending|enabled) '
+    r'(?P<begin>nowhere|in the old place|in the new place) at the start'
+    r'(?:; producer (?P<storer>\d+) stores it (?:before the first step|behind line (?P<behind>\d+))'
+    r' by its (?P<route>written route|route in force)'
+    r'|; a store of producer (?P<sender>\d+) for it is sent'
+    r' (?:before the first step|behind line (?P<sent>\d+)),'
+    r' and lands (?:before the first step|behind line (?P<landing>\d+)), or sooner, at its fence)?'
+    r'(?P<fate>; .*)')
+LED = re.compile(r'in the end it is in the old place,'
+                 r' where the route of producer (\d+) leads still')
+EARLY = re.compile(r'in the end it is in the old place, since line (\d+) takes its word too early')
+LEFT = re.compile(r'in the end (threshold|delivery) is left in the old place for its next owner')
+MISPLACED = re.compile(r'in the end (threshold|delivery) is not where it has to be, as it was')
+FATES = {
+    'in the end it is in the old place, since nothing takes its word': 'left',
+    'in the end it is in the hand alone: it is lost': 'held',
+    'in the end it is nowhere: it is lost': 'gone',
+    'in the end it is in the new place, where nobody asked for it': 'left over',
+    'the old place is reached after it was given back': 'strayed',
+}
+AS_IT_WAS = {'threshold': 9, 'delivery': 1}
+
+
+def empties(step: tuple[int | str, ...], bank: str, word: int) -> bool:
+    """Whether a step leaves nothing of a word in the old place."""
+    return step in (('take', bank, word), ('zero', 'old', bank, word))
+
+
+def comes_so(machine: Machine, plan: list[tuple[int | str, ...]], first_line: int, rule: str,
+             bank: str, what: tuple[int, int], producer: int | None, said: str) -> bool:
+    """Whether what a run says of its end is so, and shows that the rule is broken."""
+    wanted = machine.due if bank == 'pending' else machine.first_enabled
+    in_old, in_new = what in machine.old[bank], what in machine.new[bank]
+    last = max((at for at, step in enumerate(plan) if empties(step, bank, what[0])), default=None)
+    of_old = rule == 'routes' and bank == 'pending' or rule == 'words' and bank == 'enabled'
+    led, early, left, misplaced = (form.fullmatch(said) for form in (LED, EARLY, LEFT, MISPLACED))
+    if led:
+        return (of_old and in_old and producer is not None and int(led[1]) == producer
+                and machine.force[producer] == 'old')
+    if early:
+        return of_old and in_old and last is not None and int(early[1]) == first_line + last
+    if left:
+        return bool(rule == 'freeing' and machine.leaves_numbers()
+                    and machine.number['old'][left[1]] != 0)
+    if misplaced:
+        ends = machine.number[machine.s.end][misplaced[1]]
+        return bool(rule == 'numbers' and ends != AS_IT_WAS[misplaced[1]])
+    fate = FATES.get(said)
+    missing = what in wanted and not in_old and not in_new
+    if fate == 'left':
+        return of_old and in_old and last is None
+    if fate == 'held':
+        return rule in ('words', 'blank') and missing and what in machine.hand[bank]
+    if fate == 'gone':
+        return rule in ('words', 'blank') and missing and what not in machine.hand[bank]
+    if fate == 'left over':
+        return rule == 'blank' and in_new and what not in wanted
+    return bool(fate == 'strayed' and rule == 'freeing' and machine.strayed)
 
 
 def is_bad_shown(setting: Setting, plan: list[tuple[int | str, ...]], first_line: int,
-                 text: str) -> bool:
-    """Whether a run that a program shows, of a plan whose first step is on a line, is one and is
-    bad."""
+                 text: str, rule: str) -> bool:
+    """Whether a run that a program shows, of a plan whose first step is on a line, is one, and is
+    bad as it says."""
     found = SHOWN.fullmatch(text)
-    (identity, bank, begin, storer, _, behind, route, flier, landing, at_fence, sender,
-     sent) = found.groups()
-    what = (int(identity) // 64, int(identity) % 64)
+    if not found:
+        return False
+    what = (int(found['identity']) // 64, int(found['identity']) % 64)
+    bank, begin = found['bank'], found['begin']
     machine = Machine(setting, (), ())
     machine.new = {'pending': set(), 'enabled': set()}
     if begin == 'in the old place':
         machine.old[bank].add(what)
-        if bank == 'pending':
-            machine.due.add(what)
-        else:
-            machine.first_enabled.add(what)
+        (machine.due if bank == 'pending' else machine.first_enabled).add(what)
     if begin == 'in the new place':
         if setting.fresh:
             return False
         machine.new[bank].add(what)
-    events = []
-    if storer:
-        before = int(behind) - first_line + 1 if behind else 0
-        events.append((before, lambda m: m.store(int(storer), route == 'written route', what)))
-    if flier:
-        if setting.producers[int(flier)] != 'routed':
+
+    def before(line: str | None) -> int:
+        return int(line) - first_line + 1 if line else 0
+
+    events: list[Any] = []
+    producer = None
+    if found['storer']:
+        producer = int(found['storer'])
+        written = found['route'] == 'written route'
+        events.append((before(found['behind']), lambda m: m.store(producer, written, what)))
+    if found['sender']:
+        producer = int(found['sender'])
+        if setting.producers[producer] != 'routed':
             return False
-        machine.send(int(flier), False, what)
-        if not at_fence:
-            before = int(landing) - first_line + 1 if landing else 0
-            events.append((before, lambda m: m.land_first()))
-    if sender:
-        if setting.producers[int(sender)] != 'routed':
-            return False
-        before = int(sent) - first_line + 1 if sent else 0
-        events.append((before, lambda m: m.send(int(sender), False, what)))
-    return is_bad_end(machine, plan, events)
+        events.append((before(found['sent']), lambda m: m.send(producer, False, what)))
+        events.append((before(found['landing']), lambda m: m.land_first()))
+    run(machine, plan, events)
+    fate = found['fate'][2:]
+    is_bad = bool(machine.is_bad())
+    return is_bad and comes_so(machine, plan, first_line, rule, bank, what, producer, fate)
 
 
 SPOT = r'in the (old place|hand|new place)'
@@ -350,7 +424,7 @@ UNTOLD = re.compile(
     r'(?:1 everywhere|0 ' + SPOT + r' and 1 elsewhere))?'
     r'; in the end it is pending(?:, enabled and let through| and enabled) in the new place,'
     r' and the host was not told')
-NONE = re.compile(r'  run: none was found with one store at most'
+NONE = re.compile(r'  run: none was found among those that are tried'
                   r'(; the rule asks for more than that the host is told)?')
 
 
@@ -390,8 +464,11 @@ def shown_of(setting: Setting, plan: list[tuple[int | str, ...]], first_line: in
     none = NONE.fullmatch(text)
     if none:
         return 'none found' if bool(none.group(1)) == is_notice else 'wrongly shown'
-    is_right_run = is_untold_shown if is_notice else is_bad_shown
-    return 'shown' if is_right_run(setting, plan, first_line, text) else 'wrongly shown'
+    if is_notice:
+        is_right = is_untold_shown(setting, plan, first_line, text)
+    else:
+        is_right = is_bad_shown(setting, plan, first_line, text, verdict.split()[1])
+    return 'shown' if is_right else 'wrongly shown'
 
 
 def verdicts(program: str,
