@@ -192,10 +192,11 @@ fn is_small(producers: usize, words: u32, steps: usize) -> bool
 /// Looks for a run of a plan after which an identity stands out in the new place, and the host was
 /// not told. `None`: none was found.
 ///
-/// The runs are those without a store and, of a small plan, those with one that lands at once, of the
-/// second identity of a word, which is enabled in the old place at the start. Nothing is allocated.
-/// It takes time of the order of the steps and the words, and for a small plan of the square of the
-/// steps, the words and the producers; where the numbers are heeded, twelve times that.
+/// The runs are those without a store and, of a small plan, those with one that lands at once, of
+/// the second identity of a word, which is enabled in the old place at the start. Nothing is
+/// allocated. It takes time of the order of the steps and the words, and for a small plan of the
+/// square of the steps, the words and the producers; where the numbers are heeded, twelve times
+/// that.
 #[tactic(auto, unfolding(crate::specs::UntoldSearch::untold_run_of))]
 pub fn untold_run(producers: &[RouteKind], terms: Terms, plan: &[AnyStep]) -> Option<UntoldRun>
     ensures exact { result ≡ untold_run_of producers.now terms plan.now }

@@ -67,10 +67,6 @@ more_new : (r now filled more : Bool) → (r ≡ true → now ≡ true) → (fil
 more_new true now filled more reached fill e = or_left now more (reached refl)
 more_new false now filled more reached fill e = or_right now more (fill e)
 
-fill_law : (f hand filled : Bool) → filled ≡ true → (elim f [ true ↦ hand || filled | false ↦ filled ]) ≡ true
-fill_law true hand filled e = or_right hand filled e
-fill_law false hand filled e = e
-
 new_law : (f z k b r now hand filled : Bool) → (r ≡ true → now ≡ true) → (k ≡ true → hand ≡ true) → (b ≡ true → (r || filled) ≡ true)
     → new_after f z k b ≡ true → (now || (elim f [ true ↦ hand || filled | false ↦ filled ])) ≡ true
 new_law true z k b r now hand filled reached held there is = elim (or_cases k _ is) [

@@ -27,8 +27,8 @@ fn one_without_its_fence_is_refused_and_loses_what_is_stored(rt: HostRuntime) ->
     assert!(rt;
         found.text.as_slice()
             == b"refused routes in the end\n  run: identity 1 is pending \
-nowhere at the start; producer 0 stores it behind line 8 by its route in force; in the end it is in \
-the old place, where the route of producer 0 leads still\n"
+nowhere at the start; producer 0 stores it behind line 8 by its route in force; in the end it is \
+in the old place, where the route of producer 0 leads still\n"
                 .as_slice()
     );
     Ok(())

@@ -261,8 +261,8 @@ impl Draft {
         }
     }
 
-    /// Appends what is answered of the plan, with its LF, if any line of it was read, and gives what
-    /// came of it. `Err`: there is no memory for it.
+    /// Appends what is answered of the plan, with its LF, if any line of it was read, and gives
+    /// what came of it. `Err`: there is no memory for it.
     pub(crate) fn push_answer(
         &self,
         alloc: Global,

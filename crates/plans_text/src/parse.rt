@@ -373,8 +373,8 @@ fn read_long(text: &[u8]) -> Reading
 }
 
 /// Reads a text of a plan file, its LF left out: at most 128 bytes, words with any number of spaces
-/// between them, and a comment from `#` on. Of one that is longer, or spells no line, the first word
-/// tells whether a plan begins there.
+/// between them, and a comment from `#` on. Of one that is longer, or spells no line, the first
+/// word tells whether a plan begins there.
 #[tactic(auto, unfolding(crate::specs::Reading::reading))]
 pub fn parse_line(text: &[u8]) -> Reading
     ensures { result ≡ reading.reading text.now }

@@ -126,8 +126,8 @@ impl PlanFile {
         answers
     }
 
-    /// Ends the file, and gives all that is answered, and what came of all plans. `Err`: there is no
-    /// memory for it.
+    /// Ends the file, and gives all that is answered, and what came of all plans. `Err`: there is
+    /// no memory for it.
     pub(crate) fn finish(self, alloc: Global) -> Result<Answered, AllocError>
         requires { AreInFile self.draft }
         ensures text { IfOk result (λ out. out.text.items ≡ file.all_answers (read_of self)) }
