@@ -161,40 +161,40 @@ int32_t aia_send(struct aia **handle, uint64_t vm, uint64_t addr, uint32_t value
 /* land VM K */
 int32_t aia_land(struct aia **handle, uint64_t vm, uint64_t k);
 /* refetch VM C */
-int32_t aia_refetch(struct aia **handle, uint64_t vm, uint64_t number);
+int32_t aia_refetch(struct aia **handle, uint64_t vm, uint64_t vcpu);
 /* pass S VM C I */
-int32_t aia_pass(struct aia **handle, uint64_t source, uint64_t vm, uint64_t number,
+int32_t aia_pass(struct aia **handle, uint64_t source, uint64_t vm, uint64_t vcpu,
                  uint64_t identity);
 /* g VM C csrr CSR and its kin. AIA_NO_LINE where a number names none. */
-int32_t aia_guest_csr(struct aia **handle, uint64_t vm, uint64_t number, uint32_t csr, uint32_t op,
+int32_t aia_guest_csr(struct aia **handle, uint64_t vm, uint64_t vcpu, uint32_t csr, uint32_t op,
                       uint64_t operand, uint64_t *value);
 /* g VM C ipi C2 D */
-int32_t aia_ipi(struct aia **handle, uint64_t vm, uint64_t number, uint64_t to, uint32_t value);
+int32_t aia_ipi(struct aia **handle, uint64_t vm, uint64_t vcpu, uint64_t to, uint32_t value);
 /* inject VM C BIT L */
-int32_t aia_inject(struct aia **handle, uint64_t vm, uint64_t number, uint64_t bit, bool level);
+int32_t aia_inject(struct aia **handle, uint64_t vm, uint64_t vcpu, uint64_t bit, bool level);
 /* hvictl VM C V */
-int32_t aia_hvictl(struct aia **handle, uint64_t vm, uint64_t number, uint64_t value);
+int32_t aia_hvictl(struct aia **handle, uint64_t vm, uint64_t vcpu, uint64_t value);
 /* hviprio VM C V */
-int32_t aia_hviprio(struct aia **handle, uint64_t vm, uint64_t number, uint64_t value);
+int32_t aia_hviprio(struct aia **handle, uint64_t vm, uint64_t vcpu, uint64_t value);
 
 /* arrive VM C H */
-int32_t aia_arrive(struct aia **handle, uint64_t vm, uint64_t number, uint64_t hart);
+int32_t aia_arrive(struct aia **handle, uint64_t vm, uint64_t vcpu, uint64_t hart);
 /* leave VM C */
-int32_t aia_leave(struct aia **handle, uint64_t vm, uint64_t number);
+int32_t aia_leave(struct aia **handle, uint64_t vm, uint64_t vcpu);
 /* shift VM C H */
-int32_t aia_shift(struct aia **handle, uint64_t vm, uint64_t number, uint64_t hart);
+int32_t aia_shift(struct aia **handle, uint64_t vm, uint64_t vcpu, uint64_t hart);
 /* begin arrive VM C H */
-int32_t aia_begin_arrive(struct aia **handle, uint64_t vm, uint64_t number, uint64_t hart);
+int32_t aia_begin_arrive(struct aia **handle, uint64_t vm, uint64_t vcpu, uint64_t hart);
 /* begin leave VM C */
-int32_t aia_begin_leave(struct aia **handle, uint64_t vm, uint64_t number);
+int32_t aia_begin_leave(struct aia **handle, uint64_t vm, uint64_t vcpu);
 /* begin shift VM C H */
-int32_t aia_begin_shift(struct aia **handle, uint64_t vm, uint64_t number, uint64_t hart);
+int32_t aia_begin_shift(struct aia **handle, uint64_t vm, uint64_t vcpu, uint64_t hart);
 /* step VM C: AIA_MOVING, and AIA_DONE of the last step. */
-int32_t aia_step(struct aia **handle, uint64_t vm, uint64_t number);
+int32_t aia_step(struct aia **handle, uint64_t vm, uint64_t vcpu);
 /* enter VM C */
-int32_t aia_enter(struct aia **handle, uint64_t vm, uint64_t number);
+int32_t aia_enter(struct aia **handle, uint64_t vm, uint64_t vcpu);
 /* exit VM C */
-int32_t aia_exit(struct aia **handle, uint64_t vm, uint64_t number);
+int32_t aia_exit(struct aia **handle, uint64_t vm, uint64_t vcpu);
 
 #ifdef __cplusplus
 }

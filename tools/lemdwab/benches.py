@@ -1,5 +1,4 @@
-"""The scripts of the benches, the same ones each time; docs/PERFORMANCE.md says what each is
-for."""
+"""The scripts of the benches, the same ones each time; bench/README.md says what each is for."""
 
 from collections.abc import Callable, Iterable, Iterator
 

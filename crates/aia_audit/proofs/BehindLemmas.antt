@@ -1,5 +1,5 @@
 -- All that stands behind a step, put together of its parts.
-use Rattle.std.proofs.Common.{◌≡◌, ℕ, ◌≤◌, Bool, true, false, [], ◌∷◌, Option, Some, None, refl, ap, ◌∙◌, arith}
+use Rattle.std.proofs.Common.{◌≡◌, ℕ, Bool, true, false, [], ◌∷◌, Option, Some, None, refl, ap, ◌∙◌}
 use Rattle.std.proofs.lemmas.Bool.{false≢true}
 use Rattle.aia_plan.specs.Rule.{first_failing}
 use Rattle.aia_audit.specs.declared.verdict.Verdict.{Verdict}

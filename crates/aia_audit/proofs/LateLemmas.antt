@@ -5,7 +5,7 @@ use Rattle.std.specs.List.{AllByRecursion}
 use Rattle.std.proofs.lemmas.Bool.{cases_eq, eq-eqb, ne_eqb}
 use Rattle.aia_plan.specs.declared.step.Step.{Step}
 use Rattle.aia_plan.specs.declared.step.Step.TheVariants.{Fence, GFence, TakeP, PutP, TakeE, PutE, Look}
-use Rattle.aia_plan.specs.Plan.{Plan, IsInside, is_step}
+use Rattle.aia_plan.specs.Plan.{WrittenPlan, IsInside, is_step}
 use Rattle.aia_plan.specs.Rule.{stands, is_once, comes_before, all_below, takes_late, takes_pending, takes_enables, names}
 use Rattle.aia_plan.proofs.RuleIsSafe.{once_is}
 use Rattle.aia_audit.specs.Behind.{is_taken, may_take, all_may_take, is_late, is_any_time}
@@ -81,7 +81,7 @@ inside_more words more most x inside = tt
 -- ---- each word by itself
 
 -- Whether word w, wherever it is taken, may be.
-abbrev pub is_free : (Step → Option ℕ) → (Plan → Bool) → ℕ → Plan → Bool
+abbrev pub is_free : (Step → Option ℕ) → (WrittenPlan → Bool) → ℕ → WrittenPlan → Bool
 is_free takes may w [] = true
 is_free takes may w (x ∷ later) = not (names (takes x) w && not (may later && not (is_taken takes w later))) && is_free takes may w later
 
@@ -92,7 +92,7 @@ not_not false = refl
 none_taken : (bars passes : ℕ → Bool) (count : ℕ) → all_below (λ w. not (false && bars w) && passes w) count ≡ all_below passes count
 none_taken bars passes count = refl
 
-free_more : (takes : Step → Option ℕ) (may : Plan → Bool) (words : ℕ) (later : Plan) (taken : Option ℕ) → IfSome taken (λ w. w < words)
+free_more : (takes : Step → Option ℕ) (may : WrittenPlan → Bool) (words : ℕ) (later : WrittenPlan) (taken : Option ℕ) → IfSome taken (λ w. w < words)
     → all_below (λ w. not (names taken w && not (may later && not (is_taken takes w later))) && is_free takes may w later) words
     ≡ (may_take taken (may later) (λ w. is_taken takes w later) && all_below (λ w. is_free takes may w later) words)
 free_more takes may words later None inside = refl
@@ -100,7 +100,7 @@ free_more takes may words later (Some u) inside =
     one_below (λ w. not (may later && not (is_taken takes w later))) (λ w. is_free takes may w later) u words inside
     ∙ ap (λ b. b && all_below (λ w. is_free takes may w later) words) (not_not (may later && not (is_taken takes u later)))
 
-all_free : (takes : Step → Option ℕ) (may : Plan → Bool) (words : ℕ) (plan : Plan) → AllByRecursion (λ x. IfSome (takes x) (λ w. w < words)) plan
+all_free : (takes : Step → Option ℕ) (may : WrittenPlan → Bool) (words : ℕ) (plan : WrittenPlan) → AllByRecursion (λ x. IfSome (takes x) (λ w. w < words)) plan
     → all_below (λ w. is_free takes may w plan) words ≡ all_may_take takes may plan
 all_free takes may words [] inside = all_true words
   where
@@ -111,7 +111,7 @@ all_free takes may words (x ∷ later) inside =
     free_more takes may words later (takes x) inside.0
     ∙ ap (λ b. may_take (takes x) (may later) (λ w. is_taken takes w later) && b) (all_free takes may words later inside.1)
 
-stands_taken : (step : Step) (takes : Step → Option ℕ) (w : ℕ) → ((x : Step) → is_step step x ≡ names (takes x) w) → (plan : Plan)
+stands_taken : (step : Step) (takes : Step → Option ℕ) (w : ℕ) → ((x : Step) → is_step step x ≡ names (takes x) w) → (plan : WrittenPlan)
     → stands step plan ≡ is_taken takes w plan
 stands_taken step takes w named [] = refl
 stands_taken step takes w named (x ∷ later) = ap (λ b. b || stands step later) (named x)
@@ -143,7 +143,7 @@ late_law true false false true once fence gfence = and_none (once && fence)
     and_none false = refl
 late_law true false false false once fence gfence = refl
 
-pending_free : (w : ℕ) (plan : Plan) → (comes_before (TakeP w) (TakeP w) plan && comes_before Fence (TakeP w) plan && comes_before GFence
+pending_free : (w : ℕ) (plan : WrittenPlan) → (comes_before (TakeP w) (TakeP w) plan && comes_before Fence (TakeP w) plan && comes_before GFence
     (TakeP w) plan) ≡ is_free takes_pending is_late w plan
 pending_free w [] = refl
 pending_free w (x ∷ later) =
@@ -160,7 +160,7 @@ three : (a b c d : Bool) → (((a && b) && c) && d) ≡ (a && ((b && c) && d))
 three true b c d = refl
 three false b c d = refl
 
-pending_word : (w : ℕ) (plan : Plan) → (is_once (TakeP w) plan && comes_before Fence (TakeP w) plan && comes_before GFence (TakeP w) plan)
+pending_word : (w : ℕ) (plan : WrittenPlan) → (is_once (TakeP w) plan && comes_before Fence (TakeP w) plan && comes_before GFence (TakeP w) plan)
     ≡ (is_taken takes_pending w plan && is_free takes_pending is_late w plan)
 pending_word w plan =
     ap (λ b. b && comes_before Fence (TakeP w) plan && comes_before GFence (TakeP w) plan) (once_is (TakeP w) plan)
@@ -169,11 +169,11 @@ pending_word w plan =
     (stands_taken (TakeP w) takes_pending w (pending_named w) plan)
     ∙ ap (λ b. is_taken takes_pending w plan && b) (pending_free w plan)
 
-all_inside : (P Q : Step → Type 0) → ((x : Step) → P x → Q x) → (plan : Plan) → AllByRecursion P plan → AllByRecursion Q plan
+all_inside : (P Q : Step → Type 0) → ((x : Step) → P x → Q x) → (plan : WrittenPlan) → AllByRecursion P plan → AllByRecursion Q plan
 all_inside P Q h [] all = tt
 all_inside P Q h (x ∷ later) all = (h x all.0, all_inside P Q h later all.1)
 
-pub taken_late : (words : ℕ) (plan : Plan) → AllByRecursion (IsInside words) plan
+pub taken_late : (words : ℕ) (plan : WrittenPlan) → AllByRecursion (IsInside words) plan
     → (all_below (λ w. is_taken takes_pending w plan) words && all_may_take takes_pending is_late plan) ≡ takes_late words plan
 taken_late words plan inside =
     ap (λ b. all_below (λ w. is_taken takes_pending w plan) words && b)
@@ -188,7 +188,7 @@ taken_late words plan inside =
 once_law : (here t once : Bool) → (not (here && t) && once) ≡ (not (here && not (true && not t)) && once)
 once_law here t once = ap (λ b. not (here && b) && once) (sym (not_not t))
 
-enables_free : (w : ℕ) (plan : Plan) → comes_before (TakeE w) (TakeE w) plan ≡ is_free takes_enables is_any_time w plan
+enables_free : (w : ℕ) (plan : WrittenPlan) → comes_before (TakeE w) (TakeE w) plan ≡ is_free takes_enables is_any_time w plan
 enables_free w [] = refl
 enables_free w (x ∷ later) =
     once_law (is_step (TakeE w) x) (stands (TakeE w) later) (comes_before (TakeE w) (TakeE w) later)
@@ -197,13 +197,13 @@ enables_free w (x ∷ later) =
     (stands_taken (TakeE w) takes_enables w (enables_named w) later)
     ∙ ap (λ b. not (names (takes_enables x) w && not (true && not (is_taken takes_enables w later))) && b) (enables_free w later)
 
-enables_word : (w : ℕ) (plan : Plan) → is_once (TakeE w) plan ≡ (is_taken takes_enables w plan && is_free takes_enables is_any_time w plan)
+enables_word : (w : ℕ) (plan : WrittenPlan) → is_once (TakeE w) plan ≡ (is_taken takes_enables w plan && is_free takes_enables is_any_time w plan)
 enables_word w plan =
     once_is (TakeE w) plan
     ∙ ap (λ b. b && comes_before (TakeE w) (TakeE w) plan) (stands_taken (TakeE w) takes_enables w (enables_named w) plan)
     ∙ ap (λ b. is_taken takes_enables w plan && b) (enables_free w plan)
 
-pub taken_once : (words : ℕ) (plan : Plan) → AllByRecursion (IsInside words) plan
+pub taken_once : (words : ℕ) (plan : WrittenPlan) → AllByRecursion (IsInside words) plan
     → (all_below (λ w. is_taken takes_enables w plan) words && all_may_take takes_enables is_any_time plan) ≡ all_below
     (λ w. is_once (TakeE w) plan) words
 taken_once words plan inside =

@@ -7,7 +7,7 @@ use Rattle.aia_plan.specs.declared.step.Kind.{Kind}
 use Rattle.aia_plan.specs.declared.step.Kind.TheVariants.{Leave, Arrive, Shift}
 use Rattle.aia_plan.specs.declared.step.Step.{Step}
 use Rattle.aia_plan.specs.declared.step.Step.TheVariants.{Word1, Word0, Fence, GFence}
-use Rattle.aia_plan.specs.Plan.{Plan, is_step}
+use Rattle.aia_plan.specs.Plan.{WrittenPlan, is_step}
 use Rattle.aia_plan.specs.Rule.{stands, is_once, comes_before, own_record, other_records, names_notice, turns_routes, is_record}
 use Rattle.aia_plan.proofs.Behind.{before, Before}
 use Rattle.aia_plan.proofs.RuleIsSafe.{comes_before-before, none_before, once_is, once_stands, once_before, in_order, NoOther, any_record, record_before_record, record_before, all_turns}
@@ -28,14 +28,14 @@ both_all p q (x ∷ xs) = ap (λ b. (p x && q x) && b) (both_all p q xs) ∙ exc
     exchange false true false d = refl
     exchange false false c d = refl
 
-pub in_order_is : (plan : Plan) → are_in_order plan ≡ list_all (λ pair. before pair.0 pair.1 plan) orders
+pub in_order_is : (plan : WrittenPlan) → are_in_order plan ≡ list_all (λ pair. before pair.0 pair.1 plan) orders
 in_order_is [] = refl
 in_order_is (x ∷ later) =
     ap (λ b. b && fits_before x later) (in_order_is later)
     ∙ sym (both_all (λ pair. not (pair.1 x && list_any pair.0 later)) (λ pair. before pair.0 pair.1 later) orders)
 
 -- what that says of each pair
-pub record Ordered (plan : Plan) : Type 0 where
+pub record Ordered (plan : WrittenPlan) : Type 0 where
   pub one_word1 : Before (is_step Word1) (is_step Word1) plan
   pub word1_first : Before (is_step Word1) (is_step Word0) plan
   pub one_word0 : Before (is_step Word0) (is_step Word0) plan
@@ -45,7 +45,7 @@ pub record Ordered (plan : Plan) : Type 0 where
   pub record_first : Before is_record (is_step GFence) plan
   pub one_gfence : Before (is_step GFence) (is_step GFence) plan
 
-all_ordered : (plan : Plan) → are_in_order plan ≡ true → Ordered plan
+all_ordered : (plan : WrittenPlan) → are_in_order plan ≡ true → Ordered plan
 all_ordered plan e =
     let p1 = and_parts (before (is_step Word1) (is_step Word1) plan) _ (sym (in_order_is plan) ∙ e) in
     let p2 = and_parts (before (is_step Word1) (is_step Word0) plan) _ p1.1 in
@@ -66,7 +66,7 @@ all_ordered plan e =
       one_gfence = p8.0;
     }
 
-so_in_order : (plan : Plan) → Ordered plan → are_in_order plan ≡ true
+so_in_order : (plan : WrittenPlan) → Ordered plan → are_in_order plan ≡ true
 so_in_order plan o =
     in_order_is plan
     ∙ and_from _ _ o.one_word1 (and_from _ _ o.word1_first (and_from _ _ o.one_word0 (and_from _ _ o.word0_first
@@ -74,7 +74,7 @@ so_in_order plan o =
 
 -- ---- what else it says
 
-once_from : (step : Step) (plan : Plan) → stands step plan ≡ true → Before (is_step step) (is_step step) plan → is_once step plan ≡ true
+once_from : (step : Step) (plan : WrittenPlan) → stands step plan ≡ true → Before (is_step step) (is_step step) plan → is_once step plan ≡ true
 once_from step plan there once = once_is step plan ∙ and_from _ _ there (comes_before-before step step plan ∙ once)
 
 none_all : {X : Type 0} (p : X → Bool) (xs : List X) → not (list_any p xs) ≡ list_all (λ x. not (p x)) xs
@@ -97,20 +97,20 @@ same_itself false false e = refl
 same_itself true false e = absurd (false≢true (sym e))
 same_itself false true e = absurd (false≢true e)
 
-notice_named : (kind : Kind) (plan : Plan) → stands Word1 plan ≡ is_leave kind → Ordered plan → names_notice kind plan ≡ true
+notice_named : (kind : Kind) (plan : WrittenPlan) → stands Word1 plan ≡ is_leave kind → Ordered plan → names_notice kind plan ≡ true
 notice_named Leave plan there o = and_from _ _ (once_from Word1 plan there o.one_word1) (comes_before-before Word1 Word0 plan ∙ o.word1_first)
 notice_named Arrive plan there o = ap not there
 notice_named Shift plan there o = ap not there
 
-pub record Notice (kind : Kind) (plan : Plan) : Type 0 where
+pub record Notice (kind : Kind) (plan : WrittenPlan) : Type 0 where
   pub there : stands Word1 plan ≡ is_leave kind
   pub once : Before (is_step Word1) (is_step Word1) plan
   pub first : Before (is_step Word1) (is_step Word0) plan
 
-never_there : (plan : Plan) → not (stands Word1 plan) ≡ true → (stands Word1 plan ≡ false)
+never_there : (plan : WrittenPlan) → not (stands Word1 plan) ≡ true → (stands Word1 plan ≡ false)
 never_there plan e = not-true (stands Word1 plan) e
 
-notice_told : (kind : Kind) (plan : Plan) → names_notice kind plan ≡ true → Notice kind plan
+notice_told : (kind : Kind) (plan : WrittenPlan) → names_notice kind plan ≡ true → Notice kind plan
 notice_told Leave plan e =
     let both = and_parts (is_once Word1 plan) (comes_before Word1 Word0 plan) e in
     record { there = once_stands Word1 plan both.0; once = once_before Word1 plan both.0; first = in_order Word1 Word0 plan both.1 }
@@ -128,13 +128,13 @@ notice_told Shift plan e = record {
 -- ---- part 1
 
 -- as the checker tells it
-abbrev pub are_turned : Kind → Plan → Bool
+abbrev pub are_turned : Kind → WrittenPlan → Bool
 are_turned kind plan =
     are_in_order plan && stands Word0 plan && stands Fence plan && has_record plan
     && not (list_any (λ step. stands step plan) (other_records kind)) && stands GFence plan
     && beq (stands Word1 plan) (is_leave kind)
 
-told_turns : (kind : Kind) (plan : Plan) → are_turned kind plan ≡ true → turns_routes kind plan ≡ true
+told_turns : (kind : Kind) (plan : WrittenPlan) → are_turned kind plan ≡ true → turns_routes kind plan ≡ true
 told_turns kind plan e =
     let p6 = and_parts _ (beq (stands Word1 plan) (is_leave kind)) e in
     let p5 = and_parts _ (stands GFence plan) p6.0 in
@@ -155,7 +155,7 @@ told_turns kind plan e =
     (sym (record_before kind GFence plan others) ∙ o.record_first))
     (notice_named kind plan (same_tests (stands Word1 plan) (is_leave kind) p6.1) o)
 
-turns_told : (kind : Kind) (plan : Plan) → turns_routes kind plan ≡ true → are_turned kind plan ≡ true
+turns_told : (kind : Kind) (plan : WrittenPlan) → turns_routes kind plan ≡ true → are_turned kind plan ≡ true
 turns_told kind plan e =
     let t = all_turns kind plan e in
     let n = notice_told kind plan (and_parts _ (names_notice kind plan) e).1 in
@@ -179,5 +179,5 @@ turns_told kind plan e =
     (once_stands GFence plan t.gfence))
     (same_itself (stands Word1 plan) (is_leave kind) n.there)
 
-pub turned : (kind : Kind) (plan : Plan) → are_turned kind plan ≡ turns_routes kind plan
+pub turned : (kind : Kind) (plan : WrittenPlan) → are_turned kind plan ≡ turns_routes kind plan
 turned kind plan = both_ways (are_turned kind plan) (turns_routes kind plan) (told_turns kind plan) (turns_told kind plan)

@@ -8,7 +8,7 @@ use Rattle.std.proofs.lemmas.Bool.{cases_eq, eq-eqb, ne_eqb}
 use Rattle.aia_word.specs.Sets.{has_bit, word_of}
 use Rattle.aia_word.proofs.SetLemmas.{has_bit-word_of, word_of-lt, same_bit}
 use Rattle.aia_word.proofs.PackedLemmas.{only_it}
-use Rattle.aia_plan.specs.Plan.{Plan}
+use Rattle.aia_plan.specs.Plan.{WrittenPlan}
 use Rattle.aia_plan.specs.Rule.{all_below, is_same, are_paired}
 use Rattle.aia_plan.specs.declared.step.Step.{Step}
 use Rattle.aia_audit.specs.Behind.{may_take, first_put, are_paired_behind}
@@ -70,7 +70,7 @@ taken_bits members count most = same_below (has_bit (word_of members 0 32)) memb
 is_same_with : (c : Option ℕ) → is_same c None ≡ (is_same c None && true)
 is_same_with c = only_it (is_same c None)
 
-pub paired_behind : (takes puts : Step → Option ℕ) (c : Option ℕ) (plan : Plan)
+pub paired_behind : (takes puts : Step → Option ℕ) (c : Option ℕ) (plan : WrittenPlan)
     → are_paired takes puts c plan ≡ (is_same c (first_put puts plan) && are_paired_behind takes puts plan)
 paired_behind takes puts c [] = is_same_with c
 paired_behind takes puts c (x ∷ later) = ap (λ b. is_same c (puts x) && b) (paired_behind takes puts (takes x) later)

@@ -3,7 +3,7 @@ use Rattle.std.proofs.Common.{◌≡◌, ℕ, suc, ◌<◌, Bool, true, false, n
 use Rattle.std.proofs.lemmas.List.{append_assoc, append-nil, length-append, map-append, length-map}
 use Rattle.std.proofs.lemmas.Bool.{ltb-true, ltb-false}
 use Rattle.aia_model.specs.Text.{texts_of, is_skipped}
-use Rattle.aia_plan.specs.Plan.{Plan}
+use Rattle.aia_plan.specs.Plan.{WrittenPlan}
 use Rattle.aia_plan.specs.declared.step.Step.{Step}
 use Rattle.aia_script.specs.StepText.{step_of}
 use Rattle.aia_audit.specs.declared.limits.TheConstants.{PLAN_STEPS}
@@ -16,10 +16,10 @@ bad_stays : (words k : ℕ) (texts : List (List ℕ)) → with_texts words (BadA
 bad_stays words k [] = refl
 bad_stays words k (text ∷ texts) = bad_stays words k texts
 
-same_length : (words : ℕ) (texts : List (List ℕ)) (plan : Plan) → Spell words texts plan → length texts ≡ length plan
+same_length : (words : ℕ) (texts : List (List ℕ)) (plan : WrittenPlan) → Spell words texts plan → length texts ≡ length plan
 same_length words texts plan s = sym (length-map texts (step_of words)) ∙ ap length s.steps ∙ length-map plan Some
 
-bad_here : (words : ℕ) (before : List (List ℕ)) (plan : Plan) (text : List ℕ) (others : List (List ℕ)) → Spell words before plan
+bad_here : (words : ℕ) (before : List (List ℕ)) (plan : WrittenPlan) (text : List ℕ) (others : List (List ℕ)) → Spell words before plan
     → (step_of words text ≡ None) ⊎ (length before ≡ PLAN_STEPS) → IsBadAt words (before ++ text ∷ others) (suc (length plan))
 bad_here words before plan text others good bad =
     let same = same_length words before plan good in
@@ -34,7 +34,7 @@ bad_here words before plan text others good bad =
       bad = bad;
     }
 
-spell_more : (words : ℕ) (before : List (List ℕ)) (plan : Plan) (text : List ℕ) (step : Step) → Spell words before plan
+spell_more : (words : ℕ) (before : List (List ℕ)) (plan : WrittenPlan) (text : List ℕ) (step : Step) → Spell words before plan
     → step_of words text ≡ Some step → length plan < PLAN_STEPS → Spell words (before ++ text ∷ []) (plan ++ step ∷ [])
 spell_more words before plan text step s e room =
     let same = same_length words before plan s in
@@ -50,10 +50,10 @@ spell_more words before plan text step s e room =
 
 -- What is read of the texts after some that spell a plan.
 abbrev pub ReadsOn : ℕ → List (List ℕ) → Type 0
-ReadsOn words texts = (before : List (List ℕ)) (plan : Plan) → Spell words before plan
+ReadsOn words texts = (before : List (List ℕ)) (plan : WrittenPlan) → Spell words before plan
     → Means words (before ++ unskipped texts) (with_texts words (Steps plan) texts)
 
-step_more : (words : ℕ) (before : List (List ℕ)) (plan : Plan) (text : List ℕ) (texts : List (List ℕ)) (step : Step) → Spell words before plan
+step_more : (words : ℕ) (before : List (List ℕ)) (plan : WrittenPlan) (text : List ℕ) (texts : List (List ℕ)) (step : Step) → Spell words before plan
     → ReadsOn words texts → step_of words text ≡ Some step
     → (room : Bool) → nat_lt (length plan) PLAN_STEPS ≡ room
     → Means words (before ++ text ∷ unskipped texts) (with_texts words (if room then Steps (plan ++ step ∷ []) else BadAt (suc (length plan))) texts)
@@ -66,7 +66,7 @@ step_more words before plan text texts step s on e false room =
     subst (Means words (before ++ text ∷ unskipped texts)) (sym (bad_stays words (suc (length plan)) texts))
     (bad_here words before plan text (unskipped texts) s (inr (omega (arith, same, none_left, s.few))))
 
-text_more : (words : ℕ) (before : List (List ℕ)) (plan : Plan) (text : List ℕ) (texts : List (List ℕ)) → Spell words before plan → ReadsOn words texts
+text_more : (words : ℕ) (before : List (List ℕ)) (plan : WrittenPlan) (text : List ℕ) (texts : List (List ℕ)) → Spell words before plan → ReadsOn words texts
     → (skipped : Bool) (found : Option Step) → step_of words text ≡ found
     → Means words (before ++ (if skipped then unskipped texts else text ∷ unskipped texts))
     (with_texts words (if skipped then Steps plan else with_step plan found) texts)

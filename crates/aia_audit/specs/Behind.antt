@@ -4,7 +4,7 @@ use Rattle.std.specs.Prelude.{ℕ, Bool, true, false, not, ◌&&◌, List, [], �
 use Rattle.std.specs.List.{list_any, list_all}
 use Rattle.aia_regs.specs.declared.limits.TheConstants.{FILE_WORDS}
 use Rattle.aia_word.specs.Sets.{word_of}
-use Rattle.aia_plan.specs.Plan.{Plan, is_step}
+use Rattle.aia_plan.specs.Plan.{WrittenPlan, is_step}
 use Rattle.aia_plan.specs.Rule.{is_record, names, stands, other_records, is_same, takes_pending, puts_pending, takes_enables, puts_enables}
 use Rattle.aia_plan.specs.declared.step.Kind.{Kind}
 use Rattle.aia_plan.specs.declared.step.Kind.TheVariants as kinds
@@ -17,7 +17,7 @@ use Rattle.aia_audit.specs.declared.takes.Takes.{Takes}
 -- ---- the steps that turn the routes
 
 -- Whether a step of a plan writes the G-stage record.
-abbrev pub has_record : Plan → Bool
+abbrev pub has_record : WrittenPlan → Bool
 has_record plan = list_any is_record plan
 
 -- Pairs of tests: a step that passes the second must have none behind it that passes the first. So
@@ -30,11 +30,11 @@ orders =
     ∷ (is_record, is_step GFence) ∷ (is_step GFence, is_step GFence) ∷ []
 
 -- Whether a step may stand before others.
-abbrev pub fits_before : Step → Plan → Bool
+abbrev pub fits_before : Step → WrittenPlan → Bool
 fits_before x later = list_all (λ pair. not (pair.1 x && list_any pair.0 later)) orders
 
 -- Whether each step of a plan may stand before those behind it.
-abbrev pub are_in_order : Plan → Bool
+abbrev pub are_in_order : WrittenPlan → Bool
 are_in_order [] = true
 are_in_order (x ∷ later) = are_in_order later && fits_before x later
 
@@ -44,7 +44,7 @@ is_leave kinds.Leave = true
 is_leave kind = false
 
 -- What is kept of the steps that turn the routes.
-abbrev pub routes_behind : Kind → Plan → Routes
+abbrev pub routes_behind : Kind → WrittenPlan → Routes
 routes_behind kind plan = record {
   word1 = stands Word1 plan;
   word0 = stands Word0 plan;
@@ -58,7 +58,7 @@ routes_behind kind plan = record {
 -- ---- the steps that take and put words of a set
 
 -- Whether a step of a plan takes word w.
-abbrev pub is_taken : (Step → Option ℕ) → ℕ → Plan → Bool
+abbrev pub is_taken : (Step → Option ℕ) → ℕ → WrittenPlan → Bool
 is_taken takes w plan = list_any (λ x. names (takes x) w) plan
 
 -- Whether a step may stand before those behind it, by the word that it takes, if it takes one: a
@@ -68,25 +68,26 @@ may_take None may again = true
 may_take (Some w) may again = may && not (again w)
 
 -- Whether each step of a plan that takes a word may stand before those behind it.
-abbrev pub all_may_take : (Step → Option ℕ) → (Plan → Bool) → Plan → Bool
+abbrev pub all_may_take : (Step → Option ℕ) → (WrittenPlan → Bool) → WrittenPlan → Bool
 all_may_take takes may [] = true
 all_may_take takes may (x ∷ later) =
     may_take (takes x) (may later) (λ w. is_taken takes w later) && all_may_take takes may later
 
 -- The word that the first step puts.
-abbrev pub first_put : (Step → Option ℕ) → Plan → Option ℕ
+abbrev pub first_put : (Step → Option ℕ) → WrittenPlan → Option ℕ
 first_put puts [] = None
 first_put puts (x ∷ later) = puts x
 
 -- Whether each step that takes a word has one that puts it right behind it, and no other step but
 -- the first puts one.
-abbrev pub are_paired_behind : (Step → Option ℕ) → (Step → Option ℕ) → Plan → Bool
+abbrev pub are_paired_behind : (Step → Option ℕ) → (Step → Option ℕ) → WrittenPlan → Bool
 are_paired_behind takes puts [] = true
 are_paired_behind takes puts (x ∷ later) =
     is_same (takes x) (first_put puts later) && are_paired_behind takes puts later
 
 -- What is kept of the steps that take and put words of a set.
-abbrev pub takes_behind : (Step → Option ℕ) → (Step → Option ℕ) → (Plan → Bool) → Plan → Takes
+abbrev pub takes_behind : (Step → Option ℕ) → (Step → Option ℕ) → (WrittenPlan → Bool)
+    → WrittenPlan → Takes
 takes_behind takes puts may plan = record {
   taken = word_of (λ w. is_taken takes w plan) 0 FILE_WORDS;
   in_order = all_may_take takes may plan;
@@ -95,25 +96,25 @@ takes_behind takes puts may plan = record {
 }
 
 -- Pending words may be taken where no fence is behind.
-abbrev pub is_late : Plan → Bool
+abbrev pub is_late : WrittenPlan → Bool
 is_late later = not (stands Fence later) && not (stands GFence later)
 
 -- Enables may be taken before all steps.
-abbrev pub is_any_time : Plan → Bool
+abbrev pub is_any_time : WrittenPlan → Bool
 is_any_time later = true
 
 -- What is kept of the steps about pending words.
-abbrev pub pending_behind : Plan → Takes
+abbrev pub pending_behind : WrittenPlan → Takes
 pending_behind = takes_behind takes_pending puts_pending is_late
 
 -- What is kept of those about enables.
-abbrev pub enables_behind : Plan → Takes
+abbrev pub enables_behind : WrittenPlan → Takes
 enables_behind = takes_behind takes_enables puts_enables is_any_time
 
 -- ---- all of it
 
 -- All that is kept.
-abbrev pub behind : Kind → Plan → Behind
+abbrev pub behind : Kind → WrittenPlan → Behind
 behind kind plan = record {
   routes = routes_behind kind plan;
   pending = pending_behind plan;

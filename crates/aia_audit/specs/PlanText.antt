@@ -2,7 +2,7 @@
 use Rattle.std.specs.Prelude.{ℕ, suc, nat_lt, if◌then◌else◌, List, [], ◌∷◌, ◌++◌, length, Option, Some, None, codes}
 use Rattle.aia_model.specs.Text.{texts_of, is_skipped}
 use Rattle.aia_model.specs.AnswerText.{decimal_text}
-use Rattle.aia_plan.specs.Plan.{Plan}
+use Rattle.aia_plan.specs.Plan.{WrittenPlan}
 use Rattle.aia_plan.specs.declared.step.Kind.{Kind}
 use Rattle.aia_plan.specs.declared.step.Step.{Step}
 use Rattle.aia_script.specs.StepText.{step_of}
@@ -14,11 +14,11 @@ use Rattle.aia_audit.specs.Verdicts.{verdict_on}
 -- What texts are read as: a plan; or it is known that the K-th text that is not skipped, counted
 -- from 1, is the first that spells no step, or is one step too many.
 pub data PlanRead : Type 0 where
-  Steps : (plan : Plan) → PlanRead
+  Steps : (plan : WrittenPlan) → PlanRead
   BadAt : (k : ℕ) → PlanRead
 
 -- A plan with one text more that is not skipped. As many texts as it has steps came before.
-abbrev pub with_step : Plan → Option Step → PlanRead
+abbrev pub with_step : WrittenPlan → Option Step → PlanRead
 with_step plan None = BadAt (suc (length plan))
 with_step plan (Some step) =
     if nat_lt (length plan) PLAN_STEPS then Steps (plan ++ step ∷ [])

@@ -2,7 +2,7 @@
 -- says that the reading of PlanText means this.
 use Rattle.std.specs.Prelude.{◌≡◌, ℕ, ◌+◌, ◌≤◌, ◌⊎◌, if◌then◌else◌, List, [], ◌∷◌, ◌++◌, length, map, Some, None}
 use Rattle.aia_model.specs.Text.{is_skipped}
-use Rattle.aia_plan.specs.Plan.{Plan}
+use Rattle.aia_plan.specs.Plan.{WrittenPlan}
 use Rattle.aia_script.specs.StepText.{step_of}
 use Rattle.aia_audit.specs.declared.limits.TheConstants.{PLAN_STEPS}
 use Rattle.aia_audit.specs.PlanText.{PlanRead}
@@ -14,7 +14,7 @@ unskipped [] = []
 unskipped (text ∷ texts) = if is_skipped text then unskipped texts else text ∷ unskipped texts
 
 -- Texts spell the steps of a plan, one each, and they are not too many.
-pub record Spell (words : ℕ) (texts : List (List ℕ)) (plan : Plan) : Type 0 where
+pub record Spell (words : ℕ) (texts : List (List ℕ)) (plan : WrittenPlan) : Type 0 where
   pub steps : map (step_of words) texts ≡ map Some plan
   pub few : length texts ≤ PLAN_STEPS
 
@@ -25,7 +25,7 @@ pub record IsBadAt (words : ℕ) (texts : List (List ℕ)) (k : ℕ) : Type 0 wh
   pub others : List (List ℕ)
   pub split : texts ≡ before ++ text ∷ others
   pub place : k ≡ length before + 1
-  pub plan : Plan
+  pub plan : WrittenPlan
   pub good : Spell words before plan
   pub bad : (step_of words text ≡ None) ⊎ (length before ≡ PLAN_STEPS)
 

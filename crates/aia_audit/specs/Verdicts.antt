@@ -1,6 +1,6 @@
 -- The verdict on a plan. Profile.
 use Rattle.std.specs.Prelude.{ℕ, Option, Some, None}
-use Rattle.aia_plan.specs.Plan.{Plan}
+use Rattle.aia_plan.specs.Plan.{WrittenPlan}
 use Rattle.aia_plan.specs.Rule.{failing}
 use Rattle.aia_plan.specs.declared.step.Kind.{Kind}
 use Rattle.aia_audit.specs.declared.verdict.Verdict.{Verdict}
@@ -12,5 +12,5 @@ verdict_by None = Accepted
 verdict_by (Some part) = Refused part
 
 -- The verdict on the plan of a move of a kind, of files of so many words.
-abbrev pub verdict_on : Kind → ℕ → Plan → Verdict
+abbrev pub verdict_on : Kind → ℕ → WrittenPlan → Verdict
 verdict_on kind words plan = verdict_by (failing kind words plan)

@@ -3,7 +3,7 @@
 
 ghost use Rattle.std.specs.Prelude.{◌≡◌, ◌≤◌, [], ◌∷◌};
 ghost use Rattle.std.specs.List.{All};
-ghost use Rattle.aia_plan.specs.Plan.{Plan, IsInside};
+ghost use Rattle.aia_plan.specs.Plan.{WrittenPlan, IsInside};
 ghost use Rattle.aia_plan.specs.Rule.{takes_pending, puts_pending, takes_enables, puts_enables, first_failing};
 ghost use Rattle.aia_audit.specs.Behind.{behind};
 ghost use Rattle.aia_audit.specs.Verdicts.{verdict_by, verdict_on};
@@ -95,7 +95,7 @@ impl Behind {
     /// Gives what stands behind the step before `step`, in the plan of a move of a kind.
     pub fn with(self, kind: Kind, step: Step) -> Behind
         requires { IsInside FILE_WORDS step }
-        ensures { (later : Plan) → self ≡ behind kind later
+        ensures { (later : WrittenPlan) → self ≡ behind kind later
             → result ≡ behind kind (step ∷ later) }
     {
         let is_late = self.routes.lets_take();
@@ -113,7 +113,7 @@ impl Behind {
     /// Gives the verdict on a plan, of which this is all that stands in it.
     pub fn verdict(self, kind: Kind, words: u32) -> Verdict
         requires { words ≤ FILE_WORDS }
-        ensures { (plan : Plan) → All (IsInside words) plan → self ≡ behind kind plan
+        ensures { (plan : WrittenPlan) → All (IsInside words) plan → self ≡ behind kind plan
             → result ≡ verdict_on kind words plan }
     {
         let moves_enables = self.enables.are_taken(words) & self.enables.are_put();

@@ -1,7 +1,7 @@
 //! The steps that turn the routes: part 1 of the rule.
 
 ghost use Rattle.std.specs.Prelude.{◌≡◌, true, not, ◌&&◌, ◌||◌, [], ◌∷◌};
-ghost use Rattle.aia_plan.specs.Plan.{Plan};
+ghost use Rattle.aia_plan.specs.Plan.{WrittenPlan};
 ghost use Rattle.aia_plan.specs.Rule.{turns_routes, own_record, other_records};
 ghost use Rattle.aia_audit.specs.Behind.{is_leave, routes_behind};
 
@@ -47,7 +47,7 @@ impl Routes {
 
     /// Gives what stands behind the step before `step`.
     pub fn with(self, kind: Kind, step: Step) -> Routes
-        ensures { (later : Plan) → self ≡ routes_behind kind later
+        ensures { (later : WrittenPlan) → self ≡ routes_behind kind later
             → result ≡ routes_behind kind (step ∷ later) }
     {
         match step {
@@ -105,7 +105,7 @@ impl Routes {
     /// Tells whether a plan keeps part 1 of the rule, of which this is all that stands in it.
     #[tactic(auto, using(crate::proofs::RoutesLemmas::turned))]
     pub fn are_turned(self, kind: Kind) -> bool
-        ensures { (plan : Plan) → self ≡ routes_behind kind plan
+        ensures { (plan : WrittenPlan) → self ≡ routes_behind kind plan
             → result ≡ turns_routes kind plan }
     {
         self.in_order

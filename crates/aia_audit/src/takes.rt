@@ -2,7 +2,7 @@
 
 ghost use Rattle.std.specs.Prelude.{◌≡◌, ◌<◌, ◌≤◌, ◌||◌, ◌&&◌, ℕ, Bool, Option, None, IfSome, [], ◌∷◌};
 ghost use Rattle.aia_word.specs.Sets.{has_bit, word_of};
-ghost use Rattle.aia_plan.specs.Plan.{Plan};
+ghost use Rattle.aia_plan.specs.Plan.{WrittenPlan};
 ghost use Rattle.aia_plan.specs.Rule.{names, is_same, are_paired, all_below};
 ghost use Rattle.aia_audit.specs.Behind.{may_take, is_taken, all_may_take, takes_behind};
 ghost use Rattle.aia_regs.specs.declared.limits.TheConstants.{FILE_WORDS};
@@ -45,7 +45,7 @@ impl Takes {
     /// Gives what stands behind the last step of a plan: nothing.
     #[tactic(auto, unfolding(aia_word::specs::Sets::word_of))]
     pub fn none() -> Takes
-        ensures { (takes puts : Step → Option ℕ) (may : Plan → Bool)
+        ensures { (takes puts : Step → Option ℕ) (may : WrittenPlan → Bool)
             → result ≡ takes_behind takes puts may [] }
     {
         Takes {
@@ -86,7 +86,8 @@ impl Takes {
     #[tactic(auto, using(crate::proofs::TakesLemmas::may_take_bits))]
     pub fn with(self, taken: Option<u32>, put: Option<u32>, may: bool) -> Takes
         requires { IfSome taken (λ w. w < FILE_WORDS) }
-        ensures { (takes puts : Step → Option ℕ) (may_be : Plan → Bool) (x : Step) (later : Plan)
+        ensures { (takes puts : Step → Option ℕ) (may_be : WrittenPlan → Bool) (x : Step)
+            (later : WrittenPlan)
             → taken ≡ takes x → put ≡ puts x → may ≡ may_be later
             → self ≡ takes_behind takes puts may_be later
             → result ≡ takes_behind takes puts may_be (x ∷ later) }
@@ -118,7 +119,7 @@ impl Takes {
     #[tactic(auto, using(crate::proofs::TakesLemmas::taken_bits))]
     pub fn are_taken(self, words: u32) -> bool
         requires { words ≤ FILE_WORDS }
-        ensures { (takes puts : Step → Option ℕ) (may : Plan → Bool) (plan : Plan)
+        ensures { (takes puts : Step → Option ℕ) (may : WrittenPlan → Bool) (plan : WrittenPlan)
             → self ≡ takes_behind takes puts may plan
             → result ≡ (all_below (λ w. is_taken takes w plan) words
             && all_may_take takes may plan) }
@@ -130,7 +131,7 @@ impl Takes {
     /// all that stands in it.
     #[tactic(auto, using(crate::proofs::TakesLemmas::paired_behind))]
     pub fn are_put(self) -> bool
-        ensures { (takes puts : Step → Option ℕ) (may : Plan → Bool) (plan : Plan)
+        ensures { (takes puts : Step → Option ℕ) (may : WrittenPlan → Bool) (plan : WrittenPlan)
             → self ≡ takes_behind takes puts may plan
             → result ≡ are_paired takes puts None plan }
     {

@@ -66,17 +66,12 @@ fn guest_csr(csr: u32) -> Option<Csr>
 }
 
 /// Gives the line of an instruction of a virtual hart, `None` where a number names none.
-pub fn guest_access(vm: u64, number: u64, csr: u32, funct: u32, operand: u64) -> Option<Line>
-    ensures line { result ≡ guest_access vm number csr funct operand }
+pub fn guest_access(vm: u64, vcpu: u64, csr: u32, funct: u32, operand: u64) -> Option<Line>
+    ensures line { result ≡ guest_access vm vcpu csr funct operand }
     ensures listed { IfSome result IsListed }
     ensures plain { IfSome result (λ line. makes_machine [] line ≡ false) }
 {
     let csr = guest_csr(csr)?;
     let op = op_of(funct, operand)?;
-    Some(Line::GuestCsr {
-        vm,
-        number,
-        csr,
-        op,
-    })
+    Some(Line::GuestCsr { vm, vcpu, csr, op })
 }

@@ -44,10 +44,10 @@ pub extern "C" fn aia_land(handle: &mut Handle, vm: u64, k: u64, alloc: Global) 
 
 /// Has the IOMMU read the entry of a virtual hart again, as `refetch VM C`.
 #[unsafe(no_mangle)]
-pub extern "C" fn aia_refetch(handle: &mut Handle, vm: u64, number: u64, alloc: Global) -> i32
-    ensures { Acts handle.old.engine handle.new.engine (Line.Refetch vm number) result }
+pub extern "C" fn aia_refetch(handle: &mut Handle, vm: u64, vcpu: u64, alloc: Global) -> i32
+    ensures { Acts handle.old.engine handle.new.engine (Line.Refetch vm vcpu) result }
 {
-    let line = Line::Refetch { vm, number };
+    let line = Line::Refetch { vm, vcpu };
     number_of(serve(handle, &line, alloc))
 }
 
@@ -57,17 +57,17 @@ pub extern "C" fn aia_pass(
     handle: &mut Handle,
     source: u64,
     vm: u64,
-    number: u64,
+    vcpu: u64,
     identity: u64,
     alloc: Global,
 ) -> i32
-    ensures { Acts handle.old.engine handle.new.engine (Line.Pass source vm number identity)
+    ensures { Acts handle.old.engine handle.new.engine (Line.Pass source vm vcpu identity)
         result }
 {
     let line = Line::Pass {
         source,
         vm,
-        number,
+        vcpu,
         identity,
     };
     number_of(serve(handle, &line, alloc))
@@ -79,7 +79,7 @@ pub extern "C" fn aia_pass(
 pub extern "C" fn aia_guest_csr(
     handle: &mut Handle,
     vm: u64,
-    number: u64,
+    vcpu: u64,
     csr: u32,
     funct: u32,
     operand: u64,
@@ -87,11 +87,11 @@ pub extern "C" fn aia_guest_csr(
     alloc: Global,
 ) -> i32
     ensures { Accesses handle.old.engine handle.new.engine
-        (guest_access vm number csr funct operand) result value.new }
+        (guest_access vm vcpu csr funct operand) result value.new }
 {
     access(
         handle,
-        guest_access(vm, number, csr, funct, operand),
+        guest_access(vm, vcpu, csr, funct, operand),
         value,
         alloc,
     )
@@ -102,16 +102,16 @@ pub extern "C" fn aia_guest_csr(
 pub extern "C" fn aia_ipi(
     handle: &mut Handle,
     vm: u64,
-    number: u64,
+    vcpu: u64,
     to: u64,
     value: u32,
     alloc: Global,
 ) -> i32
-    ensures { Acts handle.old.engine handle.new.engine (Line.Ipi vm number to value) result }
+    ensures { Acts handle.old.engine handle.new.engine (Line.Ipi vm vcpu to value) result }
 {
     let line = Line::Ipi {
         vm,
-        number,
+        vcpu,
         to,
         value,
     };
@@ -123,16 +123,16 @@ pub extern "C" fn aia_ipi(
 pub extern "C" fn aia_inject(
     handle: &mut Handle,
     vm: u64,
-    number: u64,
+    vcpu: u64,
     bit: u64,
     level: bool,
     alloc: Global,
 ) -> i32
-    ensures { Acts handle.old.engine handle.new.engine (Line.Inject vm number bit level) result }
+    ensures { Acts handle.old.engine handle.new.engine (Line.Inject vm vcpu bit level) result }
 {
     let line = Line::Inject {
         vm,
-        number,
+        vcpu,
         bit,
         level,
     };
@@ -144,13 +144,13 @@ pub extern "C" fn aia_inject(
 pub extern "C" fn aia_hvictl(
     handle: &mut Handle,
     vm: u64,
-    number: u64,
+    vcpu: u64,
     value: u64,
     alloc: Global,
 ) -> i32
-    ensures { Acts handle.old.engine handle.new.engine (Line.Hvictl vm number value) result }
+    ensures { Acts handle.old.engine handle.new.engine (Line.Hvictl vm vcpu value) result }
 {
-    let line = Line::Hvictl { vm, number, value };
+    let line = Line::Hvictl { vm, vcpu, value };
     number_of(serve(handle, &line, alloc))
 }
 
@@ -159,12 +159,12 @@ pub extern "C" fn aia_hvictl(
 pub extern "C" fn aia_hviprio(
     handle: &mut Handle,
     vm: u64,
-    number: u64,
+    vcpu: u64,
     value: u64,
     alloc: Global,
 ) -> i32
-    ensures { Acts handle.old.engine handle.new.engine (Line.Hviprio vm number value) result }
+    ensures { Acts handle.old.engine handle.new.engine (Line.Hviprio vm vcpu value) result }
 {
-    let line = Line::Hviprio { vm, number, value };
+    let line = Line::Hviprio { vm, vcpu, value };
     number_of(serve(handle, &line, alloc))
 }

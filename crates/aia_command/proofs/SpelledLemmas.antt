@@ -14,6 +14,7 @@ use Rattle.clap.specs.Faults.{check_fault, defaults_fault, entered_fault, settle
 use Rattle.clap.specs.declared.error.kind.ErrorKind.{ErrorKind}
 use Rattle.clap.specs.declared.error.kind.ErrorKind.TheVariants as kind
 use Rattle.clap.proofs.WalkLemmas.{walk_stopped}
+use Rattle.aia_regs.specs.declared.limits.TheConstants.{FILE_WORDS}
 use Rattle.aia_plan.specs.Plan.{IsWidth}
 use Rattle.aia_plan.specs.declared.step.Kind.{Kind}
 use Rattle.aia_plan.specs.declared.step.Kind.TheVariants.{Leave, Arrive, Shift}
@@ -259,20 +260,20 @@ printed_asked count seed most fits =
 -- ---- a width is taken, and no other number
 
 width_is : (number words : ℕ) → width_of number ≡ Some words → IsWidth words
-width_is number words is = go (nat_eq number 1) (nat_eq number 2) (nat_eq number 4) (nat_eq number 8) (nat_eq number 16) (nat_eq number 32) refl
+width_is number words is = go (nat_eq number 1) (nat_eq number 2) (nat_eq number 4) (nat_eq number 8) (nat_eq number 16) (nat_eq number FILE_WORDS) refl
     refl refl refl refl refl
   where
     same : (width : ℕ) → nat_eq number width ≡ true → width_of number ≡ Some number → words ≡ width
     same width e taken = let one : number ≡ words = cc in sym one ∙ eqb-true number width e
 
     go : (a b c d e f : Bool) → nat_eq number 1 ≡ a → nat_eq number 2 ≡ b → nat_eq number 4 ≡ c → nat_eq number 8 ≡ d → nat_eq number 16 ≡ e
-        → nat_eq number 32 ≡ f → IsWidth words
+        → nat_eq number FILE_WORDS ≡ f → IsWidth words
     go true b c d e f ea eb ec ed ee ef = inl (same 1 ea (rw ea refl))
     go false true c d e f ea eb ec ed ee ef = inr (inl (same 2 eb (rw (ea, eb) refl)))
     go false false true d e f ea eb ec ed ee ef = inr (inr (inl (same 4 ec (rw (ea, eb, ec) refl))))
     go false false false true e f ea eb ec ed ee ef = inr (inr (inr (inl (same 8 ed (rw (ea, eb, ec, ed) refl)))))
     go false false false false true f ea eb ec ed ee ef = inr (inr (inr (inr (inl (same 16 ee (rw (ea, eb, ec, ed, ee) refl))))))
-    go false false false false false true ea eb ec ed ee ef = inr (inr (inr (inr (inr (same 32 ef (rw (ea, eb, ec, ed, ee, ef) refl))))))
+    go false false false false false true ea eb ec ed ee ef = inr (inr (inr (inr (inr (same FILE_WORDS ef (rw (ea, eb, ec, ed, ee, ef) refl))))))
     go false false false false false false ea eb ec ed ee ef =
         let refused : ◌≡◌ {A = Option ℕ} None (Some words) = rw (ea, eb, ec, ed, ee, ef) at is in
         absurd (not_both words refused)

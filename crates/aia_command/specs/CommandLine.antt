@@ -11,6 +11,7 @@ use Rattle.clap.specs.Simple.{App, new_app, new_rule, with_rule, with_subcommand
 use Rattle.clap.specs.declared.builder.value_parser.ValueParser.{ValueParser}
 use Rattle.clap.specs.declared.builder.value_parser.ValueParser.TheVariants as parser
 use Rattle.aia_io.specs.Commands.{asked_of, bare_command}
+use Rattle.aia_regs.specs.declared.limits.TheConstants.{FILE_WORDS}
 use Rattle.aia_command.specs.declared.limits.TheConstants.{MOST_LINES}
 use Rattle.aia_command.specs.declared.subcommand.Subcommand.{Subcommand}
 use Rattle.aia_command.specs.declared.subcommand.Subcommand.TheVariants.{Replay, Generate, Audit}
@@ -79,7 +80,8 @@ kind_at rows = option_and_then kind_named (one_of (codes "KIND") rows)
 -- How many words of 64 identities the sets of an interrupt file have, where a number is that.
 abbrev pub width_of : ℕ → Option ℕ
 width_of number =
-    if list_any (λ width. nat_eq number width) (1 ∷ 2 ∷ 4 ∷ 8 ∷ 16 ∷ 32 ∷ []) then Some number
+    if list_any (λ width. nat_eq number width) (1 ∷ 2 ∷ 4 ∷ 8 ∷ 16 ∷ FILE_WORDS ∷ [])
+    then Some number
     else None
 
 -- The number of words that was found.

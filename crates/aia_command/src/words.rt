@@ -7,6 +7,7 @@ use crate::command::command;
 use crate::kind_word::KindWord;
 use crate::subcommand::Subcommand;
 use aia_io::match_words;
+use aia_regs::limits::FILE_WORDS;
 use clap::ArgMatches;
 use std::alloc::{AllocError, Global};
 
@@ -68,7 +69,8 @@ fn width(number: u64) -> Option<u32>
     ensures { result ≡ width_of number }
 {
     match number {
-        1 | 2 | 4 | 8 | 16 | 32 => Some(number as u32),
+        1 | 2 | 4 | 8 | 16 => Some(number as u32),
+        _ if number == FILE_WORDS as u64 => Some(FILE_WORDS as u32),
         _ => None,
     }
 }

@@ -3,7 +3,7 @@ ghost use Rattle.std.specs.Borrow.{Bor};
 ghost use Rattle.aia_word.specs.Sets.{has_bit};
 ghost use Rattle.aia_regs.specs.declared.limits.TheConstants.{VCPUS, FILE_WORDS};
 ghost use Rattle.aia_vcpu.specs.declared.place.GuestPlace.{GuestPlace};
-ghost use Rattle.aia_vcpu.specs.Vms.{vcpu};
+ghost use Rattle.aia_vcpu.specs.Vms.{vcpu_of};
 ghost use Rattle.aia_fabric_values.specs.Found.{IsFound};
 ghost use Rattle.aia_fabric_values.specs.Flights.{Fences};
 ghost use Rattle.aia_fabric_values.specs.Changes.{IsPlaceThere, words_at, pending_words, enable_words, pending_at, with_pending, enable_at, with_enable, with_entry_word, with_fence, with_map, with_gfence};
@@ -119,10 +119,10 @@ impl Fabric {
     pub fn put_word(&mut self, found: Found, which: u32, v: u64)
         requires there { IsFound self.old found }
         requires word { which ≤ 1 }
-        ensures { self.new ≡ with_entry_word self.old found.vm found.number which v }
+        ensures { self.new ≡ with_entry_word self.old found.vm found.vcpu which v }
     {
         let ram = &mut self.ram;
-        let at = map::table_byte(found.vm) + 16 * found.number as usize + 8 * which as usize;
+        let at = map::table_byte(found.vm) + 16 * found.vcpu as usize + 8 * which as usize;
         ram.store(at, v);
     }
 
@@ -133,7 +133,7 @@ impl Fabric {
     /// answers a fence once the stores that it led before have landed.
     pub fn fence(&mut self, found: Found)
         requires { IsFound self.old found }
-        ensures { Fences self.old self.new found.vm found.number }
+        ensures { Fences self.old self.new found.vm found.vcpu }
     {
         self.land_all(found.vm);
         self.recall();
@@ -146,9 +146,9 @@ impl Fabric {
     /// AIA 1.0, IOMMU Support for MSIs to Virtual Machines, "MSI page tables".
     pub fn refetch(&mut self, found: Found)
         requires { IsFound self.old found }
-        ensures { self.new ≡ with_fence self.old found.vm found.number }
+        ensures { self.new ≡ with_fence self.old found.vm found.vcpu }
     {
-        self.iommu.refetch(found.vm, found.number, &self.ram);
+        self.iommu.refetch(found.vm, found.vcpu, &self.ram);
     }
 
     /// Writes the G-stage record of a virtual hart that is there: the guest file that it names, or
@@ -157,7 +157,7 @@ impl Fabric {
     /// The hypervisor extension 1.0.
     pub fn map(&mut self, found: Found, to: Option<&FileLease>)
         requires { IsFound self.old found }
-        ensures { self.new ≡ with_map self.old (vcpu found.vm found.number)
+        ensures { self.new ≡ with_map self.old (vcpu_of found.vm found.vcpu)
             (option_map (λ (lease : Bor GuestPlace). lease.now) to.entry) }
     {
         self.stages[found.slot as usize].written = to.map(|lease| lease.place());
@@ -168,7 +168,7 @@ impl Fabric {
     /// The hypervisor extension 1.0: HFENCE.GVMA.
     pub fn gfence(&mut self, found: Found)
         requires { IsFound self.old found }
-        ensures { self.new ≡ with_gfence self.old (vcpu found.vm found.number) }
+        ensures { self.new ≡ with_gfence self.old (vcpu_of found.vm found.vcpu) }
     {
         let stage = &mut self.stages[found.slot as usize];
         stage.in_force = stage.written;

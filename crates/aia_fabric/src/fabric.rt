@@ -13,7 +13,7 @@ ghost use Rattle.aia_file.specs.Imsic.{IsThere, file_at, with_file};
 ghost use Rattle.aia_file.specs.Mrif.{mrif_in, stored};
 ghost use Rattle.aia_entry.specs.Tables.{table_of, route_of};
 ghost use Rattle.aia_entry.specs.Translation.{IsMask};
-ghost use Rattle.aia_vcpu.specs.Vms.{Vcpu, vcpu, vcpus_in, is_vcpu_in, slot_of, notice_hart, vm_in};
+ghost use Rattle.aia_vcpu.specs.Vms.{Vcpu, vcpu_of, vcpus_in, is_vcpu_in, slot_of, notice_hart, vm_in};
 ghost use Rattle.aia_fabric_values.specs.World.{no_stage};
 ghost use Rattle.aia_fabric_values.specs.Found.{IsFound};
 ghost use Rattle.aia_fabric_values.specs.Making.{IsNew, with_vm, with_entry};
@@ -201,29 +201,29 @@ impl Fabric {
 
     /// Tells whether a virtual hart is there, by its VM and its number there; `whole` as of
     /// [`Fabric::vms`].
-    pub fn has_vcpu(&self, vm: u64, number: u64) -> bool
-        ensures value { result ≡ is_vcpu_in self.now.vms (vcpu vm number) }
+    pub fn has_vcpu(&self, vm: u64, vcpu: u64) -> bool
+        ensures value { result ≡ is_vcpu_in self.now.vms (vcpu_of vm vcpu) }
         ensures whole { IsWhole self.now }
     {
-        self.vms.has(vm, number)
+        self.vms.has(vm, vcpu)
     }
 
     /// Finds the virtual hart of this VM with this number, with its slot and its notice hart.
     /// `None` exactly where it isn't there; `whole` as of [`Fabric::vms`].
-    pub fn find(&self, vm: u64, number: u64) -> Option<Found>
+    pub fn find(&self, vm: u64, vcpu: u64) -> Option<Found>
         ensures there { IfSome result (λ found. IsFound self.now found) }
-        ensures named { IfSome result (λ found. (found.vm ≡ vm) × (found.number ≡ number)) }
-        ensures none { IfNone result (is_vcpu_in self.now.vms (vcpu vm number) ≡ false) }
+        ensures named { IfSome result (λ found. (found.vm ≡ vm) × (found.vcpu ≡ vcpu)) }
+        ensures none { IfNone result (is_vcpu_in self.now.vms (vcpu_of vm vcpu) ≡ false) }
         ensures whole { IsWhole self.now }
     {
-        if !self.has_vcpu(vm, number) {
+        if !self.has_vcpu(vm, vcpu) {
             return None;
         }
-        let (vm, number) = (vm as u32, number as u32);
+        let (vm, vcpu) = (vm as u32, vcpu as u32);
         Some(Found {
             vm,
-            number,
-            slot: self.slot_of(vm, number),
+            vcpu,
+            slot: self.slot_of(vm, vcpu),
             notice: self.notice_hart(vm),
         })
     }
@@ -236,13 +236,13 @@ impl Fabric {
     }
 
     /// Gives the slot of a virtual hart that is there, below `SLOTS`.
-    pub fn slot_of(&self, vm: u32, number: u32) -> u32
-        requires { is_vcpu_in self.now.vms (vcpu vm number) ≡ true }
-        ensures value { result ≡ slot_of self.now.vms (vcpu vm number) }
+    pub fn slot_of(&self, vm: u32, vcpu: u32) -> u32
+        requires { is_vcpu_in self.now.vms (vcpu_of vm vcpu) ≡ true }
+        ensures value { result ≡ slot_of self.now.vms (vcpu_of vm vcpu) }
         ensures below { result < vcpus_in self.now.vms }
         ensures few { result < VCPUS }
     {
-        self.vms.slot_of(vm, number)
+        self.vms.slot_of(vm, vcpu)
     }
 
     /// Gives the hart whose supervisor file takes the notices of a VM that is there.

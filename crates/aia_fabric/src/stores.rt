@@ -3,7 +3,7 @@ ghost use Rattle.aia_regs.specs.declared.address_map.TheConstants.{PAGE};
 ghost use Rattle.aia_regs.specs.declared.limits.TheConstants.{VCPUS};
 ghost use Rattle.aia_file.specs.Imsic.{IsThere};
 ghost use Rattle.aia_entry.specs.Tables.{table_of, route_of};
-ghost use Rattle.aia_vcpu.specs.Vms.{Vcpu, vcpu, vcpus_in, is_vcpu_in, slot_of};
+ghost use Rattle.aia_vcpu.specs.Vms.{Vcpu, vcpu_of, vcpus_in, is_vcpu_in, slot_of};
 ghost use Rattle.aia_fabric_values.specs.World.{OnlyStores, stage_of};
 ghost use Rattle.aia_fabric_values.specs.Found.{IsFound};
 ghost use Rattle.aia_fabric_values.specs.Stores.{ReachesByRecord, Reaches, ReachesBy, StoresInGuestFile, StoresInSlot, NoticedAt, page_spot};
@@ -44,8 +44,8 @@ impl Fabric {
     #[tactic(auto, using(aia_fabric_values::proofs::FrameLemmas::record_rest, aia_fabric_values::proofs::FoundLemmas::found_there))]
     pub fn guest_store(&mut self, to: Found, value: u32)
         requires { IsFound self.old to }
-        ensures reaches { ReachesByRecord (stage_of self.old (vcpu to.vm to.number)).in_force
-            self.old self.new (vcpu to.vm to.number) value }
+        ensures reaches { ReachesByRecord (stage_of self.old (vcpu_of to.vm to.vcpu)).in_force
+            self.old self.new (vcpu_of to.vm to.vcpu) value }
         ensures rest { OnlyStores self.old self.new }
     {
         self.recall();

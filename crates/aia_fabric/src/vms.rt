@@ -1,6 +1,6 @@
 ghost use Rattle.std.specs.Prelude.{◌≡◌, ℕ, ◌<◌, ◌≤◌, true, [], ◌∷◌, ◌++◌, length, take, IfOk};
 ghost use Rattle.aia_regs.specs.declared.limits.TheConstants.{VMS, VCPUS};
-ghost use Rattle.aia_vcpu.specs.Vms.{Vcpu, vcpu, vcpus_in, is_vcpu_in, slot_of, notice_hart, vm_in};
+ghost use Rattle.aia_vcpu.specs.Vms.{Vcpu, vcpu_of, vcpus_in, is_vcpu_in, slot_of, notice_hart, vm_in};
 
 use aia_regs::limits::VMS;
 use aia_vcpu::{Vm, notice_hart_of, vcpus_in};
@@ -60,11 +60,11 @@ impl Vms {
     }
 
     /// Tells whether a virtual hart is there, by its VM and its number there.
-    pub fn has(&self, vm: u64, number: u64) -> bool
-        ensures { result ≡ is_vcpu_in self.now (vcpu vm number) }
+    pub fn has(&self, vm: u64, vcpu: u64) -> bool
+        ensures { result ≡ is_vcpu_in self.now (vcpu_of vm vcpu) }
     {
         match self.kept.get(vm as usize) {
-            Some(found) => number < u64::from(found.vcpus),
+            Some(found) => vcpu < u64::from(found.vcpus),
             None => false,
         }
     }
@@ -88,12 +88,12 @@ impl Vms {
 
     /// Gives the slot of a virtual hart that is there.
     #[tactic(auto, using(aia_vcpu::proofs::OwnerLemmas::vcpus_first))]
-    pub fn slot_of(&self, vm: u32, number: u32) -> u32
-        requires there { is_vcpu_in self.now (vcpu vm number) ≡ true }
+    pub fn slot_of(&self, vm: u32, vcpu: u32) -> u32
+        requires there { is_vcpu_in self.now (vcpu_of vm vcpu) ≡ true }
         requires few { vcpus_in self.now ≤ VCPUS }
-        ensures value { result ≡ slot_of self.now (vcpu vm number) }
+        ensures value { result ≡ slot_of self.now (vcpu_of vm vcpu) }
         ensures below { result < vcpus_in self.now }
     {
-        vcpus_in(&self.kept[..vm as usize]) + number
+        vcpus_in(&self.kept[..vm as usize]) + vcpu
     }
 }

@@ -12,7 +12,7 @@ use Rattle.aia_entry.specs.declared.table.Route.TheVariants.{Other, To}
 use Rattle.aia_entry.specs.Tables.{TableState, table_of, entry_in_force, leads_by, route_of}
 use Rattle.aia_entry.specs.Translation.{is_msi_address, file_number}
 use Rattle.aia_vcpu.specs.declared.vm.Vm.{Vm}
-use Rattle.aia_vcpu.specs.Vms.{vcpu, vcpus_in, slot_of, notice_identity, notice_hart}
+use Rattle.aia_vcpu.specs.Vms.{vcpu_of, vcpus_in, slot_of, notice_identity, notice_hart}
 use Rattle.aia_vcpu.proofs.VmLemmas.{vm_new, slot_new, vcpus_more}
 use Rattle.aia_fabric_values.specs.World.{World}
 use Rattle.aia_fabric_values.specs.Whole.{IsWhole}
@@ -40,21 +40,21 @@ made_route w u vm addr same made is low =
 pub made_reaches : (w u x : World) (vm : Vm) (addr value : ℕ) → IsWhole w → IsWhole u → MakesVm w u vm → is_msi_address vm.mask addr ≡ true
     → file_number vm.mask addr < vm.vcpus
     → Reaches (route_of (table_of u.tables (length w.vms)) addr) u x (addr % PAGE) value
-    → StoresInSlot u x (Some (slot_of u.vms (vcpu (length w.vms) (file_number vm.mask addr))))
-    (SupervisorFile (notice_hart u.vms (vcpu (length w.vms) (file_number vm.mask addr))))
-    (notice_identity u.vms (vcpu (length w.vms) (file_number vm.mask addr))) (addr % PAGE) value
+    → StoresInSlot u x (Some (slot_of u.vms (vcpu_of (length w.vms) (file_number vm.mask addr))))
+    (SupervisorFile (notice_hart u.vms (vcpu_of (length w.vms) (file_number vm.mask addr))))
+    (notice_identity u.vms (vcpu_of (length w.vms) (file_number vm.mask addr))) (addr % PAGE) value
 made_reaches w u x vm addr value before after made is low stored =
-    let number = file_number vm.mask addr in
-    let q = vcpus_in w.vms + number in
+    let vcpu = file_number vm.mask addr in
+    let q = vcpus_in w.vms + vcpu in
     let route = made_route w u vm addr before.tables made is low in
     let led = subst (λ (r : Route). Reaches r u x (addr % PAGE) value) route stored in
     let vcpus : vcpus_in u.vms ≡ vcpus_in w.vms + vm.vcpus = ap vcpus_in made.vms ∙ vcpus_more w.vms vm in
     let all = after.vcpus in
     let few : q < SLOTS = omega arith in
-    let hart : notice_hart u.vms (vcpu (length w.vms) number) ≡ vm.notice_hart = ap (λ vs. notice_hart vs (vcpu (length w.vms) number)) made.vms
+    let hart : notice_hart u.vms (vcpu_of (length w.vms) vcpu) ≡ vm.notice_hart = ap (λ vs. notice_hart vs (vcpu_of (length w.vms) vcpu)) made.vms
     ∙ ap (λ (v : Vm). v.notice_hart) (vm_new w.vms vm) in
-    let slot : slot_of u.vms (vcpu (length w.vms) number) ≡ q = ap (λ vs. slot_of vs (vcpu (length w.vms) number)) made.vms
-    ∙ slot_new w.vms vm number in
+    let slot : slot_of u.vms (vcpu_of (length w.vms) vcpu) ≡ q = ap (λ vs. slot_of vs (vcpu_of (length w.vms) vcpu)) made.vms
+    ∙ slot_new w.vms vm vcpu in
     let count : length u.vms ≡ length w.vms + 1 = ap length made.vms ∙ length-append w.vms (vm ∷ []) in
     let stands = (after.vms (length w.vms) (omega (arith, count))).notice_hart in
     let there : vm.notice_hart < u.imsic.harts = subst (λ n. n < u.imsic.harts) hart stands in
@@ -63,5 +63,5 @@ made_reaches w u x vm addr value before after made is low stored =
     let noticed = subst (λ (p : Spot). StoresInSlot u x (Some q) p (q + 1) (addr % PAGE) value)
     (host_page u.imsic vm.notice_hart there after.harts) in_slot in
     let by_slot = subst (λ (n : ℕ). StoresInSlot u x (Some n) (SupervisorFile vm.notice_hart) (n + 1) (addr % PAGE) value) (sym slot) noticed in
-    subst (λ (n : ℕ). StoresInSlot u x (Some (slot_of u.vms (vcpu (length w.vms) number))) (SupervisorFile n)
-    (notice_identity u.vms (vcpu (length w.vms) number)) (addr % PAGE) value) (sym hart) by_slot
+    subst (λ (n : ℕ). StoresInSlot u x (Some (slot_of u.vms (vcpu_of (length w.vms) vcpu))) (SupervisorFile n)
+    (notice_identity u.vms (vcpu_of (length w.vms) vcpu)) (addr % PAGE) value) (sym hart) by_slot

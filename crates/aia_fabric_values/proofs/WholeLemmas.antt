@@ -28,7 +28,7 @@ use Rattle.aia_entry.specs.Tables.{TableState, new_table, no_table, table_of, en
 use Rattle.aia_entry.specs.Translation.{IsMask}
 use Rattle.aia_entry.proofs.TableLemmas.{has_entry, mask_parts}
 use Rattle.aia_vcpu.specs.declared.vm.Vm.{Vm}
-use Rattle.aia_vcpu.specs.Vms.{vcpus_in, Vcpu, vcpu, is_vcpu_in, slot_of, notice_hart}
+use Rattle.aia_vcpu.specs.Vms.{vcpus_in, Vcpu, vcpu_of, is_vcpu_in, slot_of, notice_hart}
 use Rattle.aia_vcpu.proofs.VmLemmas.{vm_stays, vm_new, vm_past, vcpus_more, slot_taken, numbered}
 use Rattle.aia_fabric_values.specs.World.{World}
 use Rattle.aia_fabric_values.specs.Whole.{IsWhole, IsVm}
@@ -46,7 +46,7 @@ pub notice_hart_there : (w : World) (g : Vcpu) → IsWhole w → is_vcpu_in w.vm
 notice_hart_there w g whole there = elim (cases_lt g.vm (length w.vms)) [
   | inl low ↦ (whole.vms g.vm low).notice_hart
   | inr past ↦
-      let some = numbered w.vms g.vm g.number there in
+      let some = numbered w.vms g.vm g.vcpu there in
       let none = vm_past w.vms g.vm past in
       absurd (omega (arith, some, none))
 ]
@@ -131,7 +131,7 @@ entry_at w vm file whole there low =
     (few, ap (λ n. n + 16 * file) is.start, omega arith, omega (arith, few, there, vms))
 
 -- so has a virtual hart that is there its entry
-pub vcpu_entry : (w : World) (vm file : ℕ) → IsWhole w → is_vcpu_in w.vms (vcpu vm file) ≡ true → (vm < length w.vms) × (vm < VMS)
+pub vcpu_entry : (w : World) (vm file : ℕ) → IsWhole w → is_vcpu_in w.vms (vcpu_of vm file) ≡ true → (vm < length w.vms) × (vm < VMS)
     × (file < ENTRIES) × (file < 2 ^ ones 64 (table_of w.tables vm).mask)
 vcpu_entry w vm file whole there =
     let low = numbered w.vms vm file there in
@@ -144,7 +144,7 @@ vcpu_entry w vm file whole there =
     ]
 
 -- with both its words
-pub vcpu_words : (w : World) (vm file : ℕ) → IsWhole w → is_vcpu_in w.vms (vcpu vm file) ≡ true
+pub vcpu_words : (w : World) (vm file : ℕ) → IsWhole w → is_vcpu_in w.vms (vcpu_of vm file) ≡ true
     → HasWordAt w.memory (entry_byte (table_of w.tables vm) file) × HasWordAt w.memory (entry_byte (table_of w.tables vm) file + 8)
 vcpu_words w vm file whole there =
     let entry = vcpu_entry w vm file whole there in

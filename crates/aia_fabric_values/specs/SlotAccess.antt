@@ -2,6 +2,7 @@
 -- AIA 1.0, IOMMU Support for MSIs to Virtual Machines, "Memory-resident interrupt files".
 use Rattle.std.specs.Prelude.{◌≡◌, ◌⊎◌, ℕ, ◌+◌, ◌*◌, ◌<◌, ◌≤◌, false, slice_index}
 use Rattle.std.specs.Int.{is_in_range}
+use Rattle.aia_regs.specs.declared.limits.TheConstants.{SLOT_WORDS}
 use Rattle.aia_file.specs.InterruptFile.{InterruptFile, SameFile}
 use Rattle.aia_file.specs.Mrif.{mrif_in}
 use Rattle.aia_file.specs.SlotFile.{slot_file}
@@ -19,6 +20,6 @@ pub record DoneInSlot (w u : World) (q threshold : ℕ) (deed : InterruptFile �
   pub kept : (i : ℕ) → is_in_range 1 w.n i ≡ false
       → ((mrif_in u.memory q).pending i ≡ (mrif_in w.memory q).pending i)
       × ((mrif_in u.memory q).enabled i ≡ (mrif_in w.memory q).enabled i)
-  pub elsewhere : (place : ℕ) → (place < 64 * q) ⊎ (64 * (q + 1) ≤ place)
+  pub elsewhere : (place : ℕ) → (place < SLOT_WORDS * q) ⊎ (SLOT_WORDS * (q + 1) ≤ place)
       → slice_index u.memory place ≡ slice_index w.memory place
   pub rest : u ≡ record w { memory = u.memory }

@@ -51,7 +51,8 @@ pub record StoresIn (w u : World) (spot : Spot) (offset value : ℕ) : Type 0 wh
 -- A store that is led to a guest file lands there; one that is led to any other page, or nowhere,
 -- is dropped. Profile.
 abbrev pub StoresInGuestFile : World → World → Spot → ℕ → ℕ → Type 0
-StoresInGuestFile w u (GuestFile hart file) offset value = StoresIn w u (GuestFile hart file) offset value
+StoresInGuestFile w u (GuestFile hart file) offset value =
+    StoresIn w u (GuestFile hart file) offset value
 StoresInGuestFile w u spot offset value = u ≡ w
 
 -- ---- notices
@@ -96,7 +97,8 @@ StoresInSlot w u (Some q) spot identity offset value =
 
 -- A store of a device goes where an entry leads: to a page, to a slot, or nowhere.
 abbrev pub ReachesBy : Entry → World → World → ℕ → ℕ → Type 0
-ReachesBy (Basic page) w u offset value = StoresInGuestFile w u (page_spot w.imsic page) offset value
+ReachesBy (Basic page) w u offset value =
+    StoresInGuestFile w u (page_spot w.imsic page) offset value
 ReachesBy (Mrif addr page identity) w u offset value =
     StoresInSlot w u (slot_at addr) (page_spot w.imsic page) identity offset value
 ReachesBy entry w u offset value = u ≡ w

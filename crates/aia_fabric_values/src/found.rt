@@ -4,7 +4,7 @@ pub struct Found {
     /// Its VM.
     pub vm: u32,
     /// Its number in the VM: that of its entry too.
-    pub number: u32,
+    pub vcpu: u32,
     /// Its number over all VMs: that of its slot of memory.
     pub slot: u32,
     /// The hart whose supervisor file takes its notices.

@@ -13,7 +13,7 @@ ghost use Rattle.aia_file.specs.Words.{HasSlot, SameMrif, words_after_store};
 ghost use Rattle.aia_entry.specs.Tables.{table_of, route_of};
 ghost use Rattle.aia_entry.specs.Translation.{is_msi_address, file_number};
 ghost use Rattle.aia_vcpu.specs.declared.vm.Vm.{Vm};
-ghost use Rattle.aia_vcpu.specs.Vms.{vcpu, slot_of, notice_identity, notice_hart};
+ghost use Rattle.aia_vcpu.specs.Vms.{vcpu_of, slot_of, notice_identity, notice_hart};
 ghost use Rattle.aia_fabric_values.specs.World.{World, flight_of};
 ghost use Rattle.aia_fabric_values.specs.Flights.{Fences};
 ghost use Rattle.aia_fabric_values.specs.Whole.{IsWhole};
@@ -57,10 +57,10 @@ pub fn a_new_vm_is_reached_in_its_slots()
         → Reaches (route_of (table_of after.tables (length before.vms)) addr) after later
         (addr % PAGE) value
         → StoresInSlot after later
-        (Some (slot_of after.vms (vcpu (length before.vms) (file_number vm.mask addr))))
+        (Some (slot_of after.vms (vcpu_of (length before.vms) (file_number vm.mask addr))))
         (Spot.SupervisorFile (notice_hart after.vms
-        (vcpu (length before.vms) (file_number vm.mask addr))))
-        (notice_identity after.vms (vcpu (length before.vms) (file_number vm.mask addr)))
+        (vcpu_of (length before.vms) (file_number vm.mask addr))))
+        (notice_identity after.vms (vcpu_of (length before.vms) (file_number vm.mask addr)))
         (addr % PAGE) value }
 {}
 

@@ -3,7 +3,7 @@
 -- AIA 1.0, IOMMU Support for MSIs to Virtual Machines, "Memory-resident interrupt files".
 use Rattle.std.specs.Prelude.{ℕ, ◌+◌, ◌*◌, ◌/◌, ◌%◌, Bool, ◌&&◌, nat_le, if◌then◌else◌, List, slice_index, Option, Some, None}
 use Rattle.aia_word.specs.Sets.{has_bit}
-use Rattle.aia_regs.specs.declared.limits.TheConstants.{IDENTITIES}
+use Rattle.aia_regs.specs.declared.limits.TheConstants.{IDENTITIES, SLOT_WORDS}
 use Rattle.aia_regs.specs.BitUpdate.{set_after}
 use Rattle.aia_regs.specs.Request.{request_said}
 use Rattle.aia_file.specs.declared.stored.Stored.{Stored}
@@ -17,13 +17,13 @@ pub record Mrif : Type 0 where
 -- ---- where memory keeps it
 
 -- The place in memory, counted in words of 64 bits, of pending word k and of enable word k of slot
--- q: a slot has 32 pairs of words, each with the pending and then the enable bits of 64 identities.
--- Profile: slot q is the 512 bytes of memory from byte 512 q on.
+-- q: a slot has pairs of words, each with the pending and then the enable bits of 64 identities.
+-- Profile: slot q is the SLOT bytes of memory from byte SLOT * q on.
 abbrev pub pending_place : ℕ → ℕ → ℕ
-pending_place q k = 64 * q + 2 * k
+pending_place q k = SLOT_WORDS * q + 2 * k
 
 abbrev pub enable_place : ℕ → ℕ → ℕ
-enable_place q k = 64 * q + 2 * k + 1
+enable_place q k = SLOT_WORDS * q + 2 * k + 1
 
 -- The set whose word k stands at `place k`: identity i, up to the greatest, is bit i mod 64 of word
 -- i / 64. Bit 0 of the first word, which shows as number 0, is of no identity.

@@ -3,6 +3,7 @@
 -- AIA 1.0, IOMMU Support for MSIs to Virtual Machines, "Memory-resident interrupt files".
 use Rattle.std.specs.Prelude.{◌≡◌, ◌⊎◌, ℕ, ◌+◌, ◌*◌, ◌%◌, ◌<◌, ◌≤◌, false, ◌&&◌, List, length, slice_index}
 use Rattle.std.specs.Int.{is_in_range}
+use Rattle.aia_regs.specs.declared.limits.TheConstants.{SLOT_WORDS}
 use Rattle.aia_regs.specs.declared.file_registers.FileReg.{FileReg}
 use Rattle.aia_regs.specs.declared.file_registers.FileReg.TheVariants.{Pending, Enable}
 use Rattle.aia_file.specs.InterruptFile.{InterruptFile}
@@ -19,10 +20,11 @@ slot_file n threshold slot = record {
   delivery = 0;
 }
 
--- A register of one of the two sets: eip or eie with an index that is even and below 64.
+-- A register of one of the two sets: eip or eie with an index that is even and below the words of
+-- a slot.
 abbrev pub IsOfSets : FileReg → Type 0
-IsOfSets (Pending k) = (k % 2 ≡ 0) × (k < 64)
-IsOfSets (Enable k) = (k % 2 ≡ 0) × (k < 64)
+IsOfSets (Pending k) = (k % 2 ≡ 0) × (k < SLOT_WORDS)
+IsOfSets (Enable k) = (k % 2 ≡ 0) × (k < SLOT_WORDS)
 IsOfSets r = ⊥
 
 -- Memory changes in the bits of the identities 1 to n of slot q alone: it keeps its size, the other
@@ -32,5 +34,5 @@ pub record KeepsAllElse (old new : List ℕ) (q n : ℕ) : Type 0 where
   pub kept : (i : ℕ) → is_in_range 1 n i ≡ false
       → ((mrif_in new q).pending i ≡ (mrif_in old q).pending i)
       × ((mrif_in new q).enabled i ≡ (mrif_in old q).enabled i)
-  pub elsewhere : (place : ℕ) → (place < 64 * q) ⊎ (64 * (q + 1) ≤ place)
+  pub elsewhere : (place : ℕ) → (place < SLOT_WORDS * q) ⊎ (SLOT_WORDS * (q + 1) ≤ place)
       → slice_index new place ≡ slice_index old place

@@ -2,13 +2,14 @@
 use Rattle.std.specs.Prelude.{◌≡◌, ℕ, ◌+◌, ◌*◌, ◌/◌, ◌%◌, ◌^◌, ◌<◌, ◌≤◌, List, length, slice_index, slice_set, bit_and, bit_or, Option, Some, None}
 use Rattle.std.specs.Int.{bit_not, is_in_range, w64}
 use Rattle.aia_word.specs.Sets.{has_bit}
+use Rattle.aia_regs.specs.declared.limits.TheConstants.{SLOT_WORDS}
 use Rattle.aia_regs.specs.declared.file_registers.FileReg.{FileReg}
 use Rattle.aia_regs.specs.declared.file_registers.FileReg.TheVariants.{Pending, Enable}
 use Rattle.aia_file.specs.Mrif.{Mrif, pending_place, enable_place}
 
 -- Memory has all words of slot q.
 abbrev pub HasSlot : List ℕ → ℕ → Type 0
-HasSlot words q = 64 * (q + 1) ≤ length words
+HasSlot words q = SLOT_WORDS * (q + 1) ≤ length words
 
 -- Memory after a store to slot q, given the identity that it names: the bit of that one is set in
 -- its pending word, and all else stays.

@@ -10,19 +10,19 @@ use Rattle.aia_generate.proofs.PlaceLemmas.{in_second, between}
 use Rattle.aia_generate.specs.Generated.{made_ready, guest_ready, host_ready, head_lines}
 
 -- a virtual hart makes its file ready after it has arrived
-pub past_arrival : (vm number k : ℕ) → 0 < k → slice_get (guest_ready vm number) k ≡ slice_get
-    (made_ready (GuestCsr vm number Select) (GuestCsr vm number Reg)) (k - 1)
-past_arrival vm number k past = in_second (lines.Move vm number (wants.Arrive vm) ∷ [])
-    (made_ready (GuestCsr vm number Select) (GuestCsr vm number Reg)) k past
+pub past_arrival : (vm vcpu k : ℕ) → 0 < k → slice_get (guest_ready vm vcpu) k ≡ slice_get
+    (made_ready (GuestCsr vm vcpu Select) (GuestCsr vm vcpu Reg)) (k - 1)
+past_arrival vm vcpu k past = in_second (lines.Move vm vcpu (wants.Arrive vm) ∷ [])
+    (made_ready (GuestCsr vm vcpu Select) (GuestCsr vm vcpu Reg)) k past
 
 -- the five lines of a virtual hart, and the four of a hart, from a place on
-at_guest : (start vm number k : ℕ) (before later : List Line) → length before ≡ start → start ≤ k → k < start + 5 → (k - 3) / 10 ≡ vm
-    → (k - 3) / 5 % 2 ≡ number → (k - 3) % 5 ≡ k - start
-    → slice_get (before ++ (guest_ready vm number ++ later)) k ≡ slice_get (guest_ready ((k - 3) / 10) ((k - 3) / 5 % 2)) ((k - 3) % 5)
-at_guest start vm number k before later long past within first second third =
-    between before (guest_ready vm number) later k (omega arith) (omega arith)
-    ∙ (let e : k - length before ≡ (k - 3) % 5 = omega arith in ap (slice_get (guest_ready vm number)) e)
-    ∙ ap (λ v. slice_get (guest_ready v number) ((k - 3) % 5)) (sym first)
+at_guest : (start vm vcpu k : ℕ) (before later : List Line) → length before ≡ start → start ≤ k → k < start + 5 → (k - 3) / 10 ≡ vm
+    → (k - 3) / 5 % 2 ≡ vcpu → (k - 3) % 5 ≡ k - start
+    → slice_get (before ++ (guest_ready vm vcpu ++ later)) k ≡ slice_get (guest_ready ((k - 3) / 10) ((k - 3) / 5 % 2)) ((k - 3) % 5)
+at_guest start vm vcpu k before later long past within first second third =
+    between before (guest_ready vm vcpu) later k (omega arith) (omega arith)
+    ∙ (let e : k - length before ≡ (k - 3) % 5 = omega arith in ap (slice_get (guest_ready vm vcpu)) e)
+    ∙ ap (λ v. slice_get (guest_ready v vcpu) ((k - 3) % 5)) (sym first)
     ∙ ap (λ c. slice_get (guest_ready ((k - 3) / 10) c) ((k - 3) % 5)) (sym second)
 
 at_host : (start hart k : ℕ) (before later : List Line) → length before ≡ start → start ≤ k → k < start + 4 → (k - 23) / 4 ≡ hart

@@ -7,7 +7,7 @@ use Rattle.std.specs.Prelude.{slice_get}
 use Rattle.std.specs.List.{remove, filter, list_any, range_with_len}
 use Rattle.std.specs.Prelude.{flat_map}
 use Rattle.aia_word.proofs.LeastLemmas.{least_of_is}
-use Rattle.aia_vcpu.specs.Vms.{Vcpu, vcpu, is_vcpu}
+use Rattle.aia_vcpu.specs.Vms.{Vcpu, vcpu_of, is_vcpu}
 use Rattle.aia_vcpu.specs.declared.end.End.TheVariants.{File, Memory}
 use Rattle.aia_vcpu.specs.Plans.{plan_steps}
 use Rattle.std.specs.Option.{option_map_or}
@@ -78,9 +78,9 @@ line-small : (h : History) (line : Line) → refusal h line ≡ None → IsSmall
 line-small h (Machine harts guests n sources) good small =
     size-small harts guests n sources (size_accepted (has_machine h) (is_machine_size harts guests n sources)
     (sym (machine_refusal h harts guests n sources) ∙ good))
-line-small h (lines.Move vm number want) good small = let move = wanted_move (vcpu vm number) want in
+line-small h (lines.Move vm vcpu want) good small = let move = wanted_move (vcpu_of vm vcpu) want in
     moved-small (steps_of (file_words h) move + passes_for h (mover move)) (mover move) move h small
-line-small h (Step vm number) good small = same_small (step_taken (vcpu vm number) h) h (same_first (vcpu vm number) h).1 small
+line-small h (Step vm vcpu) good small = same_small (step_taken (vcpu_of vm vcpu) h) h (same_first (vcpu_of vm vcpu) h).1 small
 line-small h line good small = small
 
 answer-small : (h : History) (line : Line) (o : Option Answer) → refusal h line ≡ o → IsSmall h → IsSmall (history_after o h line)

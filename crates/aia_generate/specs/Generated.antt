@@ -25,9 +25,9 @@ made_ready selects writes = selects (Write 0xc0) ∷ writes (Write 0xfffffffffff
 
 -- A virtual hart arrives at the hart that has its VM's number, and makes its file ready.
 abbrev pub guest_ready : ℕ → ℕ → List Line
-guest_ready vm number =
-    lines.Move vm number (wants.Arrive vm)
-    ∷ made_ready (GuestCsr vm number Select) (GuestCsr vm number Reg)
+guest_ready vm vcpu =
+    lines.Move vm vcpu (wants.Arrive vm)
+    ∷ made_ready (GuestCsr vm vcpu Select) (GuestCsr vm vcpu Reg)
 
 -- A hart makes its supervisor file ready.
 abbrev pub host_ready : ℕ → List Line

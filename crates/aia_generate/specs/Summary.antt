@@ -22,7 +22,7 @@ identity_shown answer = None
 -- The identity that a line claimed, given its answer. Counted are the claims by `csrrw stopei`, of
 -- a virtual hart and of a hart at supervisor level: a generated script has no others.
 abbrev pub claim_of : Line → Answer → Option ℕ
-claim_of (GuestCsr vm number Topei (Write v)) given = identity_shown given
+claim_of (GuestCsr vm vcpu Topei (Write v)) given = identity_shown given
 claim_of (HostCsr hart Topei (Write v)) given = identity_shown given
 claim_of line given = None
 

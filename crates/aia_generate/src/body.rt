@@ -22,39 +22,39 @@ pub fn lcg(x: u64) -> u64
 
 /// Gives the line of a form, 0 to 9: of virtual hart `number`, 0 or 1, of a VM, of a hart, with an
 /// identity.
-fn line_of_form(form: u64, vm: u64, number: u64, hart: u64, identity: u32) -> Line
-    requires { number < 2 }
-    ensures { result ≡ line_of_form form vm number hart identity }
+fn line_of_form(form: u64, vm: u64, vcpu: u64, hart: u64, identity: u32) -> Line
+    requires { vcpu < 2 }
+    ensures { result ≡ line_of_form form vm vcpu hart identity }
 {
     match form {
         0 | 1 => Line::Msi {
             vm,
-            addr: PATTERN * PAGE + number * OWN_STRIDE,
+            addr: PATTERN * PAGE + vcpu * OWN_STRIDE,
             value: identity,
         },
         2 => Line::GuestCsr {
             vm,
-            number,
+            vcpu,
             csr: Csr::Topei,
             op: Op::Write(0),
         },
         3 => Line::Ipi {
             vm,
-            number,
-            to: 1 - number,
+            vcpu,
+            to: 1 - vcpu,
             value: identity,
         },
         4 => Line::Begin {
             vm,
-            number,
+            vcpu,
             want: Want::Leave,
         },
         5 => Line::Begin {
             vm,
-            number,
+            vcpu,
             want: Want::Arrive(hart),
         },
-        6..=8 => Line::Step { vm, number },
+        6..=8 => Line::Step { vm, vcpu },
         _ => Line::HostCsr {
             hart,
             csr: Csr::Topei,

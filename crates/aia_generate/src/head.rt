@@ -30,24 +30,19 @@ fn ready_access(place: u64) -> (Csr, Op)
 
 /// Gives a line of the five by which a virtual hart arrives, at the hart that has its VM's number,
 /// and makes its file ready.
-fn guest_line(vm: u64, number: u64, place: u64) -> Line
+fn guest_line(vm: u64, vcpu: u64, place: u64) -> Line
     requires { place < 5 }
-    ensures { slice_get (guest_ready vm number) place ≡ Some result }
+    ensures { slice_get (guest_ready vm vcpu) place ≡ Some result }
 {
     if place == 0 {
         return Line::Move {
             vm,
-            number,
+            vcpu,
             want: Want::Arrive(vm),
         };
     }
     let (csr, op) = ready_access(place - 1);
-    Line::GuestCsr {
-        vm,
-        number,
-        csr,
-        op,
-    }
+    Line::GuestCsr { vm, vcpu, csr, op }
 }
 
 /// Gives a line of the four by which a hart makes its supervisor file ready.

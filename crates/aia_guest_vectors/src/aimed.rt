@@ -7,7 +7,7 @@ ghost use Rattle.aia_vcpu.specs.Home.Way.{Outward};
 ghost use Rattle.aia_vcpu.specs.declared.access.Access.TheVariants.{GFence};
 ghost use Rattle.aia_vcpu.specs.declared.end.End.TheVariants.{File, Memory};
 ghost use Rattle.aia_vcpu.specs.Plans.{plan_step};
-ghost use Rattle.aia_vcpu.specs.Vms.{vcpu};
+ghost use Rattle.aia_vcpu.specs.Vms.{vcpu_of};
 ghost use Rattle.aia_model.specs.declared.domain_name.DomainName.TheVariants.{Child};
 ghost use Rattle.aia_model.specs.Aim.{pass_reach};
 ghost use Rattle.aia_model.specs.Histories.{IsHistory};
@@ -52,7 +52,7 @@ pub fn a_script_stops_between_two_aims()
         ≡ answers_of STOPPED_BETWEEN_AIMS }
     ensures happens { IsHistory (history_of (script_of STOPPED_BETWEEN_AIMS)) }
     ensures stand { AllPassesStand (history_of (script_of STOPPED_BETWEEN_AIMS)) }
-    ensures leaves { home (history_of (script_of STOPPED_BETWEEN_AIMS)) (vcpu 0 0)
+    ensures leaves { home (history_of (script_of STOPPED_BETWEEN_AIMS)) (vcpu_of 0 0)
         ≡ OnWay (Outward (guest_place 0 1))
         (record { steps = plan_step File Memory 1 GFence + 1; aims = 1 }) }
     ensures first_leads { pass_reach (history_of (script_of STOPPED_BETWEEN_AIMS)) 0 ≡ None }

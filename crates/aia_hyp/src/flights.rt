@@ -54,10 +54,10 @@ impl Core {
     /// then.
     ///
     /// AIA 1.0, IOMMU Support for MSIs to Virtual Machines, "MSI page tables".
-    pub fn refetch(&mut self, vm: u64, number: u64) -> Result<(), Refusal>
-        ensures { CoreTakes self.old self.new (Refetch vm number) (answer_by (λ _. Okay) result) }
+    pub fn refetch(&mut self, vm: u64, vcpu: u64) -> Result<(), Refusal>
+        ensures { CoreTakes self.old self.new (Refetch vm vcpu) (answer_by (λ _. Okay) result) }
     {
-        let Some(found) = self.fabric.find(vm, number) else {
+        let Some(found) = self.fabric.find(vm, vcpu) else {
             return Err(Refusal::Range);
         };
         self.fabric.refetch(found);

@@ -18,7 +18,9 @@ ghost use Rattle.aia_hyp_values.specs.Core.{resident_at};
 ghost use Rattle.aia_fabric_values.specs.Found.{IsFound};
 ghost use Rattle.aia_hyp_values.specs.Moves.{UnlessRefused};
 ghost use Rattle.aia_hyp_values.specs.Passes.{AimsBy, TellsOf, number_of_pass};
-ghost use Rattle.aia_hyp_values.specs.Stands.{CoreStands, CorePasses, CoreHears, CoreGoes, MayPass, RefusesPass, MayGo, answer_by};
+ghost use Rattle.aia_hyp_values.specs.Stands.{CoreStands, CorePasses, CoreHears, CoreGoes, MayPass, RefusesPass, MayGo, answer_by, line_served};
+ghost use Rattle.aia_hyp_values.specs.Targets.{TargetsStand};
+ghost use Rattle.aia_model.specs.Histories.{IsHistory};
 
 use crate::hypervisor_core::{Core, is_host};
 use aia_fabric::Found;
@@ -43,21 +45,26 @@ impl Core {
         &mut self,
         source: u32,
         vm: u64,
-        number: u64,
+        vcpu: u64,
         identity: u64,
         targets: &mut T,
     ) -> Result<(), Refusal>
         requires harts { self.old.world.imsic.harts ≡ (T.map targets.old).harts }
         requires may { MayPass self.old (T.map targets.old) source }
         ensures takes { CorePasses self.old self.new (T.map targets.old) source
-            (lines.Pass source vm number identity) (answer_by (λ _. Okay) result) }
+            (lines.Pass source vm vcpu identity) (answer_by (λ _. Okay) result) }
         ensures aims { (h : History) → CoreStands self.old h
             → TellsOf (T.map targets.old) h source
-            → UnlessRefused (refusal h (lines.Pass source vm number identity))
-            (AimsBy T.aimed (aimed_by h (Accepted (lines.Pass source vm number identity)))
+            → UnlessRefused (refusal h (lines.Pass source vm vcpu identity))
+            (AimsBy T.aimed (aimed_by h (Accepted (lines.Pass source vm vcpu identity)))
             targets.old targets.new) (targets.new ≡ targets.old) }
+        ensures targets { (h : History) → IsHistory h → CoreStands self.old h
+            → TellsOf (T.map targets.old) h source
+            → TargetsStand (T.map targets.old) h → TargetsStand (T.map targets.new)
+            (line_served (refusal h (lines.Pass source vm vcpu identity)) h
+            (lines.Pass source vm vcpu identity)) }
     {
-        match self.may_pass(source, vm, number, identity, targets) {
+        match self.may_pass(source, vm, vcpu, identity, targets) {
             Ok(found) => {
                 self.pass_to(found, source, identity as u32, targets);
                 Ok(())
@@ -71,18 +78,18 @@ impl Core {
         &self,
         source: u32,
         vm: u64,
-        number: u64,
+        vcpu: u64,
         identity: u64,
         targets: &T,
     ) -> Result<Found, Refusal>
-        ensures refusal { RefusesPass self.now (T.map targets.now) source vm number identity
+        ensures refusal { RefusesPass self.now (T.map targets.now) source vm vcpu identity
             (option_map Refused (result_err result)) }
         ensures found { IfOk result (λ found. IsFound self.now.world found) }
-        ensures named { IfOk result (λ found. (found.vm ≡ vm) × (found.number ≡ number)) }
+        ensures named { IfOk result (λ found. (found.vm ≡ vm) × (found.vcpu ≡ vcpu)) }
         ensures identity { IfOk result (λ _. identity ≤ IDENTITIES) }
     {
         self.fabric.recall();
-        let Some(found) = self.fabric.find(vm, number) else {
+        let Some(found) = self.fabric.find(vm, vcpu) else {
             return Err(Refusal::Range);
         };
         if !self.has_identity(identity) {
@@ -109,14 +116,14 @@ impl Core {
         requires may { MayPass self.old (T.map targets.old) source }
         requires found { IsFound self.old.world found }
         requires free { RefusesPass self.old (T.map targets.old) source found.vm
-            found.number identity None }
+            found.vcpu identity None }
         ensures passes { (h : History) → CoreStands self.old h
             → TellsOf (T.map targets.old) h source
             → CoreStands self.new
-            (Accepted (lines.Pass source found.vm found.number identity) ∷ h) }
+            (Accepted (lines.Pass source found.vm found.vcpu identity) ∷ h) }
         ensures aims { (h : History) → CoreStands self.old h
             → AimsBy T.aimed
-            (aimed_by h (Accepted (lines.Pass source found.vm found.number identity)))
+            (aimed_by h (Accepted (lines.Pass source found.vm found.vcpu identity)))
             targets.old targets.new }
     {
         self.fabric.recall();
@@ -126,7 +133,7 @@ impl Core {
         self.passes.push(Passed {
             source,
             vm: found.vm,
-            number: found.number,
+            vcpu: found.vcpu,
             identity,
         });
     }
@@ -221,7 +228,7 @@ impl Core {
         self.passes.recall_count();
         let pass = self.passes.at(number);
         let notice = self.fabric.notice_hart(pass.vm);
-        let slot = self.fabric.slot_of(pass.vm, pass.number);
+        let slot = self.fabric.slot_of(pass.vm, pass.vcpu);
         let taken = Op::Clear(1 << (FIRST_PASS_IDENTITY + number));
         self.fabric
             .reg(Spot::SupervisorFile(notice), FileReg::Pending(0), taken);

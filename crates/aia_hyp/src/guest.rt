@@ -4,7 +4,7 @@ ghost use Rattle.aia_regs.specs.FileRegisters.{select_written};
 ghost use Rattle.aia_csr.specs.CsrAccess.{ReachesUsable, csr_access};
 ghost use Rattle.aia_major.specs.VsMajor.{vti_of};
 ghost use Rattle.aia_major.specs.Kept.{majors_shown};
-ghost use Rattle.aia_vcpu.specs.Vms.{vcpu, is_vcpu_in};
+ghost use Rattle.aia_vcpu.specs.Vms.{vcpu_of, is_vcpu_in};
 ghost use Rattle.aia_model.specs.declared.line.Line.TheVariants.{GuestCsr};
 ghost use Rattle.aia_model.specs.declared.answer.Answer.TheVariants.{Wide};
 ghost use Rattle.aia_fabric_values.specs.Changes.{spot_of};
@@ -31,11 +31,11 @@ impl Core {
     /// raises an illegal-instruction or a virtual-instruction exception; nothing is changed then.
     ///
     /// AIA 1.0, Interrupts for Virtual Machines (VS Level).
-    pub fn guest(&mut self, vm: u64, number: u64, csr: Csr, op: Op) -> Result<u64, Refusal>
-        ensures { CoreTakes self.old self.new (GuestCsr vm number csr op)
+    pub fn guest(&mut self, vm: u64, vcpu: u64, csr: Csr, op: Op) -> Result<u64, Refusal>
+        ensures { CoreTakes self.old self.new (GuestCsr vm vcpu csr op)
             (answer_by Wide result) }
     {
-        let Some(found) = self.fabric.find(vm, number) else {
+        let Some(found) = self.fabric.find(vm, vcpu) else {
             return Err(Refusal::Range);
         };
         match self.record_of(found).stay.resident() {
@@ -54,9 +54,9 @@ impl Core {
     ) -> Result<u64, Refusal>
         requires found { IsFound self.old.world found }
         requires whole { IsWhole self.old.world }
-        requires resident { resident_at (record_of self.old (vcpu found.vm found.number)).stay
+        requires resident { resident_at (record_of self.old (vcpu_of found.vm found.vcpu)).stay
             ≡ Some place }
-        ensures { CoreTakes self.old self.new (GuestCsr found.vm found.number csr op)
+        ensures { CoreTakes self.old self.new (GuestCsr found.vm found.vcpu csr op)
             (answer_by Wide result) }
     {
         let spot = file_spot(place);
@@ -81,9 +81,9 @@ impl Core {
     pub(crate) fn guest_reached(&self, found: Found, csr: Csr, op: Op) -> CsrAccess
         requires found { IsFound self.now.world found }
         ensures table { result ≡ csr_access Level.Guest csr op
-            (record_of self.now (vcpu found.vm found.number)).select
+            (record_of self.now (vcpu_of found.vm found.vcpu)).select
             (vti_of (majors_shown
-            (record_of self.now (vcpu found.vm found.number)).majors).hvictl) }
+            (record_of self.now (vcpu_of found.vm found.vcpu)).majors).hvictl) }
         ensures usable { ReachesUsable result }
     {
         let record = self.record_of(found);

@@ -21,7 +21,7 @@ ghost use Rattle.aia_model.specs.Refusal.{is_vm_size, lacks_room};
 ghost use Rattle.aia_fabric_values.specs.Whole.{IsWhole};
 ghost use Rattle.aia_model.specs.declared.answer.Answer.TheVariants.{Okay, Narrow, Wide};
 ghost use Rattle.aia_fabric_values.specs.Found.{IsFound};
-ghost use Rattle.aia_vcpu.specs.Vms.{vcpu};
+ghost use Rattle.aia_vcpu.specs.Vms.{vcpu_of};
 ghost use Rattle.aia_hyp_values.specs.Core.{no_record, record_of};
 ghost use Rattle.aia_hyp_values.specs.HostFiles.{IsHost, HasDone, name_of, csr_line, host_spot, is_host_spot, file_in, select_place, select_in};
 ghost use Rattle.aia_hyp_values.specs.Stands.{CoreStands, StandsForSome, CoreTakes, CoreBegins, answer_by, core_refusal, signals_of, route_answer};
@@ -36,13 +36,10 @@ use aia_model::Refusal;
 use aia_move::Plan;
 use aia_pool::Pool;
 use aia_regs::address_map::{PAGE, is_in_memory};
-use aia_regs::limits::{GUEST_FILES, HARTS, VCPUS, VM_VCPUS, VMS};
+use aia_regs::limits::{GUEST_FILES, HARTS, SELECT_NUMBERS, VCPUS, VM_VCPUS, VMS};
 use aia_regs::{Csr, FileReg, Level, Op};
 use std::alloc::{AllocError, Global};
 use std::marker::Model;
-
-/// The select numbers that a select CSR keeps are below this.
-const SELECT_NUMBERS: u64 = 0x1000;
 
 /// Two select numbers for each hart.
 const SELECTS: usize = 2 * HARTS as usize;
@@ -112,7 +109,7 @@ impl Core {
     /// Gives the record of a virtual hart that is there.
     pub(crate) fn record_of(&self, found: Found) -> &VcpuRecord<Plan>
         requires { IsFound self.now.world found }
-        ensures { result.now ≡ record_of self.now (vcpu found.vm found.number) }
+        ensures { result.now ≡ record_of self.now (vcpu_of found.vm found.vcpu) }
     {
         &self.vcpus[found.slot as usize]
     }

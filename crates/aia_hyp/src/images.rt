@@ -6,7 +6,7 @@ ghost use Rattle.aia_regs.specs.declared.limits.TheConstants.{VCPUS};
 ghost use Rattle.aia_regs.specs.declared.access.Op.TheVariants as ops;
 ghost use Rattle.aia_regs.specs.FileRegisters.{select_written};
 ghost use Rattle.aia_major.specs.VsMajor.{is_hvictl};
-ghost use Rattle.aia_vcpu.specs.Vms.{vcpu};
+ghost use Rattle.aia_vcpu.specs.Vms.{vcpu_of};
 ghost use Rattle.aia_fabric_values.specs.Whole.{IsWhole};
 ghost use Rattle.aia_model.specs.declared.line.Line.TheVariants.{Save, LoadPart};
 ghost use Rattle.aia_model.specs.declared.answer.Answer.TheVariants as kinds;
@@ -37,10 +37,10 @@ impl Core {
     /// both sets. `Err` is `Range` where the virtual hart isn't there, or its image has no such
     /// part; `Busy` where it is being moved, `Home` where it is resident, `Entered` where it runs
     /// from memory. Profile.
-    pub fn save(&self, vm: u64, number: u64, k: u64) -> Result<Part, Refusal>
-        ensures { CoreTakes self.now self.now (Save vm number k) (answer_by kinds.Part result) }
+    pub fn save(&self, vm: u64, vcpu: u64, k: u64) -> Result<Part, Refusal>
+        ensures { CoreTakes self.now self.now (Save vm vcpu k) (answer_by kinds.Part result) }
     {
-        let Some(found) = self.fabric.find(vm, number) else {
+        let Some(found) = self.fabric.find(vm, vcpu) else {
             return Err(Refusal::Range);
         };
         if k >= u64::from(self.fabric.words()) + FIRST_WORD {
@@ -95,11 +95,11 @@ impl Core {
     /// identity of it is both pending and enabled then. `Err` is `Range` where the virtual hart
     /// isn't there, or no image of such a file has the part; `Busy` where it is being moved, `Home`
     /// where it is resident, `Entered` where it runs from memory; nothing is changed then. Profile.
-    pub fn load_part(&mut self, vm: u64, number: u64, part: &Part) -> Result<(), Refusal>
-        ensures { CoreTakes self.old self.new (LoadPart vm number part.now)
+    pub fn load_part(&mut self, vm: u64, vcpu: u64, part: &Part) -> Result<(), Refusal>
+        ensures { CoreTakes self.old self.new (LoadPart vm vcpu part.now)
             (answer_by (λ _. Okay) result) }
     {
-        let Some(found) = self.fabric.find(vm, number) else {
+        let Some(found) = self.fabric.find(vm, vcpu) else {
             return Err(Refusal::Range);
         };
         if !is_loadable(part, self.fabric.words()) {
@@ -115,10 +115,10 @@ impl Core {
     fn load_into(&mut self, found: Found, kept: KeptNumbers, part: Part)
         requires found { IsFound self.old.world found }
         requires whole { IsWhole self.old.world }
-        requires parked { (record_of self.old (vcpu found.vm found.number)).stay
+        requires parked { (record_of self.old (vcpu_of found.vm found.vcpu)).stay
             ≡ Stay.InMemory Rest.Parked kept }
         requires loadable { is_loadable self.old.world.n part ≡ true }
-        ensures { CoreTakes self.old self.new (LoadPart found.vm found.number part) Okay }
+        ensures { CoreTakes self.old self.new (LoadPart found.vm found.vcpu part) Okay }
     {
         match part {
             Part::Image {

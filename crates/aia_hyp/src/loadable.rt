@@ -5,6 +5,7 @@ ghost use Rattle.aia_model.specs.Image.{image_version, is_loadable};
 use aia_major::{fits_hvictl, fits_hvip, fits_hviprio};
 use aia_model::Part;
 use aia_regs::bit;
+use aia_regs::limits::SELECT_NUMBERS;
 
 /// The version of images that there is.
 pub(crate) const IMAGE_VERSION: u32 = 1;
@@ -27,7 +28,10 @@ pub(crate) fn is_loadable(part: &Part, words: u32) -> bool
             select,
             ..
         } => {
-            version == IMAGE_VERSION && n == greatest && threshold <= greatest && select < 0x1000
+            version == IMAGE_VERSION
+                && n == greatest
+                && threshold <= greatest
+                && select < SELECT_NUMBERS
         }
         Part::Majors { injected, enabled } => fits_hvip(injected) && fits_hvip(enabled),
         Part::Prio { hviprio, hvictl } => fits_hviprio(hviprio) && fits_hvictl(hvictl),

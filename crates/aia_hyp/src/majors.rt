@@ -8,7 +8,7 @@ ghost use Rattle.aia_file.specs.InterruptFile.{top_of, signals};
 ghost use Rattle.aia_file.specs.FileState.{shown};
 ghost use Rattle.aia_major.specs.VsMajor.{is_major, is_hvictl, with_injection, with_hviprio1, with_hvictl, with_sip, with_sie, stopi_value, sip_value, sie_value};
 ghost use Rattle.aia_major.specs.Kept.{majors_shown};
-ghost use Rattle.aia_vcpu.specs.Vms.{vcpu, is_vcpu_in, slot_of};
+ghost use Rattle.aia_vcpu.specs.Vms.{vcpu_of, is_vcpu_in, slot_of};
 ghost use Rattle.aia_model.specs.declared.line.Line.TheVariants.{Inject, Hvictl, Hviprio};
 ghost use Rattle.aia_model.specs.declared.answer.Answer.TheVariants.{Okay};
 ghost use Rattle.aia_hyp_values.specs.Core.{no_record, MajorsDone};
@@ -28,11 +28,11 @@ impl Core {
     /// changed then.
     ///
     /// The hypervisor extension 1.0: `hvip`, which has them at the bits 2, 6, 10 and 13.
-    pub fn inject(&mut self, vm: u64, number: u64, bit: u64, level: bool) -> Result<(), Refusal>
-        ensures { CoreTakes self.old self.new (Inject vm number bit level)
+    pub fn inject(&mut self, vm: u64, vcpu: u64, bit: u64, level: bool) -> Result<(), Refusal>
+        ensures { CoreTakes self.old self.new (Inject vm vcpu bit level)
             (answer_by (λ _. Okay) result) }
     {
-        let Some(found) = self.fabric.find(vm, number) else {
+        let Some(found) = self.fabric.find(vm, vcpu) else {
             return Err(Refusal::Range);
         };
         inject_in(&mut self.vcpus, found.slot, bit, level)
@@ -43,11 +43,11 @@ impl Core {
     /// then.
     ///
     /// AIA 1.0, Interrupts for Virtual Machines (VS Level). Profile: the range of IID.
-    pub fn hvictl(&mut self, vm: u64, number: u64, value: u64) -> Result<(), Refusal>
-        ensures { CoreTakes self.old self.new (Hvictl vm number value)
+    pub fn hvictl(&mut self, vm: u64, vcpu: u64, value: u64) -> Result<(), Refusal>
+        ensures { CoreTakes self.old self.new (Hvictl vm vcpu value)
             (answer_by (λ _. Okay) result) }
     {
-        let Some(found) = self.fabric.find(vm, number) else {
+        let Some(found) = self.fabric.find(vm, vcpu) else {
             return Err(Refusal::Range);
         };
         set_hvictl_in(&mut self.vcpus, found.slot, value)
@@ -57,11 +57,11 @@ impl Core {
     /// isn't there; nothing is changed then.
     ///
     /// AIA 1.0, Interrupts for Virtual Machines (VS Level).
-    pub fn hviprio(&mut self, vm: u64, number: u64, value: u64) -> Result<(), Refusal>
-        ensures { CoreTakes self.old self.new (Hviprio vm number value)
+    pub fn hviprio(&mut self, vm: u64, vcpu: u64, value: u64) -> Result<(), Refusal>
+        ensures { CoreTakes self.old self.new (Hviprio vm vcpu value)
             (answer_by (λ _. Okay) result) }
     {
-        let Some(found) = self.fabric.find(vm, number) else {
+        let Some(found) = self.fabric.find(vm, vcpu) else {
             return Err(Refusal::Range);
         };
         set_hviprio_in(&mut self.vcpus, found.slot, value);

@@ -8,7 +8,7 @@ ghost use Rattle.aia_regs.specs.declared.limits.TheConstants.{VCPUS};
 ghost use Rattle.aia_regs.specs.FileRegisters.{number_after};
 ghost use Rattle.aia_csr.specs.CsrAccess.{is_file_csr, IsFileCsr};
 ghost use Rattle.aia_file.specs.InterruptFile.{top_of};
-ghost use Rattle.aia_vcpu.specs.Vms.{vcpu, is_vcpu_in};
+ghost use Rattle.aia_vcpu.specs.Vms.{vcpu_of, is_vcpu_in};
 ghost use Rattle.aia_fabric_values.specs.SlotAccess.{file_of_slot};
 ghost use Rattle.aia_fabric_values.specs.Whole.{IsWhole};
 ghost use Rattle.aia_model.specs.declared.line.Line.TheVariants.{Enter, Exit, GuestCsr};
@@ -33,10 +33,10 @@ impl Core {
     /// slot. `Err` is `Range` where the virtual hart isn't there, `Busy` where it is being moved,
     /// `Home` where it is resident, `Entered` where it runs from memory already; nothing is changed
     /// then. Profile.
-    pub fn enter(&mut self, vm: u64, number: u64) -> Result<(), Refusal>
-        ensures { CoreTakes self.old self.new (Enter vm number) (answer_by (λ _. Okay) result) }
+    pub fn enter(&mut self, vm: u64, vcpu: u64) -> Result<(), Refusal>
+        ensures { CoreTakes self.old self.new (Enter vm vcpu) (answer_by (λ _. Okay) result) }
     {
-        let Some(found) = self.fabric.find(vm, number) else {
+        let Some(found) = self.fabric.find(vm, vcpu) else {
             return Err(Refusal::Range);
         };
         enter_in(&mut self.vcpus, found.slot)
@@ -45,10 +45,10 @@ impl Core {
     /// Has a virtual hart cease to run from memory: it is parked then. Its notice is sent exactly
     /// where an identity is both pending and enabled at it. `Err` is `Range` where the virtual hart
     /// isn't there, `Idle` where it does not run from memory; nothing is changed then. Profile.
-    pub fn exit(&mut self, vm: u64, number: u64) -> Result<(), Refusal>
-        ensures { CoreTakes self.old self.new (Exit vm number) (answer_by (λ _. Okay) result) }
+    pub fn exit(&mut self, vm: u64, vcpu: u64) -> Result<(), Refusal>
+        ensures { CoreTakes self.old self.new (Exit vm vcpu) (answer_by (λ _. Okay) result) }
     {
-        let Some(found) = self.fabric.find(vm, number) else {
+        let Some(found) = self.fabric.find(vm, vcpu) else {
             return Err(Refusal::Range);
         };
         match self.record_of(found).stay.entered() {
@@ -64,9 +64,9 @@ impl Core {
     /// pending and enabled.
     fn park(&mut self, found: Found, kept: KeptNumbers)
         requires found { IsFound self.old.world found }
-        requires entered { (record_of self.old (vcpu found.vm found.number)).stay
+        requires entered { (record_of self.old (vcpu_of found.vm found.vcpu)).stay
             ≡ Stay.InMemory Rest.Entered kept }
-        ensures { CoreTakes self.old self.new (Exit found.vm found.number) Okay }
+        ensures { CoreTakes self.old self.new (Exit found.vm found.vcpu) Okay }
     {
         self.fabric.recall();
         put_stay(
@@ -84,8 +84,8 @@ impl Core {
     pub(crate) fn away_access(&mut self, found: Found, csr: Csr, op: Op) -> Result<u64, Refusal>
         requires found { IsFound self.old.world found }
         requires whole { IsWhole self.old.world }
-        requires away { resident_at (record_of self.old (vcpu found.vm found.number)).stay ≡ None }
-        ensures { CoreTakes self.old self.new (GuestCsr found.vm found.number csr op)
+        requires away { resident_at (record_of self.old (vcpu_of found.vm found.vcpu)).stay ≡ None }
+        ensures { CoreTakes self.old self.new (GuestCsr found.vm found.vcpu csr op)
             (answer_by Wide result) }
     {
         match self.record_of(found).stay.entered() {
@@ -105,10 +105,10 @@ impl Core {
     ) -> Result<u64, Refusal>
         requires found { IsFound self.old.world found }
         requires whole { IsWhole self.old.world }
-        requires entered { (record_of self.old (vcpu found.vm found.number)).stay
+        requires entered { (record_of self.old (vcpu_of found.vm found.vcpu)).stay
             ≡ Stay.InMemory Rest.Entered kept }
         requires listed { IsFileCsr csr }
-        ensures { CoreTakes self.old self.new (GuestCsr found.vm found.number csr op)
+        ensures { CoreTakes self.old self.new (GuestCsr found.vm found.vcpu csr op)
             (answer_by Wide result) }
     {
         let slot = found.slot;

@@ -1,6 +1,6 @@
 ghost use Rattle.std.specs.Prelude.{◌≡◌, ◌<◌, ◌≤◌, true, false, length, slice_index_or, slice_set, Option, Some, None, IfSome, IfNone, OnOk};
 ghost use Rattle.std.specs.Vec.{vec_capacity};
-ghost use Rattle.aia_vcpu.specs.Vms.{vcpu, is_vcpu_in};
+ghost use Rattle.aia_vcpu.specs.Vms.{vcpu_of, is_vcpu_in};
 ghost use Rattle.aia_vcpu.specs.Home.{is_moving};
 ghost use Rattle.aia_pool.specs.Leases.{Leases};
 ghost use Rattle.aia_model.specs.declared.line.Line.TheVariants.{Step};
@@ -16,7 +16,9 @@ ghost use Rattle.aia_model.specs.Aim.{aimed_by};
 ghost use Rattle.aia_model.specs.Refusal.{refusal};
 ghost use Rattle.aia_hyp_values.specs.Core.{no_kept, no_record, record_of, home_in, has_plan};
 ghost use Rattle.aia_hyp_values.specs.Passes.{own_passes, AimsBy};
-ghost use Rattle.aia_hyp_values.specs.Stands.{CoreStands, CoreTakes, answer_by};
+ghost use Rattle.aia_hyp_values.specs.Stands.{CoreStands, CoreTakes, answer_by, line_served};
+ghost use Rattle.aia_hyp_values.specs.Targets.{TargetsStand};
+ghost use Rattle.aia_model.specs.Histories.{IsHistory};
 ghost use Rattle.aia_fabric_values.specs.Found.{IsFound};
 ghost use Rattle.aia_hyp_values.specs.Moves.{UnlessRefused, WholeAims, step_answer, MakesOne, WantBegins, LeaveBegins, ArriveBegins, ShiftBegins, MoveBegins, MoveGoes, StaysInPlace, MoveInPlace, IsAtItsLast, stay_after, back_of, with_back, IsOutThere};
 
@@ -39,19 +41,23 @@ impl Core {
     pub fn whole<T: Targets>(
         &mut self,
         vm: u64,
-        number: u64,
+        vcpu: u64,
         want: Want,
         targets: &mut T,
     ) -> Result<(), Refusal>
         requires { self.old.world.imsic.harts ≡ (T.map targets.old).harts }
-        ensures takes { CoreTakes self.old self.new (lines.Move vm number want)
+        ensures takes { CoreTakes self.old self.new (lines.Move vm vcpu want)
             (answer_by (λ _. Okay) result) }
         ensures aims { (h : History) → CoreStands self.old h
-            → UnlessRefused (refusal h (lines.Move vm number want))
-            (WholeAims T.aimed h vm number want targets.old targets.new)
+            → UnlessRefused (refusal h (lines.Move vm vcpu want))
+            (WholeAims T.aimed h vm vcpu want targets.old targets.new)
             (targets.new ≡ targets.old) }
+        ensures targets { (h : History) → IsHistory h → CoreStands self.old h
+            → TargetsStand (T.map targets.old) h → TargetsStand (T.map targets.new)
+            (line_served (refusal h (lines.Move vm vcpu want)) h
+            (lines.Move vm vcpu want)) }
     {
-        let Some(found) = self.fabric.find(vm, number) else {
+        let Some(found) = self.fabric.find(vm, vcpu) else {
             return Err(Refusal::Range);
         };
         self.begin_of(found, want)?;
@@ -61,11 +67,11 @@ impl Core {
 
     /// Begins to move a virtual hart, and does no step of the move. `Err` is as of
     /// [`Core::whole`]; nothing is changed then. Profile.
-    pub fn begin(&mut self, vm: u64, number: u64, want: Want) -> Result<(), Refusal>
-        ensures { CoreTakes self.old self.new (lines.Begin vm number want)
+    pub fn begin(&mut self, vm: u64, vcpu: u64, want: Want) -> Result<(), Refusal>
+        ensures { CoreTakes self.old self.new (lines.Begin vm vcpu want)
             (answer_by (λ _. Okay) result) }
     {
-        let Some(found) = self.fabric.find(vm, number) else {
+        let Some(found) = self.fabric.find(vm, vcpu) else {
             return Err(Refusal::Range);
         };
         self.begin_of(found, want)
@@ -75,23 +81,22 @@ impl Core {
     /// passed source at the new place; other targets stay. `true` says that it was the last one,
     /// and that the move is at its end. `Err` is `Range` where the virtual hart isn't there, `Idle`
     /// where it is not being moved; nothing is changed then. Profile.
-    pub fn step<T: Targets>(
-        &mut self,
-        vm: u64,
-        number: u64,
-        targets: &mut T,
-    ) -> Result<bool, Refusal>
+    pub fn step<T: Targets>(&mut self, vm: u64, vcpu: u64, targets: &mut T) -> Result<bool, Refusal>
         requires { self.old.world.imsic.harts ≡ (T.map targets.old).harts }
-        ensures takes { CoreTakes self.old self.new (Step vm number)
+        ensures takes { CoreTakes self.old self.new (Step vm vcpu)
             (answer_by step_answer result) }
-        ensures one { (plan : PlanState) → (record_of self.old (vcpu vm number)).stay ≡ Stay.Moving plan
+        ensures one { (plan : PlanState)
+            → (record_of self.old (vcpu_of vm vcpu)).stay ≡ Stay.Moving plan
             → OnOk result (MakesOne self.old.world (moving_of plan) self.new.world) }
         ensures aims { (h : History) → CoreStands self.old h
-            → UnlessRefused (refusal h (Step vm number))
-            (AimsBy T.aimed (aimed_by h (Stepped (vcpu vm number))) targets.old targets.new)
+            → UnlessRefused (refusal h (Step vm vcpu))
+            (AimsBy T.aimed (aimed_by h (Stepped (vcpu_of vm vcpu))) targets.old targets.new)
             (targets.new ≡ targets.old) }
+        ensures targets { (h : History) → IsHistory h → CoreStands self.old h
+            → TargetsStand (T.map targets.old) h → TargetsStand (T.map targets.new)
+            (line_served (refusal h (Step vm vcpu)) h (Step vm vcpu)) }
     {
-        let Some(found) = self.fabric.find(vm, number) else {
+        let Some(found) = self.fabric.find(vm, vcpu) else {
             return Err(Refusal::Range);
         };
         if !self.is_moved(found) {
@@ -103,7 +108,7 @@ impl Core {
     /// Tells whether a virtual hart that is there is being moved.
     pub(crate) fn is_moved(&self, found: Found) -> bool
         requires { IsFound self.now.world found }
-        ensures { result ≡ has_plan (record_of self.now (vcpu found.vm found.number)).stay }
+        ensures { result ≡ has_plan (record_of self.now (vcpu_of found.vm found.vcpu)).stay }
     {
         self.record_of(found).stay.has_plan()
     }
@@ -111,7 +116,7 @@ impl Core {
     /// Begins to move a virtual hart that is there, and does no step of the move.
     fn begin_of(&mut self, found: Found, want: Want) -> Result<(), Refusal>
         requires { IsFound self.old.world found }
-        ensures begins { MoveBegins self.old self.new found.vm found.number want
+        ensures begins { MoveBegins self.old self.new found.vm found.vcpu want
             (answer_by (λ _. Okay) result) }
         ensures world { self.new.world ≡ self.old.world }
     {
@@ -127,12 +132,13 @@ impl Core {
     /// was the last one.
     fn step_of<T: Targets>(&mut self, found: Found, targets: &mut T) -> bool
         requires found { IsFound self.old.world found }
-        requires moving { is_moving (home_in (record_of self.old (vcpu found.vm found.number)).stay)
+        requires moving { is_moving
+            (home_in (record_of self.old (vcpu_of found.vm found.vcpu)).stay)
             ≡ true }
         requires harts { self.old.world.imsic.harts ≡ (T.map targets.old).harts }
-        ensures goes { MoveGoes self.old self.new (vcpu found.vm found.number) result }
+        ensures goes { MoveGoes self.old self.new (vcpu_of found.vm found.vcpu) result }
         ensures aims { (h : History) → CoreStands self.old h
-            → AimsBy T.aimed (aimed_by h (Stepped (vcpu found.vm found.number))) targets.old
+            → AimsBy T.aimed (aimed_by h (Stepped (vcpu_of found.vm found.vcpu))) targets.old
             targets.new }
         ensures found { IsFound self.new.world found }
         ensures harts { self.new.world.imsic.harts ≡ (T.map targets.new).harts }
@@ -148,12 +154,13 @@ impl Core {
     /// of the move; tells whether it made one.
     fn step_in_place<T: Targets>(&mut self, found: Found, targets: &mut T) -> bool
         requires found { IsFound self.old.world found }
-        requires moving { is_moving (home_in (record_of self.old (vcpu found.vm found.number)).stay)
+        requires moving { is_moving
+            (home_in (record_of self.old (vcpu_of found.vm found.vcpu)).stay)
             ≡ true }
         requires harts { self.old.world.imsic.harts ≡ (T.map targets.old).harts }
-        ensures makes { MoveInPlace self.old self.new (vcpu found.vm found.number) result }
+        ensures makes { MoveInPlace self.old self.new (vcpu_of found.vm found.vcpu) result }
         ensures aims { (h : History) → CoreStands self.old h
-            → AimsBy T.aimed (aimed_by h (Stepped (vcpu found.vm found.number))) targets.old
+            → AimsBy T.aimed (aimed_by h (Stepped (vcpu_of found.vm found.vcpu))) targets.old
             targets.new }
         ensures found { IsFound self.new.world found }
         ensures harts { self.new.world.imsic.harts ≡ (T.map targets.new).harts }
@@ -168,10 +175,11 @@ impl Core {
     /// Makes the last step of the move of a virtual hart, and puts it where the move leads.
     fn finish_move(&mut self, found: Found)
         requires found { IsFound self.old.world found }
-        requires moving { is_moving (home_in (record_of self.old (vcpu found.vm found.number)).stay)
+        requires moving { is_moving
+            (home_in (record_of self.old (vcpu_of found.vm found.vcpu)).stay)
             ≡ true }
-        requires last { IsAtItsLast self.old (vcpu found.vm found.number) }
-        ensures goes { MoveGoes self.old self.new (vcpu found.vm found.number) true }
+        requires last { IsAtItsLast self.old (vcpu_of found.vm found.vcpu) }
+        ensures goes { MoveGoes self.old self.new (vcpu_of found.vm found.vcpu) true }
         ensures found { IsFound self.new.world found }
         ensures harts { self.new.world.imsic.harts ≡ self.old.world.imsic.harts }
     {
@@ -192,11 +200,11 @@ fn who_of(found: Found, passes: &Passes) -> Who
       found = found;
       passes = result.passes;
     } }
-    ensures passes { result.passes.items ≡ own_passes 0 (vcpu found.vm found.number) passes.now }
+    ensures passes { result.passes.items ≡ own_passes 0 (vcpu_of found.vm found.vcpu) passes.now }
 {
     Who {
         found,
-        passes: passes.to(found.vm, found.number),
+        passes: passes.to(found.vm, found.vcpu),
     }
 }
 

@@ -1,7 +1,7 @@
 ghost use Rattle.std.specs.Prelude.{◌≡◌, ◌<◌, ◌≤◌, ◌++◌, [], ◌∷◌, nat_eq, length, slice_index_or};
 ghost use Rattle.aia_regs.specs.declared.limits.TheConstants.{PASSES};
 ghost use Rattle.aia_word.specs.Sets.{least_of};
-ghost use Rattle.aia_vcpu.specs.Vms.{vcpu};
+ghost use Rattle.aia_vcpu.specs.Vms.{vcpu_of};
 ghost use Rattle.aia_model.specs.Passes.{no_pass};
 ghost use Rattle.aia_hyp_values.specs.Passes.{pass_shown, own_passes};
 
@@ -82,24 +82,24 @@ impl Passes {
     }
 
     /// Gives those to a virtual hart, in order, with their numbers.
-    pub fn to(&self, vm: u32, number: u32) -> ArrayVec<Pass, PASSES>
-        ensures { result.items ≡ own_passes 0 (vcpu vm number) self.now }
+    pub fn to(&self, vm: u32, vcpu: u32) -> ArrayVec<Pass, PASSES>
+        ensures { result.items ≡ own_passes 0 (vcpu_of vm vcpu) self.now }
     {
         let mut own = ArrayVec::new();
         for k in 0..self.kept.len() {
-            put_own(&mut own, vm, number, k as u32, self.kept[k]);
+            put_own(&mut own, vm, vcpu, k as u32, self.kept[k]);
         }
         own
     }
 }
 
 /// Puts pass k behind others where it is to a virtual hart.
-fn put_own(own: &mut ArrayVec<Pass, PASSES>, vm: u32, number: u32, k: u32, pass: Passed)
+fn put_own(own: &mut ArrayVec<Pass, PASSES>, vm: u32, vcpu: u32, k: u32, pass: Passed)
     requires { length own.old.items < PASSES }
     ensures { own.new.items
-        ≡ own.old.items ++ own_passes k (vcpu vm number) (pass_shown pass ∷ []) }
+        ≡ own.old.items ++ own_passes k (vcpu_of vm vcpu) (pass_shown pass ∷ []) }
 {
-    if pass.vm == vm && pass.number == number {
+    if pass.vm == vm && pass.vcpu == vcpu {
         own.push(Pass {
             source: pass.source,
             identity: pass.identity,

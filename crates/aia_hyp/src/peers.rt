@@ -14,11 +14,11 @@ impl Core {
     /// virtual hart `to`; nothing is changed then.
     ///
     /// AIA 1.0, Interprocessor Interrupts (IPIs); the hypervisor extension 1.0.
-    pub fn ipi(&mut self, vm: u64, number: u64, to: u64, value: u32) -> Result<(), Refusal>
-        ensures { CoreTakes self.old self.new (Ipi vm number to value)
+    pub fn ipi(&mut self, vm: u64, vcpu: u64, to: u64, value: u32) -> Result<(), Refusal>
+        ensures { CoreTakes self.old self.new (Ipi vm vcpu to value)
             (answer_by (λ _. Okay) result) }
     {
-        let Some(from) = self.fabric.find(vm, number) else {
+        let Some(from) = self.fabric.find(vm, vcpu) else {
             return Err(Refusal::Range);
         };
         if !self.record_of(from).stay.runs() {

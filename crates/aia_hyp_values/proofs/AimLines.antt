@@ -5,7 +5,7 @@ use Rattle.std.proofs.lemmas.Bool.{cases_Bool, cond-true, and_parts, eqb-true, n
 use Rattle.std.proofs.lemmas.Bool.Decides.{nat_tests}
 use Rattle.std.proofs.lemmas.List.{length-set}
 use Rattle.aia_vcpu.specs.declared.place.GuestPlace.{GuestPlace}
-use Rattle.aia_vcpu.specs.Vms.{Vcpu, vcpu, is_vcpu, slot_of, notice_hart}
+use Rattle.aia_vcpu.specs.Vms.{Vcpu, vcpu_of, is_vcpu, slot_of, notice_hart}
 use Rattle.aia_vcpu.specs.Home.{Home, left, led_to, holds, is_moving}
 use Rattle.aia_vcpu.specs.Home.Home.{OnWay}
 use Rattle.aia_vcpu.specs.Home.Way.{Outward}
@@ -142,7 +142,7 @@ module _ (x y : CoreState) (h : History) (g : Vcpu) (plan later : PlanState) (r 
   same_who = ap (λ (m : Moving). m.who) a.goes.moved
 
   later_mover : mover (moving_of later) ≡ g
-  later_mover = ap (λ (who : Who). vcpu who.found.vm who.found.number) same_who ∙ is_mover
+  later_mover = ap (λ (who : Who). vcpu_of who.found.vm who.found.vcpu) same_who ∙ is_mover
 
   aimed_home : home (Stepped g ∷ h) g ≡ aimed (home h g)
   aimed_home = stepped_home h g ∙ ap (λ b. cond b (aimed (home h g)) (stepped (file_words h) (home h g))) a.aiming
@@ -268,7 +268,7 @@ module _ (x y : CoreState) (h : History) (g : Vcpu) (plan later : PlanState) (r 
     held = λ p holding. a.stands.held g p a.there (sym (same_holds p) ∙ holding);
     apart = λ other p inside ne holding. its_alone other p inside ne (sym (same_holds p) ∙ holding);
     free = λ p inside none. ap (λ (w : World). shown (file_at w.imsic (spot_of p))) a.goes.world ∙ a.stands.free p inside (sym (still_held p) ∙ none);
-    entries = λ other ne. ap (λ (w : World). entry_in_force (table_of w.tables other.vm) other.number) a.goes.world;
+    entries = λ other ne. ap (λ (w : World). entry_in_force (table_of w.tables other.vm) other.vcpu) a.goes.world;
     slots = λ q few ne. ap (λ (w : World). mrif_in w.memory q) a.goes.world;
     stages = λ q ne. ap (λ (w : World). get_or w.stages q no_stage) a.goes.world;
   }

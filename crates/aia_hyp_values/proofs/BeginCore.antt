@@ -6,7 +6,7 @@ use Rattle.std.proofs.lemmas.List.{set-get_or}
 use Rattle.std.proofs.lemmas.Option.{none-some}
 use Rattle.aia_vcpu.specs.declared.place.GuestPlace.{GuestPlace}
 use Rattle.aia_vcpu.specs.declared.vm.Vm.{Vm}
-use Rattle.aia_vcpu.specs.Vms.{Vcpu, vcpu, is_vcpu_in, slot_of}
+use Rattle.aia_vcpu.specs.Vms.{Vcpu, vcpu_of, is_vcpu_in, slot_of}
 use Rattle.aia_vcpu.specs.Home.{at_first, rests_in_memory, is_moving}
 use Rattle.aia_vcpu.specs.Home.Home.{OnWay}
 use Rattle.aia_vcpu.specs.Home.Way.{Inward, Across}
@@ -52,19 +52,19 @@ use Rattle.aia_hyp_values.proofs.BeginLines.{Given, home_at, leave_begun, arrive
 
 -- what is to be shown of a core that stands for a history
 abbrev pub Answered : CoreState → CoreState → History → ℕ → ℕ → Want → Answer → Type 0
-Answered x y h vm number want given =
-    (r : Option Answer) × (refusal h (lines.Move vm number want) ≡ r) × (given ≡ unwrap_or r Okay)
-    × CoreStands y (move_begun r h (wanted_move (vcpu vm number) want)) × ((word : Answer) → r ≡ Some word → y ≡ x)
+Answered x y h vm vcpu want given =
+    (r : Option Answer) × (refusal h (lines.Move vm vcpu want) ≡ r) × (given ≡ unwrap_or r Okay)
+    × CoreStands y (move_begun r h (wanted_move (vcpu_of vm vcpu) want)) × ((word : Answer) → r ≡ Some word → y ≡ x)
 
-okay : (h : History) (vm number : ℕ) (want : Want) → accepted_answer h (lines.Move vm number want) ≡ Okay
-okay h vm number want = refl
+okay : (h : History) (vm vcpu : ℕ) (want : Want) → accepted_answer h (lines.Move vm vcpu want) ≡ Okay
+okay h vm vcpu want = refl
 
-pub move_answered : (x y : CoreState) (vm number : ℕ) (want : Want) (given : Answer)
-    → ((h : History) → CoreStands x h → Answered x y h vm number want given) → MoveBegins x y vm number want given
-move_answered x y vm number want given by = record {
-  answers = λ h stands. let r = by h stands in r.2 ∙ ap (unwrap_or r.0) (sym (okay h vm number want))
-      ∙ sym (answered h (lines.Move vm number want) r.0 r.1);
-  begins = λ h stands. let r = by h stands in subst (λ (o : Option Answer). CoreStands y (move_begun o h (wanted_move (vcpu vm number) want)))
+pub move_answered : (x y : CoreState) (vm vcpu : ℕ) (want : Want) (given : Answer)
+    → ((h : History) → CoreStands x h → Answered x y h vm vcpu want given) → MoveBegins x y vm vcpu want given
+move_answered x y vm vcpu want given by = record {
+  answers = λ h stands. let r = by h stands in r.2 ∙ ap (unwrap_or r.0) (sym (okay h vm vcpu want))
+      ∙ sym (answered h (lines.Move vm vcpu want) r.0 r.1);
+  begins = λ h stands. let r = by h stands in subst (λ (o : Option Answer). CoreStands y (move_begun o h (wanted_move (vcpu_of vm vcpu) want)))
       (sym r.1) r.3;
   unchanged = λ h word stands is. let r = by h stands in r.4 word (sym r.1 ∙ is);
 }
@@ -78,36 +78,36 @@ at_stay r stay = record r { stay = stay }
 -- The call has put it elsewhere in its record, and may have taken a file; all else is as it was.
 pub record Put (x y : CoreState) (who : Who) (new : Stay) : Type 0 where
   pub is_who : IsWho x.world who
-  pub its : who.passes.items ≡ own_passes 0 (vcpu who.found.vm who.found.number) x.passes
+  pub its : who.passes.items ≡ own_passes 0 (vcpu_of who.found.vm who.found.vcpu) x.passes
   pub world : y.world ≡ x.world
   pub selects : y.selects ≡ x.selects
   pub passes : y.passes ≡ x.passes
-  pub vcpus : y.vcpus ≡ set x.vcpus (slot_of x.world.vms (vcpu who.found.vm who.found.number))
-      (at_stay (record_of x (vcpu who.found.vm who.found.number)) new)
+  pub vcpus : y.vcpus ≡ set x.vcpus (slot_of x.world.vms (vcpu_of who.found.vm who.found.vcpu))
+      (at_stay (record_of x (vcpu_of who.found.vm who.found.vcpu)) new)
 
 module _ (x y : CoreState) (who : Who) (given : Answer) (h : History) (stands : CoreStands x h) where
   abbrev g : Vcpu
-  g = vcpu who.found.vm who.found.number
+  g = vcpu_of who.found.vm who.found.vcpu
 
-  is_there : (new : Stay) → Put x y who new → has_vcpu h (vcpu who.found.vm who.found.number) ≡ true
+  is_there : (new : Stay) → Put x y who new → has_vcpu h (vcpu_of who.found.vm who.found.vcpu) ≡ true
   is_there new p = subst (λ (vs : List Vm). is_vcpu_in vs g ≡ true) stands.vms p.is_who.there
 
   -- it is put where it was
-  put_back : (new : Stay) → Put x y who new → new ≡ (record_of x (vcpu who.found.vm who.found.number)).stay → y.leases ≡ x.leases → y ≡ x
+  put_back : (new : Stay) → Put x y who new → new ≡ (record_of x (vcpu_of who.found.vm who.found.vcpu)).stay → y.leases ≡ x.leases → y ≡ x
   put_back new p same leases = same_core x y p.world leases
       (p.vcpus ∙ ap (λ s. set x.vcpus (slot_of x.world.vms g) (at_stay (record_of x g) s)) same
       ∙ set-get_or x.vcpus (slot_of x.world.vms g) no_record) p.selects p.passes
 
-  refused : (want : Want) (word : Refusal) (new old : Stay) → Put x y who new → (record_of x (vcpu who.found.vm who.found.number)).stay ≡ old
-      → Refuses word old new x.leases y.leases given → refusal h (lines.Move who.found.vm who.found.number want) ≡ Some (Refused word)
-      → Answered x y h who.found.vm who.found.number want given
+  refused : (want : Want) (word : Refusal) (new old : Stay) → Put x y who new → (record_of x (vcpu_of who.found.vm who.found.vcpu)).stay ≡ old
+      → Refuses word old new x.leases y.leases given → refusal h (lines.Move who.found.vm who.found.vcpu want) ≡ Some (Refused word)
+      → Answered x y h who.found.vm who.found.vcpu want given
   refused want word new old p was r is =
       let same = put_back new p (r.1 ∙ sym was) r.2 in
       (Some (Refused word), is, r.0, subst (λ (z : CoreState). CoreStands z h) (sym same) stands, λ w e. same)
 
   -- its plan is kept
   planned : (plan : PlanState) → Put x y who (stays.Moving plan) → ((words : ℕ) → IsInPhase words plan)
-      → Given x y h (vcpu who.found.vm who.found.number) who plan (at_stay (record_of x (vcpu who.found.vm who.found.number)) (stays.Moving plan))
+      → Given x y h (vcpu_of who.found.vm who.found.vcpu) who plan (at_stay (record_of x (vcpu_of who.found.vm who.found.vcpu)) (stays.Moving plan))
   planned plan p phase = record {
     planned = record {
       stands = stands;
@@ -128,24 +128,24 @@ module _ (x y : CoreState) (who : Who) (given : Answer) (h : History) (stands : 
 
   -- ---- a leave
 
-  leave_refused : (new old : Stay) → Put x y who new → (record_of x (vcpu who.found.vm who.found.number)).stay ≡ old
-      → refusal h (lines.Move who.found.vm who.found.number wants.Leave) ≡ cond (is_moving (home_in old)) (Some (Refused words.Busy))
+  leave_refused : (new old : Stay) → Put x y who new → (record_of x (vcpu_of who.found.vm who.found.vcpu)).stay ≡ old
+      → refusal h (lines.Move who.found.vm who.found.vcpu wants.Leave) ≡ cond (is_moving (home_in old)) (Some (Refused words.Busy))
       (cond (rests_in_memory (home_in old)) (Some (Refused words.Parked)) None)
   leave_refused new old p was =
       let inside = is_there new p in
       let there = home_at x h g old stands inside was in
-      leave_refusal h who.found.vm who.found.number stands.there
+      leave_refusal h who.found.vm who.found.vcpu stands.there
       ∙ (λ k. cond (not (inside k)) (Some (Refused words.Range))
       (cond (is_moving (there k)) (Some (Refused words.Busy)) (cond (rests_in_memory (there k)) (Some (Refused words.Parked)) None)))
 
   -- what is being moved has its home on the move
-  on_the_move : (new : Stay) (plan : PlanState) → Put x y who new → (record_of x (vcpu who.found.vm who.found.number)).stay ≡ stays.Moving plan
+  on_the_move : (new : Stay) (plan : PlanState) → Put x y who new → (record_of x (vcpu_of who.found.vm who.found.vcpu)).stay ≡ stays.Moving plan
       → is_moving (moving_of plan).home ≡ true
   on_the_move new plan p was = let planned : PlanStands x.world g (stays.Moving plan) =
       subst (PlanStands x.world g) was (stands.vcpus g (is_there new p)).plan in planned.3
 
-  leave_answered : (new old : Stay) → Put x y who new → (record_of x (vcpu who.found.vm who.found.number)).stay ≡ old
-      → LeaveBegins who old new x.leases y.leases given → Answered x y h who.found.vm who.found.number wants.Leave given
+  leave_answered : (new old : Stay) → Put x y who new → (record_of x (vcpu_of who.found.vm who.found.vcpu)).stay ≡ old
+      → LeaveBegins who old new x.leases y.leases given → Answered x y h who.found.vm who.found.vcpu wants.Leave given
   leave_answered (stays.Moving plan) (stays.Resident from) p was b = (
     None,
     leave_refused (stays.Moving plan) (stays.Resident from) p was,
@@ -164,13 +164,13 @@ module _ (x y : CoreState) (who : Who) (given : Answer) (h : History) (stands : 
   -- ---- an arrival
 
   arrive_refused : (new old : Stay) (hart : ℕ) (b : Bool) (o : Option ℕ) → Put x y who new
-      → (record_of x (vcpu who.found.vm who.found.number)).stay ≡ old → has_hart h hart ≡ b → free_file h (home h) hart ≡ o
-      → refusal h (lines.Move who.found.vm who.found.number (wants.Arrive hart)) ≡ cond (not b) (Some (Refused words.Range))
+      → (record_of x (vcpu_of who.found.vm who.found.vcpu)).stay ≡ old → has_hart h hart ≡ b → free_file h (home h) hart ≡ o
+      → refusal h (lines.Move who.found.vm who.found.vcpu (wants.Arrive hart)) ≡ cond (not b) (Some (Refused words.Range))
       (unless_parked (home_in old) (cond (is_none o) (Some (Refused words.NoFile)) None))
   arrive_refused new old hart b o p was on free =
       let inside = is_there new p in
       let there = home_at x h g old stands inside was in
-      arrive_refusal h who.found.vm who.found.number hart stands.there
+      arrive_refusal h who.found.vm who.found.vcpu hart stands.there
       ∙ (λ k. cond (not (inside k && on k)) (Some (Refused words.Range))
       (unless_parked (there k) (cond (is_none (free k)) (Some (Refused words.NoFile)) None)))
 
@@ -188,13 +188,13 @@ module _ (x y : CoreState) (who : Who) (given : Answer) (h : History) (stands : 
 
   -- it takes a guest file of a hart, where one is free, and is refused where none is
   taken_in : (want : Want) (new old : Stay) (hart : ℕ) (moving : GuestPlace → Moving) (o : Option ℕ) → Put x y who new
-      → (record_of x (vcpu who.found.vm who.found.number)).stay ≡ old → hart < x.leases.harts → least_free x.leases hart ≡ o
-      → refusal h (lines.Move who.found.vm who.found.number want) ≡ cond (is_none o) (Some (Refused words.NoFile)) None
-      → ((plan : PlanState) (to : GuestPlace) → Given x y h (vcpu who.found.vm who.found.number) who plan
-      (at_stay (record_of x (vcpu who.found.vm who.found.number)) (stays.Moving plan)) → IsFreeAt x h hart to
+      → (record_of x (vcpu_of who.found.vm who.found.vcpu)).stay ≡ old → hart < x.leases.harts → least_free x.leases hart ≡ o
+      → refusal h (lines.Move who.found.vm who.found.vcpu want) ≡ cond (is_none o) (Some (Refused words.NoFile)) None
+      → ((plan : PlanState) (to : GuestPlace) → Given x y h (vcpu_of who.found.vm who.found.vcpu) who plan
+      (at_stay (record_of x (vcpu_of who.found.vm who.found.vcpu)) (stays.Moving plan)) → IsFreeAt x h hart to
       → y.leases ≡ with_out x.leases to true → moving_of plan ≡ moving to
-      → CoreStands y (Began (wanted_move (vcpu who.found.vm who.found.number) want) ∷ h))
-      → BeginsIn o hart moving old new x.leases y.leases given → Answered x y h who.found.vm who.found.number want given
+      → CoreStands y (Began (wanted_move (vcpu_of who.found.vm who.found.vcpu) want) ∷ h))
+      → BeginsIn o hart moving old new x.leases y.leases given → Answered x y h who.found.vm who.found.vcpu want given
   taken_in want new old hart moving None p was low found is begun b = refused want words.NoFile new old p was b is
   taken_in want (stays.Moving plan) old hart moving (Some file) p was low found is begun b = (
     None,
@@ -207,9 +207,9 @@ module _ (x y : CoreState) (who : Who) (given : Answer) (h : History) (stands : 
   taken_in want new old hart moving (Some file) p was low found is begun b = absurd b.1
 
   arrive_in : (new : Stay) (hart : ℕ) (kept : KeptNumbers) → Put x y who new
-      → (record_of x (vcpu who.found.vm who.found.number)).stay ≡ stays.InMemory Parked kept → hart < x.leases.harts
+      → (record_of x (vcpu_of who.found.vm who.found.vcpu)).stay ≡ stays.InMemory Parked kept → hart < x.leases.harts
       → ArriveFrom (Ok kept) who hart (stays.InMemory Parked kept) new x.leases y.leases given
-      → Answered x y h who.found.vm who.found.number (wants.Arrive hart) given
+      → Answered x y h who.found.vm who.found.vcpu (wants.Arrive hart) given
   arrive_in new hart kept p was low b = taken_in (wants.Arrive hart) new (stays.InMemory Parked kept) hart
       (λ to. record {
         who = who;
@@ -221,13 +221,13 @@ module _ (x y : CoreState) (who : Who) (given : Answer) (h : History) (stands : 
       (λ plan to put free leases begins. arrive_begun x y h g hart who plan (at_stay (record_of x g) (stays.Moving plan)) to kept put free leases
       was begins) b
 
-  arrive_answered : (new old : Stay) (hart : ℕ) → Put x y who new → (record_of x (vcpu who.found.vm who.found.number)).stay ≡ old
+  arrive_answered : (new old : Stay) (hart : ℕ) → Put x y who new → (record_of x (vcpu_of who.found.vm who.found.vcpu)).stay ≡ old
       → hart < x.leases.harts → ArriveBegins who hart old new x.leases y.leases given
-      → Answered x y h who.found.vm who.found.number (wants.Arrive hart) given
+      → Answered x y h who.found.vm who.found.vcpu (wants.Arrive hart) given
   arrive_answered new old hart p was low b = by (parked_at old) refl b
     where
       by : (r : Result KeptNumbers Refusal) → parked_at old ≡ r → ArriveFrom r who hart old new x.leases y.leases given
-          → Answered x y h who.found.vm who.found.number (wants.Arrive hart) given
+          → Answered x y h who.found.vm who.found.vcpu (wants.Arrive hart) given
       by (Ok kept) is b = let same = parked_is old kept is in
           arrive_in new hart kept p (was ∙ same) low (subst (λ s. ArriveFrom (Ok kept) who hart s new x.leases y.leases given) same b)
       by (Err word) is b = refused (wants.Arrive hart) word new old p was b
@@ -238,21 +238,21 @@ module _ (x y : CoreState) (who : Who) (given : Answer) (h : History) (stands : 
   -- ---- a shift
 
   shift_refused : (new old : Stay) (hart : ℕ) (b : Bool) (o : Option ℕ) → Put x y who new
-      → (record_of x (vcpu who.found.vm who.found.number)).stay ≡ old → has_hart h hart ≡ b → free_file h (home h) hart ≡ o
-      → refusal h (lines.Move who.found.vm who.found.number (wants.Shift hart)) ≡ cond (not b) (Some (Refused words.Range))
+      → (record_of x (vcpu_of who.found.vm who.found.vcpu)).stay ≡ old → has_hart h hart ≡ b → free_file h (home h) hart ≡ o
+      → refusal h (lines.Move who.found.vm who.found.vcpu (wants.Shift hart)) ≡ cond (not b) (Some (Refused words.Range))
       (cond (is_moving (home_in old)) (Some (Refused words.Busy))
       (cond (rests_in_memory (home_in old)) (Some (Refused words.Parked)) (cond (is_none o) (Some (Refused words.NoFile)) None)))
   shift_refused new old hart b o p was on free =
       let inside = is_there new p in
       let there = home_at x h g old stands inside was in
-      shift_refusal h who.found.vm who.found.number hart stands.there
+      shift_refusal h who.found.vm who.found.vcpu hart stands.there
       ∙ (λ k. cond (not (inside k && on k)) (Some (Refused words.Range))
       (cond (is_moving (there k)) (Some (Refused words.Busy))
       (cond (rests_in_memory (there k)) (Some (Refused words.Parked)) (cond (is_none (free k)) (Some (Refused words.NoFile)) None))))
 
-  shift_answered : (new old : Stay) (hart : ℕ) → Put x y who new → (record_of x (vcpu who.found.vm who.found.number)).stay ≡ old
+  shift_answered : (new old : Stay) (hart : ℕ) → Put x y who new → (record_of x (vcpu_of who.found.vm who.found.vcpu)).stay ≡ old
       → hart < x.leases.harts → ShiftBegins who hart old new x.leases y.leases given
-      → Answered x y h who.found.vm who.found.number (wants.Shift hart) given
+      → Answered x y h who.found.vm who.found.vcpu (wants.Shift hart) given
   shift_answered new (stays.Resident from) hart p was low b =
       taken_in (wants.Shift hart) new (stays.Resident from) hart
       (λ to. record { who = who; home = OnWay (Across from to) at_first; hand = empty_hand }) (least_free x.leases hart) p was low refl
@@ -269,8 +269,8 @@ module _ (x y : CoreState) (who : Who) (given : Answer) (h : History) (stands : 
   -- ---- any of the three
 
   pub want_answered : (want : Want) (new : Stay) → Put x y who new
-      → WantBegins want who (record_of x (vcpu who.found.vm who.found.number)).stay new x.leases y.leases given
-      → Answered x y h who.found.vm who.found.number want given
+      → WantBegins want who (record_of x (vcpu_of who.found.vm who.found.vcpu)).stay new x.leases y.leases given
+      → Answered x y h who.found.vm who.found.vcpu want given
   want_answered wants.Leave new p b = leave_answered new (record_of x g).stay p refl b
   want_answered (wants.Arrive hart) new p b = elim (cases_lt hart x.leases.harts) [
     | inl low ↦ arrive_answered new (record_of x g).stay hart p refl low (b.0 low)
@@ -285,40 +285,40 @@ module _ (x y : CoreState) (who : Who) (given : Answer) (h : History) (stands : 
 
 -- so the call that has put it elsewhere begins the move, or refuses it
 pub want_begins : (x y : CoreState) (want : Want) (who : Who) (new : Stay) (given : Answer) → Put x y who new
-    → WantBegins want who (record_of x (vcpu who.found.vm who.found.number)).stay new x.leases y.leases given
-    → MoveBegins x y who.found.vm who.found.number want given
-want_begins x y want who new given p b = move_answered x y who.found.vm who.found.number want given
+    → WantBegins want who (record_of x (vcpu_of who.found.vm who.found.vcpu)).stay new x.leases y.leases given
+    → MoveBegins x y who.found.vm who.found.vcpu want given
+want_begins x y want who new given p b = move_answered x y who.found.vm who.found.vcpu want given
     (λ h stands. want_answered x y who given h stands want new p b)
 
 -- ---- a virtual hart that isn't there
 
-no_one : (h : History) (vm number : ℕ) (want : Want) → has_machine h ≡ true → has_vcpu h (vcpu vm number) ≡ false
-    → refusal h (lines.Move vm number want) ≡ Some (Refused words.Range)
-no_one h vm number wants.Leave there none = leave_refusal h vm number there ∙ cond-true _ _ _ (ap not none)
-no_one h vm number (wants.Arrive hart) there none = arrive_refusal h vm number hart there
+no_one : (h : History) (vm vcpu : ℕ) (want : Want) → has_machine h ≡ true → has_vcpu h (vcpu_of vm vcpu) ≡ false
+    → refusal h (lines.Move vm vcpu want) ≡ Some (Refused words.Range)
+no_one h vm vcpu wants.Leave there none = leave_refusal h vm vcpu there ∙ cond-true _ _ _ (ap not none)
+no_one h vm vcpu (wants.Arrive hart) there none = arrive_refusal h vm vcpu hart there
     ∙ cond-true _ _ _ (ap (λ b. not (b && has_hart h hart)) none)
-no_one h vm number (wants.Shift hart) there none = shift_refusal h vm number hart there ∙ cond-true _ _ _ (ap (λ b. not (b && has_hart h hart)) none)
+no_one h vm vcpu (wants.Shift hart) there none = shift_refusal h vm vcpu hart there ∙ cond-true _ _ _ (ap (λ b. not (b && has_hart h hart)) none)
 
-pub no_move : (x : CoreState) (vm number : ℕ) (want : Want) → is_vcpu_in x.world.vms (vcpu vm number) ≡ false
-    → MoveBegins x x vm number want (Refused words.Range)
-no_move x vm number want none = move_answered x x vm number want (Refused words.Range) (λ h stands. (
+pub no_move : (x : CoreState) (vm vcpu : ℕ) (want : Want) → is_vcpu_in x.world.vms (vcpu_of vm vcpu) ≡ false
+    → MoveBegins x x vm vcpu want (Refused words.Range)
+no_move x vm vcpu want none = move_answered x x vm vcpu want (Refused words.Range) (λ h stands. (
   Some (Refused words.Range),
-  no_one h vm number want stands.there (subst (λ (vs : List Vm). is_vcpu_in vs (vcpu vm number) ≡ false) stands.vms none),
+  no_one h vm vcpu want stands.there (subst (λ (vs : List Vm). is_vcpu_in vs (vcpu_of vm vcpu) ≡ false) stands.vms none),
   refl,
   stands,
   λ word e. refl,
 ))
 
 -- it stands for some history still
-begun_happens : (word : Option Answer) (h : History) (vm number : ℕ) (want : Want) → refusal h (lines.Move vm number want) ≡ word → IsHistory h
-    → IsHistory (move_begun word h (wanted_move (vcpu vm number) want))
-begun_happens None h vm number want e good = (may_begin h vm number want e, good)
-begun_happens (Some word) h vm number want e good = good
+begun_happens : (word : Option Answer) (h : History) (vm vcpu : ℕ) (want : Want) → refusal h (lines.Move vm vcpu want) ≡ word → IsHistory h
+    → IsHistory (move_begun word h (wanted_move (vcpu_of vm vcpu) want))
+begun_happens None h vm vcpu want e good = (may_begin h vm vcpu want e, good)
+begun_happens (Some word) h vm vcpu want e good = good
 
-pub begins_still : (x y : CoreState) (vm number : ℕ) (want : Want) (given : Answer) → MoveBegins x y vm number want given → StandsForSome x
+pub begins_still : (x y : CoreState) (vm vcpu : ℕ) (want : Want) (given : Answer) → MoveBegins x y vm vcpu want given → StandsForSome x
     → StandsForSome y
-begins_still x y vm number want given begins some = record {
-  past = move_begun (refusal some.past (lines.Move vm number want)) some.past (wanted_move (vcpu vm number) want);
-  happens = begun_happens (refusal some.past (lines.Move vm number want)) some.past vm number want refl some.happens;
+begins_still x y vm vcpu want given begins some = record {
+  past = move_begun (refusal some.past (lines.Move vm vcpu want)) some.past (wanted_move (vcpu_of vm vcpu) want);
+  happens = begun_happens (refusal some.past (lines.Move vm vcpu want)) some.past vm vcpu want refl some.happens;
   stands = begins.begins some.past some.stands;
 }

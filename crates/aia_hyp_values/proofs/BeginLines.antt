@@ -7,7 +7,7 @@ use Rattle.aia_file.specs.InterruptFile.{InterruptFile, empty_file}
 use Rattle.aia_file.specs.FileState.{shown}
 use Rattle.aia_file.specs.Imsic.{file_at}
 use Rattle.aia_vcpu.specs.declared.place.GuestPlace.{GuestPlace}
-use Rattle.aia_vcpu.specs.Vms.{Vcpu, vcpu, slot_of, notice_hart}
+use Rattle.aia_vcpu.specs.Vms.{Vcpu, vcpu_of, slot_of, notice_hart}
 use Rattle.aia_vcpu.specs.Home.{Way, Home, is_place, is_moving, holds, at_first, leaving, arriving, shifting}
 use Rattle.aia_vcpu.specs.declared.rest.Rest.TheVariants.{Parked}
 use Rattle.aia_vcpu.specs.Home.Home.{InMemory, Resident, OnWay}
@@ -55,7 +55,7 @@ pub record Given (x y : CoreState) (h : History) (g : Vcpu) (who : Who) (plan : 
   pub planned : Planned x y h g plan r
   pub is_who : IsWho x.world who
   pub its_passes : who.passes.items ≡ own_passes 0 g x.passes
-  pub same : vcpu who.found.vm who.found.number ≡ g
+  pub same : vcpu_of who.found.vm who.found.vcpu ≡ g
   pub phase : (words : ℕ) → IsInPhase words plan
 
 -- a file that nobody has is empty
@@ -107,7 +107,7 @@ begun_at x y h move who plan r way hand taken b leases free begins after holding
   is_free = free;
   who = subst (IsWho x.world) (ap (λ (m : Moving). m.who) (sym begins)) b.is_who;
   its_passes = ap (λ (m : Moving). m.who.passes.items) begins ∙ b.its_passes;
-  same = ap (λ (m : Moving). vcpu m.who.found.vm m.who.found.number) begins ∙ b.same;
+  same = ap (λ (m : Moving). vcpu_of m.who.found.vm m.who.found.vcpu) begins ∙ b.same;
   phase = b.phase (width x.world);
   goes = ap (λ (m : Moving). m.home) begins ∙ sym after;
   moving = ap (λ (m : Moving). is_moving m.home) begins;

@@ -108,7 +108,7 @@ outside x y h vm addr value c none =
 
 -- the route of an MSI address
 pub route_is : (x : CoreState) (h : History) (vm addr : ℕ) → Addressed x h vm → is_msi_address (mask_of h vm) addr ≡ true
-    → route_of (table_of x.world.tables vm) addr ≡ leads_by (entry_in_force (table_of x.world.tables vm) (named_by h vm addr).number)
+    → route_of (table_of x.world.tables vm) addr ≡ leads_by (entry_in_force (table_of x.world.tables vm) (named_by h vm addr).vcpu)
 route_is x h vm addr c is =
     let mask = mask_is x h vm c in
     cond-true _ _ _ (ap (λ mask. is_msi_address mask addr) mask ∙ is)
@@ -139,13 +139,13 @@ names_none x y h vm addr value c is none =
 
 -- where its stores go: the entry in force leads where stores of devices are to reach
 pub entry_is : (x : CoreState) (h : History) (g : Vcpu) → CoreStands x h → has_vcpu h g ≡ true
-    → entry_in_force (table_of x.world.tables g.vm) g.number ≡ leads_to (slot_of (vms_of h) g) (notice_hart (vms_of h) g) (in_force_of h g)
+    → entry_in_force (table_of x.world.tables g.vm) g.vcpu ≡ leads_to (slot_of (vms_of h) g) (notice_hart (vms_of h) g) (in_force_of h g)
 entry_is x h g stands there = (stands.vcpus g there).holds.routes.in_force
 
 -- so all entries of a VM lead to its own
 pub leads_to_own : (x : CoreState) (h : History) (v : ℕ) → CoreStands x h → has_vm h v ≡ true → LeadsToOwn x.world v (λ g. in_force_of h g)
 leads_to_own x h v stands standing = record {
-  own = λ g its there. subst (λ (vs : List Vm). entry_in_force (table_of x.world.tables g.vm) g.number ≡ leads_to (slot_of vs g)
+  own = λ g its there. subst (λ (vs : List Vm). entry_in_force (table_of x.world.tables g.vm) g.vcpu ≡ leads_to (slot_of vs g)
       (notice_hart vs g) (in_force_of h g)) (sym stands.vms)
       (entry_is x h g stands (subst (λ (vs : List Vm). is_vcpu_in vs g ≡ true) stands.vms there));
   there = λ g p its there e. stands.held g p (subst (λ (vs : List Vm). is_vcpu_in vs g ≡ true) stands.vms there) (devices_held h g p e);

@@ -95,7 +95,7 @@ changed x y h event c stands = record {
   no_vcpu = λ g outside. let before = was_missing g outside in (before, c.no_vcpu g before, c.quiet.stays.homes g, c.no_majors g before);
   no_entry = λ g inside outside.
       let there : has_vm h g.vm ≡ true = ap (λ (vms : List Vm). nat_lt g.vm (length vms)) (sym c.quiet.stays.vms) ∙ inside in
-      ap (λ (w : World). entry_in_force (table_of w.tables g.vm) g.number) c.rest ∙ stands.no_entry g there (was_missing g outside);
+      ap (λ (w : World). entry_in_force (table_of w.tables g.vm) g.vcpu) c.rest ∙ stands.no_entry g there (was_missing g outside);
   no_slot = λ q past few.
       let before : vcpus_in (vms_of h) ≤ q = subst (λ (vms : List Vm). vcpus_in vms ≤ q) c.quiet.stays.vms past in
       (before, c.no_slot q before few, ap (λ (w : World). get_or w.stages q no_stage) c.rest);

@@ -23,7 +23,7 @@ use Rattle.aia_file.specs.Mrif.{Mrif, mrif_in, pending_place, enable_place}
 use Rattle.aia_entry.specs.declared.entry.Entry.TheVariants.{NotValid}
 use Rattle.aia_entry.specs.Tables.{table_of, entry_in_force}
 use Rattle.aia_vcpu.specs.declared.place.GuestPlace.{GuestPlace}
-use Rattle.aia_vcpu.specs.Vms.{Vcpu, vcpu, is_vcpu, is_vcpu_in, vm_in}
+use Rattle.aia_vcpu.specs.Vms.{Vcpu, vcpu_of, is_vcpu, is_vcpu_in, vm_in}
 use Rattle.aia_vcpu.specs.Home.{Home, is_place, holds}
 use Rattle.aia_vcpu.specs.declared.rest.Rest.TheVariants.{Parked}
 use Rattle.aia_vcpu.specs.Home.Home.{InMemory, Resident, OnWay}
@@ -98,7 +98,7 @@ stayer_reach : in_force_of leaving_history stayer ≡ Some stayer_file
 unfolding passes_of in_force_of home least_of
 stayer_reach = refl
 
-leaver_reach : in_force_of leaving_history leaver ≡ None
+pub leaver_reach : in_force_of leaving_history leaver ≡ None
 unfolding passes_of in_force_of home least_of
 leaver_reach = refl
 
@@ -110,7 +110,7 @@ stayer_saw : a_look_saw leaving_history stayer ≡ false
 unfolding passes_of home least_of look_saw
 stayer_saw = refl
 
-leaver_saw : a_look_saw leaving_history leaver ≡ false
+pub leaver_saw : a_look_saw leaving_history leaver ≡ false
 unfolding passes_of home least_of look_saw
 leaver_saw = refl
 
@@ -157,7 +157,7 @@ stayer_has : guest_file leaving_history stayer ≡ empty_file 63
 unfolding file_by select_by
 stayer_has = refl
 
-leaver_has : guest_file leaving_history leaver ≡ lone_file
+pub leaver_has : guest_file leaving_history leaver ≡ lone_file
 unfolding file_by select_by
 leaver_has = same_file _ _ (record { n = refl; pending = asked; enabled = enables; threshold = refl; delivery = refl })
 
@@ -185,14 +185,14 @@ rests_select g e = rw e refl
 -- ---- the virtual harts
 
 -- there are two
-two_by : (vm number : ℕ) → number < (vm_in (vms_of leaving_history) vm).vcpus → (vcpu vm number ≡ stayer) ⊎ (vcpu vm number ≡ leaver)
+two_by : (vm vcpu : ℕ) → vcpu < (vm_in (vms_of leaving_history) vm).vcpus → (vcpu_of vm vcpu ≡ stayer) ⊎ (vcpu_of vm vcpu ≡ leaver)
 two_by zero zero low = inl refl
 two_by zero (suc zero) low = inr refl
-two_by zero (suc (suc number)) low = absurd (omega (arith, low))
-two_by (suc vm) number low = let none = vm_past (vms_of leaving_history) (suc vm) (omega arith) in absurd (omega (arith, low, none))
+two_by zero (suc (suc vcpu)) low = absurd (omega (arith, low))
+two_by (suc vm) vcpu low = let none = vm_past (vms_of leaving_history) (suc vm) (omega arith) in absurd (omega (arith, low, none))
 
 two : (g : Vcpu) → has_vcpu leaving_history g ≡ true → (g ≡ stayer) ⊎ (g ≡ leaver)
-two g there = two_by g.vm g.number (numbered (vms_of leaving_history) g.vm g.number there)
+two g there = two_by g.vm g.vcpu (numbered (vms_of leaving_history) g.vm g.vcpu there)
 
 -- what is so of both is so of each that is there
 of_both : (P : Vcpu → Type 0) → P stayer → P leaver → (g : Vcpu) → has_vcpu leaving_history g ≡ true → P g
@@ -336,12 +336,12 @@ host_stands (SupervisorFile (suc hart)) inside = absurd (omega (arith, inside))
 
 -- ---- what nobody has
 
-no_entry_by : (vm number : ℕ) → nat_lt vm 1 ≡ true → is_vcpu_in (vms_of leaving_history) (vcpu vm number) ≡ false
-    → entry_in_force (table_of example_world.tables vm) number ≡ NotValid
+no_entry_by : (vm vcpu : ℕ) → nat_lt vm 1 ≡ true → is_vcpu_in (vms_of leaving_history) (vcpu_of vm vcpu) ≡ false
+    → entry_in_force (table_of example_world.tables vm) vcpu ≡ NotValid
 no_entry_by zero zero inside outside = absurd (false≢true (sym outside))
 no_entry_by zero (suc zero) inside outside = absurd (false≢true (sym outside))
-no_entry_by zero (suc (suc number)) inside outside = each_same NotValid 14 number
-no_entry_by (suc vm) number inside outside = let low = ltb-true (suc vm) 1 inside in absurd (omega (arith, low))
+no_entry_by zero (suc (suc vcpu)) inside outside = each_same NotValid 14 vcpu
+no_entry_by (suc vm) vcpu inside outside = let low = ltb-true (suc vm) 1 inside in absurd (omega (arith, low))
 
 no_stage_by : (q : ℕ) → 2 ≤ q → get_or example_world.stages q no_stage ≡ no_stage
 no_stage_by zero past = absurd (omega (arith, past))
@@ -573,7 +573,7 @@ leaving_stands = record {
   apart = hold_apart;
   free = λ p inside none. free_by p.hart p.file inside.0 inside.1 inside.2 (sym (held_is p) ∙ none);
   no_vcpu = λ g outside. (rests_file g (no_leaver g outside), rests_select g (no_leaver g outside), other_home g outside, no_majors_written g);
-  no_entry = λ g inside outside. no_entry_by g.vm g.number inside outside;
+  no_entry = λ g inside outside. no_entry_by g.vm g.vcpu inside outside;
   flights = λ v. no_list v ∙ ap (map (flying_of v)) (sym (none_in_flight v));
   may_fly = λ vm. subst (AllByRecursion (MayFly leaving_history vm)) (sym (none_in_flight vm)) tt;
   passes = passes_stand;

@@ -2,7 +2,7 @@
 use Rattle.std.proofs.Common.{◌≡◌, true, ◌||◌, length, ◌∷◌, refl, sym, ap, subst, ◌∙◌}
 use Rattle.std.proofs.lemmas.Bool.{cond-false, false≢true, cond-true}
 use Rattle.aia_vcpu.specs.declared.place.GuestPlace.{GuestPlace}
-use Rattle.aia_vcpu.specs.Vms.{Vcpu, vcpu}
+use Rattle.aia_vcpu.specs.Vms.{Vcpu, vcpu_of}
 use Rattle.aia_vcpu.specs.Home.{Home, holds, is_moving, one_more}
 use Rattle.aia_vcpu.specs.Plans.{is_at_last}
 use Rattle.aia_vcpu.specs.Home.Home.{OnWay}
@@ -70,7 +70,7 @@ module _ (x y : CoreState) (h : History) (g : Vcpu) (plan later : PlanState) (r 
   later_home = b.goes.home ∙ ap one_more (steps.same_home x y h g plan r hand b.step_of) ∙ sym further
 
   later_mover : mover (moving_of later) ≡ g
-  later_mover = ap (λ (who : Who). vcpu who.found.vm who.found.number) b.goes.same_who ∙ steps.is_mover x y h g plan r hand b.step_of
+  later_mover = ap (λ (who : Who). vcpu_of who.found.vm who.found.vcpu) b.goes.same_who ∙ steps.is_mover x y h g plan r hand b.step_of
 
   pub later_moving : is_moving (moving_of later).home ≡ true
   later_moving = ap is_moving b.goes.home ∙ one_more_moves (moving_of plan).home ∙ steps.still_moving x y h g plan r hand b.step_of

@@ -19,7 +19,7 @@ use Rattle.aia_file.proofs.PlaceLemmas.{kept_elsewhere}
 use Rattle.aia_file.specs.Mrif.{mrif_in}
 use Rattle.aia_vcpu.specs.declared.place.GuestPlace.{GuestPlace}
 use Rattle.aia_vcpu.specs.declared.vm.Vm.{Vm}
-use Rattle.aia_vcpu.specs.Vms.{Vcpu, vcpu, is_vcpu, is_vcpu_in, slot_of, notice_hart}
+use Rattle.aia_vcpu.specs.Vms.{Vcpu, vcpu_of, is_vcpu, is_vcpu_in, slot_of, notice_hart}
 use Rattle.aia_vcpu.specs.Home.{Home, holds, is_place, is_moving}
 use Rattle.aia_vcpu.specs.Home.Home.{Resident, OnWay}
 use Rattle.aia_vcpu_places.specs.Holds.{Holds}
@@ -129,13 +129,13 @@ own_is x h g p stands whole there at =
     (width_at x.world (spot_of p) whole inside ∙ stands.greatest) p held)
 
 -- what is known of an access
-pub record IsAccess (x y : CoreState) (h : History) (vm number : ℕ) (csr : Csr) (op : Op) (p : GuestPlace) : Type 0 where
+pub record IsAccess (x y : CoreState) (h : History) (vm vcpu : ℕ) (csr : Csr) (op : Op) (p : GuestPlace) : Type 0 where
   pub stands : CoreStands x h
   pub whole : IsWhole x.world
-  pub there : has_vcpu h (vcpu vm number) ≡ true
-  pub at : resident_at (record_of x (vcpu vm number)).stay ≡ Some p
-  pub done : GuestHasDone x y (vcpu vm number) p (Accesses csr op)
-  pub majors : (other : Vcpu) → MajorsRest other (Accepted (GuestCsr vm number csr op))
+  pub there : has_vcpu h (vcpu_of vm vcpu) ≡ true
+  pub at : resident_at (record_of x (vcpu_of vm vcpu)).stay ≡ Some p
+  pub done : GuestHasDone x y (vcpu_of vm vcpu) p (Accesses csr op)
+  pub majors : (other : Vcpu) → MajorsRest other (Accepted (GuestCsr vm vcpu csr op))
 
 machine_stays : (x y : CoreState) (g : Vcpu) (p : GuestPlace) (deed : FileDeed) → GuestHasDone x y g p deed → SameMachine x.world y.world
 machine_stays x y g p deed done = record {
@@ -145,14 +145,14 @@ machine_stays x y g p deed done = record {
   guests = done.guests;
 }
 
-own_accessed : (x y : CoreState) (h : History) (vm number : ℕ) (csr : Csr) (op : Op) (p : GuestPlace) → IsAccess x y h vm number csr op p
-    → VcpuStands x h (vcpu vm number) → VcpuStands y (Accepted (GuestCsr vm number csr op) ∷ h) (vcpu vm number)
-own_accessed x y h vm number csr op p c stood =
-    let g = vcpu vm number in
+own_accessed : (x y : CoreState) (h : History) (vm vcpu : ℕ) (csr : Csr) (op : Op) (p : GuestPlace) → IsAccess x y h vm vcpu csr op p
+    → VcpuStands x h (vcpu_of vm vcpu) → VcpuStands y (Accepted (GuestCsr vm vcpu csr op) ∷ h) (vcpu_of vm vcpu)
+own_accessed x y h vm vcpu csr op p c stood =
+    let g = vcpu_of vm vcpu in
     let at : home h g ≡ Resident p = is_home_at x h g p c.stands c.there c.at in
     let greatest : is_greatest_identity (greatest_identity_of h) ≡ true =
     subst (λ n. is_greatest_identity n ≡ true) c.stands.greatest c.whole.greatest in
-    let deed : guest_deed g h (Accepted (GuestCsr vm number csr op)) ≡ Accesses csr op = cond-true _ _ _ (is_itself g) in
+    let deed : guest_deed g h (Accepted (GuestCsr vm vcpu csr op)) ≡ Accesses csr op = cond-true _ _ _ (is_itself g) in
     let after = file_after (guest_select h g) (Accesses csr op) (guest_file h g) in
     let own : shown (file_at y.world.imsic (spot_of p)) ≡ after = same_file _ _ c.done.file
     ∙ ap (λ s. file_after s (Accesses csr op) (shown (file_at x.world.imsic (spot_of p)))) stood.select
@@ -160,7 +160,7 @@ own_accessed x y h vm number csr op p c stood =
     let shows = resident_seen x.world y.world g p after c.done.rest own in
     let within = within_after (greatest_identity_of h) (guest_select h g) (Accesses csr op) (guest_file h g) (λ bad. bad) greatest
     (guest_greatest h g) (guest_sound h g) in
-    guest_done x y h (Accepted (GuestCsr vm number csr op)) g (quiet_line h (GuestCsr vm number csr op) refl).stays
+    guest_done x y h (Accepted (GuestCsr vm vcpu csr op)) g (quiet_line h (GuestCsr vm vcpu csr op) refl).stays
     (machine_stays x y g p (Accesses csr op) c.done) c.done.stay
     (c.done.select ∙ ap (λ d. select_after d (record_of x g).select) (sym deed))
     (ap majors_shown c.done.majors ∙ sym (c.majors g (majors_shown (record_of x g).majors)))
@@ -182,9 +182,9 @@ own_accessed x y h vm number csr op p c stood =
     }) (subst (λ v. Holds (file_words h) (slot_of (vms_of h) g) (notice_hart (vms_of h) g) (in_force_of h g) v (Resident p)
     (hand_in (record_of x g).stay) after (a_look_saw h g)) (sym shows) replaced)) stood
 
-pub other_rests : (h : History) (vm number : ℕ) (csr : Csr) (op : Op) (other : Vcpu) → is_vcpu other (vcpu vm number) ≡ false
-    → guest_deed other h (Accepted (GuestCsr vm number csr op)) ≡ Rests
-other_rests h vm number csr op other ne = cond-false _ _ _ ne
+pub other_rests : (h : History) (vm vcpu : ℕ) (csr : Csr) (op : Op) (other : Vcpu) → is_vcpu other (vcpu_of vm vcpu) ≡ false
+    → guest_deed other h (Accepted (GuestCsr vm vcpu csr op)) ≡ Rests
+other_rests h vm vcpu csr op other ne = cond-false _ _ _ ne
 
 not_it : (p q : GuestPlace) → is_place q p ≡ false → spot_of q ≢ spot_of p
 not_it p q ne e =
@@ -193,12 +193,12 @@ not_it p q ne e =
     false≢true (sym ne ∙ ap (λ (r : GuestPlace). is_place r p)
     (ap (λ h. record { hart = h; file = q.file }) hart ∙ ap (λ f. record { hart = p.hart; file = f }) file) ∙ is_itself_place p)
 
-pub access_changes : (x y : CoreState) (h : History) (vm number : ℕ) (csr : Csr) (op : Op) (p : GuestPlace) → IsAccess x y h vm number csr op p
-    → Changes x y h (Accepted (GuestCsr vm number csr op))
-access_changes x y h vm number csr op p c =
-    let g = vcpu vm number in
-    let event = Accepted (GuestCsr vm number csr op) in
-    let quiet = quiet_line h (GuestCsr vm number csr op) refl in
+pub access_changes : (x y : CoreState) (h : History) (vm vcpu : ℕ) (csr : Csr) (op : Op) (p : GuestPlace) → IsAccess x y h vm vcpu csr op p
+    → Changes x y h (Accepted (GuestCsr vm vcpu csr op))
+access_changes x y h vm vcpu csr op p c =
+    let g = vcpu_of vm vcpu in
+    let event = Accepted (GuestCsr vm vcpu csr op) in
+    let quiet = quiet_line h (GuestCsr vm vcpu csr op) refl in
     let machine = machine_stays x y g p (Accesses csr op) c.done in
     let holding = holds_it (home h g) p (is_home_at x h g p c.stands c.there c.at) in
     record {
@@ -217,8 +217,8 @@ access_changes x y h vm number csr op p c =
       vcpus = λ other inside stood. elim (cases_Bool (is_vcpu other g)) [
         | inl e ↦
             let same = same_vcpu other g e in
-            subst (VcpuStands y (event ∷ h)) (sym same) (own_accessed x y h vm number csr op p c (subst (VcpuStands x h) same stood))
-        | inr ne ↦ guest_rests x y h event other quiet.stays machine (other_rests h vm number csr op other ne) (c.majors other)
+            subst (VcpuStands y (event ∷ h)) (sym same) (own_accessed x y h vm vcpu csr op p c (subst (VcpuStands x h) same stood))
+        | inr ne ↦ guest_rests x y h event other quiet.stays machine (other_rests h vm vcpu csr op other ne) (c.majors other)
             (c.done.others other (slots_apart x h g other c.stands c.there inside (λ e. false≢true (sym ne ∙ ap (λ z. is_vcpu z g) e ∙ is_itself g))))
             (files_alone x.world y.world other (home h other) c.done.rest (λ q held.
             c.done.files (spot_of q) (c.stands.held other q inside held) (not_it p q (elim (cases_Bool (is_place q p)) [
@@ -232,7 +232,7 @@ access_changes x y h vm number csr op p c =
         | inl e ↦ absurd (not_out h g p c.there holding (subst (λ r. is_held h r ≡ false) (same_place q p e) none))
         | inr f ↦ f
       ]));
-      no_vcpu = λ other outside. other_rests h vm number csr op other
+      no_vcpu = λ other outside. other_rests h vm vcpu csr op other
           (is_another other g (λ e. false≢true (sym outside ∙ ap (has_vcpu h) e ∙ c.there)));
       no_majors = λ other outside. c.majors other;
       no_slot = λ q past few. ap (λ (w : World). mrif_in w.memory q) c.done.rest;
@@ -296,11 +296,11 @@ guest_file_done x y g p deed there world leases vcpus selects passes file select
 -- ---- what the core promises of it
 
 -- an access to a CSR of the file is nothing to majors, and reads what the file shows
-pub file_access : (vm number : ℕ) (csr : Csr) (op : Op) (other : Vcpu) → IsFileCsr csr → MajorsRest other (Accepted (GuestCsr vm number csr op))
-file_access vm number csrs.Select op other of_file m = refl
-file_access vm number csrs.Reg op other of_file m = refl
-file_access vm number csrs.Topei op other of_file m = refl
-file_access vm number csr op other of_file m = absurd of_file
+pub file_access : (vm vcpu : ℕ) (csr : Csr) (op : Op) (other : Vcpu) → IsFileCsr csr → MajorsRest other (Accepted (GuestCsr vm vcpu csr op))
+file_access vm vcpu csrs.Select op other of_file m = refl
+file_access vm vcpu csrs.Reg op other of_file m = refl
+file_access vm vcpu csrs.Topei op other of_file m = refl
+file_access vm vcpu csr op other of_file m = absurd of_file
 
 pub file_read : (h : History) (g : Vcpu) (csr : Csr) → IsFileCsr csr → csr_shown (guest_select h g) (guest_file h g) csr ≡ guest_csr_value h g csr
 file_read h g csrs.Select of_file = refl
@@ -313,44 +313,44 @@ abbrev pub access_by : VcpuRecord → Csr → Op → CsrAccess
 access_by r csr op = csr_access levels.Guest csr op r.select (vti_of (majors_shown r.majors).hvictl)
 
 -- the refusal of an access of a virtual hart that has the CSR where it is
-pub refusal_served : (x : CoreState) (h : History) (vm number : ℕ) (csr : Csr) (op : Op) (access : CsrAccess) → CoreStands x h
-    → has_vcpu h (vcpu vm number) ≡ true → serves (home h (vcpu vm number)) csr ≡ true
-    → access ≡ access_by (record_of x (vcpu vm number)) csr op
-    → refusal h (GuestCsr vm number csr op) ≡ cond (raises_illegal access) (Some (Refused Illegal))
+pub refusal_served : (x : CoreState) (h : History) (vm vcpu : ℕ) (csr : Csr) (op : Op) (access : CsrAccess) → CoreStands x h
+    → has_vcpu h (vcpu_of vm vcpu) ≡ true → serves (home h (vcpu_of vm vcpu)) csr ≡ true
+    → access ≡ access_by (record_of x (vcpu_of vm vcpu)) csr op
+    → refusal h (GuestCsr vm vcpu csr op) ≡ cond (raises_illegal access) (Some (Refused Illegal))
     (cond (raises_virtual access) (Some (Refused Virtual)) None)
-refusal_served x h vm number csr op access stands there served table =
-    let g = vcpu vm number in
-    guest_refusal h vm number csr op stands.there ∙ cond-false _ _ _ (ap not there) ∙ cond-false _ _ _ (ap not served)
+refusal_served x h vm vcpu csr op access stands there served table =
+    let g = vcpu_of vm vcpu in
+    guest_refusal h vm vcpu csr op stands.there ∙ cond-false _ _ _ (ap not there) ∙ cond-false _ _ _ (ap not served)
     ∙ (λ k. by_access (csr_access levels.Guest csr op (sym (stands.vcpus g there).select k)
     (vti_of (sym (stands.vcpus g there).majors k).hvictl))) ∙ ap by_access (sym table)
   where
     by_access : CsrAccess → Option Answer
     by_access a = cond (raises_illegal a) (Some (Refused Illegal)) (cond (raises_virtual a) (Some (Refused Virtual)) None)
 
-pub refusal_there : (x : CoreState) (h : History) (vm number : ℕ) (csr : Csr) (op : Op) (p : GuestPlace) (access : CsrAccess) → CoreStands x h
-    → has_vcpu h (vcpu vm number) ≡ true → resident_at (record_of x (vcpu vm number)).stay ≡ Some p
-    → access ≡ access_by (record_of x (vcpu vm number)) csr op
-    → refusal h (GuestCsr vm number csr op) ≡ cond (raises_illegal access) (Some (Refused Illegal))
+pub refusal_there : (x : CoreState) (h : History) (vm vcpu : ℕ) (csr : Csr) (op : Op) (p : GuestPlace) (access : CsrAccess) → CoreStands x h
+    → has_vcpu h (vcpu_of vm vcpu) ≡ true → resident_at (record_of x (vcpu_of vm vcpu)).stay ≡ Some p
+    → access ≡ access_by (record_of x (vcpu_of vm vcpu)) csr op
+    → refusal h (GuestCsr vm vcpu csr op) ≡ cond (raises_illegal access) (Some (Refused Illegal))
     (cond (raises_virtual access) (Some (Refused Virtual)) None)
-refusal_there x h vm number csr op p access stands there at table =
-    refusal_served x h vm number csr op access stands there (ap (λ t. serves t csr) (is_home_at x h (vcpu vm number) p stands there at)) table
+refusal_there x h vm vcpu csr op p access stands there at table =
+    refusal_served x h vm vcpu csr op access stands there (ap (λ t. serves t csr) (is_home_at x h (vcpu_of vm vcpu) p stands there at)) table
 
-pub guest_accessed : (x y : CoreState) (vm number : ℕ) (csr kind : Csr) (op : Op) (p : GuestPlace) (access : CsrAccess) (value : ℕ)
-    → IsWhole x.world → is_vcpu_in x.world.vms (vcpu vm number) ≡ true → resident_at (record_of x (vcpu vm number)).stay ≡ Some p
-    → access ≡ access_by (record_of x (vcpu vm number)) csr op → raises_illegal access ≡ false → raises_virtual access ≡ false → csr ≡ kind
-    → value ≡ csr_shown (record_of x (vcpu vm number)).select (shown (file_at x.world.imsic (spot_of p))) kind
-    → GuestHasDone x y (vcpu vm number) p (Accesses kind op) → IsFileCsr kind → CoreTakes x y (GuestCsr vm number csr op) (Wide value)
-guest_accessed x y vm number csr kind op p access value whole inside at table legal kept named read done of_file =
-    let g = vcpu vm number in
-    accepted x y (GuestCsr vm number csr op) (Wide value) refl refl (λ h stands.
+pub guest_accessed : (x y : CoreState) (vm vcpu : ℕ) (csr kind : Csr) (op : Op) (p : GuestPlace) (access : CsrAccess) (value : ℕ)
+    → IsWhole x.world → is_vcpu_in x.world.vms (vcpu_of vm vcpu) ≡ true → resident_at (record_of x (vcpu_of vm vcpu)).stay ≡ Some p
+    → access ≡ access_by (record_of x (vcpu_of vm vcpu)) csr op → raises_illegal access ≡ false → raises_virtual access ≡ false → csr ≡ kind
+    → value ≡ csr_shown (record_of x (vcpu_of vm vcpu)).select (shown (file_at x.world.imsic (spot_of p))) kind
+    → GuestHasDone x y (vcpu_of vm vcpu) p (Accesses kind op) → IsFileCsr kind → CoreTakes x y (GuestCsr vm vcpu csr op) (Wide value)
+guest_accessed x y vm vcpu csr kind op p access value whole inside at table legal kept named read done of_file =
+    let g = vcpu_of vm vcpu in
+    accepted x y (GuestCsr vm vcpu csr op) (Wide value) refl refl (λ h stands.
     let there = there_in x h g stands inside in (
-      refusal_there x h vm number csr op p access stands there at table ∙ cond-false _ _ _ legal ∙ cond-false _ _ _ kept,
+      refusal_there x h vm vcpu csr op p access stands there at table ∙ cond-false _ _ _ legal ∙ cond-false _ _ _ kept,
       ap Wide (read ∙ ap (λ (k : Csr). csr_shown (record_of x g).select (shown (file_at x.world.imsic (spot_of p))) k) (sym named)
           ∙ ap (λ s. csr_shown s (shown (file_at x.world.imsic (spot_of p))) csr) (stands.vcpus g there).select
           ∙ ap (λ (i : InterruptFile). csr_shown (guest_select h g) i csr)
           (own_is x h g p stands whole there (is_home_at x h g p stands there at))
           ∙ file_read h g csr (subst (λ (k : Csr). IsFileCsr k) (sym named) of_file)),
-      access_changes x y h vm number csr op p (record {
+      access_changes x y h vm vcpu csr op p (record {
         stands = stands;
         whole = whole;
         there = there;
@@ -358,29 +358,29 @@ guest_accessed x y vm number csr kind op p access value whole inside at table le
         done =
             subst (λ (k : Csr). GuestHasDone x y g p (Accesses k op)) (sym named) done;
         majors =
-            λ other. file_access vm number csr op other (subst (λ (k : Csr). IsFileCsr k) (sym named) of_file);
+            λ other. file_access vm vcpu csr op other (subst (λ (k : Csr). IsFileCsr k) (sym named) of_file);
       }),
     ))
 
-pub guest_virtual : (x : CoreState) (vm number : ℕ) (csr : Csr) (op : Op) (p : GuestPlace) → is_vcpu_in x.world.vms (vcpu vm number) ≡ true
-    → resident_at (record_of x (vcpu vm number)).stay ≡ Some p
-    → reaches.Virtual ≡ access_by (record_of x (vcpu vm number)) csr op → CoreTakes x x (GuestCsr vm number csr op) (Refused Virtual)
-guest_virtual x vm number csr op p inside at table =
-    refused x (GuestCsr vm number csr op) (Refused Virtual)
-    (λ h stands. refusal_there x h vm number csr op p reaches.Virtual stands (there_in x h (vcpu vm number) stands inside) at table)
+pub guest_virtual : (x : CoreState) (vm vcpu : ℕ) (csr : Csr) (op : Op) (p : GuestPlace) → is_vcpu_in x.world.vms (vcpu_of vm vcpu) ≡ true
+    → resident_at (record_of x (vcpu_of vm vcpu)).stay ≡ Some p
+    → reaches.Virtual ≡ access_by (record_of x (vcpu_of vm vcpu)) csr op → CoreTakes x x (GuestCsr vm vcpu csr op) (Refused Virtual)
+guest_virtual x vm vcpu csr op p inside at table =
+    refused x (GuestCsr vm vcpu csr op) (Refused Virtual)
+    (λ h stands. refusal_there x h vm vcpu csr op p reaches.Virtual stands (there_in x h (vcpu_of vm vcpu) stands inside) at table)
 
-pub guest_illegal : (x : CoreState) (vm number : ℕ) (csr : Csr) (op : Op) (p : GuestPlace) → is_vcpu_in x.world.vms (vcpu vm number) ≡ true
-    → resident_at (record_of x (vcpu vm number)).stay ≡ Some p
-    → reaches.Illegal ≡ access_by (record_of x (vcpu vm number)) csr op → CoreTakes x x (GuestCsr vm number csr op) (Refused Illegal)
-guest_illegal x vm number csr op p inside at table =
-    refused x (GuestCsr vm number csr op) (Refused Illegal)
-    (λ h stands. refusal_there x h vm number csr op p reaches.Illegal stands (there_in x h (vcpu vm number) stands inside) at table)
+pub guest_illegal : (x : CoreState) (vm vcpu : ℕ) (csr : Csr) (op : Op) (p : GuestPlace) → is_vcpu_in x.world.vms (vcpu_of vm vcpu) ≡ true
+    → resident_at (record_of x (vcpu_of vm vcpu)).stay ≡ Some p
+    → reaches.Illegal ≡ access_by (record_of x (vcpu_of vm vcpu)) csr op → CoreTakes x x (GuestCsr vm vcpu csr op) (Refused Illegal)
+guest_illegal x vm vcpu csr op p inside at table =
+    refused x (GuestCsr vm vcpu csr op) (Refused Illegal)
+    (λ h stands. refusal_there x h vm vcpu csr op p reaches.Illegal stands (there_in x h (vcpu_of vm vcpu) stands inside) at table)
 
-pub no_such_guest : (x : CoreState) (vm number : ℕ) (csr : Csr) (op : Op) → is_vcpu_in x.world.vms (vcpu vm number) ≡ false
-    → CoreTakes x x (GuestCsr vm number csr op) (Refused Range)
-no_such_guest x vm number csr op outside = refused x (GuestCsr vm number csr op) (Refused Range) (λ h stands.
-    guest_refusal h vm number csr op stands.there ∙ cond-true _ _ _
-    (ap not (subst (λ (vs : List Vm). is_vcpu_in vs (vcpu vm number) ≡ false) stands.vms outside)))
+pub no_such_guest : (x : CoreState) (vm vcpu : ℕ) (csr : Csr) (op : Op) → is_vcpu_in x.world.vms (vcpu_of vm vcpu) ≡ false
+    → CoreTakes x x (GuestCsr vm vcpu csr op) (Refused Range)
+no_such_guest x vm vcpu csr op outside = refused x (GuestCsr vm vcpu csr op) (Refused Range) (λ h stands.
+    guest_refusal h vm vcpu csr op stands.there ∙ cond-true _ _ _
+    (ap not (subst (λ (vs : List Vm). is_vcpu_in vs (vcpu_of vm vcpu) ≡ false) stands.vms outside)))
 
 pub away_stay : (w : World) (g : Vcpu) (stay : Stay) (csr : Csr) → PlanStands w g stay → resident_at stay ≡ None
     → (is_some (entered_at stay) && is_file_csr csr) ≡ false → serves (home_in stay) csr ≡ false
@@ -392,12 +392,12 @@ away_stay w g (stays.Moving plan) csr stands e none = moving_away (moving_of pla
     moving_away (OnWay way at) moving = refl
     moving_away there moving = absurd (cc)
 
-pub guest_away : (x : CoreState) (vm number : ℕ) (csr : Csr) (op : Op) → is_vcpu_in x.world.vms (vcpu vm number) ≡ true
-    → resident_at (record_of x (vcpu vm number)).stay ≡ None → (is_some (entered_at (record_of x (vcpu vm number)).stay) && is_file_csr csr) ≡ false
-    → CoreTakes x x (GuestCsr vm number csr op) (Refused Away)
-guest_away x vm number csr op inside away none = refused x (GuestCsr vm number csr op) (Refused Away) (λ h stands.
-    let g = vcpu vm number in
+pub guest_away : (x : CoreState) (vm vcpu : ℕ) (csr : Csr) (op : Op) → is_vcpu_in x.world.vms (vcpu_of vm vcpu) ≡ true
+    → resident_at (record_of x (vcpu_of vm vcpu)).stay ≡ None → (is_some (entered_at (record_of x (vcpu_of vm vcpu)).stay) && is_file_csr csr) ≡ false
+    → CoreTakes x x (GuestCsr vm vcpu csr op) (Refused Away)
+guest_away x vm vcpu csr op inside away none = refused x (GuestCsr vm vcpu csr op) (Refused Away) (λ h stands.
+    let g = vcpu_of vm vcpu in
     let there = there_in x h g stands inside in
-    guest_refusal h vm number csr op stands.there ∙ cond-false _ _ _ (ap not there)
+    guest_refusal h vm vcpu csr op stands.there ∙ cond-false _ _ _ (ap not there)
     ∙ cond-true _ _ _ (ap not (ap (λ t. serves t csr) (sym (stands.vcpus g there).same_home)
     ∙ away_stay x.world g (record_of x g).stay csr (stands.vcpus g there).plan away none)))

@@ -3,7 +3,7 @@ use Rattle.std.proofs.Common.{◌≡◌, ◌<◌, length, sym, ap, subst, ◌∙
 use Rattle.aia_regs.specs.declared.access.Csr.{Csr}
 use Rattle.aia_regs.specs.declared.access.Op.{Op}
 use Rattle.aia_csr.specs.declared.csr_access.CsrAccess.{CsrAccess}
-use Rattle.aia_vcpu.specs.Vms.{Vcpu, vcpu, slot_of}
+use Rattle.aia_vcpu.specs.Vms.{Vcpu, vcpu_of, slot_of}
 use Rattle.aia_major.specs.VsMajor.{vti_of}
 use Rattle.aia_major.specs.Kept.{majors_shown}
 use Rattle.aia_fabric_values.specs.declared.found.Found.{Found}
@@ -23,11 +23,11 @@ pub names : (x : CoreState) (g : Vcpu) (access : CsrAccess) (csr : Csr) (op : Op
 names x g access csr op e = reached_by csr op (record_of x g).select (vti_of (majors_shown (record_of x g).majors).hvictl) access e
 
 -- the slot of one that is found, in a core x that is seen as y
-pub slot_is : (x y : CoreState) (found : Found) → x ≡ y → IsFound y.world found → found.slot ≡ slot_of x.world.vms (vcpu found.vm found.number)
-slot_is x y found e is = subst (λ (z : CoreState). found.slot ≡ slot_of z.world.vms (vcpu found.vm found.number)) (sym e) is.slot
+pub slot_is : (x y : CoreState) (found : Found) → x ≡ y → IsFound y.world found → found.slot ≡ slot_of x.world.vms (vcpu_of found.vm found.vcpu)
+slot_is x y found e is = subst (λ (z : CoreState). found.slot ≡ slot_of z.world.vms (vcpu_of found.vm found.vcpu)) (sym e) is.slot
 
 pub slot_low : (x y : CoreState) (found : Found) → x ≡ y → StandsForSome x → IsFound y.world found
-    → slot_of x.world.vms (vcpu found.vm found.number) < length x.vcpus
+    → slot_of x.world.vms (vcpu_of found.vm found.vcpu) < length x.vcpus
 slot_low x y found e some is =
     let slot = slot_is x y found e is in
     let low = who_low x found some (subst (λ (z : CoreState). IsFound z.world found) (sym e) is) in

@@ -213,7 +213,7 @@ pub record SlotStored (w u : World) (g : Vcpu) (offset value : ℕ) : Type 0 whe
   pub files : (p : GuestPlace) → IsThere w.imsic (spot_of p) → file_at u.imsic (spot_of p) ≡ file_at w.imsic (spot_of p)
 
 -- the entry of a virtual hart lies past all slots
-past_slots : (g : Vcpu) → WORDS_OF_SLOTS ≤ entry_word_place g.vm g.number
+past_slots : (g : Vcpu) → WORDS_OF_SLOTS ≤ entry_word_place g.vm g.vcpu
 past_slots g = omega arith
 
 -- another virtual hart has all that it had
@@ -224,12 +224,12 @@ slot_others w u g other there offset value s few apart held = record {
   files = λ p holding. s.files p (held p holding);
   slot = (λ k. mrif_in (s.memory k) (slot_of (s.rest k).vms other))
       ∙ other_slot_stays w.memory (slot_of w.vms g) (slot_of w.vms other) offset value (λ e. apart (sym e));
-  word0 = ap (λ words. get_or words (entry_word_place other.vm other.number) 0) s.memory
-      ∙ table_word w.memory (slot_of w.vms g) (entry_word_place other.vm other.number) offset value few (past_slots other);
-  word1 = ap (λ words. get_or words (entry_word_place other.vm other.number + 1) 0) s.memory
-      ∙ table_word w.memory (slot_of w.vms g) (entry_word_place other.vm other.number + 1) offset value few
+  word0 = ap (λ words. get_or words (entry_word_place other.vm other.vcpu) 0) s.memory
+      ∙ table_word w.memory (slot_of w.vms g) (entry_word_place other.vm other.vcpu) offset value few (past_slots other);
+  word1 = ap (λ words. get_or words (entry_word_place other.vm other.vcpu + 1) 0) s.memory
+      ∙ table_word w.memory (slot_of w.vms g) (entry_word_place other.vm other.vcpu + 1) offset value few
       (let past = past_slots other in omega (arith, past));
-  in_force = ap (λ (x : World). entry_in_force (table_of x.tables other.vm) other.number) s.rest;
+  in_force = ap (λ (x : World). entry_in_force (table_of x.tables other.vm) other.vcpu) s.rest;
   stage = ap (λ (x : World). stage_of x other) s.rest;
 }
 
@@ -242,10 +242,10 @@ slot_view w u g there offset value s size few held =
     let next = file_stays (next_file there) (λ p e. held p (next_is_held there p e)) in
     let slot : mrif_in u.memory (slot_of u.vms g) ≡ after_store offset value (mrif_in w.memory (slot_of w.vms g)) =
     (λ k. mrif_in (s.memory k) (slot_of (s.rest k).vms g)) ∙ slot_landed w (slot_of w.vms g) offset value size few in
-    let word0 = ap (λ words. get_or words (entry_word_place g.vm g.number) 0) s.memory
-    ∙ table_word w.memory (slot_of w.vms g) (entry_word_place g.vm g.number) offset value few (past_slots g) in
-    let word1 = ap (λ words. get_or words (entry_word_place g.vm g.number + 1) 0) s.memory
-    ∙ table_word w.memory (slot_of w.vms g) (entry_word_place g.vm g.number + 1) offset value few
+    let word0 = ap (λ words. get_or words (entry_word_place g.vm g.vcpu) 0) s.memory
+    ∙ table_word w.memory (slot_of w.vms g) (entry_word_place g.vm g.vcpu) offset value few (past_slots g) in
+    let word1 = ap (λ words. get_or words (entry_word_place g.vm g.vcpu + 1) 0) s.memory
+    ∙ table_word w.memory (slot_of w.vms g) (entry_word_place g.vm g.vcpu + 1) offset value few
     (let past = past_slots g in omega (arith, past)) in
     λ k. record {
       own = own k;
@@ -253,7 +253,7 @@ slot_view w u g there offset value s size few held =
       slot = slot k;
       word0 = word0 k;
       word1 = word1 k;
-      in_force = entry_in_force (table_of (s.rest k).tables g.vm) g.number;
+      in_force = entry_in_force (table_of (s.rest k).tables g.vm) g.vcpu;
       stage = (stage_of (s.rest k) g).written;
       stage_in_force = (stage_of (s.rest k) g).in_force;
     }

@@ -13,7 +13,7 @@ use Rattle.aia_file.specs.InterruptFile.{InterruptFile, SameFile, is_live}
 use Rattle.aia_file.proofs.FileLemmas.{same_file}
 use Rattle.aia_file.specs.declared.spot.Spot.TheVariants as spots
 use Rattle.aia_major.specs.Kept.{majors_shown}
-use Rattle.aia_vcpu.specs.Vms.{Vcpu, vcpu, is_vcpu_in, vcpus_in, slot_of, notice_hart, notice_identity}
+use Rattle.aia_vcpu.specs.Vms.{Vcpu, vcpu_of, is_vcpu_in, vcpus_in, slot_of, notice_hart, notice_identity}
 use Rattle.aia_vcpu.specs.Home.{rests_in_memory}
 use Rattle.aia_vcpu.specs.declared.rest.Rest.TheVariants.{Parked}
 use Rattle.aia_vcpu.specs.Home.Home.{InMemory}
@@ -103,13 +103,13 @@ not_parked x h g stay word stands there was e = ap (λ t. unless_parked t None) 
 
 -- where it is found
 pub found_below : (w : World) (found : Found) → IsFound w found → found.slot < vcpus_in w.vms
-found_below w found is = let below = slot_below w.vms (vcpu found.vm found.number) is.there in omega (arith, below, is.slot)
+found_below w found is = let below = slot_below w.vms (vcpu_of found.vm found.vcpu) is.there in omega (arith, below, is.slot)
 
 pub found_few : (w : World) (found : Found) → IsWhole w → IsFound w found → found.slot < VCPUS
 found_few w found whole is = let below = found_below w found is in omega (arith, below, whole.vcpus)
 
 pub found_stay : (x : CoreState) (found : Found) → IsFound x.world found → {A : Type 0} (r : A) (of : Stay → A)
-    → r ≡ of (get_or x.vcpus found.slot no_record).stay → r ≡ of (record_of x (vcpu found.vm found.number)).stay
+    → r ≡ of (get_or x.vcpus found.slot no_record).stay → r ≡ of (record_of x (vcpu_of found.vm found.vcpu)).stay
 found_stay x found is r of e = e ∙ ap (λ q. of (get_or x.vcpus q no_record).stay) is.slot
 
 -- the threshold that is kept fits
@@ -136,79 +136,79 @@ not_neither true true e f = refl
 not_neither true false e f = absurd (cc)
 not_neither false b e f = absurd (cc)
 
-pub no_vcpu_to_save : (x : CoreState) (vm number k : ℕ) → is_vcpu_in x.world.vms (vcpu vm number) ≡ false
-    → CoreTakes x x (Save vm number k) (Refused words.Range)
-no_vcpu_to_save x vm number k none = refused x (Save vm number k) (Refused words.Range) (λ h stands.
-    save_refusal h vm number k stands.there ∙ cond-true _ _ _
-    (not_first (has_vcpu h (vcpu vm number)) (nat_lt k (parts_in (file_words h))) (missing_in x h (vcpu vm number) stands none)))
+pub no_vcpu_to_save : (x : CoreState) (vm vcpu k : ℕ) → is_vcpu_in x.world.vms (vcpu_of vm vcpu) ≡ false
+    → CoreTakes x x (Save vm vcpu k) (Refused words.Range)
+no_vcpu_to_save x vm vcpu k none = refused x (Save vm vcpu k) (Refused words.Range) (λ h stands.
+    save_refusal h vm vcpu k stands.there ∙ cond-true _ _ _
+    (not_first (has_vcpu h (vcpu_of vm vcpu)) (nat_lt k (parts_in (file_words h))) (missing_in x h (vcpu_of vm vcpu) stands none)))
 
-pub no_such_part : (x : CoreState) (vm number k : ℕ) → (x.world.n + 1) / 64 + 3 ≤ k → CoreTakes x x (Save vm number k) (Refused words.Range)
-no_such_part x vm number k past = refused x (Save vm number k) (Refused words.Range) (λ h stands.
+pub no_such_part : (x : CoreState) (vm vcpu k : ℕ) → (x.world.n + 1) / 64 + 3 ≤ k → CoreTakes x x (Save vm vcpu k) (Refused words.Range)
+no_such_part x vm vcpu k past = refused x (Save vm vcpu k) (Refused words.Range) (λ h stands.
     let beyond : nat_lt k (parts_in (file_words h)) ≡ false = ap (λ n. nat_lt k ((n + 1) / 64 + 3)) (sym stands.greatest)
     ∙ (let out : nat_lt k ((x.world.n + 1) / 64 + 3) ≡ false = grind (arith, nat_tests) in out) in
-    save_refusal h vm number k stands.there ∙ cond-true _ _ _ (not_second (has_vcpu h (vcpu vm number)) (nat_lt k (parts_in (file_words h))) beyond))
+    save_refusal h vm vcpu k stands.there ∙ cond-true _ _ _ (not_second (has_vcpu h (vcpu_of vm vcpu)) (nat_lt k (parts_in (file_words h))) beyond))
 
 in_image : (x : CoreState) (h : History) (k : ℕ) → CoreStands x h → k < (x.world.n + 1) / 64 + 3 → nat_lt k (parts_in (file_words h)) ≡ true
 in_image x h k stands low = ap (λ n. nat_lt k ((n + 1) / 64 + 3)) (sym stands.greatest)
     ∙ (let inside : nat_lt k ((x.world.n + 1) / 64 + 3) ≡ true = grind (arith, nat_tests) in inside)
 
-pub not_parked_to_save : (x : CoreState) (vm number k : ℕ) (word : Refusal) → is_vcpu_in x.world.vms (vcpu vm number) ≡ true
-    → k < (x.world.n + 1) / 64 + 3 → parked_at (record_of x (vcpu vm number)).stay ≡ Err word → CoreTakes x x (Save vm number k) (Refused word)
-not_parked_to_save x vm number k word inside low e = refused x (Save vm number k) (Refused word) (λ h stands.
-    let there = there_in x h (vcpu vm number) stands inside in
-    save_refusal h vm number k stands.there
-    ∙ cond-false _ _ _ (not_neither (has_vcpu h (vcpu vm number)) (nat_lt k (parts_in (file_words h))) there (in_image x h k stands low))
-    ∙ not_parked x h (vcpu vm number) (record_of x (vcpu vm number)).stay word stands there refl e)
+pub not_parked_to_save : (x : CoreState) (vm vcpu k : ℕ) (word : Refusal) → is_vcpu_in x.world.vms (vcpu_of vm vcpu) ≡ true
+    → k < (x.world.n + 1) / 64 + 3 → parked_at (record_of x (vcpu_of vm vcpu)).stay ≡ Err word → CoreTakes x x (Save vm vcpu k) (Refused word)
+not_parked_to_save x vm vcpu k word inside low e = refused x (Save vm vcpu k) (Refused word) (λ h stands.
+    let there = there_in x h (vcpu_of vm vcpu) stands inside in
+    save_refusal h vm vcpu k stands.there
+    ∙ cond-false _ _ _ (not_neither (has_vcpu h (vcpu_of vm vcpu)) (nat_lt k (parts_in (file_words h))) there (in_image x h k stands low))
+    ∙ not_parked x h (vcpu_of vm vcpu) (record_of x (vcpu_of vm vcpu)).stay word stands there refl e)
 
-pub no_vcpu_to_load : (x : CoreState) (vm number : ℕ) (part : Part) → is_vcpu_in x.world.vms (vcpu vm number) ≡ false
-    → CoreTakes x x (LoadPart vm number part) (Refused words.Range)
-no_vcpu_to_load x vm number part none = refused x (LoadPart vm number part) (Refused words.Range) (λ h stands.
-    load_part_refusal h vm number part stands.there
-    ∙ cond-true _ _ _ (not_first (has_vcpu h (vcpu vm number)) (is_loadable (greatest_identity_of h) part)
-    (missing_in x h (vcpu vm number) stands none)))
+pub no_vcpu_to_load : (x : CoreState) (vm vcpu : ℕ) (part : Part) → is_vcpu_in x.world.vms (vcpu_of vm vcpu) ≡ false
+    → CoreTakes x x (LoadPart vm vcpu part) (Refused words.Range)
+no_vcpu_to_load x vm vcpu part none = refused x (LoadPart vm vcpu part) (Refused words.Range) (λ h stands.
+    load_part_refusal h vm vcpu part stands.there
+    ∙ cond-true _ _ _ (not_first (has_vcpu h (vcpu_of vm vcpu)) (is_loadable (greatest_identity_of h) part)
+    (missing_in x h (vcpu_of vm vcpu) stands none)))
 
-pub not_loadable : (x : CoreState) (vm number : ℕ) (part : Part) → is_loadable x.world.n part ≡ false
-    → CoreTakes x x (LoadPart vm number part) (Refused words.Range)
-not_loadable x vm number part bad = refused x (LoadPart vm number part) (Refused words.Range) (λ h stands.
-    load_part_refusal h vm number part stands.there
-    ∙ cond-true _ _ _ (not_second (has_vcpu h (vcpu vm number)) (is_loadable (greatest_identity_of h) part)
+pub not_loadable : (x : CoreState) (vm vcpu : ℕ) (part : Part) → is_loadable x.world.n part ≡ false
+    → CoreTakes x x (LoadPart vm vcpu part) (Refused words.Range)
+not_loadable x vm vcpu part bad = refused x (LoadPart vm vcpu part) (Refused words.Range) (λ h stands.
+    load_part_refusal h vm vcpu part stands.there
+    ∙ cond-true _ _ _ (not_second (has_vcpu h (vcpu_of vm vcpu)) (is_loadable (greatest_identity_of h) part)
     (ap (λ n. is_loadable n part) (sym stands.greatest) ∙ bad)))
 
-pub not_parked_to_load : (x : CoreState) (vm number : ℕ) (part : Part) (word : Refusal) → is_vcpu_in x.world.vms (vcpu vm number) ≡ true
-    → is_loadable x.world.n part ≡ true → parked_at (record_of x (vcpu vm number)).stay ≡ Err word
-    → CoreTakes x x (LoadPart vm number part) (Refused word)
-not_parked_to_load x vm number part word inside good e = refused x (LoadPart vm number part) (Refused word) (λ h stands.
-    let there = there_in x h (vcpu vm number) stands inside in
-    load_part_refusal h vm number part stands.there
-    ∙ cond-false _ _ _ (not_neither (has_vcpu h (vcpu vm number)) (is_loadable (greatest_identity_of h) part) there
+pub not_parked_to_load : (x : CoreState) (vm vcpu : ℕ) (part : Part) (word : Refusal) → is_vcpu_in x.world.vms (vcpu_of vm vcpu) ≡ true
+    → is_loadable x.world.n part ≡ true → parked_at (record_of x (vcpu_of vm vcpu)).stay ≡ Err word
+    → CoreTakes x x (LoadPart vm vcpu part) (Refused word)
+not_parked_to_load x vm vcpu part word inside good e = refused x (LoadPart vm vcpu part) (Refused word) (λ h stands.
+    let there = there_in x h (vcpu_of vm vcpu) stands inside in
+    load_part_refusal h vm vcpu part stands.there
+    ∙ cond-false _ _ _ (not_neither (has_vcpu h (vcpu_of vm vcpu)) (is_loadable (greatest_identity_of h) part) there
     (ap (λ n. is_loadable n part) (sym stands.greatest) ∙ good))
-    ∙ not_parked x h (vcpu vm number) (record_of x (vcpu vm number)).stay word stands there refl e)
+    ∙ not_parked x h (vcpu_of vm vcpu) (record_of x (vcpu_of vm vcpu)).stay word stands there refl e)
 
 -- ---- a part is given
 
-pub saves : (x : CoreState) (vm number k : ℕ) (kept : KeptNumbers) (part : Part) → is_vcpu_in x.world.vms (vcpu vm number) ≡ true
-    → IsWhole x.world → (record_of x (vcpu vm number)).stay ≡ stays.InMemory Parked kept → k < (x.world.n + 1) / 64 + 3
-    → part ≡ part_of (state_in x (slot_of x.world.vms (vcpu vm number)) kept) k → CoreTakes x x (Save vm number k) (kinds.Part part)
-saves x vm number k kept part inside whole at low is = accepted x x (Save vm number k) (kinds.Part part) refl refl (λ h stands.
-    let g = vcpu vm number in
+pub saves : (x : CoreState) (vm vcpu k : ℕ) (kept : KeptNumbers) (part : Part) → is_vcpu_in x.world.vms (vcpu_of vm vcpu) ≡ true
+    → IsWhole x.world → (record_of x (vcpu_of vm vcpu)).stay ≡ stays.InMemory Parked kept → k < (x.world.n + 1) / 64 + 3
+    → part ≡ part_of (state_in x (slot_of x.world.vms (vcpu_of vm vcpu)) kept) k → CoreTakes x x (Save vm vcpu k) (kinds.Part part)
+saves x vm vcpu k kept part inside whole at low is = accepted x x (Save vm vcpu k) (kinds.Part part) refl refl (λ h stands.
+    let g = vcpu_of vm vcpu in
     let there = there_in x h g stands inside in (
-      save_refusal h vm number k stands.there ∙ cond-false _ _ _
+      save_refusal h vm vcpu k stands.there ∙ cond-false _ _ _
           (not_neither (has_vcpu h g) (nat_lt k (parts_in (file_words h))) there (in_image x h k stands low))
           ∙ is_not_refused x h g kept stands there at,
       ap kinds.Part (is ∙ ap (λ s. part_of s k) (its_state x h g kept stands there at whole)),
-      nothing_done x h (Accepted (Save vm number k)) stands (hosts_line h (Save vm number k) refl refl (λ g. refl) (λ g m. refl)) (λ f inside. refl),
+      nothing_done x h (Accepted (Save vm vcpu k)) stands (hosts_line h (Save vm vcpu k) refl refl (λ g. refl) (λ g m. refl)) (λ f inside. refl),
     ))
 
 -- ---- a part is loaded
 
-loads : (x y : CoreState) (vm number : ℕ) (part : Part) (kept : KeptNumbers) → is_vcpu_in x.world.vms (vcpu vm number) ≡ true
-    → (record_of x (vcpu vm number)).stay ≡ stays.InMemory Parked kept → is_loadable x.world.n part ≡ true
-    → ((h : History) → CoreStands x h → has_vcpu h (vcpu vm number) ≡ true → Changes x y h (Accepted (LoadPart vm number part)))
-    → CoreTakes x y (LoadPart vm number part) Okay
-loads x y vm number part kept inside at good changes = accepted x y (LoadPart vm number part) Okay refl refl (λ h stands.
-    let g = vcpu vm number in
+loads : (x y : CoreState) (vm vcpu : ℕ) (part : Part) (kept : KeptNumbers) → is_vcpu_in x.world.vms (vcpu_of vm vcpu) ≡ true
+    → (record_of x (vcpu_of vm vcpu)).stay ≡ stays.InMemory Parked kept → is_loadable x.world.n part ≡ true
+    → ((h : History) → CoreStands x h → has_vcpu h (vcpu_of vm vcpu) ≡ true → Changes x y h (Accepted (LoadPart vm vcpu part)))
+    → CoreTakes x y (LoadPart vm vcpu part) Okay
+loads x y vm vcpu part kept inside at good changes = accepted x y (LoadPart vm vcpu part) Okay refl refl (λ h stands.
+    let g = vcpu_of vm vcpu in
     let there = there_in x h g stands inside in (
-      load_part_refusal h vm number part stands.there
+      load_part_refusal h vm vcpu part stands.there
           ∙ cond-false _ _ _ (not_neither (has_vcpu h g) (is_loadable (greatest_identity_of h) part) there
           (ap (λ n. is_loadable n part) (sym stands.greatest) ∙ good)) ∙ is_not_refused x h g kept stands there at,
       refl,
@@ -216,57 +216,57 @@ loads x y vm number part kept inside at good changes = accepted x y (LoadPart vm
     ))
 
 -- what is known where a part is loaded
-pub record IsLoad (x y : CoreState) (vm number : ℕ) (kept : KeptNumbers) (part : Part) : Type 0 where
-  pub inside : is_vcpu_in x.world.vms (vcpu vm number) ≡ true
+pub record IsLoad (x y : CoreState) (vm vcpu : ℕ) (kept : KeptNumbers) (part : Part) : Type 0 where
+  pub inside : is_vcpu_in x.world.vms (vcpu_of vm vcpu) ≡ true
   pub whole : IsWhole x.world
-  pub at : (record_of x (vcpu vm number)).stay ≡ stays.InMemory Parked kept
+  pub at : (record_of x (vcpu_of vm vcpu)).stay ≡ stays.InMemory Parked kept
   pub good : is_loadable x.world.n part ≡ true
   pub leases : y.leases ≡ x.leases
   pub selects : y.selects ≡ x.selects
   pub passes : y.passes ≡ x.passes
 
 -- its majors, or their registers
-of_majors : (h : History) (vm number injected enabled : ℕ)
-    → IsOfMajors h (Accepted (LoadPart vm number (parts.Majors injected enabled))) (vcpu vm number) (majors_loaded (parts.Majors injected enabled))
-of_majors h vm number injected enabled = record {
-  quiet = quiet_line h (LoadPart vm number (parts.Majors injected enabled)) refl;
+of_majors : (h : History) (vm vcpu injected enabled : ℕ)
+    → IsOfMajors h (Accepted (LoadPart vm vcpu (parts.Majors injected enabled))) (vcpu_of vm vcpu) (majors_loaded (parts.Majors injected enabled))
+of_majors h vm vcpu injected enabled = record {
+  quiet = quiet_line h (LoadPart vm vcpu (parts.Majors injected enabled)) refl;
   none = refl;
   host = λ f. refl;
-  file = λ s file. ap (λ b. file_after s (cond b (Loads (parts.Majors injected enabled)) Rests) file) (is_itself (vcpu vm number));
-  select = λ s. ap (λ b. select_after (cond b (Loads (parts.Majors injected enabled)) Rests) s) (is_itself (vcpu vm number));
+  file = λ s file. ap (λ b. file_after s (cond b (Loads (parts.Majors injected enabled)) Rests) file) (is_itself (vcpu_of vm vcpu));
+  select = λ s. ap (λ b. select_after (cond b (Loads (parts.Majors injected enabled)) Rests) s) (is_itself (vcpu_of vm vcpu));
   others = λ other ne. cond-false _ _ _ ne;
   other_majors = λ other ne m. cond-false _ _ _ ne;
-  own = λ m. cond-true _ _ _ (is_itself (vcpu vm number));
+  own = λ m. cond-true _ _ _ (is_itself (vcpu_of vm vcpu));
 }
 
-of_registers : (h : History) (vm number hviprio hvictl : ℕ)
-    → IsOfMajors h (Accepted (LoadPart vm number (parts.Prio hviprio hvictl))) (vcpu vm number) (majors_loaded (parts.Prio hviprio hvictl))
-of_registers h vm number hviprio hvictl = record {
-  quiet = quiet_line h (LoadPart vm number (parts.Prio hviprio hvictl)) refl;
+of_registers : (h : History) (vm vcpu hviprio hvictl : ℕ)
+    → IsOfMajors h (Accepted (LoadPart vm vcpu (parts.Prio hviprio hvictl))) (vcpu_of vm vcpu) (majors_loaded (parts.Prio hviprio hvictl))
+of_registers h vm vcpu hviprio hvictl = record {
+  quiet = quiet_line h (LoadPart vm vcpu (parts.Prio hviprio hvictl)) refl;
   none = refl;
   host = λ f. refl;
-  file = λ s file. ap (λ b. file_after s (cond b (Loads (parts.Prio hviprio hvictl)) Rests) file) (is_itself (vcpu vm number));
-  select = λ s. ap (λ b. select_after (cond b (Loads (parts.Prio hviprio hvictl)) Rests) s) (is_itself (vcpu vm number));
+  file = λ s file. ap (λ b. file_after s (cond b (Loads (parts.Prio hviprio hvictl)) Rests) file) (is_itself (vcpu_of vm vcpu));
+  select = λ s. ap (λ b. select_after (cond b (Loads (parts.Prio hviprio hvictl)) Rests) s) (is_itself (vcpu_of vm vcpu));
   others = λ other ne. cond-false _ _ _ ne;
   other_majors = λ other ne m. cond-false _ _ _ ne;
-  own = λ m. cond-true _ _ _ (is_itself (vcpu vm number));
+  own = λ m. cond-true _ _ _ (is_itself (vcpu_of vm vcpu));
 }
 
-pub majors_are_loaded : (x y : CoreState) (vm number injected enabled : ℕ) (kept : KeptNumbers)
-    → IsLoad x y vm number kept (parts.Majors injected enabled) → HasMajors x y (vcpu vm number) (majors_loaded (parts.Majors injected enabled))
-    → CoreTakes x y (LoadPart vm number (parts.Majors injected enabled)) Okay
-majors_are_loaded x y vm number injected enabled kept c has =
-    loads x y vm number (parts.Majors injected enabled) kept c.inside c.at c.good (λ h stands there.
-    majors_change x y h (Accepted (LoadPart vm number (parts.Majors injected enabled))) (vcpu vm number)
-    (majors_loaded (parts.Majors injected enabled)) has (of_majors h vm number injected enabled) stands there)
+pub majors_are_loaded : (x y : CoreState) (vm vcpu injected enabled : ℕ) (kept : KeptNumbers)
+    → IsLoad x y vm vcpu kept (parts.Majors injected enabled) → HasMajors x y (vcpu_of vm vcpu) (majors_loaded (parts.Majors injected enabled))
+    → CoreTakes x y (LoadPart vm vcpu (parts.Majors injected enabled)) Okay
+majors_are_loaded x y vm vcpu injected enabled kept c has =
+    loads x y vm vcpu (parts.Majors injected enabled) kept c.inside c.at c.good (λ h stands there.
+    majors_change x y h (Accepted (LoadPart vm vcpu (parts.Majors injected enabled))) (vcpu_of vm vcpu)
+    (majors_loaded (parts.Majors injected enabled)) has (of_majors h vm vcpu injected enabled) stands there)
 
-pub registers_are_loaded : (x y : CoreState) (vm number hviprio hvictl : ℕ) (kept : KeptNumbers)
-    → IsLoad x y vm number kept (parts.Prio hviprio hvictl) → HasMajors x y (vcpu vm number) (majors_loaded (parts.Prio hviprio hvictl))
-    → CoreTakes x y (LoadPart vm number (parts.Prio hviprio hvictl)) Okay
-registers_are_loaded x y vm number hviprio hvictl kept c has =
-    loads x y vm number (parts.Prio hviprio hvictl) kept c.inside c.at c.good (λ h stands there.
-    majors_change x y h (Accepted (LoadPart vm number (parts.Prio hviprio hvictl))) (vcpu vm number) (majors_loaded (parts.Prio hviprio hvictl))
-    has (of_registers h vm number hviprio hvictl) stands there)
+pub registers_are_loaded : (x y : CoreState) (vm vcpu hviprio hvictl : ℕ) (kept : KeptNumbers)
+    → IsLoad x y vm vcpu kept (parts.Prio hviprio hvictl) → HasMajors x y (vcpu_of vm vcpu) (majors_loaded (parts.Prio hviprio hvictl))
+    → CoreTakes x y (LoadPart vm vcpu (parts.Prio hviprio hvictl)) Okay
+registers_are_loaded x y vm vcpu hviprio hvictl kept c has =
+    loads x y vm vcpu (parts.Prio hviprio hvictl) kept c.inside c.at c.good (λ h stands there.
+    majors_change x y h (Accepted (LoadPart vm vcpu (parts.Prio hviprio hvictl))) (vcpu_of vm vcpu) (majors_loaded (parts.Prio hviprio hvictl))
+    has (of_registers h vm vcpu hviprio hvictl) stands there)
 
 -- its numbers
 numbers_loaded : (w : World) (q : ℕ) (was now : KeptNumbers) (version n threshold select : ℕ) (delivery : Bool)
@@ -288,29 +288,29 @@ numbers_loaded w q was now version n threshold select delivery is_delivery is_th
     a_bit false = refl
 
 -- what is known of it: the record alone is written
-pub record IsNumbersLoad (x y : CoreState) (vm number : ℕ) (kept now : KeptNumbers) (version n threshold select : ℕ) (delivery : Bool) : Type 0 where
-  pub load : IsLoad x y vm number kept (parts.Image version n delivery threshold select)
+pub record IsNumbersLoad (x y : CoreState) (vm vcpu : ℕ) (kept now : KeptNumbers) (version n threshold select : ℕ) (delivery : Bool) : Type 0 where
+  pub load : IsLoad x y vm vcpu kept (parts.Image version n delivery threshold select)
   pub world : y.world ≡ x.world
-  pub low : slot_of x.world.vms (vcpu vm number) < length x.vcpus
-  pub vcpus : y.vcpus ≡ set x.vcpus (slot_of x.world.vms (vcpu vm number))
-      (record (record_of x (vcpu vm number)) {
+  pub low : slot_of x.world.vms (vcpu_of vm vcpu) < length x.vcpus
+  pub vcpus : y.vcpus ≡ set x.vcpus (slot_of x.world.vms (vcpu_of vm vcpu))
+      (record (record_of x (vcpu_of vm vcpu)) {
         stay = stays.InMemory Parked now;
         select =
-            select_written (ops.Write select) (record_of x (vcpu vm number)).select;
+            select_written (ops.Write select) (record_of x (vcpu_of vm vcpu)).select;
       })
   pub is_delivery : now.delivery ≡ bit_number delivery
   pub is_threshold : now.threshold ≡ threshold
 
-module _ (x y : CoreState) (vm number : ℕ) (kept now : KeptNumbers) (version n threshold select : ℕ) (delivery : Bool)
-    (c : IsNumbersLoad x y vm number kept now version n threshold select delivery) where
+module _ (x y : CoreState) (vm vcpu : ℕ) (kept now : KeptNumbers) (version n threshold select : ℕ) (delivery : Bool)
+    (c : IsNumbersLoad x y vm vcpu kept now version n threshold select delivery) where
   abbrev image_g : Vcpu
-  image_g = vcpu vm number
+  image_g = vcpu_of vm vcpu
 
   abbrev image : Part
   image = parts.Image version n delivery threshold select
 
   abbrev image_event : Event
-  image_event = Accepted (LoadPart vm number (parts.Image version n delivery threshold select))
+  image_event = Accepted (LoadPart vm vcpu (parts.Image version n delivery threshold select))
 
   slot : (other : Vcpu) → slot_of y.world.vms other ≡ slot_of x.world.vms other
   slot other = ap (λ (w : World). slot_of w.vms other) c.world
@@ -328,13 +328,13 @@ module _ (x y : CoreState) (vm number : ℕ) (kept now : KeptNumbers) (version n
       let is : nat_le threshold x.world.n ≡ true = (and_parts (nat_eq version 1 && nat_eq n x.world.n) (nat_le threshold x.world.n) all.0).1 in
       grind (arith, nat_tests)
 
-  pub numbers_are_loaded : CoreTakes x y (LoadPart vm number image) Okay
-  numbers_are_loaded = loads x y vm number image kept c.load.inside c.load.at c.load.good (λ h stands there.
+  pub numbers_are_loaded : CoreTakes x y (LoadPart vm vcpu image) Okay
+  numbers_are_loaded = loads x y vm vcpu image kept c.load.inside c.load.at c.load.good (λ h stands there.
       memory_deed x y h image_event image_g (InMemory Parked) kept now (Loads image) (record {
         stands = stands;
         whole = c.load.whole;
         inside = there;
-        quiet = quiet_line h (LoadPart vm number image) refl;
+        quiet = quiet_line h (LoadPart vm vcpu image) refl;
         rests = refl;
         home_was = ap home_in c.load.at;
         hand_was = ap hand_in c.load.at;
@@ -371,22 +371,22 @@ module _ (x y : CoreState) (vm number : ℕ) (kept now : KeptNumbers) (version n
 -- a word of its sets
 
 -- what is known of it: m is the world between the load and the notice
-pub record IsWordLoad (x y : CoreState) (m : World) (vm number : ℕ) (kept : KeptNumbers) (w pending enable : ℕ) : Type 0 where
-  pub load : IsLoad x y vm number kept (parts.Word w pending enable)
+pub record IsWordLoad (x y : CoreState) (m : World) (vm vcpu : ℕ) (kept : KeptNumbers) (w pending enable : ℕ) : Type 0 where
+  pub load : IsLoad x y vm vcpu kept (parts.Word w pending enable)
   pub vcpus : y.vcpus ≡ x.vcpus
-  pub done : DoneInSlot x.world m (slot_of x.world.vms (vcpu vm number)) 0 (sets_loaded w pending enable)
+  pub done : DoneInSlot x.world m (slot_of x.world.vms (vcpu_of vm vcpu)) 0 (sets_loaded w pending enable)
   pub memory : y.world.memory ≡ m.memory
 
-module _ (x y : CoreState) (m : World) (vm number : ℕ) (kept : KeptNumbers) (w pending enable : ℕ)
-    (c : IsWordLoad x y m vm number kept w pending enable) where
+module _ (x y : CoreState) (m : World) (vm vcpu : ℕ) (kept : KeptNumbers) (w pending enable : ℕ)
+    (c : IsWordLoad x y m vm vcpu kept w pending enable) where
   abbrev g : Vcpu
-  g = vcpu vm number
+  g = vcpu_of vm vcpu
 
   abbrev part : Part
   part = parts.Word w pending enable
 
   abbrev event : Event
-  event = Accepted (LoadPart vm number (parts.Word w pending enable))
+  event = Accepted (LoadPart vm vcpu (parts.Word w pending enable))
 
   same_n : m.n ≡ x.world.n
   same_n = ap (λ (u : World). u.n) c.done.rest
@@ -407,7 +407,7 @@ module _ (x y : CoreState) (m : World) (vm number : ℕ) (kept : KeptNumbers) (w
     stands = stands;
     whole = c.load.whole;
     inside = there;
-    quiet = quiet_line h (LoadPart vm number part) refl;
+    quiet = quiet_line h (LoadPart vm vcpu part) refl;
     rests = refl;
     home_was = ap home_in c.load.at;
     hand_was = ap hand_in c.load.at;
@@ -442,8 +442,8 @@ module _ (x y : CoreState) (m : World) (vm number : ℕ) (kept : KeptNumbers) (w
       now_is = λ k. file_in_memory (record m { n = (same_n ∙ sym n) k; memory = sym c.memory k }) (slot_of x.world.vms g) kept
 
   -- it is quiet where none is
-  pub word_untold : y.world ≡ m → is_live (file_of_slot m (slot_of x.world.vms g) 0) w ≡ false → CoreTakes x y (LoadPart vm number part) Okay
-  word_untold world none = loads x y vm number part kept c.load.inside c.load.at c.load.good (λ h stands there.
+  pub word_untold : y.world ≡ m → is_live (file_of_slot m (slot_of x.world.vms g) 0) w ≡ false → CoreTakes x y (LoadPart vm vcpu part) Okay
+  word_untold world none = loads x y vm vcpu part kept c.load.inside c.load.at c.load.good (λ h stands there.
       let quiet : noticed h event ≡ None = cond-false _ _ _ (sym (live_after h stands there) ∙ none) in
       let rest : y.world ≡ record x.world { memory = m.memory } = world ∙ c.done.rest in
       word_changes h stands there (ap (λ (u : World). u.n) rest) (ap (λ (u : World). u.vms) rest)
@@ -451,8 +451,8 @@ module _ (x y : CoreState) (m : World) (vm number : ℕ) (kept : KeptNumbers) (w
 
   -- and else its notice is sent
   pub word_told : Posts m y.world (spots.SupervisorFile (notice_hart x.world.vms g)) (notice_identity x.world.vms g)
-      → is_live (file_of_slot m (slot_of x.world.vms g) 0) w ≡ true → CoreTakes x y (LoadPart vm number part) Okay
-  word_told posts some = loads x y vm number part kept c.load.inside c.load.at c.load.good (λ h stands there.
+      → is_live (file_of_slot m (slot_of x.world.vms g) 0) w ≡ true → CoreTakes x y (LoadPart vm vcpu part) Okay
+  word_told posts some = loads x y vm vcpu part kept c.load.inside c.load.at c.load.good (λ h stands there.
       let loud : noticed h event ≡ Some g = cond-true _ _ _ (sym (live_after h stands there) ∙ some) in
       word_changes h stands there (ap (λ (u : World). u.n) rest) (ap (λ (u : World). u.vms) rest)
       (one_told x (but_memory x y) h event g stands c.load.whole there c.load.selects loud (λ f. refl) but_posts))

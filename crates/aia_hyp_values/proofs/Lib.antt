@@ -44,3 +44,7 @@ pub mod PassLemmas
 pub mod ForwardLemmas
 pub mod RelayLemmas
 pub mod WordLemmas
+pub mod TargetsLemmas
+pub mod TargetsLines
+pub mod WaysInCore
+pub mod ExampleWays

@@ -17,7 +17,7 @@ use Rattle.aia_major.specs.VsMajor.{VsMajorState, is_major, is_hvictl, with_inje
 use Rattle.aia_major.specs.Kept.{majors_shown}
 use Rattle.aia_vcpu.specs.declared.place.GuestPlace.{GuestPlace}
 use Rattle.aia_vcpu.specs.declared.vm.Vm.{Vm}
-use Rattle.aia_vcpu.specs.Vms.{Vcpu, vcpu, is_vcpu, is_vcpu_in, slot_of, notice_hart}
+use Rattle.aia_vcpu.specs.Vms.{Vcpu, vcpu_of, is_vcpu, is_vcpu_in, slot_of, notice_hart}
 use Rattle.aia_fabric_values.specs.World.{World}
 use Rattle.aia_fabric_values.specs.Whole.{IsWhole}
 use Rattle.aia_fabric_values.specs.Changes.{spot_of}
@@ -165,79 +165,79 @@ majors_stay x g low = record {
 
 -- ---- the events of majors
 
-own_test : {A : Type 0} (vm number : ℕ) (a b : A) → cond (is_vcpu (vcpu vm number) (vcpu vm number)) a b ≡ a
-own_test vm number a b = cond-true _ _ _ (is_itself (vcpu vm number))
+own_test : {A : Type 0} (vm vcpu : ℕ) (a b : A) → cond (is_vcpu (vcpu_of vm vcpu) (vcpu_of vm vcpu)) a b ≡ a
+own_test vm vcpu a b = cond-true _ _ _ (is_itself (vcpu_of vm vcpu))
 
-pub injects : (h : History) (vm number bit : ℕ) (level : Bool)
-    → IsOfMajors h (Accepted (Inject vm number bit level)) (vcpu vm number) (with_injection bit level)
-injects h vm number bit level = record {
-  quiet = quiet_line h (Inject vm number bit level) refl;
+pub injects : (h : History) (vm vcpu bit : ℕ) (level : Bool)
+    → IsOfMajors h (Accepted (Inject vm vcpu bit level)) (vcpu_of vm vcpu) (with_injection bit level)
+injects h vm vcpu bit level = record {
+  quiet = quiet_line h (Inject vm vcpu bit level) refl;
   none = refl;
   host = λ f. refl;
   file = λ s file. refl;
   select = λ s. refl;
   others = λ other ne. refl;
   other_majors = λ other ne m. cond-false _ _ _ ne;
-  own = λ m. own_test vm number _ _;
+  own = λ m. own_test vm vcpu _ _;
 }
 
-pub writes_hvictl : (h : History) (vm number value : ℕ) → IsOfMajors h (Accepted (Hvictl vm number value)) (vcpu vm number) (with_hvictl value)
-writes_hvictl h vm number value = record {
-  quiet = quiet_line h (Hvictl vm number value) refl;
+pub writes_hvictl : (h : History) (vm vcpu value : ℕ) → IsOfMajors h (Accepted (Hvictl vm vcpu value)) (vcpu_of vm vcpu) (with_hvictl value)
+writes_hvictl h vm vcpu value = record {
+  quiet = quiet_line h (Hvictl vm vcpu value) refl;
   none = refl;
   host = λ f. refl;
   file = λ s file. refl;
   select = λ s. refl;
   others = λ other ne. refl;
   other_majors = λ other ne m. cond-false _ _ _ ne;
-  own = λ m. own_test vm number _ _;
+  own = λ m. own_test vm vcpu _ _;
 }
 
-pub writes_hviprio : (h : History) (vm number value : ℕ) → IsOfMajors h (Accepted (Hviprio vm number value)) (vcpu vm number) (with_hviprio1 value)
-writes_hviprio h vm number value = record {
-  quiet = quiet_line h (Hviprio vm number value) refl;
+pub writes_hviprio : (h : History) (vm vcpu value : ℕ) → IsOfMajors h (Accepted (Hviprio vm vcpu value)) (vcpu_of vm vcpu) (with_hviprio1 value)
+writes_hviprio h vm vcpu value = record {
+  quiet = quiet_line h (Hviprio vm vcpu value) refl;
   none = refl;
   host = λ f. refl;
   file = λ s file. refl;
   select = λ s. refl;
   others = λ other ne. refl;
   other_majors = λ other ne m. cond-false _ _ _ ne;
-  own = λ m. own_test vm number _ _;
+  own = λ m. own_test vm vcpu _ _;
 }
 
 -- an access to a CSR of majors is nothing to the file
-module _ (h : History) (vm number : ℕ) (op : Op) where
-  pub accesses_sip : IsOfMajors h (Accepted (GuestCsr vm number csrs.Sip op)) (vcpu vm number) (with_sip op)
+module _ (h : History) (vm vcpu : ℕ) (op : Op) where
+  pub accesses_sip : IsOfMajors h (Accepted (GuestCsr vm vcpu csrs.Sip op)) (vcpu_of vm vcpu) (with_sip op)
   accesses_sip = record {
-    quiet = quiet_line h (GuestCsr vm number csrs.Sip op) refl;
+    quiet = quiet_line h (GuestCsr vm vcpu csrs.Sip op) refl;
     none = refl;
     host = λ f. refl;
-    file = λ s file. ap (λ d. file_after s d file) (own_test vm number (Accesses csrs.Sip op) Rests);
-    select = λ s. ap (λ d. select_after d s) (own_test vm number (Accesses csrs.Sip op) Rests);
+    file = λ s file. ap (λ d. file_after s d file) (own_test vm vcpu (Accesses csrs.Sip op) Rests);
+    select = λ s. ap (λ d. select_after d s) (own_test vm vcpu (Accesses csrs.Sip op) Rests);
     others = λ other ne. cond-false _ _ _ ne;
     other_majors = λ other ne m. cond-false _ _ _ ne;
-    own = λ m. own_test vm number _ _;
+    own = λ m. own_test vm vcpu _ _;
   }
 
-  pub accesses_sie : IsOfMajors h (Accepted (GuestCsr vm number csrs.Sie op)) (vcpu vm number) (with_sie op)
+  pub accesses_sie : IsOfMajors h (Accepted (GuestCsr vm vcpu csrs.Sie op)) (vcpu_of vm vcpu) (with_sie op)
   accesses_sie = record {
-    quiet = quiet_line h (GuestCsr vm number csrs.Sie op) refl;
+    quiet = quiet_line h (GuestCsr vm vcpu csrs.Sie op) refl;
     none = refl;
     host = λ f. refl;
-    file = λ s file. ap (λ d. file_after s d file) (own_test vm number (Accesses csrs.Sie op) Rests);
-    select = λ s. ap (λ d. select_after d s) (own_test vm number (Accesses csrs.Sie op) Rests);
+    file = λ s file. ap (λ d. file_after s d file) (own_test vm vcpu (Accesses csrs.Sie op) Rests);
+    select = λ s. ap (λ d. select_after d s) (own_test vm vcpu (Accesses csrs.Sie op) Rests);
     others = λ other ne. cond-false _ _ _ ne;
     other_majors = λ other ne m. cond-false _ _ _ ne;
-    own = λ m. own_test vm number _ _;
+    own = λ m. own_test vm vcpu _ _;
   }
 
-  pub accesses_topi : IsOfMajors h (Accepted (GuestCsr vm number csrs.Topi op)) (vcpu vm number) (λ m. m)
+  pub accesses_topi : IsOfMajors h (Accepted (GuestCsr vm vcpu csrs.Topi op)) (vcpu_of vm vcpu) (λ m. m)
   accesses_topi = record {
-    quiet = quiet_line h (GuestCsr vm number csrs.Topi op) refl;
+    quiet = quiet_line h (GuestCsr vm vcpu csrs.Topi op) refl;
     none = refl;
     host = λ f. refl;
-    file = λ s file. ap (λ d. file_after s d file) (own_test vm number (Accesses csrs.Topi op) Rests);
-    select = λ s. ap (λ d. select_after d s) (own_test vm number (Accesses csrs.Topi op) Rests);
+    file = λ s file. ap (λ d. file_after s d file) (own_test vm vcpu (Accesses csrs.Topi op) Rests);
+    select = λ s. ap (λ d. select_after d s) (own_test vm vcpu (Accesses csrs.Topi op) Rests);
     others = λ other ne. cond-false _ _ _ ne;
     other_majors = λ other ne m. refl;
     own = λ m. refl;
@@ -245,113 +245,113 @@ module _ (h : History) (vm number : ℕ) (op : Op) where
 
 -- ---- what the core promises
 
-there_too : (x : CoreState) (h : History) (vm number : ℕ) (b : Bool) → CoreStands x h → is_vcpu_in x.world.vms (vcpu vm number) ≡ b
-    → has_vcpu h (vcpu vm number) ≡ b
-there_too x h vm number b stands is = subst (λ (vs : List Vm). is_vcpu_in vs (vcpu vm number) ≡ b) stands.vms is
+there_too : (x : CoreState) (h : History) (vm vcpu : ℕ) (b : Bool) → CoreStands x h → is_vcpu_in x.world.vms (vcpu_of vm vcpu) ≡ b
+    → has_vcpu h (vcpu_of vm vcpu) ≡ b
+there_too x h vm vcpu b stands is = subst (λ (vs : List Vm). is_vcpu_in vs (vcpu_of vm vcpu) ≡ b) stands.vms is
 
 -- a line that is refused where the virtual hart isn't there, or a value is none that it takes
 abbrev takes_value : History → ℕ → ℕ → Bool → Option Answer
-takes_value h vm number takes = cond (not (has_vcpu h (vcpu vm number) && takes)) (Some (Refused Range)) None
+takes_value h vm vcpu takes = cond (not (has_vcpu h (vcpu_of vm vcpu) && takes)) (Some (Refused Range)) None
 
-takes_it : (h : History) (vm number : ℕ) (takes : Bool) → has_vcpu h (vcpu vm number) ≡ true → takes ≡ true → takes_value h vm number takes ≡ None
-takes_it h vm number takes there e = λ k. cond (not (there k && e k)) (Some (Refused Range)) None
+takes_it : (h : History) (vm vcpu : ℕ) (takes : Bool) → has_vcpu h (vcpu_of vm vcpu) ≡ true → takes ≡ true → takes_value h vm vcpu takes ≡ None
+takes_it h vm vcpu takes there e = λ k. cond (not (there k && e k)) (Some (Refused Range)) None
 
-not_there : (h : History) (vm number : ℕ) (takes : Bool) → has_vcpu h (vcpu vm number) ≡ false → takes_value h vm number takes ≡ Some (Refused Range)
-not_there h vm number takes there = ap (λ b. cond (not (b && takes)) (Some (Refused Range)) None) there
+not_there : (h : History) (vm vcpu : ℕ) (takes : Bool) → has_vcpu h (vcpu_of vm vcpu) ≡ false → takes_value h vm vcpu takes ≡ Some (Refused Range)
+not_there h vm vcpu takes there = ap (λ b. cond (not (b && takes)) (Some (Refused Range)) None) there
 
-not_taken : (h : History) (vm number : ℕ) (takes : Bool) → has_vcpu h (vcpu vm number) ≡ true → takes ≡ false
-    → takes_value h vm number takes ≡ Some (Refused Range)
-not_taken h vm number takes there e = λ k. cond (not (there k && e k)) (Some (Refused Range)) None
+not_taken : (h : History) (vm vcpu : ℕ) (takes : Bool) → has_vcpu h (vcpu_of vm vcpu) ≡ true → takes ≡ false
+    → takes_value h vm vcpu takes ≡ Some (Refused Range)
+not_taken h vm vcpu takes there e = λ k. cond (not (there k && e k)) (Some (Refused Range)) None
 
 -- a line of the hypervisor on majors, whatever it is
-pub record IsMajorsLine (line : Line) (vm number : ℕ) (takes : Bool) (done : VsMajorState → VsMajorState) : Type 0 where
+pub record IsMajorsLine (line : Line) (vm vcpu : ℕ) (takes : Bool) (done : VsMajorState → VsMajorState) : Type 0 where
   pub plain : is_quiet_line line ≡ true
   pub still : line_deed line ≡ NoMove
-  pub refusal_is : (h : History) → has_machine h ≡ true → refusal h line ≡ takes_value h vm number takes
+  pub refusal_is : (h : History) → has_machine h ≡ true → refusal h line ≡ takes_value h vm vcpu takes
   pub okay : (h : History) → accepted_answer h line ≡ Okay
-  pub is_of : (h : History) → IsOfMajors h (Accepted line) (vcpu vm number) done
+  pub is_of : (h : History) → IsOfMajors h (Accepted line) (vcpu_of vm vcpu) done
 
-pub inject_line : (vm number bit : ℕ) (level : Bool) → IsMajorsLine (Inject vm number bit level) vm number (is_major bit) (with_injection bit level)
-inject_line vm number bit level = record {
+pub inject_line : (vm vcpu bit : ℕ) (level : Bool) → IsMajorsLine (Inject vm vcpu bit level) vm vcpu (is_major bit) (with_injection bit level)
+inject_line vm vcpu bit level = record {
   plain = refl;
   still = refl;
-  refusal_is = λ h machine. inject_refusal h vm number bit level machine;
+  refusal_is = λ h machine. inject_refusal h vm vcpu bit level machine;
   okay = λ h. refl;
-  is_of = λ h. injects h vm number bit level;
+  is_of = λ h. injects h vm vcpu bit level;
 }
 
-pub hvictl_line : (vm number value : ℕ) → IsMajorsLine (Hvictl vm number value) vm number (is_hvictl value) (with_hvictl value)
-hvictl_line vm number value = record {
+pub hvictl_line : (vm vcpu value : ℕ) → IsMajorsLine (Hvictl vm vcpu value) vm vcpu (is_hvictl value) (with_hvictl value)
+hvictl_line vm vcpu value = record {
   plain = refl;
   still = refl;
-  refusal_is = λ h machine. hvictl_refusal h vm number value machine;
+  refusal_is = λ h machine. hvictl_refusal h vm vcpu value machine;
   okay =
       λ h. refl;
-  is_of = λ h. writes_hvictl h vm number value;
+  is_of = λ h. writes_hvictl h vm vcpu value;
 }
 
 and_true : (b : Bool) → (b && true) ≡ b
 and_true true = refl
 and_true false = refl
 
-pub hviprio_line : (vm number value : ℕ) → IsMajorsLine (Hviprio vm number value) vm number true (with_hviprio1 value)
-hviprio_line vm number value = record {
+pub hviprio_line : (vm vcpu value : ℕ) → IsMajorsLine (Hviprio vm vcpu value) vm vcpu true (with_hviprio1 value)
+hviprio_line vm vcpu value = record {
   plain = refl;
   still = refl;
-  refusal_is = λ h machine. hviprio_refusal h vm number value machine
-      ∙ ap (λ b. cond (not b) (Some (Refused Range)) None) (sym (and_true (has_vcpu h (vcpu vm number))));
+  refusal_is = λ h machine. hviprio_refusal h vm vcpu value machine
+      ∙ ap (λ b. cond (not b) (Some (Refused Range)) None) (sym (and_true (has_vcpu h (vcpu_of vm vcpu))));
   okay = λ h. refl;
-  is_of = λ h. writes_hviprio h vm number value;
+  is_of = λ h. writes_hviprio h vm vcpu value;
 }
 
-module _ (x y : CoreState) (line : Line) (vm number : ℕ) (takes : Bool) (done : VsMajorState → VsMajorState)
-    (l : IsMajorsLine line vm number takes done) where
-  pub majors_taken : takes ≡ true → is_vcpu_in x.world.vms (vcpu vm number) ≡ true → HasMajors x y (vcpu vm number) done → CoreTakes x y line Okay
+module _ (x y : CoreState) (line : Line) (vm vcpu : ℕ) (takes : Bool) (done : VsMajorState → VsMajorState)
+    (l : IsMajorsLine line vm vcpu takes done) where
+  pub majors_taken : takes ≡ true → is_vcpu_in x.world.vms (vcpu_of vm vcpu) ≡ true → HasMajors x y (vcpu_of vm vcpu) done → CoreTakes x y line Okay
   majors_taken e there c = accepted x y line Okay l.plain l.still (λ h stands.
-      let inside = there_too x h vm number true stands there in (
-        l.refusal_is h stands.there ∙ takes_it h vm number takes inside e,
+      let inside = there_too x h vm vcpu true stands there in (
+        l.refusal_is h stands.there ∙ takes_it h vm vcpu takes inside e,
         sym (l.okay h),
-        majors_change x y h (Accepted line) (vcpu vm number) done c (l.is_of h) stands inside,
+        majors_change x y h (Accepted line) (vcpu_of vm vcpu) done c (l.is_of h) stands inside,
       ))
 
-  pub no_such : is_vcpu_in x.world.vms (vcpu vm number) ≡ false → CoreTakes x x line (Refused Range)
+  pub no_such : is_vcpu_in x.world.vms (vcpu_of vm vcpu) ≡ false → CoreTakes x x line (Refused Range)
   no_such outside = refused x line (Refused Range)
-      (λ h stands. l.refusal_is h stands.there ∙ not_there h vm number takes (there_too x h vm number false stands outside))
+      (λ h stands. l.refusal_is h stands.there ∙ not_there h vm vcpu takes (there_too x h vm vcpu false stands outside))
 
-  pub none_taken : takes ≡ false → is_vcpu_in x.world.vms (vcpu vm number) ≡ true → CoreTakes x x line (Refused Range)
+  pub none_taken : takes ≡ false → is_vcpu_in x.world.vms (vcpu_of vm vcpu) ≡ true → CoreTakes x x line (Refused Range)
   none_taken e there = refused x line (Refused Range)
-      (λ h stands. l.refusal_is h stands.there ∙ not_taken h vm number takes (there_too x h vm number true stands there) e)
+      (λ h stands. l.refusal_is h stands.there ∙ not_taken h vm vcpu takes (there_too x h vm vcpu true stands there) e)
 
 -- by what the call on its record gives
-pub majors_answered : (x y : CoreState) (line : Line) (vm number : ℕ) (takes : Bool) (done : VsMajorState → VsMajorState)
-    → IsMajorsLine line vm number takes done → (given : Result (Unit {0}) Refusal) → result_err given ≡ cond takes None (Some Range)
-    → OnOk given (MajorsDone x.vcpus y.vcpus (slot_of x.world.vms (vcpu vm number)) done) → OnErr given (y.vcpus ≡ x.vcpus)
-    → is_vcpu_in x.world.vms (vcpu vm number) ≡ true → slot_of x.world.vms (vcpu vm number) < length x.vcpus → y.world ≡ x.world
+pub majors_answered : (x y : CoreState) (line : Line) (vm vcpu : ℕ) (takes : Bool) (done : VsMajorState → VsMajorState)
+    → IsMajorsLine line vm vcpu takes done → (given : Result (Unit {0}) Refusal) → result_err given ≡ cond takes None (Some Range)
+    → OnOk given (MajorsDone x.vcpus y.vcpus (slot_of x.world.vms (vcpu_of vm vcpu)) done) → OnErr given (y.vcpus ≡ x.vcpus)
+    → is_vcpu_in x.world.vms (vcpu_of vm vcpu) ≡ true → slot_of x.world.vms (vcpu_of vm vcpu) < length x.vcpus → y.world ≡ x.world
     → y.leases ≡ x.leases → y.selects ≡ x.selects → y.passes ≡ x.passes → CoreTakes x y line (answer_by (λ _. Okay) given)
-majors_answered x y line vm number true done l (Ok u) e ok err there low world leases selects passes =
-    majors_taken x y line vm number true done l refl there
+majors_answered x y line vm vcpu true done l (Ok u) e ok err there low world leases selects passes =
+    majors_taken x y line vm vcpu true done l refl there
     (record { world = world; leases = leases; selects = selects; passes = passes; low = low; is_done = ok })
-majors_answered x y line vm number false done l (Err word) e ok err there low world leases selects passes =
+majors_answered x y line vm vcpu false done l (Err word) e ok err there low world leases selects passes =
     let is : word ≡ Range = cc in
     let same : y ≡ x = λ k. record { world = world k; leases = leases k; vcpus = err k; selects = selects k; passes = passes k } in
     subst (λ (z : CoreState). CoreTakes x z line (Refused word)) (sym same)
-    (subst (λ w. CoreTakes x x line (Refused w)) (sym is) (none_taken x x line vm number false done l refl there))
-majors_answered x y line vm number false done l (Ok u) e ok err there low world leases selects passes = absurd (cc)
-majors_answered x y line vm number true done l (Err word) e ok err there low world leases selects passes = absurd (cc)
+    (subst (λ w. CoreTakes x x line (Refused w)) (sym is) (none_taken x x line vm vcpu false done l refl there))
+majors_answered x y line vm vcpu false done l (Ok u) e ok err there low world leases selects passes = absurd (cc)
+majors_answered x y line vm vcpu true done l (Err word) e ok err there low world leases selects passes = absurd (cc)
 
 -- an access of a resident virtual hart to a CSR of its majors
-module _ (x y : CoreState) (vm number : ℕ) (csr : Csr) (op : Op) (p : GuestPlace) (access : CsrAccess) (value : ℕ)
+module _ (x y : CoreState) (vm vcpu : ℕ) (csr : Csr) (op : Op) (p : GuestPlace) (access : CsrAccess) (value : ℕ)
     (done : VsMajorState → VsMajorState) where
-  pub majors_accessed : is_vcpu_in x.world.vms (vcpu vm number) ≡ true → resident_at (record_of x (vcpu vm number)).stay ≡ Some p
-      → access ≡ access_by (record_of x (vcpu vm number)) csr op → raises_illegal access ≡ false → raises_virtual access ≡ false
-      → ((h : History) → IsOfMajors h (Accepted (GuestCsr vm number csr op)) (vcpu vm number) done)
-      → ((h : History) → CoreStands x h → has_vcpu h (vcpu vm number) ≡ true → value ≡ guest_csr_value h (vcpu vm number) csr)
-      → HasMajors x y (vcpu vm number) done → CoreTakes x y (GuestCsr vm number csr op) (Wide value)
-  majors_accessed inside at table legal kept is_of reads c = accepted x y (GuestCsr vm number csr op) (Wide value) refl refl (λ h stands.
-      let there = there_in x h (vcpu vm number) stands inside in (
-        refusal_there x h vm number csr op p access stands there at table ∙ cond-false _ _ _ legal ∙ cond-false _ _ _ kept,
+  pub majors_accessed : is_vcpu_in x.world.vms (vcpu_of vm vcpu) ≡ true → resident_at (record_of x (vcpu_of vm vcpu)).stay ≡ Some p
+      → access ≡ access_by (record_of x (vcpu_of vm vcpu)) csr op → raises_illegal access ≡ false → raises_virtual access ≡ false
+      → ((h : History) → IsOfMajors h (Accepted (GuestCsr vm vcpu csr op)) (vcpu_of vm vcpu) done)
+      → ((h : History) → CoreStands x h → has_vcpu h (vcpu_of vm vcpu) ≡ true → value ≡ guest_csr_value h (vcpu_of vm vcpu) csr)
+      → HasMajors x y (vcpu_of vm vcpu) done → CoreTakes x y (GuestCsr vm vcpu csr op) (Wide value)
+  majors_accessed inside at table legal kept is_of reads c = accepted x y (GuestCsr vm vcpu csr op) (Wide value) refl refl (λ h stands.
+      let there = there_in x h (vcpu_of vm vcpu) stands inside in (
+        refusal_there x h vm vcpu csr op p access stands there at table ∙ cond-false _ _ _ legal ∙ cond-false _ _ _ kept,
         ap Wide (reads h stands there),
-        majors_change x y h (Accepted (GuestCsr vm number csr op)) (vcpu vm number) done c (is_of h) stands there,
+        majors_change x y h (Accepted (GuestCsr vm vcpu csr op)) (vcpu_of vm vcpu) done c (is_of h) stands there,
       ))
 
 -- what is read, by the file of a virtual hart that is resident

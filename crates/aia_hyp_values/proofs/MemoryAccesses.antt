@@ -15,7 +15,7 @@ use Rattle.aia_csr.specs.CsrAccess.{is_file_csr, IsFileCsr}
 use Rattle.aia_file.specs.InterruptFile.{InterruptFile, SameFile, register_value, accessed, claimed}
 use Rattle.aia_file.specs.SlotFile.{IsOfSets}
 use Rattle.aia_major.specs.Kept.{majors_shown}
-use Rattle.aia_vcpu.specs.Vms.{Vcpu, vcpu, is_vcpu_in, slot_of}
+use Rattle.aia_vcpu.specs.Vms.{Vcpu, vcpu_of, is_vcpu_in, slot_of}
 use Rattle.aia_vcpu.specs.Home.{rests_in_memory}
 use Rattle.aia_vcpu.specs.declared.rest.Rest.TheVariants.{Entered}
 use Rattle.aia_vcpu.specs.Home.Home.{InMemory}
@@ -68,25 +68,25 @@ pub record MemoryHasDone (x y : CoreState) (g : Vcpu) (kept now : KeptNumbers) (
       (file_after (record_of x g).select deed (file_in_memory x.world (slot_of x.world.vms g) kept))
 
 -- what is known of an access
-pub record IsMemoryAccess (x y : CoreState) (h : History) (vm number : ℕ) (csr : Csr) (op : Op) (kept now : KeptNumbers) : Type 0 where
+pub record IsMemoryAccess (x y : CoreState) (h : History) (vm vcpu : ℕ) (csr : Csr) (op : Op) (kept now : KeptNumbers) : Type 0 where
   pub stands : CoreStands x h
   pub whole : IsWhole x.world
-  pub there : has_vcpu h (vcpu vm number) ≡ true
-  pub at : (record_of x (vcpu vm number)).stay ≡ stays.InMemory Entered kept
-  pub done : MemoryHasDone x y (vcpu vm number) kept now (Accesses csr op)
-  pub majors : (other : Vcpu) → MajorsRest other (Accepted (GuestCsr vm number csr op))
+  pub there : has_vcpu h (vcpu_of vm vcpu) ≡ true
+  pub at : (record_of x (vcpu_of vm vcpu)).stay ≡ stays.InMemory Entered kept
+  pub done : MemoryHasDone x y (vcpu_of vm vcpu) kept now (Accesses csr op)
+  pub majors : (other : Vcpu) → MajorsRest other (Accepted (GuestCsr vm vcpu csr op))
 
-pub memory_changes : (x y : CoreState) (h : History) (vm number : ℕ) (csr : Csr) (op : Op) (kept now : KeptNumbers)
-    → IsMemoryAccess x y h vm number csr op kept now → Changes x y h (Accepted (GuestCsr vm number csr op))
-memory_changes x y h vm number csr op kept now c =
-    let g = vcpu vm number in
-    let event = Accepted (GuestCsr vm number csr op) in
+pub memory_changes : (x y : CoreState) (h : History) (vm vcpu : ℕ) (csr : Csr) (op : Op) (kept now : KeptNumbers)
+    → IsMemoryAccess x y h vm vcpu csr op kept now → Changes x y h (Accepted (GuestCsr vm vcpu csr op))
+memory_changes x y h vm vcpu csr op kept now c =
+    let g = vcpu_of vm vcpu in
+    let event = Accepted (GuestCsr vm vcpu csr op) in
     let rest = c.done.slot.rest in
     memory_deed x y h event g (InMemory Entered) kept now (Accesses csr op) (record {
       stands = c.stands;
       whole = c.whole;
       inside = c.there;
-      quiet = quiet_line h (GuestCsr vm number csr op) refl;
+      quiet = quiet_line h (GuestCsr vm vcpu csr op) refl;
       rests = refl;
       home_was = ap home_in c.at;
       hand_was = ap hand_in c.at;
@@ -95,7 +95,7 @@ memory_changes x y h vm number csr op kept now c =
       plan = subst (PlanStands y.world g) (sym c.done.stay) tt;
       its_passes = subst (HasItsPasses (passes_of (event ∷ h)) g) (sym c.done.stay) tt;
       its_deed = cond-true _ _ _ (is_itself g);
-      other_deeds = λ other ne. other_rests h vm number csr op other ne;
+      other_deeds = λ other ne. other_rests h vm vcpu csr op other ne;
       other_majors = λ other ne. c.majors other;
       threshold = c.done.threshold;
       slot_deed = c.done.slot_deed;
@@ -254,24 +254,24 @@ served_there : (x : CoreState) (h : History) (g : Vcpu) (kept : KeptNumbers) (cs
 served_there x h g kept csr stands there at of_file = ap (λ t. serves t csr) (sym (stands.vcpus g there).same_home ∙ ap home_in at)
     ∙ file_csr csr of_file
 
-pub memory_accessed : (x y : CoreState) (vm number : ℕ) (csr kind : Csr) (op : Op) (kept now : KeptNumbers) (access : CsrAccess) (value : ℕ)
-    → IsWhole x.world → is_vcpu_in x.world.vms (vcpu vm number) ≡ true → (record_of x (vcpu vm number)).stay ≡ stays.InMemory Entered kept
-    → access ≡ access_by (record_of x (vcpu vm number)) csr op → raises_illegal access ≡ false → raises_virtual access ≡ false → csr ≡ kind
-    → value ≡ csr_shown (record_of x (vcpu vm number)).select (file_in_memory x.world (slot_of x.world.vms (vcpu vm number)) kept) kind
-    → MemoryHasDone x y (vcpu vm number) kept now (Accesses kind op) → IsFileCsr kind → CoreTakes x y (GuestCsr vm number csr op) (Wide value)
-memory_accessed x y vm number csr kind op kept now access value whole inside at table legal allowed named read done of_file =
-    let g = vcpu vm number in
+pub memory_accessed : (x y : CoreState) (vm vcpu : ℕ) (csr kind : Csr) (op : Op) (kept now : KeptNumbers) (access : CsrAccess) (value : ℕ)
+    → IsWhole x.world → is_vcpu_in x.world.vms (vcpu_of vm vcpu) ≡ true → (record_of x (vcpu_of vm vcpu)).stay ≡ stays.InMemory Entered kept
+    → access ≡ access_by (record_of x (vcpu_of vm vcpu)) csr op → raises_illegal access ≡ false → raises_virtual access ≡ false → csr ≡ kind
+    → value ≡ csr_shown (record_of x (vcpu_of vm vcpu)).select (file_in_memory x.world (slot_of x.world.vms (vcpu_of vm vcpu)) kept) kind
+    → MemoryHasDone x y (vcpu_of vm vcpu) kept now (Accesses kind op) → IsFileCsr kind → CoreTakes x y (GuestCsr vm vcpu csr op) (Wide value)
+memory_accessed x y vm vcpu csr kind op kept now access value whole inside at table legal allowed named read done of_file =
+    let g = vcpu_of vm vcpu in
     let listed = subst (λ (k : Csr). IsFileCsr k) (sym named) of_file in
-    accepted x y (GuestCsr vm number csr op) (Wide value) refl refl (λ h stands.
+    accepted x y (GuestCsr vm vcpu csr op) (Wide value) refl refl (λ h stands.
     let there = there_in x h g stands inside in
     let at_home : home h g ≡ InMemory Entered = sym (stands.vcpus g there).same_home ∙ ap home_in at in (
-      refusal_served x h vm number csr op access stands there (served_there x h g kept csr stands there at listed) table ∙ cond-false _ _ _ legal
+      refusal_served x h vm vcpu csr op access stands there (served_there x h g kept csr stands there at listed) table ∙ cond-false _ _ _ legal
           ∙ cond-false _ _ _ allowed,
       ap Wide (read ∙ ap (λ (k : Csr). csr_shown (record_of x g).select (file_in_memory x.world (slot_of x.world.vms g) kept) k) (sym named)
           ∙ (λ k. csr_shown ((stands.vcpus g there).select k)
           (sym (file_is x h g kept stands whole there (ap rests_in_memory at_home) (ap hand_in at)) k) csr)
           ∙ file_read h g csr listed),
-      memory_changes x y h vm number csr op kept now
+      memory_changes x y h vm vcpu csr op kept now
           (record {
             stands = stands;
             whole = whole;
@@ -280,13 +280,13 @@ memory_accessed x y vm number csr kind op kept now access value whole inside at 
             done =
                 subst (λ (k : Csr). MemoryHasDone x y g kept now (Accesses k op)) (sym named) done;
             majors =
-                λ other. file_access vm number csr op other listed;
+                λ other. file_access vm vcpu csr op other listed;
           }),
     ))
 
-pub memory_virtual : (x : CoreState) (vm number : ℕ) (csr : Csr) (op : Op) (kept : KeptNumbers) → is_vcpu_in x.world.vms (vcpu vm number) ≡ true
-    → (record_of x (vcpu vm number)).stay ≡ stays.InMemory Entered kept → IsFileCsr csr
-    → reaches.Virtual ≡ access_by (record_of x (vcpu vm number)) csr op → CoreTakes x x (GuestCsr vm number csr op) (Refused Virtual)
-memory_virtual x vm number csr op kept inside at listed table = refused x (GuestCsr vm number csr op) (Refused Virtual) (λ h stands.
-    let there = there_in x h (vcpu vm number) stands inside in
-    refusal_served x h vm number csr op reaches.Virtual stands there (served_there x h (vcpu vm number) kept csr stands there at listed) table)
+pub memory_virtual : (x : CoreState) (vm vcpu : ℕ) (csr : Csr) (op : Op) (kept : KeptNumbers) → is_vcpu_in x.world.vms (vcpu_of vm vcpu) ≡ true
+    → (record_of x (vcpu_of vm vcpu)).stay ≡ stays.InMemory Entered kept → IsFileCsr csr
+    → reaches.Virtual ≡ access_by (record_of x (vcpu_of vm vcpu)) csr op → CoreTakes x x (GuestCsr vm vcpu csr op) (Refused Virtual)
+memory_virtual x vm vcpu csr op kept inside at listed table = refused x (GuestCsr vm vcpu csr op) (Refused Virtual) (λ h stands.
+    let there = there_in x h (vcpu_of vm vcpu) stands inside in
+    refusal_served x h vm vcpu csr op reaches.Virtual stands there (served_there x h (vcpu_of vm vcpu) kept csr stands there at listed) table)

@@ -168,7 +168,7 @@ module _ (x y : CoreState) (h : History) (event : Event) (g : Vcpu) (there : Hom
     slot = ap (λ (w : World). mrif_in y.world.memory (slot_of w.vms g)) stores;
     word0 = refl;
     word1 = refl;
-    in_force = ap (λ (w : World). entry_in_force (table_of w.tables g.vm) g.number) stores;
+    in_force = ap (λ (w : World). entry_in_force (table_of w.tables g.vm) g.vcpu) stores;
     stage = ap (λ (w : World). stage_of w g) stores;
   }
 
@@ -216,7 +216,7 @@ module _ (x y : CoreState) (h : History) (event : Event) (g : Vcpu) (there : Hom
 
   same_for_other : (other : Vcpu) → has_vcpu h other ≡ true → slot_of x.world.vms other ≢ q → SameFor x.world y.world other (home h other)
   same_for_other other inside ne =
-      let words = done_entry_words x.world (with_memory x.world y.world) q c.threshold c.slot_deed low c.slot other.vm other.number in
+      let words = done_entry_words x.world (with_memory x.world y.world) q c.threshold c.slot_deed low c.slot other.vm other.vcpu in
       record {
         n = same_machine.n;
         files = λ p holding. c.notifies.files p (c.stands.held other p inside holding);
@@ -224,7 +224,7 @@ module _ (x y : CoreState) (h : History) (event : Event) (g : Vcpu) (there : Hom
             ∙ other_slot_kept x.world (with_memory x.world y.world) q c.threshold c.slot_deed low c.slot (slot_of x.world.vms other) ne;
         word0 = words.0;
         word1 = words.1;
-        in_force = ap (λ (w : World). entry_in_force (table_of w.tables other.vm) other.number) stores;
+        in_force = ap (λ (w : World). entry_in_force (table_of w.tables other.vm) other.vcpu) stores;
         stage = ap (λ (w : World). stage_of w other) stores;
       }
 

@@ -286,7 +286,7 @@ module _ (x y : CoreState) (h : History) (move : WantedMove) (plan : PlanState) 
     apart = held_apart taken b;
     free = λ q inside none. ap (λ (w : World). shown (file_at w.imsic (spot_of q))) b.planned.world
         ∙ b.planned.stands.free q inside (unheld taken b q none);
-    entries = λ other ne. ap (λ (w : World). entry_in_force (table_of w.tables other.vm) other.number) b.planned.world;
+    entries = λ other ne. ap (λ (w : World). entry_in_force (table_of w.tables other.vm) other.vcpu) b.planned.world;
     slots = λ q few apart. ap (λ (w : World). mrif_in w.memory q) b.planned.world;
     stages = λ q apart. ap (λ (w : World). get_or w.stages q no_stage) b.planned.world;
   }

@@ -7,7 +7,7 @@ use Rattle.std.proofs.lemmas.List.{get_or-set_same, set-set}
 use Rattle.std.proofs.lemmas.Option.{slice_get_within}
 use Rattle.aia_vcpu.specs.declared.place.GuestPlace.{GuestPlace}
 use Rattle.aia_vcpu.specs.declared.vm.Vm.{Vm}
-use Rattle.aia_vcpu.specs.Vms.{Vcpu, vcpu, is_vcpu_in, slot_of, notice_hart}
+use Rattle.aia_vcpu.specs.Vms.{Vcpu, vcpu_of, is_vcpu_in, slot_of, notice_hart}
 use Rattle.aia_vcpu.specs.Home.{Home, holds, is_moving, one_more, old_end, new_end}
 use Rattle.aia_vcpu.specs.Plans.{is_at_last, IsNext, plan}
 use Rattle.aia_vcpu.specs.declared.access.Access.{Access}
@@ -72,7 +72,7 @@ use Rattle.aia_hyp_values.proofs.BeginCore.{at_stay, want_begins}
 pub who_low : (x : CoreState) (who : Found) → StandsForSome x → IsFound x.world who → who.slot < length x.vcpus
 who_low x who some is =
     let stands = some.stands in
-    let g = vcpu who.vm who.number in
+    let g = vcpu_of who.vm who.vcpu in
     let below = slot_below (vms_of some.past) g (subst (λ (vs : List Vm). is_vcpu_in vs g ≡ true) stands.vms is.there) in
     let mine : slot_of x.world.vms g ≡ slot_of (vms_of some.past) g = ap (λ vms. slot_of vms g) stands.vms in
     omega (arith, below, mine, is.slot, stands.records)
@@ -102,12 +102,12 @@ pub record Swapped (x y : CoreState) (who : Found) (old new : Stay) : Type 0 whe
 
 module _ (x y : CoreState) (who : Found) (old new : Stay) (s : Swapped x y who old new) where
   abbrev g : Vcpu
-  g = vcpu who.vm who.number
+  g = vcpu_of who.vm who.vcpu
 
-  pub was_at : old ≡ (record_of x (vcpu who.vm who.number)).stay
+  pub was_at : old ≡ (record_of x (vcpu_of who.vm who.vcpu)).stay
   was_at = s.before ∙ ap (λ q. (get_or x.vcpus q no_record).stay) s.is_who.slot
 
-  pub put_at : y.vcpus ≡ set x.vcpus (slot_of x.world.vms (vcpu who.vm who.number)) (at_stay (record_of x (vcpu who.vm who.number)) new)
+  pub put_at : y.vcpus ≡ set x.vcpus (slot_of x.world.vms (vcpu_of who.vm who.vcpu)) (at_stay (record_of x (vcpu_of who.vm who.vcpu)) new)
   put_at =
       put_twice x.vcpus s.between y.vcpus who.slot s.other new (who_low x who s.some s.is_who) s.out s.back
       ∙ ap (λ q. set x.vcpus q (at_stay (get_or x.vcpus q no_record) new)) s.is_who.slot
@@ -119,8 +119,8 @@ abbrev whole_who : Found → Who → Who
 whole_who found who = record { found = found; passes = who.passes }
 
 pub begin_call : (x y : CoreState) (want : Want) (found : Found) (who : Who) (old new : Stay) (given : Answer) → who ≡ whole_who found who
-    → who.passes.items ≡ own_passes 0 (vcpu found.vm found.number) x.passes → y.world ≡ x.world → Swapped x y found old new
-    → WantBegins want who old new x.leases y.leases given → MoveBegins x y found.vm found.number want given
+    → who.passes.items ≡ own_passes 0 (vcpu_of found.vm found.vcpu) x.passes → y.world ≡ x.world → Swapped x y found old new
+    → WantBegins want who old new x.leases y.leases given → MoveBegins x y found.vm found.vcpu want given
 begin_call x y want found who old new given named its world s b =
     want_begins x y want (whole_who found who) new given
     (record {
@@ -132,7 +132,7 @@ begin_call x y want found who old new given named its world s b =
       passes = s.passes;
       vcpus = put_at x y found old new s;
     })
-    (subst (λ (w : Who). WantBegins want w (record_of x (vcpu found.vm found.number)).stay new x.leases y.leases given) named
+    (subst (λ (w : Who). WantBegins want w (record_of x (vcpu_of found.vm found.vcpu)).stay new x.leases y.leases given) named
     (subst (λ (o : Stay). WantBegins want who o new x.leases y.leases given) (was_at x y found old new s) b))
 
 -- ---- a step
@@ -154,7 +154,7 @@ aims_stay there = refl
 pub plan_known : (x : CoreState) (who : Found) (plan : PlanState) → StandsForSome x → IsFound x.world who
     → stays.Moving plan ≡ (get_or x.vcpus who.slot no_record).stay → MoveFits x.world (moving_of plan) × IsInPhase (width x.world) plan
 plan_known x who plan some is was =
-    let g = vcpu who.vm who.number in
+    let g = vcpu_of who.vm who.vcpu in
     let inside : has_vcpu some.past g ≡ true = subst (λ (vs : List Vm). is_vcpu_in vs g ≡ true) some.stands.vms is.there in
     let at : stays.Moving plan ≡ (record_of x g).stay = was ∙ ap (λ q. (get_or x.vcpus q no_record).stay) is.slot in
     let planned : PlanStands x.world g (stays.Moving plan) = subst (PlanStands x.world g) (sym at) (some.stands.vcpus g inside).plan in
@@ -176,7 +176,7 @@ pub record AccessGoes (old new : CoreState) (g : Vcpu) (last : Bool) : Type 0 wh
 -- What a step's calls say, once what lands before it has landed.
 pub record Made (x y : CoreState) (who : Found) (plan : PlanState) (next : Next PlanState) : Type 0 where
   pub swapped : Swapped x y who (stays.Moving plan) (stay_then next)
-  pub first : NoneAtFence swapped.some.past (Stepped (vcpu who.vm who.number))
+  pub first : NoneAtFence swapped.some.past (Stepped (vcpu_of who.vm who.vcpu))
   pub unaimed : aims (moving_of plan) ≡ false
   pub whole : IsWhole x.world
   pub whole_then : IsWhole y.world
@@ -187,21 +187,21 @@ pub record Made (x y : CoreState) (who : Found) (plan : PlanState) (next : Next 
 
 module _ (x y : CoreState) (who : Found) (plan : PlanState) where
   abbrev its : Vcpu
-  its = vcpu who.vm who.number
+  its = vcpu_of who.vm who.vcpu
 
   abbrev its_record : Stay → VcpuRecord
-  its_record stay = at_stay (record_of x (vcpu who.vm who.number)) stay
+  its_record stay = at_stay (record_of x (vcpu_of who.vm who.vcpu)) stay
 
-  its_there : (h : History) → CoreStands x h → IsFound x.world who → has_vcpu h (vcpu who.vm who.number) ≡ true
+  its_there : (h : History) → CoreStands x h → IsFound x.world who → has_vcpu h (vcpu_of who.vm who.vcpu) ≡ true
   its_there h stands is = subst (λ (vs : List Vm). is_vcpu_in vs its ≡ true) stands.vms is.there
 
   none_aimed : (next : Next PlanState) (h : History) → CoreStands x h → Made x y who plan next
-      → is_aiming (passes_for h (vcpu who.vm who.number)) (home h (vcpu who.vm who.number)) ≡ false
+      → is_aiming (passes_for h (vcpu_of who.vm who.vcpu)) (home h (vcpu_of who.vm who.vcpu)) ≡ false
   none_aimed next h stands c = sym (aims_alike x h its plan stands (its_there h stands c.swapped.is_who)
       (sym (was_at x y who (stays.Moving plan) (stay_then next) c.swapped))) ∙ c.unaimed
 
-  goes_on : (later : PlanState) (h : History) → NoneAtFence h (Stepped (vcpu who.vm who.number)) → CoreStands x h
-      → Made x y who plan (Again later) → GoesOf x y h (vcpu who.vm who.number) plan later (its_record (stays.Moving later))
+  goes_on : (later : PlanState) (h : History) → NoneAtFence h (Stepped (vcpu_of who.vm who.vcpu)) → CoreStands x h
+      → Made x y who plan (Again later) → GoesOf x y h (vcpu_of who.vm who.vcpu) plan later (its_record (stays.Moving later))
   goes_on later h first stands c = record {
     step_of = record {
       first = first;
@@ -224,8 +224,8 @@ module _ (x y : CoreState) (who : Found) (plan : PlanState) where
     phase = c.phase;
   }
 
-  ends_it : (o : Outcome) (h : History) → NoneAtFence h (Stepped (vcpu who.vm who.number)) → CoreStands x h → Made x y who plan (Finished o)
-      → EndsOf x y h (vcpu who.vm who.number) plan o (its_record (stay_after o))
+  ends_it : (o : Outcome) (h : History) → NoneAtFence h (Stepped (vcpu_of who.vm who.vcpu)) → CoreStands x h → Made x y who plan (Finished o)
+      → EndsOf x y h (vcpu_of who.vm who.vcpu) plan o (its_record (stay_after o))
   ends_it o h first stands c = record {
     step_of = record {
       first = first;
@@ -247,8 +247,8 @@ module _ (x y : CoreState) (who : Found) (plan : PlanState) where
     ends = c.goes;
   }
 
-  at_last_by : (h : History) (r : VcpuRecord) (hand : Hand) (b : Bool) → StepOf x y h (vcpu who.vm who.number) plan r hand
-      → is_at_last (width x.world) (moving_of plan).home ≡ b → b ≡ is_at_last (file_words h) (home h (vcpu who.vm who.number))
+  at_last_by : (h : History) (r : VcpuRecord) (hand : Hand) (b : Bool) → StepOf x y h (vcpu_of who.vm who.vcpu) plan r hand
+      → is_at_last (width x.world) (moving_of plan).home ≡ b → b ≡ is_at_last (file_words h) (home h (vcpu_of who.vm who.vcpu))
   at_last_by h r hand b s e = sym e ∙ (λ k. is_at_last (steps.same_words x y h its plan r hand s k) (steps.same_home x y h its plan r hand s k))
 
   -- the plan of its record is the one that was taken out of it
@@ -256,7 +256,7 @@ module _ (x y : CoreState) (who : Found) (plan : PlanState) where
       → OneMade x.world (moving_of other) y.world
   same_plan other e one = let same : plan ≡ other = cc in subst (λ (p : PlanState). OneMade x.world (moving_of p) y.world) same one
 
-  pub step_goes : (next : Next PlanState) → Made x y who plan next → AccessGoes x y (vcpu who.vm who.number) (is_finished next)
+  pub step_goes : (next : Next PlanState) → Made x y who plan next → AccessGoes x y (vcpu_of who.vm who.vcpu) (is_finished next)
   step_goes (Again later) c =
       let some = c.swapped.some in
       let now = goes_on later some.past c.first some.stands c in
@@ -306,17 +306,17 @@ its_own x h g plan stands there was =
 -- What stands before the calls of a step: whose plan it is, and what lands first.
 pub record IsFirst (x : CoreState) (landed : World) (who : Found) (plan : PlanState) : Type 0 where
   pub is_who : IsFound x.world who
-  pub was : (record_of x (vcpu who.vm who.number)).stay ≡ stays.Moving plan
+  pub was : (record_of x (vcpu_of who.vm who.vcpu)).stay ≡ stays.Moving plan
   pub low : who.vm < length x.world.vms
   pub first : moves.LandsFirst x.world (moving_of plan) landed
 
 pub vm_low : (x : CoreState) (who : Found) → IsWhole x.world → IsFound x.world who → who.vm < length x.world.vms
-vm_low x who whole is = (vcpu_entry x.world who.vm who.number whole is.there).0
+vm_low x who whole is = (vcpu_entry x.world who.vm who.vcpu whole is.there).0
 
 pub landed_stands : (x : CoreState) (landed : World) (who : Found) (plan : PlanState) → IsFirst x landed who plan → (h : History) → CoreStands x h
-    → CoreStands (once_landed x landed) (landed_first (vcpu who.vm who.number) h)
+    → CoreStands (once_landed x landed) (landed_first (vcpu_of who.vm who.vcpu) h)
 landed_stands x landed who plan c h stands =
-    let g = vcpu who.vm who.number in
+    let g = vcpu_of who.vm who.vcpu in
     let there : has_vcpu h g ≡ true = subst (λ (vs : List Vm). is_vcpu_in vs g ≡ true) stands.vms c.is_who.there in
     let own = its_own x h g plan stands there c.was in
     let low : (moving_of plan).who.found.vm < length x.world.vms = subst (λ (z : Vcpu). z.vm < length x.world.vms) (sym own.0) c.low in
@@ -326,8 +326,8 @@ landed_stands x landed who plan c h stands =
 abbrev pub landed_some : (x : CoreState) (landed : World) (who : Found) (plan : PlanState) → IsFirst x landed who plan → StandsForSome x
     → StandsForSome (once_landed x landed)
 landed_some x landed who plan c some = record {
-  past = landed_first (vcpu who.vm who.number) some.past;
-  happens = first_happens (vcpu who.vm who.number) some.past some.happens;
+  past = landed_first (vcpu_of who.vm who.vcpu) some.past;
+  happens = first_happens (vcpu_of who.vm who.vcpu) some.past some.happens;
   stands = landed_stands x landed who plan c some.past some.stands;
 }
 
@@ -335,15 +335,15 @@ pub landed_who : (x : CoreState) (landed : World) (who : Found) (plan : PlanStat
 landed_who x landed who plan c =
     let vms = c.first.same.vms in
     record {
-      there = subst (λ (vs : List Vm). is_vcpu_in vs (vcpu who.vm who.number) ≡ true) (sym vms) c.is_who.there;
-      slot = c.is_who.slot ∙ ap (λ vs. slot_of vs (vcpu who.vm who.number)) (sym vms);
-      notice = c.is_who.notice ∙ ap (λ vs. notice_hart vs (vcpu who.vm who.number)) (sym vms);
+      there = subst (λ (vs : List Vm). is_vcpu_in vs (vcpu_of who.vm who.vcpu) ≡ true) (sym vms) c.is_who.there;
+      slot = c.is_who.slot ∙ ap (λ vs. slot_of vs (vcpu_of who.vm who.vcpu)) (sym vms);
+      notice = c.is_who.notice ∙ ap (λ vs. notice_hart vs (vcpu_of who.vm who.vcpu)) (sym vms);
     }
 
 pub landed_goes : (x : CoreState) (landed : World) (y : CoreState) (who : Found) (plan : PlanState) (last : Bool) → aims (moving_of plan) ≡ false
-    → IsFirst x landed who plan → AccessGoes (once_landed x landed) y (vcpu who.vm who.number) last → MoveGoes x y (vcpu who.vm who.number) last
+    → IsFirst x landed who plan → AccessGoes (once_landed x landed) y (vcpu_of who.vm who.vcpu) last → MoveGoes x y (vcpu_of who.vm who.vcpu) last
 landed_goes x landed y who plan last unaimed c a =
-    let g = vcpu who.vm who.number in
+    let g = vcpu_of who.vm who.vcpu in
     let same : record_of (once_landed x landed) g ≡ record_of x g = ap (λ vs. get_or x.vcpus (slot_of vs g) no_record) c.first.same.vms in
     let left : left_in (once_landed x landed) g ≡ left_in x g =
     (λ k. steps_left ((c.first.same.n k + 1) / 64) (home_in (same k).stay) + (passes_to g x.passes - aims_done (home_in (same k).stay))) in
@@ -386,24 +386,24 @@ pub record Aims (x y : CoreState) (who : Found) (plan later : PlanState) : Type 
 
 module _ (x y : CoreState) (who : Found) (plan later : PlanState) (c : Aims x y who plan later) where
   abbrev mine : Vcpu
-  mine = vcpu who.vm who.number
+  mine = vcpu_of who.vm who.vcpu
 
   abbrev then_kept : VcpuRecord
-  then_kept = at_stay (record_of x (vcpu who.vm who.number)) (stays.Moving later)
+  then_kept = at_stay (record_of x (vcpu_of who.vm who.vcpu)) (stays.Moving later)
 
-  inside : (h : History) → CoreStands x h → has_vcpu h (vcpu who.vm who.number) ≡ true
+  inside : (h : History) → CoreStands x h → has_vcpu h (vcpu_of who.vm who.vcpu) ≡ true
   inside h stands = subst (λ (vs : List Vm). is_vcpu_in vs mine ≡ true) stands.vms c.swapped.is_who.there
 
-  was_moving : (record_of x (vcpu who.vm who.number)).stay ≡ stays.Moving plan
+  was_moving : (record_of x (vcpu_of who.vm who.vcpu)).stay ≡ stays.Moving plan
   was_moving = sym (was_at x y who (stays.Moving plan) (stays.Moving later) c.swapped)
 
-  aiming_then : (h : History) → CoreStands x h → is_aiming (passes_for h (vcpu who.vm who.number)) (home h (vcpu who.vm who.number)) ≡ true
+  aiming_then : (h : History) → CoreStands x h → is_aiming (passes_for h (vcpu_of who.vm who.vcpu)) (home h (vcpu_of who.vm who.vcpu)) ≡ true
   aiming_then h stands = sym (aims_alike x h mine plan stands (inside h stands) was_moving) ∙ c.aiming
 
-  no_fence : (h : History) → CoreStands x h → is_at_fence (home h (vcpu who.vm who.number)) ≡ false
+  no_fence : (h : History) → CoreStands x h → is_at_fence (home h (vcpu_of who.vm who.vcpu)) ≡ false
   no_fence h stands = aim_is_no_fence (passes_for h mine) (home h mine) (aiming_then h stands)
 
-  aim_of_it : (h : History) → CoreStands x h → AimOf x y h (vcpu who.vm who.number) plan later then_kept
+  aim_of_it : (h : History) → CoreStands x h → AimOf x y h (vcpu_of who.vm who.vcpu) plan later then_kept
   aim_of_it h stands = record {
     first = λ fence. absurd (true≢false (sym fence ∙ no_fence h stands));
     stands = stands;
@@ -423,7 +423,7 @@ module _ (x y : CoreState) (who : Found) (plan later : PlanState) (c : Aims x y 
     majors = refl;
   }
 
-  pub aim_goes : MoveGoes x y (vcpu who.vm who.number) false
+  pub aim_goes : MoveGoes x y (vcpu_of who.vm who.vcpu) false
   aim_goes =
       let some = c.swapped.some in
       let past = some.past in
@@ -484,7 +484,7 @@ module _ (x y : CoreState) (who : Found) (plan : PlanState) where
   -- it aims
   by_aim : (next : Next PlanState) → StepCalls x y who plan next → aims (moving_of plan) ≡ true
       → MatchNext next (λ p. GoesAiming x.world (moving_of plan) y.world (moving_of p)) (λ o. ⊥)
-      → MoveGoes x y (vcpu who.vm who.number) (is_finished next)
+      → MoveGoes x y (vcpu_of who.vm who.vcpu) (is_finished next)
   by_aim (Again later) c aiming goes = aim_goes x y who plan later (record {
     swapped = record {
       is_who = c.is_who;
@@ -509,7 +509,7 @@ module _ (x y : CoreState) (who : Found) (plan : PlanState) where
   -- it makes an access
   by_access : (next : Next PlanState) → StepCalls x y who plan next → aims (moving_of plan) ≡ false
       → OnceLanded x.world (moving_of plan) (λ landed. MatchNext next (λ p. Goes landed (moving_of plan) y.world (moving_of p))
-      (λ o. EndsAs landed (moving_of plan) y.world o)) → MoveGoes x y (vcpu who.vm who.number) (is_finished next)
+      (λ o. EndsAs landed (moving_of plan) y.world o)) → MoveGoes x y (vcpu_of who.vm who.vcpu) (is_finished next)
   by_access next c unaimed once =
       let landed = once.landed in
       let first : IsFirst x landed who plan = record {
@@ -531,7 +531,7 @@ module _ (x y : CoreState) (who : Found) (plan : PlanState) where
           selects = c.selects;
           passes = c.passes;
         };
-        first = lands_first (vcpu who.vm who.number) c.some.past;
+        first = lands_first (vcpu_of who.vm who.vcpu) c.some.past;
         unaimed = unaimed;
         whole = landed_whole x.world (moving_of plan) landed c.whole once.first;
         whole_then = c.whole_then;
@@ -541,18 +541,18 @@ module _ (x y : CoreState) (who : Found) (plan : PlanState) where
         phase = c.phase;
       }))
 
-  pub step_called : (next : Next PlanState) → StepCalls x y who plan next → MoveGoes x y (vcpu who.vm who.number) (is_finished next)
+  pub step_called : (next : Next PlanState) → StepCalls x y who plan next → MoveGoes x y (vcpu_of who.vm who.vcpu) (is_finished next)
   step_called next c = by_kind (aims (moving_of plan)) refl
     where
-      by_kind : (b : Bool) → aims (moving_of plan) ≡ b → MoveGoes x y (vcpu who.vm who.number) (is_finished next)
+      by_kind : (b : Bool) → aims (moving_of plan) ≡ b → MoveGoes x y (vcpu_of who.vm who.vcpu) (is_finished next)
       by_kind true e = by_aim next c e (subst (λ b. StepsTo (aim_if b (moving_of plan)) x.world (moving_of plan) y.world next) e c.goes)
       by_kind false e = by_access next c e (subst (λ b. StepsTo (aim_if b (moving_of plan)) x.world (moving_of plan) y.world next) e c.goes)
 
 -- it stands for some history still
-pub goes_still : (x y : CoreState) (who : Found) (last : Bool) → MoveGoes x y (vcpu who.vm who.number) last → StandsForSome x → IsFound x.world who
-    → is_moving (home_in (record_of x (vcpu who.vm who.number)).stay) ≡ true → StandsForSome y
+pub goes_still : (x y : CoreState) (who : Found) (last : Bool) → MoveGoes x y (vcpu_of who.vm who.vcpu) last → StandsForSome x → IsFound x.world who
+    → is_moving (home_in (record_of x (vcpu_of who.vm who.vcpu)).stay) ≡ true → StandsForSome y
 goes_still x y who last goes some is moving =
-    let g = vcpu who.vm who.number in
+    let g = vcpu_of who.vm who.vcpu in
     let there : has_vcpu some.past g ≡ true = subst (λ (vs : List Vm). is_vcpu_in vs g ≡ true) some.stands.vms is.there in
     record {
       past = step_taken g some.past;
@@ -570,21 +570,21 @@ back_known x u who plan (Again later) some is was c = tt
 back_known x u who plan (Finished o) some is was c =
     by_kind (aims (moving_of plan)) (subst (λ b. StepsTo (aim_if b (moving_of plan)) x.world (moving_of plan) u (Finished o)) refl c)
   where
-    inside : has_vcpu some.past (vcpu who.vm who.number) ≡ true
-    inside = subst (λ (vs : List Vm). is_vcpu_in vs (vcpu who.vm who.number) ≡ true) some.stands.vms is.there
+    inside : has_vcpu some.past (vcpu_of who.vm who.vcpu) ≡ true
+    inside = subst (λ (vs : List Vm). is_vcpu_in vs (vcpu_of who.vm who.vcpu) ≡ true) some.stands.vms is.there
 
-    same : (moving_of plan).home ≡ home some.past (vcpu who.vm who.number)
-    same = ap home_in (was ∙ ap (λ q. (get_or x.vcpus q no_record).stay) is.slot) ∙ (some.stands.vcpus (vcpu who.vm who.number) inside).same_home
+    same : (moving_of plan).home ≡ home some.past (vcpu_of who.vm who.vcpu)
+    same = ap home_in (was ∙ ap (λ q. (get_or x.vcpus q no_record).stay) is.slot) ∙ (some.stands.vcpus (vcpu_of who.vm who.vcpu) inside).same_home
 
     by_file : (back : Option GuestPlace) → GivesBack o (moving_of plan).home (moving_of plan).hand → back_of o ≡ back → IsOutThere x.leases back
     by_file None gives e = tt
     by_file (Some p) gives e =
-        let mine : holds p (home some.past (vcpu who.vm who.number)) ≡ true = ap (holds p) (sym same)
+        let mine : holds p (home some.past (vcpu_of who.vm who.vcpu)) ≡ true = ap (holds p) (sym same)
         ∙ ended_held p (moving_of plan).home (sym (ended_back o (moving_of plan).home (moving_of plan).hand gives) ∙ e) in
-        let there = some.stands.held (vcpu who.vm who.number) p inside mine in (
+        let there = some.stands.held (vcpu_of who.vm who.vcpu) p inside mine in (
           in_pool x some.past p some.stands there,
           some.stands.leases p there
-              ∙ any_vcpu (vms_of some.past) (λ z. holds p (home some.past z)) (vcpu who.vm who.number) inside mine,
+              ∙ any_vcpu (vms_of some.past) (λ z. holds p (home some.past z)) (vcpu_of who.vm who.vcpu) inside mine,
         )
 
     by_kind : (b : Bool) → StepsTo (aim_if b (moving_of plan)) x.world (moving_of plan) u (Finished o) → IsOutThere x.leases (back_of o)
@@ -593,15 +593,15 @@ back_known x u who plan (Finished o) some is was c =
 
 -- ---- who is moved
 
-pub who_still : (x y : CoreState) (who : Found) (last : Bool) → MoveGoes x y (vcpu who.vm who.number) last → StandsForSome x → IsFound x.world who
+pub who_still : (x y : CoreState) (who : Found) (last : Bool) → MoveGoes x y (vcpu_of who.vm who.vcpu) last → StandsForSome x → IsFound x.world who
     → IsFound y.world who
 who_still x y who last goes some is =
     let vms : x.world.vms ≡ y.world.vms = some.stands.vms
-    ∙ sym ((goes.stands some.past some.stands).vms ∙ (same_first (vcpu who.vm who.number) some.past).0) in
+    ∙ sym ((goes.stands some.past some.stands).vms ∙ (same_first (vcpu_of who.vm who.vcpu) some.past).0) in
     record {
-      there = subst (λ (vs : List Vm). is_vcpu_in vs (vcpu who.vm who.number) ≡ true) vms is.there;
-      slot = is.slot ∙ ap (λ vs. slot_of vs (vcpu who.vm who.number)) vms;
-      notice = is.notice ∙ ap (λ vs. notice_hart vs (vcpu who.vm who.number)) vms;
+      there = subst (λ (vs : List Vm). is_vcpu_in vs (vcpu_of who.vm who.vcpu) ≡ true) vms is.there;
+      slot = is.slot ∙ ap (λ vs. slot_of vs (vcpu_of who.vm who.vcpu)) vms;
+      notice = is.notice ∙ ap (λ vs. notice_hart vs (vcpu_of who.vm who.vcpu)) vms;
     }
 
 -- ---- the machine

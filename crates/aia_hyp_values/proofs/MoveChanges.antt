@@ -190,7 +190,7 @@ pub record MoveChanges (x y : CoreState) (h : History) (event : Event) (g : Vcpu
   pub free : (p : GuestPlace) → IsThere x.world.imsic (spot_of p) → is_held (event ∷ h) p ≡ false
       → shown (file_at y.world.imsic (spot_of p)) ≡ empty_file (greatest_identity_of h)
   pub entries : (other : Vcpu) → is_vcpu other g ≡ false
-      → entry_in_force (table_of y.world.tables other.vm) other.number ≡ entry_in_force (table_of x.world.tables other.vm) other.number
+      → entry_in_force (table_of y.world.tables other.vm) other.vcpu ≡ entry_in_force (table_of x.world.tables other.vm) other.vcpu
   pub slots : (q : ℕ) → q < VCPUS → q ≢ slot_of x.world.vms g → mrif_in y.world.memory q ≡ mrif_in x.world.memory q
   pub stages : (q : ℕ) → q ≢ slot_of x.world.vms g → slice_index_or y.world.stages q no_stage ≡ slice_index_or x.world.stages q no_stage
 

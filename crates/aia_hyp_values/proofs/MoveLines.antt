@@ -3,7 +3,7 @@ use Rattle.std.proofs.Common.{◌≡◌, ℕ, ◌+◌, ◌/◌, Bool, true, fals
 use Rattle.std.proofs.lemmas.Bool.{cond-true, cond-false}
 use Rattle.std.proofs.lemmas.Option.{none-some}
 use Rattle.aia_vcpu.specs.declared.vm.Vm.{Vm}
-use Rattle.aia_vcpu.specs.Vms.{Vcpu, vcpu, is_vcpu_in, slot_of, notice_hart}
+use Rattle.aia_vcpu.specs.Vms.{Vcpu, vcpu_of, is_vcpu_in, slot_of, notice_hart}
 use Rattle.aia_vcpu.specs.Routes.{peers_reach}
 use Rattle.aia_vcpu_places.specs.Places.{leads_to}
 use Rattle.aia_entry.specs.Tables.{table_of, entry_in_force}
@@ -44,24 +44,24 @@ use Rattle.aia_hyp_values.proofs.EventLemmas.{by_refusal, refused}
 
 -- ---- a beginning
 
-okay : (h : History) (vm number : ℕ) (want : Want) → accepted_answer h (lines.Begin vm number want) ≡ accepted_answer h (lines.Move vm number want)
-okay h vm number want = refl
+okay : (h : History) (vm vcpu : ℕ) (want : Want) → accepted_answer h (lines.Begin vm vcpu want) ≡ accepted_answer h (lines.Move vm vcpu want)
+okay h vm vcpu want = refl
 
-served : (r : Option Answer) (h : History) (vm number : ℕ) (want : Want)
-    → line_served r h (lines.Begin vm number want) ≡ move_begun r h (wanted_move (vcpu vm number) want)
-served (Some word) h vm number want = refl
-served None h vm number want = refl
+served : (r : Option Answer) (h : History) (vm vcpu : ℕ) (want : Want)
+    → line_served r h (lines.Begin vm vcpu want) ≡ move_begun r h (wanted_move (vcpu_of vm vcpu) want)
+served (Some word) h vm vcpu want = refl
+served None h vm vcpu want = refl
 
-pub begin_taken : (x y : CoreState) (vm number : ℕ) (want : Want) (given : Answer) → MoveBegins x y vm number want given
-    → CoreTakes x y (lines.Begin vm number want) given
-begin_taken x y vm number want given begins = record {
-  answers = λ h stands. begins.answers h stands ∙ answered h (lines.Move vm number want) (refusal h (lines.Move vm number want)) refl
-      ∙ (λ k. unwrap_or (sym (begin_refusal h vm number want) k) (sym (okay h vm number want) k))
-      ∙ sym (answered h (lines.Begin vm number want) (refusal h (lines.Begin vm number want)) refl);
+pub begin_taken : (x y : CoreState) (vm vcpu : ℕ) (want : Want) (given : Answer) → MoveBegins x y vm vcpu want given
+    → CoreTakes x y (lines.Begin vm vcpu want) given
+begin_taken x y vm vcpu want given begins = record {
+  answers = λ h stands. begins.answers h stands ∙ answered h (lines.Move vm vcpu want) (refusal h (lines.Move vm vcpu want)) refl
+      ∙ (λ k. unwrap_or (sym (begin_refusal h vm vcpu want) k) (sym (okay h vm vcpu want) k))
+      ∙ sym (answered h (lines.Begin vm vcpu want) (refusal h (lines.Begin vm vcpu want)) refl);
   stands = λ h stands. subst (CoreStands y) (sym
-      (ap (λ r. line_served r h (lines.Begin vm number want)) (begin_refusal h vm number want)
-      ∙ served (refusal h (lines.Move vm number want)) h vm number want)) (begins.begins h stands);
-  unchanged = λ h word stands is. begins.unchanged h word stands (sym (begin_refusal h vm number want) ∙ is);
+      (ap (λ r. line_served r h (lines.Begin vm vcpu want)) (begin_refusal h vm vcpu want)
+      ∙ served (refusal h (lines.Move vm vcpu want)) h vm vcpu want)) (begins.begins h stands);
+  unchanged = λ h word stands is. begins.unchanged h word stands (sym (begin_refusal h vm vcpu want) ∙ is);
 }
 
 -- ---- a step
@@ -72,32 +72,32 @@ moved_as x g (stays.InMemory rest kept) p = refl
 moved_as x g (stays.Resident place) p = refl
 moved_as x g (stays.Moving plan) p = p.3
 
-is_there : (x : CoreState) (h : History) (who : Found) → CoreStands x h → IsFound x.world who → has_vcpu h (vcpu who.vm who.number) ≡ true
-is_there x h who stands is = subst (λ (vs : List Vm). is_vcpu_in vs (vcpu who.vm who.number) ≡ true) stands.vms is.there
+is_there : (x : CoreState) (h : History) (who : Found) → CoreStands x h → IsFound x.world who → has_vcpu h (vcpu_of who.vm who.vcpu) ≡ true
+is_there x h who stands is = subst (λ (vs : List Vm). is_vcpu_in vs (vcpu_of who.vm who.vcpu) ≡ true) stands.vms is.there
 
 moving_is : (x : CoreState) (h : History) (who : Found) → CoreStands x h → IsFound x.world who
-    → is_moving (home h (vcpu who.vm who.number)) ≡ has_plan (record_of x (vcpu who.vm who.number)).stay
+    → is_moving (home h (vcpu_of who.vm who.vcpu)) ≡ has_plan (record_of x (vcpu_of who.vm who.vcpu)).stay
 moving_is x h who stands is =
-    let g = vcpu who.vm who.number in
+    let g = vcpu_of who.vm who.vcpu in
     let stood = stands.vcpus g (is_there x h who stands is) in
     ap is_moving (sym stood.same_home) ∙ moved_as x g (record_of x g).stay stood.plan
 
-by_home : (x : CoreState) (h : History) (who : Found) → CoreStands x h → IsFound x.world who
-    → refusal h (Step who.vm who.number) ≡ cond (not (has_plan (record_of x (vcpu who.vm who.number)).stay)) (Some (Refused Idle)) None
+pub by_home : (x : CoreState) (h : History) (who : Found) → CoreStands x h → IsFound x.world who
+    → refusal h (Step who.vm who.vcpu) ≡ cond (not (has_plan (record_of x (vcpu_of who.vm who.vcpu)).stay)) (Some (Refused Idle)) None
 by_home x h who stands is =
-    step_refusal h who.vm who.number stands.there ∙ cond-false _ _ _ (ap not (is_there x h who stands is))
+    step_refusal h who.vm who.vcpu stands.there ∙ cond-false _ _ _ (ap not (is_there x h who stands is))
     ∙ ap (λ b. cond (not b) (Some (Refused Idle)) None) (moving_is x h who stands is)
 
 pub moved_now : (x : CoreState) (who : Found) → StandsForSome x → IsFound x.world who
-    → has_plan (record_of x (vcpu who.vm who.number)).stay ≡ true → is_moving (home_in (record_of x (vcpu who.vm who.number)).stay) ≡ true
+    → has_plan (record_of x (vcpu_of who.vm who.vcpu)).stay ≡ true → is_moving (home_in (record_of x (vcpu_of who.vm who.vcpu)).stay) ≡ true
 moved_now x who some is planned =
-    let g = vcpu who.vm who.number in
+    let g = vcpu_of who.vm who.vcpu in
     let stood = some.stands.vcpus g (is_there x some.past who some.stands is) in
     moved_as x g (record_of x g).stay stood.plan ∙ planned
 
-pub step_taken : (x y : CoreState) (who : Found) (last : Bool) → IsFound x.world who → has_plan (record_of x (vcpu who.vm who.number)).stay ≡ true
-    → MoveGoes x y (vcpu who.vm who.number) last → CoreTakes x y (Step who.vm who.number) (step_answer last)
-step_taken x y who last is planned goes = by_refusal x y (Step who.vm who.number) (step_answer last) (λ h stands. (
+pub step_taken : (x y : CoreState) (who : Found) (last : Bool) → IsFound x.world who → has_plan (record_of x (vcpu_of who.vm who.vcpu)).stay ≡ true
+    → MoveGoes x y (vcpu_of who.vm who.vcpu) last → CoreTakes x y (Step who.vm who.vcpu) (step_answer last)
+step_taken x y who last is planned goes = by_refusal x y (Step who.vm who.vcpu) (step_answer last) (λ h stands. (
   None,
   by_home x h who stands is ∙ cond-false _ _ _ (ap not planned),
   ap step_answer (goes.at_last h stands),
@@ -105,18 +105,18 @@ step_taken x y who last is planned goes = by_refusal x y (Step who.vm who.number
   λ word e. absurd (none-some word e),
 ))
 
-pub step_idle : (x : CoreState) (who : Found) → IsFound x.world who → has_plan (record_of x (vcpu who.vm who.number)).stay ≡ false
-    → CoreTakes x x (Step who.vm who.number) (Refused Idle)
-step_idle x who is idle = refused x (Step who.vm who.number) (Refused Idle) (λ h stands. by_home x h who stands is ∙ cond-true _ _ _ (ap not idle))
+pub step_idle : (x : CoreState) (who : Found) → IsFound x.world who → has_plan (record_of x (vcpu_of who.vm who.vcpu)).stay ≡ false
+    → CoreTakes x x (Step who.vm who.vcpu) (Refused Idle)
+step_idle x who is idle = refused x (Step who.vm who.vcpu) (Refused Idle) (λ h stands. by_home x h who stands is ∙ cond-true _ _ _ (ap not idle))
 
-pub no_step : (x : CoreState) (vm number : ℕ) → is_vcpu_in x.world.vms (vcpu vm number) ≡ false → CoreTakes x x (Step vm number) (Refused Range)
-no_step x vm number outside = refused x (Step vm number) (Refused Range) (λ h stands.
-    step_refusal h vm number stands.there ∙ cond-true _ _ _
-    (ap not (subst (λ (vs : List Vm). is_vcpu_in vs (vcpu vm number) ≡ false) stands.vms outside)))
+pub no_step : (x : CoreState) (vm vcpu : ℕ) → is_vcpu_in x.world.vms (vcpu_of vm vcpu) ≡ false → CoreTakes x x (Step vm vcpu) (Refused Range)
+no_step x vm vcpu outside = refused x (Step vm vcpu) (Refused Range) (λ h stands.
+    step_refusal h vm vcpu stands.there ∙ cond-true _ _ _
+    (ap not (subst (λ (vs : List Vm). is_vcpu_in vs (vcpu_of vm vcpu) ≡ false) stands.vms outside)))
 
 -- ---- what a plan knows
 
-knows : (x : CoreState) (h : History) (g : Vcpu) (plan : PlanState) → CoreStands x h → has_vcpu h g ≡ true
+pub knows : (x : CoreState) (h : History) (g : Vcpu) (plan : PlanState) → CoreStands x h → has_vcpu h g ≡ true
     → (record_of x g).stay ≡ stays.Moving plan → KnowsIts x h g plan
 knows x h g plan stands there is =
     let stood = stands.vcpus g there in
@@ -157,25 +157,25 @@ pub knows_heard : (x y : CoreState) (msi : Msi) (h : History) (g : Vcpu) (plan :
 knows_heard x y msi h g plan hears stands may there is = knows y (msi_taken msi h) g plan (hears h stands may) there is
 
 pub in_force : (x : CoreState) (h : History) (g : Vcpu) → CoreStands x h → has_vcpu h g ≡ true
-    → (entry_in_force (table_of x.world.tables g.vm) g.number ≡ leads_to (slot_of (vms_of h) g) (notice_hart (vms_of h) g) (in_force_of h g))
+    → (entry_in_force (table_of x.world.tables g.vm) g.vcpu ≡ leads_to (slot_of (vms_of h) g) (notice_hart (vms_of h) g) (in_force_of h g))
     × ((stage_of x.world g).in_force ≡ peers_reach (home h g))
 in_force x h g stands there = let routes = (stands.vcpus g there).holds.routes in (routes.in_force, routes.stage_in_force)
 
 -- ---- what is so of a step that is not refused
 
 pub step_unrefused : (x : CoreState) (h : History) (who : Found) (taken refused : Type 0) → CoreStands x h → IsFound x.world who
-    → has_plan (record_of x (vcpu who.vm who.number)).stay ≡ true → taken → UnlessRefused (refusal h (Step who.vm who.number)) taken refused
+    → has_plan (record_of x (vcpu_of who.vm who.vcpu)).stay ≡ true → taken → UnlessRefused (refusal h (Step who.vm who.vcpu)) taken refused
 step_unrefused x h who taken refused stands is planned so =
     subst (λ (o : Option Answer). UnlessRefused o taken refused) (sym (by_home x h who stands is ∙ cond-false _ _ _ (ap not planned))) so
 
 pub step_refused : (x : CoreState) (h : History) (who : Found) (taken refused : Type 0) → CoreStands x h → IsFound x.world who
-    → has_plan (record_of x (vcpu who.vm who.number)).stay ≡ false → refused → UnlessRefused (refusal h (Step who.vm who.number)) taken refused
+    → has_plan (record_of x (vcpu_of who.vm who.vcpu)).stay ≡ false → refused → UnlessRefused (refusal h (Step who.vm who.vcpu)) taken refused
 step_refused x h who taken refused stands is idle so =
     subst (λ (o : Option Answer). UnlessRefused o taken refused) (sym (by_home x h who stands is ∙ cond-true _ _ _ (ap not idle))) so
 
-pub step_of_none : (x : CoreState) (h : History) (vm number : ℕ) (taken refused : Type 0) → CoreStands x h
-    → is_vcpu_in x.world.vms (vcpu vm number) ≡ false → refused → UnlessRefused (refusal h (Step vm number)) taken refused
-step_of_none x h vm number taken refused stands outside so =
+pub step_of_none : (x : CoreState) (h : History) (vm vcpu : ℕ) (taken refused : Type 0) → CoreStands x h
+    → is_vcpu_in x.world.vms (vcpu_of vm vcpu) ≡ false → refused → UnlessRefused (refusal h (Step vm vcpu)) taken refused
+step_of_none x h vm vcpu taken refused stands outside so =
     subst (λ (o : Option Answer). UnlessRefused o taken refused)
-    (sym (step_refusal h vm number stands.there ∙ cond-true _ _ _
-    (ap not (subst (λ (vs : List Vm). is_vcpu_in vs (vcpu vm number) ≡ false) stands.vms outside)))) so
+    (sym (step_refusal h vm vcpu stands.there ∙ cond-true _ _ _
+    (ap not (subst (λ (vs : List Vm). is_vcpu_in vs (vcpu_of vm vcpu) ≡ false) stands.vms outside)))) so

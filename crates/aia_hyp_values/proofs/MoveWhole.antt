@@ -4,7 +4,7 @@ use Rattle.std.proofs.lemmas.Bool.{cond-false, and_parts, lt-ltb, ltb-true, eqb-
 use Rattle.std.proofs.lemmas.Bool.Decides.{nat_tests}
 use Rattle.std.proofs.lemmas.Option.{none-some}
 use Rattle.aia_vcpu.specs.declared.vm.Vm.{Vm}
-use Rattle.aia_vcpu.specs.Vms.{Vcpu, vcpu, is_vcpu_in}
+use Rattle.aia_vcpu.specs.Vms.{Vcpu, vcpu_of, is_vcpu_in}
 use Rattle.aia_vcpu.specs.Home.{Home, old_end, new_end, rests_in_memory, is_moving, one_more}
 use Rattle.aia_vcpu.specs.Plans.{is_at_last}
 use Rattle.aia_vcpu.specs.declared.rest.Rest.TheVariants.{Parked}
@@ -132,56 +132,56 @@ pub record Accepts (h : History) (line_refusal : Option Answer) (move : WantedMo
   pub accepted : line_refusal ≡ None
   pub begun : IsAt move (passes_for h g) 0 (home (Began move ∷ h) g)
 
-module _ (h : History) (vm number : ℕ) (machine : has_machine h ≡ true) where
+module _ (h : History) (vm vcpu : ℕ) (machine : has_machine h ≡ true) where
   abbrev its : Home
-  its = home h (vcpu vm number)
+  its = home h (vcpu_of vm vcpu)
 
-  accepts : (want : Want) → refusal h (lines.Move vm number want) ≡ None
-      → Accepts h (refusal h (lines.Move vm number want)) (wanted_move (vcpu vm number) want) (vcpu vm number)
+  accepts : (want : Want) → refusal h (lines.Move vm vcpu want) ≡ None
+      → Accepts h (refusal h (lines.Move vm vcpu want)) (wanted_move (vcpu_of vm vcpu) want) (vcpu_of vm vcpu)
   accepts want e =
-      let move = wanted_move (vcpu vm number) want in
-      let first = begun h vm number want e in
+      let move = wanted_move (vcpu_of vm vcpu) want in
+      let first = begun h vm vcpu want e in
       record {
         accepted = e;
-        begun = subst (IsAt move (passes_for h (vcpu vm number)) 0) (sym first.at_home)
+        begun = subst (IsAt move (passes_for h (vcpu_of vm vcpu)) 0) (sym first.at_home)
             (record { on = first.steps; count = refl; few = omega arith });
       }
 
-  leave_accepts : Okay ≡ unwrap_or (refusal h (lines.Move vm number wants.Leave)) Okay
-      → Accepts h (refusal h (lines.Move vm number wants.Leave)) (Leaves (vcpu vm number)) (vcpu vm number)
+  leave_accepts : Okay ≡ unwrap_or (refusal h (lines.Move vm vcpu wants.Leave)) Okay
+      → Accepts h (refusal h (lines.Move vm vcpu wants.Leave)) (Leaves (vcpu_of vm vcpu)) (vcpu_of vm vcpu)
   leave_accepts e =
-      let is = leave_refusal h vm number machine in
-      let range = passed (not (has_vcpu h (vcpu vm number))) words.Range _ (e ∙ ap (λ o. unwrap_or o Okay) is) in
+      let is = leave_refusal h vm vcpu machine in
+      let range = passed (not (has_vcpu h (vcpu_of vm vcpu))) words.Range _ (e ∙ ap (λ o. unwrap_or o Okay) is) in
       let busy = passed (is_moving its) words.Busy _ range.1 in
       let parked = passed (rests_in_memory its) words.Parked None busy.1 in
       accepts wants.Leave (is ∙ cond-false _ _ _ range.0 ∙ cond-false _ _ _ busy.0 ∙ cond-false _ _ _ parked.0)
 
-  arrive_accepts : (hart : ℕ) → Okay ≡ unwrap_or (refusal h (lines.Move vm number (wants.Arrive hart))) Okay
-      → Accepts h (refusal h (lines.Move vm number (wants.Arrive hart))) (Arrives (vcpu vm number) hart) (vcpu vm number)
+  arrive_accepts : (hart : ℕ) → Okay ≡ unwrap_or (refusal h (lines.Move vm vcpu (wants.Arrive hart))) Okay
+      → Accepts h (refusal h (lines.Move vm vcpu (wants.Arrive hart))) (Arrives (vcpu_of vm vcpu) hart) (vcpu_of vm vcpu)
   arrive_accepts hart e =
-      let is = arrive_refusal h vm number hart machine in
-      let range = passed (not (has_vcpu h (vcpu vm number) && has_hart h hart)) words.Range _ (e ∙ ap (λ o. unwrap_or o Okay) is) in
+      let is = arrive_refusal h vm vcpu hart machine in
+      let range = passed (not (has_vcpu h (vcpu_of vm vcpu) && has_hart h hart)) words.Range _ (e ∙ ap (λ o. unwrap_or o Okay) is) in
       let parked = passed_parked its _ range.1 in
       let full = passed (is_none (free_file h (home h) hart)) words.NoFile None parked.1 in
       accepts (wants.Arrive hart) (is ∙ cond-false _ _ _ range.0
       ∙ ap (λ t. unless_parked t (cond (is_none (free_file h (home h) hart)) (Some (Refused words.NoFile)) None)) parked.0
       ∙ cond-false _ _ _ full.0)
 
-  shift_accepts : (hart : ℕ) → Okay ≡ unwrap_or (refusal h (lines.Move vm number (wants.Shift hart))) Okay
-      → Accepts h (refusal h (lines.Move vm number (wants.Shift hart))) (Shifts (vcpu vm number) hart) (vcpu vm number)
+  shift_accepts : (hart : ℕ) → Okay ≡ unwrap_or (refusal h (lines.Move vm vcpu (wants.Shift hart))) Okay
+      → Accepts h (refusal h (lines.Move vm vcpu (wants.Shift hart))) (Shifts (vcpu_of vm vcpu) hart) (vcpu_of vm vcpu)
   shift_accepts hart e =
-      let is = shift_refusal h vm number hart machine in
-      let range = passed (not (has_vcpu h (vcpu vm number) && has_hart h hart)) words.Range _ (e ∙ ap (λ o. unwrap_or o Okay) is) in
+      let is = shift_refusal h vm vcpu hart machine in
+      let range = passed (not (has_vcpu h (vcpu_of vm vcpu) && has_hart h hart)) words.Range _ (e ∙ ap (λ o. unwrap_or o Okay) is) in
       let busy = passed (is_moving its) words.Busy _ range.1 in
       let parked = passed (rests_in_memory its) words.Parked _ busy.1 in
       let full = passed (is_none (free_file h (home h) hart)) words.NoFile None parked.1 in
       accepts (wants.Shift hart) (is ∙ cond-false _ _ _ range.0 ∙ cond-false _ _ _ busy.0 ∙ cond-false _ _ _ parked.0 ∙ cond-false _ _ _ full.0)
 
-  answer_is : (want : Want) → answer h (lines.Move vm number want) ≡ unwrap_or (refusal h (lines.Move vm number want)) Okay
-  answer_is want = answered h (lines.Move vm number want) _ refl
+  answer_is : (want : Want) → answer h (lines.Move vm vcpu want) ≡ unwrap_or (refusal h (lines.Move vm vcpu want)) Okay
+  answer_is want = answered h (lines.Move vm vcpu want) _ refl
 
-  pub okay_accepts : (want : Want) → Okay ≡ answer h (lines.Move vm number want)
-      → Accepts h (refusal h (lines.Move vm number want)) (wanted_move (vcpu vm number) want) (vcpu vm number)
+  pub okay_accepts : (want : Want) → Okay ≡ answer h (lines.Move vm vcpu want)
+      → Accepts h (refusal h (lines.Move vm vcpu want)) (wanted_move (vcpu_of vm vcpu) want) (vcpu_of vm vcpu)
   okay_accepts wants.Leave e = leave_accepts (e ∙ answer_is wants.Leave)
   okay_accepts (wants.Arrive hart) e = arrive_accepts hart (e ∙ answer_is (wants.Arrive hart))
   okay_accepts (wants.Shift hart) e = shift_accepts hart (e ∙ answer_is (wants.Shift hart))
@@ -189,31 +189,31 @@ module _ (h : History) (vm number : ℕ) (machine : has_machine h ≡ true) wher
 -- ---- the loop
 
 -- Some steps of the move are done, and it is not at its end; and each has aimed what it aims.
-pub record UnderWay {T : Type 0} (aim : T → ℕ → ℕ → T → Type 0) (now : CoreState) (told told_now : T) (h : History) (vm number : ℕ)
+pub record UnderWay {T : Type 0} (aim : T → ℕ → ℕ → T → Type 0) (now : CoreState) (told told_now : T) (h : History) (vm vcpu : ℕ)
     (want : Want) : Type 0 where
-  pub accepted : refusal h (lines.Move vm number want) ≡ None
+  pub accepted : refusal h (lines.Move vm vcpu want) ≡ None
   pub steps : ℕ
-  pub stands : CoreStands now (steps_taken steps (vcpu vm number) (Began (wanted_move (vcpu vm number) want) ∷ h))
-  pub is_at : IsAt (wanted_move (vcpu vm number) want) (passes_for h (vcpu vm number)) steps
-      (home (steps_taken steps (vcpu vm number) (Began (wanted_move (vcpu vm number) want) ∷ h)) (vcpu vm number))
-  pub aims : StepsAim aim steps (vcpu vm number) (Began (wanted_move (vcpu vm number) want) ∷ h) told told_now
+  pub stands : CoreStands now (steps_taken steps (vcpu_of vm vcpu) (Began (wanted_move (vcpu_of vm vcpu) want) ∷ h))
+  pub is_at : IsAt (wanted_move (vcpu_of vm vcpu) want) (passes_for h (vcpu_of vm vcpu)) steps
+      (home (steps_taken steps (vcpu_of vm vcpu) (Began (wanted_move (vcpu_of vm vcpu) want) ∷ h)) (vcpu_of vm vcpu))
+  pub aims : StepsAim aim steps (vcpu_of vm vcpu) (Began (wanted_move (vcpu_of vm vcpu) want) ∷ h) told told_now
 
 pub record SoFar {T : Type 0} (aim : T → ℕ → ℕ → T → Type 0) (old now : CoreState) (told told_now : T) (who : Found) (want : Want) : Type 0 where
   pub is_who : IsFound now.world who
-  pub moving : is_moving (home_in (record_of now (vcpu who.vm who.number)).stay) ≡ true
-  pub under : (h : History) → CoreStands old h → UnderWay aim now told told_now h who.vm who.number want
+  pub moving : is_moving (home_in (record_of now (vcpu_of who.vm who.vcpu)).stay) ≡ true
+  pub under : (h : History) → CoreStands old h → UnderWay aim now told told_now h who.vm who.vcpu want
 
 none_by_begin : (h : History) (move : WantedMove) (g : Vcpu) → passes_for (Began move ∷ h) g ≡ passes_for h g
 unfolding passes_of
 none_by_begin h move g = refl
 
 pub first_step : {T : Type 0} (aim : T → ℕ → ℕ → T → Type 0) (told : T) (old now : CoreState) (who : Found) (want : Want)
-    → MoveBegins old now who.vm who.number want Okay → StandsForSome old → IsFound now.world who → SoFar aim old now told told who want
+    → MoveBegins old now who.vm who.vcpu want Okay → StandsForSome old → IsFound now.world who → SoFar aim old now told told who want
 first_step {T} aim told old now who want begins some is =
-    let g = vcpu who.vm who.number in
+    let g = vcpu_of who.vm who.vcpu in
     let way = λ (h : History) (stands : CoreStands old h). (
-    let tells = okay_accepts h who.vm who.number stands.there want (begins.answers h stands) in
-    let u : UnderWay aim now told told h who.vm who.number want = record {
+    let tells = okay_accepts h who.vm who.vcpu stands.there want (begins.answers h stands) in
+    let u : UnderWay aim now told told h who.vm who.vcpu want = record {
       accepted = tells.accepted;
       steps = 0;
       stands = subst (λ (o : Option Answer). CoreStands now (move_begun o h (wanted_move g want))) tells.accepted (begins.begins h stands);
@@ -229,11 +229,11 @@ first_step {T} aim told old now who want begins some is =
     }
 
 pub next_step : {T : Type 0} (aim : T → ℕ → ℕ → T → Type 0) (told told_now told_later : T) (old now later : CoreState) (who : Found) (want : Want)
-    → SoFar aim old now told told_now who want → MoveGoes now later (vcpu who.vm who.number) false
-    → ((h : History) → CoreStands now h → AimsBy aim (aimed_by h (Stepped (vcpu who.vm who.number))) told_now told_later)
+    → SoFar aim old now told told_now who want → MoveGoes now later (vcpu_of who.vm who.vcpu) false
+    → ((h : History) → CoreStands now h → AimsBy aim (aimed_by h (Stepped (vcpu_of who.vm who.vcpu))) told_now told_later)
     → IsFound later.world who → SoFar aim old later told told_later who want
 next_step {T} aim told told_now told_later old now later who want so_far goes aims is =
-    let g = vcpu who.vm who.number in
+    let g = vcpu_of who.vm who.vcpu in
     record {
       is_who = is;
       moving = goes.moving refl;
@@ -256,20 +256,20 @@ next_step {T} aim told told_now told_later old now later who want so_far goes ai
 
 -- ---- the end
 
-whole_line : (h : History) (vm number : ℕ) (want : Want)
-    → line_taken h (lines.Move vm number want) ≡ steps_taken
-    (steps_of (file_words h) (wanted_move (vcpu vm number) want) + passes_for h (vcpu vm number)) (vcpu vm number)
-    (Began (wanted_move (vcpu vm number) want) ∷ h)
-whole_line h vm number wants.Leave = refl
-whole_line h vm number (wants.Arrive hart) = refl
-whole_line h vm number (wants.Shift hart) = refl
+pub whole_line : (h : History) (vm vcpu : ℕ) (want : Want)
+    → line_taken h (lines.Move vm vcpu want) ≡ steps_taken
+    (steps_of (file_words h) (wanted_move (vcpu_of vm vcpu) want) + passes_for h (vcpu_of vm vcpu)) (vcpu_of vm vcpu)
+    (Began (wanted_move (vcpu_of vm vcpu) want) ∷ h)
+whole_line h vm vcpu wants.Leave = refl
+whole_line h vm vcpu (wants.Arrive hart) = refl
+whole_line h vm vcpu (wants.Shift hart) = refl
 
 -- all its steps are then done
 full_count : {T : Type 0} (aim : T → ℕ → ℕ → T → Type 0) (told told_now : T) (now later : CoreState) (h : History) (who : Found) (want : Want)
-    → MoveGoes now later (vcpu who.vm who.number) true → (u : UnderWay aim now told told_now h who.vm who.number want)
-    → suc u.steps ≡ steps_of (file_words h) (wanted_move (vcpu who.vm who.number) want) + passes_for h (vcpu who.vm who.number)
+    → MoveGoes now later (vcpu_of who.vm who.vcpu) true → (u : UnderWay aim now told told_now h who.vm who.vcpu want)
+    → suc u.steps ≡ steps_of (file_words h) (wanted_move (vcpu_of who.vm who.vcpu) want) + passes_for h (vcpu_of who.vm who.vcpu)
 full_count {T} aim told told_now now later h who want goes u =
-    let g = vcpu who.vm who.number in
+    let g = vcpu_of who.vm who.vcpu in
     let move = wanted_move g want in
     let begun = Began move ∷ h in
     let past = steps_taken u.steps g begun in
@@ -280,21 +280,21 @@ full_count {T} aim told told_now now later h who want goes u =
     omega (arith, full, words)
 
 pub all_steps : {T : Type 0} (aim : T → ℕ → ℕ → T → Type 0) (told told_now : T) (old now later : CoreState) (who : Found) (want : Want)
-    → SoFar aim old now told told_now who want → MoveGoes now later (vcpu who.vm who.number) true
-    → CoreTakes old later (lines.Move who.vm who.number want) Okay
+    → SoFar aim old now told told_now who want → MoveGoes now later (vcpu_of who.vm who.vcpu) true
+    → CoreTakes old later (lines.Move who.vm who.vcpu want) Okay
 all_steps {T} aim told told_now old now later who want so_far goes =
-    let g = vcpu who.vm who.number in
-    let line = lines.Move who.vm who.number want in
+    let g = vcpu_of who.vm who.vcpu in
+    let line = lines.Move who.vm who.vcpu want in
     let move = wanted_move g want in
     record {
       answers = λ h stands. let u = so_far.under h stands in ap (λ o. unwrap_or o Okay) (sym u.accepted)
-          ∙ sym (answer_is h who.vm who.number stands.there want);
+          ∙ sym (answer_is h who.vm who.vcpu stands.there want);
       stands = λ h stands.
           let u = so_far.under h stands in
           let past = steps_taken u.steps g (Began move ∷ h) in
           let count = full_count aim told told_now now later h who want goes u in
           let whole : step_taken g past ≡ line_taken h line = sym (one_step_more u.steps g (Began move ∷ h))
-          ∙ ap (λ n. steps_taken n g (Began move ∷ h)) count ∙ sym (whole_line h who.vm who.number want) in
+          ∙ ap (λ n. steps_taken n g (Began move ∷ h)) count ∙ sym (whole_line h who.vm who.vcpu want) in
           subst (λ (o : Option Answer). CoreStands later (line_served o h line)) (sym u.accepted)
           (subst (CoreStands later) whole (goes.stands past u.stands));
       unchanged = λ h word stands is. let u = so_far.under h stands in absurd (none-some word (sym u.accepted ∙ is));
@@ -302,46 +302,46 @@ all_steps {T} aim told told_now old now later who want so_far goes =
 
 -- and all is aimed that they aim
 pub all_aims : {T : Type 0} (aim : T → ℕ → ℕ → T → Type 0) (told told_now told_later : T) (old now later : CoreState) (who : Found) (want : Want)
-    → SoFar aim old now told told_now who want → MoveGoes now later (vcpu who.vm who.number) true
-    → ((h : History) → CoreStands now h → AimsBy aim (aimed_by h (Stepped (vcpu who.vm who.number))) told_now told_later) → (h : History)
+    → SoFar aim old now told told_now who want → MoveGoes now later (vcpu_of who.vm who.vcpu) true
+    → ((h : History) → CoreStands now h → AimsBy aim (aimed_by h (Stepped (vcpu_of who.vm who.vcpu))) told_now told_later) → (h : History)
     → CoreStands old h
-    → UnlessRefused (refusal h (lines.Move who.vm who.number want)) (WholeAims aim h who.vm who.number want told told_later) (told_later ≡ told)
+    → UnlessRefused (refusal h (lines.Move who.vm who.vcpu want)) (WholeAims aim h who.vm who.vcpu want told told_later) (told_later ≡ told)
 all_aims {T} aim told told_now told_later old now later who want so_far goes aims h stands =
-    let g = vcpu who.vm who.number in
+    let g = vcpu_of who.vm who.vcpu in
     let u = so_far.under h stands in
     let begun = Began (wanted_move g want) ∷ h in
     let more : StepsAim aim (suc u.steps) g begun told told_later = (told_now, u.aims, aims (steps_taken u.steps g begun) u.stands) in
-    subst (λ (o : Option Answer). UnlessRefused o (WholeAims aim h who.vm who.number want told told_later) (told_later ≡ told)) (sym u.accepted)
+    subst (λ (o : Option Answer). UnlessRefused o (WholeAims aim h who.vm who.vcpu want told told_later) (told_later ≡ told)) (sym u.accepted)
     (subst (λ n. StepsAim aim n g begun told told_later) (full_count aim told told_now now later h who want goes u) more)
 
 -- ---- it is refused
 
-pub refused_whole : (x y : CoreState) (vm number : ℕ) (want : Want) (word : Refusal) → MoveBegins x y vm number want (Refused word)
-    → CoreTakes x y (lines.Move vm number want) (Refused word)
-refused_whole x y vm number want word begins = record {
+pub refused_whole : (x y : CoreState) (vm vcpu : ℕ) (want : Want) (word : Refusal) → MoveBegins x y vm vcpu want (Refused word)
+    → CoreTakes x y (lines.Move vm vcpu want) (Refused word)
+refused_whole x y vm vcpu want word begins = record {
   answers = begins.answers;
-  stands = λ h stands. by_refusal h stands (refusal h (lines.Move vm number want)) refl;
+  stands = λ h stands. by_refusal h stands (refusal h (lines.Move vm vcpu want)) refl;
   unchanged = begins.unchanged;
 }
   where
-    by_refusal : (h : History) → CoreStands x h → (r : Option Answer) → refusal h (lines.Move vm number want) ≡ r
-        → CoreStands y (line_served (refusal h (lines.Move vm number want)) h (lines.Move vm number want))
+    by_refusal : (h : History) → CoreStands x h → (r : Option Answer) → refusal h (lines.Move vm vcpu want) ≡ r
+        → CoreStands y (line_served (refusal h (lines.Move vm vcpu want)) h (lines.Move vm vcpu want))
     by_refusal h stands None e =
-        let bad : Refused word ≡ Okay = begins.answers h stands ∙ answer_is h vm number stands.there want
+        let bad : Refused word ≡ Okay = begins.answers h stands ∙ answer_is h vm vcpu stands.there want
         ∙ ap (λ o. unwrap_or o Okay) e in absurd (cc)
     by_refusal h stands (Some w) e =
-        subst (λ (o : Option Answer). CoreStands y (line_served o h (lines.Move vm number want))) (sym e)
-        (subst (λ (o : Option Answer). CoreStands y (move_begun o h (wanted_move (vcpu vm number) want))) e (begins.begins h stands))
+        subst (λ (o : Option Answer). CoreStands y (line_served o h (lines.Move vm vcpu want))) (sym e)
+        (subst (λ (o : Option Answer). CoreStands y (move_begun o h (wanted_move (vcpu_of vm vcpu) want))) e (begins.begins h stands))
 
 -- and nothing is aimed
-pub none_aims : {T : Type 0} (aim : T → ℕ → ℕ → T → Type 0) (told : T) (x y : CoreState) (vm number : ℕ) (want : Want) (word : Refusal)
-    → MoveBegins x y vm number want (Refused word) → (h : History) → CoreStands x h
-    → UnlessRefused (refusal h (lines.Move vm number want)) (WholeAims aim h vm number want told told) (told ≡ told)
-none_aims {T} aim told x y vm number want word begins h stands = by_refusal (refusal h (lines.Move vm number want)) refl
+pub none_aims : {T : Type 0} (aim : T → ℕ → ℕ → T → Type 0) (told : T) (x y : CoreState) (vm vcpu : ℕ) (want : Want) (word : Refusal)
+    → MoveBegins x y vm vcpu want (Refused word) → (h : History) → CoreStands x h
+    → UnlessRefused (refusal h (lines.Move vm vcpu want)) (WholeAims aim h vm vcpu want told told) (told ≡ told)
+none_aims {T} aim told x y vm vcpu want word begins h stands = by_refusal (refusal h (lines.Move vm vcpu want)) refl
   where
-    by_refusal : (r : Option Answer) → refusal h (lines.Move vm number want) ≡ r
-        → UnlessRefused (refusal h (lines.Move vm number want)) (WholeAims aim h vm number want told told) (told ≡ told)
+    by_refusal : (r : Option Answer) → refusal h (lines.Move vm vcpu want) ≡ r
+        → UnlessRefused (refusal h (lines.Move vm vcpu want)) (WholeAims aim h vm vcpu want told told) (told ≡ told)
     by_refusal None e =
-        let bad : Refused word ≡ Okay = begins.answers h stands ∙ answer_is h vm number stands.there want
+        let bad : Refused word ≡ Okay = begins.answers h stands ∙ answer_is h vm vcpu stands.there want
         ∙ ap (λ o. unwrap_or o Okay) e in absurd (cc)
-    by_refusal (Some w) e = subst (λ (o : Option Answer). UnlessRefused o (WholeAims aim h vm number want told told) (told ≡ told)) (sym e) refl
+    by_refusal (Some w) e = subst (λ (o : Option Answer). UnlessRefused o (WholeAims aim h vm vcpu want told told) (told ≡ told)) (sym e) refl

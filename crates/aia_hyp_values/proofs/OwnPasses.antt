@@ -42,7 +42,7 @@ IsNth n g xs r k = (slice_index_or (numbers_to g n xs) r 0 ≡ n + k)
     × (slice_index_or (own_passes n g xs) r targets.no_pass ≡ record
     { source = (slice_index_or xs k no_pass).source; identity = (slice_index_or xs k no_pass).identity; number = n + k })
 
-own_nth : (n : ℕ) (g : Vcpu) (xs : List PassedSource) (r : ℕ) → r < passes_to g xs → (k : ℕ) × IsNth n g xs r k
+pub own_nth : (n : ℕ) (g : Vcpu) (xs : List PassedSource) (r : ℕ) → r < passes_to g xs → (k : ℕ) × IsNth n g xs r k
 own_nth n g [] r low = absurd (omega (arith, low))
 own_nth n g (x ∷ xs) r low = by_own (is_vcpu x.to g) refl r low (own_nth (suc n) g xs)
   where

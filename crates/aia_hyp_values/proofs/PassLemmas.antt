@@ -9,7 +9,7 @@ use Rattle.std.proofs.lemmas.List.{append_assoc, length-append, get_or_default}
 use Rattle.std.proofs.lemmas.Option.{none-some}
 use Rattle.aia_regs.specs.declared.limits.TheConstants.{IDENTITIES, GUEST_FILES, PASSES}
 use Rattle.aia_word.proofs.LeastLemmas.{least_of-found, least_of-none}
-use Rattle.aia_vcpu.specs.Vms.{Vcpu, vcpu, is_vcpu, is_vcpu_in, vcpus_in, slot_of, notice_hart}
+use Rattle.aia_vcpu.specs.Vms.{Vcpu, vcpu_of, is_vcpu, is_vcpu_in, vcpus_in, slot_of, notice_hart}
 use Rattle.aia_file.specs.InterruptFile.{is_greatest_identity}
 use Rattle.aia_vcpu.specs.declared.place.GuestPlace.{GuestPlace}
 use Rattle.aia_vcpu.specs.Home.{holds, is_moving}
@@ -145,11 +145,11 @@ rest_reaches r (stays.Moving plan) e = absurd (cc)
 -- ---- the words that refuse it
 
 -- what is so where nothing does
-pub record IsFree (x : CoreState) (vm number identity : ℕ) : Type 0 where
-  pub there : is_vcpu_in x.world.vms (vcpu vm number) ≡ true
+pub record IsFree (x : CoreState) (vm vcpu identity : ℕ) : Type 0 where
+  pub there : is_vcpu_in x.world.vms (vcpu_of vm vcpu) ≡ true
   pub implemented : is_in_range 1 x.world.n identity ≡ true
   pub room : length x.passes < PASSES
-  pub rests : has_plan (record_of x (vcpu vm number)).stay ≡ false
+  pub rests : has_plan (record_of x (vcpu_of vm vcpu)).stay ≡ false
 
 by_cascade : (a b c d e : Bool) → cond (not a) (Some (Refused words.Range))
     (cond b (Some (Refused words.Full)) (cond c (Some (Refused words.Busy))
@@ -164,9 +164,9 @@ both_true true true is = (refl, refl)
 both_true true false is = absurd (cc)
 both_true false b is = absurd (cc)
 
-module _ (x : CoreState) (targets : TargetMap) (source vm number identity : ℕ) where
+module _ (x : CoreState) (targets : TargetMap) (source vm vcpu identity : ℕ) where
   abbrev to : Vcpu
-  to = vcpu vm number
+  to = vcpu_of vm vcpu
 
   abbrev there : Bool
   there = is_vcpu_in x.world.vms to
@@ -174,13 +174,13 @@ module _ (x : CoreState) (targets : TargetMap) (source vm number identity : ℕ)
   abbrev implemented : Bool
   implemented = is_in_range 1 x.world.n identity
 
-  told : (h : History) → CoreStands x h → TellsOf targets h source → refusal h (lines.Pass source vm number identity)
+  told : (h : History) → CoreStands x h → TellsOf targets h source → refusal h (lines.Pass source vm vcpu identity)
       ≡ cond (not (there && implemented)) (Some (Refused words.Range))
       (cond (nat_le PASSES (length x.passes)) (Some (Refused words.Full)) (cond (is_moving (home h to)) (Some (Refused words.Busy))
       (cond (is_some (number_of_pass x.passes (Some source))) (Some (Refused words.Passed))
       (cond (not (targets.ready source)) (Some (Refused words.Unready)) None))))
   told h stands tells =
-      pass_refusal h source vm number identity stands.there
+      pass_refusal h source vm vcpu identity stands.there
       ∙ (λ k. cond (not (tells.there k && is_vcpu_in (sym stands.vms k) to && is_in_range 1 (sym stands.greatest k) identity))
       (Some (Refused words.Range))
       (cond (nat_le PASSES (length (sym stands.passes.same k))) (Some (Refused words.Full)) (cond (is_moving (home h to)) (Some (Refused words.Busy))
@@ -190,14 +190,14 @@ module _ (x : CoreState) (targets : TargetMap) (source vm number identity : ℕ)
   moves : (h : History) → CoreStands x h → there ≡ true → is_moving (home h to) ≡ has_plan (record_of x to).stay
   moves h stands is = moves_as_kept x h to stands (ap (λ vms. is_vcpu_in vms to) (sym stands.vms) ∙ is)
 
-  pub no_virtual_hart : there ≡ false → RefusesPass x targets source vm number identity (Some (Refused words.Range))
+  pub no_virtual_hart : there ≡ false → RefusesPass x targets source vm vcpu identity (Some (Refused words.Range))
   no_virtual_hart none = λ h stands tells. told h stands tells ∙ cond-true _ _ _ (ap (λ b. not (b && implemented)) none)
 
-  pub no_identity : there ≡ true → implemented ≡ false → RefusesPass x targets source vm number identity (Some (Refused words.Range))
+  pub no_identity : there ≡ true → implemented ≡ false → RefusesPass x targets source vm vcpu identity (Some (Refused words.Range))
   no_identity is none = λ h stands tells. told h stands tells ∙ cond-true _ _ _ (λ k. not (is k && none k))
 
   pub no_room : there ≡ true → implemented ≡ true → PASSES ≤ length x.passes
-      → RefusesPass x targets source vm number identity (Some (Refused words.Full))
+      → RefusesPass x targets source vm vcpu identity (Some (Refused words.Full))
   no_room is has full = λ h stands tells. told h stands tells ∙ cond-false _ _ _ (λ k. not (is k && has k))
       ∙ cond-true _ _ _ (le-leb PASSES (length x.passes) full)
 
@@ -205,7 +205,7 @@ module _ (x : CoreState) (targets : TargetMap) (source vm number identity : ℕ)
   abbrev HasRoom : Type 0
   HasRoom = (there ≡ true) × (implemented ≡ true) × (length x.passes < PASSES)
 
-  past_room : HasRoom → (h : History) → CoreStands x h → TellsOf targets h source → refusal h (lines.Pass source vm number identity)
+  past_room : HasRoom → (h : History) → CoreStands x h → TellsOf targets h source → refusal h (lines.Pass source vm vcpu identity)
       ≡ cond (has_plan (record_of x to).stay) (Some (Refused words.Busy))
       (cond (is_some (number_of_pass x.passes (Some source))) (Some (Refused words.Passed))
       (cond (not (targets.ready source)) (Some (Refused words.Unready)) None))
@@ -214,25 +214,25 @@ module _ (x : CoreState) (targets : TargetMap) (source vm number identity : ℕ)
       ∙ ap (λ b. cond b (Some (Refused words.Busy)) (cond (is_some (number_of_pass x.passes (Some source))) (Some (Refused words.Passed))
       (cond (not (targets.ready source)) (Some (Refused words.Unready)) None))) (moves h stands r.0)
 
-  pub is_moved : HasRoom → has_plan (record_of x to).stay ≡ true → RefusesPass x targets source vm number identity (Some (Refused words.Busy))
+  pub is_moved : HasRoom → has_plan (record_of x to).stay ≡ true → RefusesPass x targets source vm vcpu identity (Some (Refused words.Busy))
   is_moved r moved = λ h stands tells. past_room r h stands tells ∙ cond-true _ _ _ moved
 
   pub is_passed : HasRoom → has_plan (record_of x to).stay ≡ false → is_some (number_of_pass x.passes (Some source)) ≡ true
-      → RefusesPass x targets source vm number identity (Some (Refused words.Passed))
+      → RefusesPass x targets source vm vcpu identity (Some (Refused words.Passed))
   is_passed r rests passed = λ h stands tells. past_room r h stands tells ∙ cond-false _ _ _ rests ∙ cond-true _ _ _ passed
 
   pub is_unready : HasRoom → has_plan (record_of x to).stay ≡ false → is_some (number_of_pass x.passes (Some source)) ≡ false
-      → targets.ready source ≡ false → RefusesPass x targets source vm number identity (Some (Refused words.Unready))
+      → targets.ready source ≡ false → RefusesPass x targets source vm vcpu identity (Some (Refused words.Unready))
   is_unready r rests unpassed unready = λ h stands tells. past_room r h stands tells ∙ cond-false _ _ _ rests ∙ cond-false _ _ _ unpassed
       ∙ cond-true _ _ _ (ap not unready)
 
   pub is_free : HasRoom → has_plan (record_of x to).stay ≡ false → is_some (number_of_pass x.passes (Some source)) ≡ false
-      → targets.ready source ≡ true → RefusesPass x targets source vm number identity None
+      → targets.ready source ≡ true → RefusesPass x targets source vm vcpu identity None
   is_free r rests unpassed ready = λ h stands tells. past_room r h stands tells ∙ cond-false _ _ _ rests ∙ cond-false _ _ _ unpassed
       ∙ cond-false _ _ _ (ap not ready)
 
-  pub free_so : (h : History) → CoreStands x h → TellsOf targets h source → refusal h (lines.Pass source vm number identity) ≡ None
-      → IsFree x vm number identity
+  pub free_so : (h : History) → CoreStands x h → TellsOf targets h source → refusal h (lines.Pass source vm vcpu identity) ≡ None
+      → IsFree x vm vcpu identity
   free_so h stands tells free =
       let so = by_cascade (there && implemented) (nat_le PASSES (length x.passes)) (is_moving (home h to))
       (is_some (number_of_pass x.passes (Some source))) (not (targets.ready source)) (sym (told h stands tells) ∙ free) in
@@ -245,25 +245,25 @@ module _ (x : CoreState) (targets : TargetMap) (source vm number identity : ℕ)
 
 -- ---- what it makes of the core
 
-pub pass_is_quiet : (h : History) (source vm number identity : ℕ) → is_moving (home h (vcpu vm number)) ≡ false
-    → IsQuiet h (Accepted (lines.Pass source vm number identity))
+pub pass_is_quiet : (h : History) (source vm vcpu identity : ℕ) → is_moving (home h (vcpu_of vm vcpu)) ≡ false
+    → IsQuiet h (Accepted (lines.Pass source vm vcpu identity))
 unfolding passes_of
-pass_is_quiet h source vm number identity rests = record {
-  stays = stays_line h (lines.Pass source vm number identity) refl refl (λ g. refl) (λ g. refl)
-      (λ g moves. other_own 0 g (record { source = source; to = vcpu vm number; identity = identity }) (passes_of h)
-      (is_another (vcpu vm number) g (λ e. false≢true (sym rests ∙ ap (λ z. is_moving (home h z)) e ∙ moves))));
+pass_is_quiet h source vm vcpu identity rests = record {
+  stays = stays_line h (lines.Pass source vm vcpu identity) refl refl (λ g. refl) (λ g. refl)
+      (λ g moves. other_own 0 g (record { source = source; to = vcpu_of vm vcpu; identity = identity }) (passes_of h)
+      (is_another (vcpu_of vm vcpu) g (λ e. false≢true (sym rests ∙ ap (λ z. is_moving (home h z)) e ∙ moves))));
   plain = refl;
 }
 
-one_passed : (h : History) (source vm number identity : ℕ)
-    → passes_of (Accepted (lines.Pass source vm number identity) ∷ h) ≡ passes_of h ++ record
-    { source = source; to = vcpu vm number; identity = identity } ∷ []
+one_passed : (h : History) (source vm vcpu identity : ℕ)
+    → passes_of (Accepted (lines.Pass source vm vcpu identity) ∷ h) ≡ passes_of h ++ record
+    { source = source; to = vcpu_of vm vcpu; identity = identity } ∷ []
 unfolding passes_of
-one_passed h source vm number identity = refl
+one_passed h source vm vcpu identity = refl
 
-none_flies_off : (h : History) (source vm number identity v : ℕ) → flight (Accepted (lines.Pass source vm number identity) ∷ h) v ≡ flight h v
+none_flies_off : (h : History) (source vm vcpu identity v : ℕ) → flight (Accepted (lines.Pass source vm vcpu identity) ∷ h) v ≡ flight h v
 unfolding flight
-none_flies_off h source vm number identity v = refl
+none_flies_off h source vm vcpu identity v = refl
 
 -- other passes are nothing to all but the passes
 with_passes : (x y : CoreState) (h : History) (event : Event) (passes : List PassedSource) → Becomes x y h event
@@ -296,12 +296,12 @@ with_passes x y h event passes b = record {
   no_slot = b.no_slot;
 }
 
-module _ (x : CoreState) (h : History) (source vm number identity : ℕ) (stands : CoreStands x h) (free : IsFree x vm number identity) where
+module _ (x : CoreState) (h : History) (source vm vcpu identity : ℕ) (stands : CoreStands x h) (free : IsFree x vm vcpu identity) where
   abbrev g : Vcpu
-  g = vcpu vm number
+  g = vcpu_of vm vcpu
 
   abbrev event : Event
-  event = Accepted (lines.Pass source vm number identity)
+  event = Accepted (lines.Pass source vm vcpu identity)
 
   abbrev pass : PassedSource
   pass = record { source = source; to = g; identity = identity }
@@ -316,7 +316,7 @@ module _ (x : CoreState) (h : History) (source vm number identity : ℕ) (stands
   at_rest = moves_as_kept x h g stands inside ∙ free.rests
 
   hosts : IsHosts h event
-  hosts = record { quiet = pass_is_quiet h source vm number identity at_rest; none = refl; guests = λ z. refl; majors = λ z m. refl }
+  hosts = record { quiet = pass_is_quiet h source vm vcpu identity at_rest; none = refl; guests = λ z. refl; majors = λ z m. refl }
 
   to_one : IsToOne h pass
   to_one = (inside, subst (λ n. is_in_range 1 n identity ≡ true) stands.greatest free.implemented)
@@ -325,10 +325,10 @@ module _ (x : CoreState) (h : History) (source vm number identity : ℕ) (stands
   pass_stands =
       stands_after x new h event (with_passes x x h event (x.passes ++ pass ∷ [])
       (changed x x h event (nothing_done x h event stands hosts (λ f there. refl)) stands))
-      (record { first = tt; one = tt; flights = λ v. stands.flights v ∙ ap (map (flying_of v)) (sym (none_flies_off h source vm number identity v)) })
+      (record { first = tt; one = tt; flights = λ v. stands.flights v ∙ ap (map (flying_of v)) (sym (none_flies_off h source vm vcpu identity v)) })
       (record {
-        same = ap (λ (ps : List PassedSource). ps ++ pass ∷ []) stands.passes.same ∙ sym (one_passed h source vm number identity);
-        to_one = subst (AllByRecursion (IsToOne h)) (sym (one_passed h source vm number identity))
+        same = ap (λ (ps : List PassedSource). ps ++ pass ∷ []) stands.passes.same ∙ sym (one_passed h source vm vcpu identity);
+        to_one = subst (AllByRecursion (IsToOne h)) (sym (one_passed h source vm vcpu identity))
             (all_append (IsToOne h) (passes_of h) pass stands.passes.to_one to_one);
         rest = at_rest;
       }) stands
@@ -346,22 +346,22 @@ module _ (x : CoreState) (h : History) (source vm number identity : ℕ) (stands
 
 -- ---- the line
 
-pub pass_refused : (x : CoreState) (targets : TargetMap) (source vm number identity : ℕ) (word : Refusal)
-    → RefusesPass x targets source vm number identity (Some (Refused word))
-    → CorePasses x x targets source (lines.Pass source vm number identity) (Refused word)
-pass_refused x targets source vm number identity word is = record {
-  answers = λ h stands tells. sym (answered h (lines.Pass source vm number identity) (Some (Refused word)) (is h stands tells));
-  stands = λ h stands tells. subst (λ (o : Option Answer). CoreStands x (line_served o h (lines.Pass source vm number identity)))
+pub pass_refused : (x : CoreState) (targets : TargetMap) (source vm vcpu identity : ℕ) (word : Refusal)
+    → RefusesPass x targets source vm vcpu identity (Some (Refused word))
+    → CorePasses x x targets source (lines.Pass source vm vcpu identity) (Refused word)
+pass_refused x targets source vm vcpu identity word is = record {
+  answers = λ h stands tells. sym (answered h (lines.Pass source vm vcpu identity) (Some (Refused word)) (is h stands tells));
+  stands = λ h stands tells. subst (λ (o : Option Answer). CoreStands x (line_served o h (lines.Pass source vm vcpu identity)))
       (sym (is h stands tells)) stands;
   unchanged = λ h other stands tells e. refl;
 }
 
-pub pass_taken : (x y : CoreState) (targets : TargetMap) (source vm number identity : ℕ) → RefusesPass x targets source vm number identity None
-    → ((h : History) → CoreStands x h → TellsOf targets h source → CoreStands y (Accepted (lines.Pass source vm number identity) ∷ h))
-    → CorePasses x y targets source (lines.Pass source vm number identity) Okay
-pass_taken x y targets source vm number identity free stands_then = record {
-  answers = λ h stands tells. sym (answered h (lines.Pass source vm number identity) None (free h stands tells));
-  stands = λ h stands tells. subst (λ (o : Option Answer). CoreStands y (line_served o h (lines.Pass source vm number identity)))
+pub pass_taken : (x y : CoreState) (targets : TargetMap) (source vm vcpu identity : ℕ) → RefusesPass x targets source vm vcpu identity None
+    → ((h : History) → CoreStands x h → TellsOf targets h source → CoreStands y (Accepted (lines.Pass source vm vcpu identity) ∷ h))
+    → CorePasses x y targets source (lines.Pass source vm vcpu identity) Okay
+pass_taken x y targets source vm vcpu identity free stands_then = record {
+  answers = λ h stands tells. sym (answered h (lines.Pass source vm vcpu identity) None (free h stands tells));
+  stands = λ h stands tells. subst (λ (o : Option Answer). CoreStands y (line_served o h (lines.Pass source vm vcpu identity)))
       (sym (free h stands tells)) (stands_then h stands tells);
   unchanged = λ h word stands tells e. absurd (none-some word (sym (free h stands tells) ∙ e));
 }
@@ -401,11 +401,11 @@ resident_there x h g p stands whole there e =
     let file = stands.held g p inside holding in
     (file.0, omega (arith, file.2, whole.guests))
 
-pub pass_stands_for_some : (x : CoreState) (targets : TargetMap) (source vm number identity : ℕ) (m : MayPass x targets source)
-    → RefusesPass x targets source vm number identity None → IsFree x vm number identity
-    → StandsForSome (record x { passes = x.passes ++ record { source = source; to = vcpu vm number; identity = identity } ∷ [] })
-pass_stands_for_some x targets source vm number identity m refuses free = record {
-  past = Accepted (lines.Pass source vm number identity) ∷ m.past;
+pub pass_stands_for_some : (x : CoreState) (targets : TargetMap) (source vm vcpu identity : ℕ) (m : MayPass x targets source)
+    → RefusesPass x targets source vm vcpu identity None → IsFree x vm vcpu identity
+    → StandsForSome (record x { passes = x.passes ++ record { source = source; to = vcpu_of vm vcpu; identity = identity } ∷ [] })
+pass_stands_for_some x targets source vm vcpu identity m refuses free = record {
+  past = Accepted (lines.Pass source vm vcpu identity) ∷ m.past;
   happens = (refuses m.past m.stands m.tells, m.happens);
-  stands = pass_stands x m.past source vm number identity m.stands free;
+  stands = pass_stands x m.past source vm vcpu identity m.stands free;
 }

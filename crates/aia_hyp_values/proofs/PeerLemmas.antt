@@ -7,7 +7,7 @@ use Rattle.std.proofs.lemmas.Bool.{cond-true, cond-false}
 use Rattle.aia_file.specs.declared.spot.Spot.{Spot}
 use Rattle.aia_file.specs.Imsic.{IsThere}
 use Rattle.aia_vcpu.specs.declared.place.GuestPlace.{GuestPlace}
-use Rattle.aia_vcpu.specs.Vms.{Vcpu, vcpu, is_vcpu_in}
+use Rattle.aia_vcpu.specs.Vms.{Vcpu, vcpu_of, is_vcpu_in}
 use Rattle.aia_vcpu.specs.Home.{runs}
 use Rattle.aia_vcpu.specs.Routes.{peers_reach, MayLand}
 use Rattle.aia_fabric_values.specs.World.{World, stage_of}
@@ -49,49 +49,49 @@ relayed w u g value None inside relays = relays
 -- ---- what is left, and the answer
 
 -- the words that are left where the sender is there
-sender_there : (h : History) (vm number to value : ℕ) → has_machine h ≡ true → has_vcpu h (vcpu vm number) ≡ true
-    → refusal h (Ipi vm number to value) ≡ cond (not (runs (home h (vcpu vm number)))) (Some (Refused Away))
-    (cond (not (has_vcpu h (vcpu vm to))) (Some (Refused GFault)) None)
-sender_there h vm number to value machine sends =
-    ipi_refusal h vm number to value machine
+sender_there : (h : History) (vm vcpu to value : ℕ) → has_machine h ≡ true → has_vcpu h (vcpu_of vm vcpu) ≡ true
+    → refusal h (Ipi vm vcpu to value) ≡ cond (not (runs (home h (vcpu_of vm vcpu)))) (Some (Refused Away))
+    (cond (not (has_vcpu h (vcpu_of vm to))) (Some (Refused GFault)) None)
+sender_there h vm vcpu to value machine sends =
+    ipi_refusal h vm vcpu to value machine
     ∙ ap (λ b. cond (not b) (Some (Refused Range))
-    (cond (not (runs (home h (vcpu vm number)))) (Some (Refused Away)) (cond (not (has_vcpu h (vcpu vm to))) (Some (Refused GFault)) None))) sends
+    (cond (not (runs (home h (vcpu_of vm vcpu)))) (Some (Refused Away)) (cond (not (has_vcpu h (vcpu_of vm to))) (Some (Refused GFault)) None))) sends
 
 -- and by whether it is away
-by_stay : (x : CoreState) (h : History) (vm number to value : ℕ) → CoreStands x h → is_vcpu_in x.world.vms (vcpu vm number) ≡ true
-    → refusal h (Ipi vm number to value) ≡ cond (not (runs_in (record_of x (vcpu vm number)).stay)) (Some (Refused Away))
-    (cond (not (has_vcpu h (vcpu vm to))) (Some (Refused GFault)) None)
-by_stay x h vm number to value stands sender =
-    let sends = there_in x h (vcpu vm number) stands sender in
-    sender_there h vm number to value stands.there sends
-    ∙ ap (λ b. cond (not b) (Some (Refused Away)) (cond (not (has_vcpu h (vcpu vm to))) (Some (Refused GFault)) None))
-    (home_away x h (vcpu vm number) stands sends)
+by_stay : (x : CoreState) (h : History) (vm vcpu to value : ℕ) → CoreStands x h → is_vcpu_in x.world.vms (vcpu_of vm vcpu) ≡ true
+    → refusal h (Ipi vm vcpu to value) ≡ cond (not (runs_in (record_of x (vcpu_of vm vcpu)).stay)) (Some (Refused Away))
+    (cond (not (has_vcpu h (vcpu_of vm to))) (Some (Refused GFault)) None)
+by_stay x h vm vcpu to value stands sender =
+    let sends = there_in x h (vcpu_of vm vcpu) stands sender in
+    sender_there h vm vcpu to value stands.there sends
+    ∙ ap (λ b. cond (not b) (Some (Refused Away)) (cond (not (has_vcpu h (vcpu_of vm to))) (Some (Refused GFault)) None))
+    (home_away x h (vcpu_of vm vcpu) stands sends)
 
-pub no_sender : (x : CoreState) (vm number to value : ℕ) → is_vcpu_in x.world.vms (vcpu vm number) ≡ false
-    → CoreTakes x x (Ipi vm number to value) (Refused Range)
-no_sender x vm number to value lacks = refused x (Ipi vm number to value) (Refused Range) (λ h stands.
-    ipi_refusal h vm number to value stands.there ∙ cond-true _ _ _ (ap not (missing_in x h (vcpu vm number) stands lacks)))
+pub no_sender : (x : CoreState) (vm vcpu to value : ℕ) → is_vcpu_in x.world.vms (vcpu_of vm vcpu) ≡ false
+    → CoreTakes x x (Ipi vm vcpu to value) (Refused Range)
+no_sender x vm vcpu to value lacks = refused x (Ipi vm vcpu to value) (Refused Range) (λ h stands.
+    ipi_refusal h vm vcpu to value stands.there ∙ cond-true _ _ _ (ap not (missing_in x h (vcpu_of vm vcpu) stands lacks)))
 
-pub sender_away : (x : CoreState) (vm number to value : ℕ) → is_vcpu_in x.world.vms (vcpu vm number) ≡ true
-    → runs_in (record_of x (vcpu vm number)).stay ≡ false → CoreTakes x x (Ipi vm number to value) (Refused Away)
-sender_away x vm number to value sender away =
-    refused x (Ipi vm number to value) (Refused Away) (λ h stands. by_stay x h vm number to value stands sender ∙ cond-true _ _ _ (ap not away))
+pub sender_away : (x : CoreState) (vm vcpu to value : ℕ) → is_vcpu_in x.world.vms (vcpu_of vm vcpu) ≡ true
+    → runs_in (record_of x (vcpu_of vm vcpu)).stay ≡ false → CoreTakes x x (Ipi vm vcpu to value) (Refused Away)
+sender_away x vm vcpu to value sender away =
+    refused x (Ipi vm vcpu to value) (Refused Away) (λ h stands. by_stay x h vm vcpu to value stands sender ∙ cond-true _ _ _ (ap not away))
 
-pub no_peer : (x : CoreState) (vm number to value : ℕ) → is_vcpu_in x.world.vms (vcpu vm number) ≡ true
-    → runs_in (record_of x (vcpu vm number)).stay ≡ true → is_vcpu_in x.world.vms (vcpu vm to) ≡ false
-    → CoreTakes x x (Ipi vm number to value) (Refused GFault)
-no_peer x vm number to value sender resident lacks = refused x (Ipi vm number to value) (Refused GFault) (λ h stands.
-    by_stay x h vm number to value stands sender ∙ cond-false _ _ _ (ap not resident)
-    ∙ cond-true _ _ _ (ap not (missing_in x h (vcpu vm to) stands lacks)))
+pub no_peer : (x : CoreState) (vm vcpu to value : ℕ) → is_vcpu_in x.world.vms (vcpu_of vm vcpu) ≡ true
+    → runs_in (record_of x (vcpu_of vm vcpu)).stay ≡ true → is_vcpu_in x.world.vms (vcpu_of vm to) ≡ false
+    → CoreTakes x x (Ipi vm vcpu to value) (Refused GFault)
+no_peer x vm vcpu to value sender resident lacks = refused x (Ipi vm vcpu to value) (Refused GFault) (λ h stands.
+    by_stay x h vm vcpu to value stands sender ∙ cond-false _ _ _ (ap not resident)
+    ∙ cond-true _ _ _ (ap not (missing_in x h (vcpu_of vm to) stands lacks)))
 
-pub ipi_taken : (x y : CoreState) (vm number to value : ℕ) → IsWhole x.world → is_vcpu_in x.world.vms (vcpu vm number) ≡ true
-    → runs_in (record_of x (vcpu vm number)).stay ≡ true → is_vcpu_in x.world.vms (vcpu vm to) ≡ true
-    → ReachesByRecord (stage_of x.world (vcpu vm to)).in_force x.world y.world (vcpu vm to) value → y.leases ≡ x.leases → y.vcpus ≡ x.vcpus
-    → y.selects ≡ x.selects → y.passes ≡ x.passes → CoreTakes x y (Ipi vm number to value) Okay
-ipi_taken x y vm number to value whole sender resident there relays leases vcpus selects passes =
-    accepted x y (Ipi vm number to value) Okay refl refl (λ h stands.
-    let g = vcpu vm to in
-    let event = Accepted (Ipi vm number to value) in
+pub ipi_taken : (x y : CoreState) (vm vcpu to value : ℕ) → IsWhole x.world → is_vcpu_in x.world.vms (vcpu_of vm vcpu) ≡ true
+    → runs_in (record_of x (vcpu_of vm vcpu)).stay ≡ true → is_vcpu_in x.world.vms (vcpu_of vm to) ≡ true
+    → ReachesByRecord (stage_of x.world (vcpu_of vm to)).in_force x.world y.world (vcpu_of vm to) value → y.leases ≡ x.leases → y.vcpus ≡ x.vcpus
+    → y.selects ≡ x.selects → y.passes ≡ x.passes → CoreTakes x y (Ipi vm vcpu to value) Okay
+ipi_taken x y vm vcpu to value whole sender resident there relays leases vcpus selects passes =
+    accepted x y (Ipi vm vcpu to value) Okay refl refl (λ h stands.
+    let g = vcpu_of vm to in
+    let event = Accepted (Ipi vm vcpu to value) in
     let reach = stage_in_force_of h g in
     let by_home : peers_reach (home h g) ≡ stage_in_force_of h g = sym (stage_in_force_by h g) in
     let inside = there_in x h g stands there in
@@ -100,7 +100,7 @@ ipi_taken x y vm number to value whole sender resident there relays leases vcpus
       meant = record {
         stands = stands;
         whole = whole;
-        quiet = quiet_line h (Ipi vm number to value) refl;
+        quiet = quiet_line h (Ipi vm vcpu to value) refl;
         there = inside;
         leads = subst (MayLand (file_words h) (home h g)) by_home (peers_may (file_words h) (home h g));
         majors = λ other m. refl;
@@ -115,7 +115,7 @@ ipi_taken x y vm number to value whole sender resident there relays leases vcpus
       stores = relayed x.world y.world g value reach (λ p e. stands.held g p inside (peers_held h g p (by_home ∙ e)))
           (subst (λ (o : Option GuestPlace). ReachesByRecord o x.world y.world g value) in_force relays);
     } in (
-      by_stay x h vm number to value stands sender ∙ cond-false _ _ _ (ap not resident) ∙ ap (λ b. cond (not b) (Some (Refused GFault)) None) inside,
+      by_stay x h vm vcpu to value stands sender ∙ cond-false _ _ _ (ap not resident) ∙ ap (λ b. cond (not b) (Some (Refused GFault)) None) inside,
       refl,
       stored_for_guest x y h event g reach 0 value stored,
     ))

@@ -9,7 +9,7 @@ use Rattle.aia_entry.specs.Tables.{table_of, entry_in_force, fenced_at}
 use Rattle.aia_entry.proofs.TableLemmas.{fenced_elsewhere}
 use Rattle.aia_vcpu.specs.declared.place.GuestPlace.{GuestPlace}
 use Rattle.aia_vcpu.specs.declared.vm.Vm.{Vm}
-use Rattle.aia_vcpu.specs.Vms.{Vcpu, vcpu, is_vcpu, is_vcpu_in, slot_of, notice_hart}
+use Rattle.aia_vcpu.specs.Vms.{Vcpu, vcpu_of, is_vcpu, is_vcpu_in, slot_of, notice_hart}
 use Rattle.aia_vcpu.specs.Home.{holds}
 use Rattle.aia_vcpu.specs.Routes.{entry_names}
 use Rattle.aia_vcpu.proofs.HomeLemmas.{own_is_held, next_is_held}
@@ -54,40 +54,40 @@ use Rattle.aia_hyp_values.proofs.MoveChanges.{IsMoveOf, MoveChanges, file_rests,
 use Rattle.aia_regs.specs.declared.limits.TheConstants.{HARTS, SLOTS}
 
 -- It is one virtual hart's alone, as an event of its move is.
-refetch_of : (h : History) (vm number : ℕ) → IsMoveOf h (Accepted (Refetch vm number)) (vcpu vm number)
+refetch_of : (h : History) (vm vcpu : ℕ) → IsMoveOf h (Accepted (Refetch vm vcpu)) (vcpu_of vm vcpu)
 unfolding passes_of
-refetch_of h vm number = record {
+refetch_of h vm vcpu = record {
   plain = refl;
   vms = refl;
-  homes = λ other ne. home_step (Accepted (Refetch vm number)) h other;
-  reach = λ other ne. reach_step (Accepted (Refetch vm number)) h other ∙ cond-false _ _ _ ne;
-  seen = λ other ne. seen_stays (Accepted (Refetch vm number)) h other refl (λ w was. refl);
+  homes = λ other ne. home_step (Accepted (Refetch vm vcpu)) h other;
+  reach = λ other ne. reach_step (Accepted (Refetch vm vcpu)) h other ∙ cond-false _ _ _ ne;
+  seen = λ other ne. seen_stays (Accepted (Refetch vm vcpu)) h other refl (λ w was. refl);
   rests = λ other. refl;
   majors = λ other m. refl;
   passes = refl;
   host = λ f. refl;
 }
 
-still_refetch : (h : History) (vm number : ℕ) → IsStill h (Accepted (Refetch vm number))
+still_refetch : (h : History) (vm vcpu : ℕ) → IsStill h (Accepted (Refetch vm vcpu))
 unfolding flight passes_of
-still_refetch h vm number = record { first = tt; one = tt; flights = λ v. refl; passes = refl; rest = tt }
+still_refetch h vm vcpu = record { first = tt; one = tt; flights = λ v. refl; passes = refl; rest = tt }
 
 -- what a call says that reads the entry of a virtual hart that is there again
-pub record IsRefetch (x y : CoreState) (vm number : ℕ) : Type 0 where
+pub record IsRefetch (x y : CoreState) (vm vcpu : ℕ) : Type 0 where
   pub whole : IsWhole x.world
-  pub there : is_vcpu_in x.world.vms (vcpu vm number) ≡ true
-  pub world : y.world ≡ with_fence x.world vm number
+  pub there : is_vcpu_in x.world.vms (vcpu_of vm vcpu) ≡ true
+  pub world : y.world ≡ with_fence x.world vm vcpu
   pub leases : y.leases ≡ x.leases
   pub vcpus : y.vcpus ≡ x.vcpus
   pub selects : y.selects ≡ x.selects
   pub passes : y.passes ≡ x.passes
 
-module _ (x y : CoreState) (h : History) (vm number : ℕ) (c : IsRefetch x y vm number) (stands : CoreStands x h) where
+module _ (x y : CoreState) (h : History) (vm vcpu : ℕ) (c : IsRefetch x y vm vcpu) (stands : CoreStands x h) where
   abbrev g : Vcpu
-  g = vcpu vm number
+  g = vcpu_of vm vcpu
 
   rest : OnlyAccesses x.world y.world
-  rest = only_tables x.world y.world (fenced_at x.world.tables vm number x.world.memory) c.world
+  rest = only_tables x.world y.world (fenced_at x.world.tables vm vcpu x.world.memory) c.world
 
   inside : has_vcpu h g ≡ true
   inside = subst (λ (vs : List Vm). is_vcpu_in vs g ≡ true) stands.vms c.there
@@ -95,8 +95,8 @@ module _ (x y : CoreState) (h : History) (vm number : ℕ) (c : IsRefetch x y vm
   same_record : (other : Vcpu) → record_of y other ≡ record_of x other
   same_record other = (λ k. get_or (c.vcpus k) (slot_of ((c.world k).vms) other) no_record)
 
-  home_is : home (Accepted (Refetch vm number) ∷ h) g ≡ home h g
-  home_is = home_step (Accepted (Refetch vm number)) h g
+  home_is : home (Accepted (Refetch vm vcpu) ∷ h) g ≡ home h g
+  home_is = home_step (Accepted (Refetch vm vcpu)) h g
 
   fit : FilesFit (home h g)
   fit = record {
@@ -119,23 +119,23 @@ module _ (x y : CoreState) (h : History) (vm number : ℕ) (c : IsRefetch x y vm
       { in_force = decoded (places_of x.world g (home h g)).word0 (places_of x.world g (home h g)).word1 }
   shows = ap (λ (w : World). places_of w g (home h g)) c.world ∙ fence-places x.world g (home h g) c.whole c.there
 
-  reach_now : entry_names (home h g) ≡ in_force_of (Accepted (Refetch vm number) ∷ h) g
-  reach_now = sym (reach_step (Accepted (Refetch vm number)) h g ∙ cond-true _ _ _ (is_itself g))
+  reach_now : entry_names (home h g) ≡ in_force_of (Accepted (Refetch vm vcpu) ∷ h) g
+  reach_now = sym (reach_step (Accepted (Refetch vm vcpu)) h g ∙ cond-true _ _ _ (is_itself g))
 
-  own : VcpuStands y (Accepted (Refetch vm number) ∷ h) g
+  own : VcpuStands y (Accepted (Refetch vm vcpu) ∷ h) g
   own =
       let stood = stands.vcpus g inside in
       let stay = ap (λ (r : VcpuRecord). r.stay) (same_record g) in
       let machine = only_accesses x.world y.world rest in
       record {
         same_home = ap (λ (r : VcpuRecord). home_in r.stay) (same_record g) ∙ stood.same_home ∙ sym home_is;
-        select = ap (λ (r : VcpuRecord). r.select) (same_record g) ∙ stood.select ∙ sym (select_rests h (Accepted (Refetch vm number)) g refl);
+        select = ap (λ (r : VcpuRecord). r.select) (same_record g) ∙ stood.select ∙ sym (select_rests h (Accepted (Refetch vm vcpu)) g refl);
         majors = ap (λ (r : VcpuRecord). majors_shown r.majors) (same_record g) ∙ stood.majors
-            ∙ sym (majors_rest h (Accepted (Refetch vm number)) g (λ m. refl));
+            ∙ sym (majors_rest h (Accepted (Refetch vm vcpu)) g (λ m. refl));
         two_files = subst AreApart (sym home_is) stood.two_files;
         plan = subst (PlanStands y.world g) (sym stay) (plan_stays x.world y.world g (record_of x g).stay machine stood.plan);
-        passes = subst (HasItsPasses (passes_of (Accepted (Refetch vm number) ∷ h)) g) (sym stay)
-            (subst (λ passes. HasItsPasses passes g (record_of x g).stay) (sym (refetch_of h vm number).passes) stood.passes);
+        passes = subst (HasItsPasses (passes_of (Accepted (Refetch vm vcpu) ∷ h)) g) (sym stay)
+            (subst (λ passes. HasItsPasses passes g (record_of x g).stay) (sym (refetch_of h vm vcpu).passes) stood.passes);
         holds = subst IsHeld (λ k. record {
           words = file_words h;
           slot = slot_of (vms_of h) g;
@@ -144,28 +144,28 @@ module _ (x y : CoreState) (h : History) (vm number : ℕ) (c : IsRefetch x y vm
           shows = (sym shows ∙ ap (places_of y.world g) (sym home_is)) k;
           there = sym home_is k;
           hand = hand_in (sym stay k);
-          file = sym (file_rests h (Accepted (Refetch vm number)) g refl) k;
-          saw = sym (seen_stays (Accepted (Refetch vm number)) h g refl (λ w was. refl)) k;
+          file = sym (file_rests h (Accepted (Refetch vm vcpu)) g refl) k;
+          saw = sym (seen_stays (Accepted (Refetch vm vcpu)) h g refl (λ w was. refl)) k;
         }) (refetch_kept (file_words h) (slot_of (vms_of h) g) (notice_hart (vms_of h) g) (in_force_of h g) (places_of x.world g (home h g))
             (home h g) (hand_in (record_of x g).stay) (guest_file h g) (a_look_saw h g) fit low_slot low_hart stood.holds);
       }
 
   other_entry : (other : Vcpu) → is_vcpu other g ≡ false
-      → entry_in_force (table_of y.world.tables other.vm) other.number ≡ entry_in_force (table_of x.world.tables other.vm) other.number
-  other_entry other ne = ap (λ (w : World). entry_in_force (table_of w.tables other.vm) other.number) c.world
-      ∙ fenced_elsewhere x.world.tables vm number x.world.memory other.vm other.number (is_apart other ne)
+      → entry_in_force (table_of y.world.tables other.vm) other.vcpu ≡ entry_in_force (table_of x.world.tables other.vm) other.vcpu
+  other_entry other ne = ap (λ (w : World). entry_in_force (table_of w.tables other.vm) other.vcpu) c.world
+      ∙ fenced_elsewhere x.world.tables vm vcpu x.world.memory other.vm other.vcpu (is_apart other ne)
     where
-      is_apart : (other : Vcpu) → is_vcpu other g ≡ false → (other.vm ≢ vm) ⊎ (other.number ≢ number)
+      is_apart : (other : Vcpu) → is_vcpu other g ≡ false → (other.vm ≢ vm) ⊎ (other.vcpu ≢ vcpu)
       is_apart other ne = elim (cases_eq other.vm vm) [
-        | inl same ↦ inr (λ e. false≢true (sym ne ∙ ap (λ z. is_vcpu z g) (λ k. vcpu (same k) (e k)) ∙ is_itself g))
+        | inl same ↦ inr (λ e. false≢true (sym ne ∙ ap (λ z. is_vcpu z g) (λ k. vcpu_of (same k) (e k)) ∙ is_itself g))
         | inr another ↦ inl another
       ]
 
   other_view : (other : Vcpu) → is_vcpu other g ≡ false → places_of y.world other (home h other) ≡ places_of x.world other (home h other)
   other_view other ne =
-      let fenced : entry_in_force (table_of (with_fence x.world vm number).tables other.vm) other.number ≡ entry_in_force
-      (table_of x.world.tables other.vm) other.number =
-      ap (λ (w : World). entry_in_force (table_of w.tables other.vm) other.number) (sym c.world) ∙ other_entry other ne in
+      let fenced : entry_in_force (table_of (with_fence x.world vm vcpu).tables other.vm) other.vcpu ≡ entry_in_force
+      (table_of x.world.tables other.vm) other.vcpu =
+      ap (λ (w : World). entry_in_force (table_of w.tables other.vm) other.vcpu) (sym c.world) ∙ other_entry other ne in
       ap (λ (w : World). places_of w other (home h other)) c.world ∙ (λ k. record (places_of x.world other (home h other)) { in_force = fenced k })
 
   its_alone : (other : Vcpu) (p : GuestPlace) → has_vcpu h other ≡ true → is_vcpu other g ≡ false → holds p (home h g) ≡ true
@@ -175,13 +175,13 @@ module _ (x y : CoreState) (h : History) (vm number : ℕ) (c : IsRefetch x y vm
     | inr none ↦ none
   ]
 
-  still_held : (p : GuestPlace) → is_held (Accepted (Refetch vm number) ∷ h) p ≡ is_held h p
-  still_held p = held_as h (Accepted (Refetch vm number)) g p (refetch_of h vm number) (ap (holds p) home_is)
+  still_held : (p : GuestPlace) → is_held (Accepted (Refetch vm vcpu) ∷ h) p ≡ is_held h p
+  still_held p = held_as h (Accepted (Refetch vm vcpu)) g p (refetch_of h vm vcpu) (ap (holds p) home_is)
 
-  refetched : MoveChanges x y h (Accepted (Refetch vm number)) g
+  refetched : MoveChanges x y h (Accepted (Refetch vm vcpu)) g
   refetched = record {
-    moves = refetch_of h vm number;
-    still = still_refetch h vm number;
+    moves = refetch_of h vm vcpu;
+    still = still_refetch h vm vcpu;
     there = inside;
     rest = rest;
     passes = c.passes;
@@ -207,15 +207,15 @@ module _ (x y : CoreState) (h : History) (vm number : ℕ) (c : IsRefetch x y vm
     stages = λ q ne. ap (λ (w : World). get_or w.stages q no_stage) c.world;
   }
 
-pub refetch_taken : (x y : CoreState) (vm number : ℕ) → IsRefetch x y vm number → CoreTakes x y (Refetch vm number) Okay
-refetch_taken x y vm number c = taken x y (Refetch vm number) Okay refl (λ h stands. (
-  refetch_refusal h vm number stands.there ∙ cond-false _ _ _ (ap not (inside x y h vm number c stands)),
+pub refetch_taken : (x y : CoreState) (vm vcpu : ℕ) → IsRefetch x y vm vcpu → CoreTakes x y (Refetch vm vcpu) Okay
+refetch_taken x y vm vcpu c = taken x y (Refetch vm vcpu) Okay refl (λ h stands. (
+  refetch_refusal h vm vcpu stands.there ∙ cond-false _ _ _ (ap not (inside x y h vm vcpu c stands)),
   refl,
-  moved_on x y h (Accepted (Refetch vm number)) (vcpu vm number) (refetched x y h vm number c stands) stands,
+  moved_on x y h (Accepted (Refetch vm vcpu)) (vcpu_of vm vcpu) (refetched x y h vm vcpu c stands) stands,
 ))
 
-pub no_entry_to_read : (x : CoreState) (vm number : ℕ) → is_vcpu_in x.world.vms (vcpu vm number) ≡ false
-    → CoreTakes x x (Refetch vm number) (Refused words.Range)
-no_entry_to_read x vm number none = refused x (Refetch vm number) (Refused words.Range) (λ h stands.
-    refetch_refusal h vm number stands.there ∙ cond-true _ _ _
-    (ap not (subst (λ (vs : List Vm). is_vcpu_in vs (vcpu vm number) ≡ false) stands.vms none)))
+pub no_entry_to_read : (x : CoreState) (vm vcpu : ℕ) → is_vcpu_in x.world.vms (vcpu_of vm vcpu) ≡ false
+    → CoreTakes x x (Refetch vm vcpu) (Refused words.Range)
+no_entry_to_read x vm vcpu none = refused x (Refetch vm vcpu) (Refused words.Range) (λ h stands.
+    refetch_refusal h vm vcpu stands.there ∙ cond-true _ _ _
+    (ap not (subst (λ (vs : List Vm). is_vcpu_in vs (vcpu_of vm vcpu) ≡ false) stands.vms none)))

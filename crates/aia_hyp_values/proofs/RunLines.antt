@@ -13,7 +13,7 @@ use Rattle.aia_major.specs.Kept.{majors_shown}
 use Rattle.aia_entry.specs.Tables.{table_of, entry_in_force}
 use Rattle.aia_vcpu.specs.declared.place.GuestPlace.{GuestPlace}
 use Rattle.aia_vcpu.specs.declared.vm.Vm.{Vm}
-use Rattle.aia_vcpu.specs.Vms.{Vcpu, vcpu, is_vcpu, is_vcpu_in, slot_of, notice_hart, notice_identity}
+use Rattle.aia_vcpu.specs.Vms.{Vcpu, vcpu_of, is_vcpu, is_vcpu_in, slot_of, notice_hart, notice_identity}
 use Rattle.aia_vcpu.specs.Home.{Home, holds, is_entered, rests_in_memory, resting}
 use Rattle.aia_vcpu.specs.declared.rest.Rest.TheVariants.{Parked, Entered}
 use Rattle.aia_vcpu.specs.Home.Home.{InMemory}
@@ -73,41 +73,41 @@ use Rattle.aia_hyp_values.proofs.MoveChanges.{IsMoveOf, MoveChanges, file_rests,
 
 -- ---- the lines
 
-enter_of : (h : History) (vm number : ℕ) → IsMoveOf h (Accepted (lines.Enter vm number)) (vcpu vm number)
+enter_of : (h : History) (vm vcpu : ℕ) → IsMoveOf h (Accepted (lines.Enter vm vcpu)) (vcpu_of vm vcpu)
 unfolding passes_of
-enter_of h vm number = record {
+enter_of h vm vcpu = record {
   plain = refl;
   vms = refl;
-  homes = λ other ne. home_step (Accepted (lines.Enter vm number)) h other ∙ cond-false _ _ _ ne;
-  reach = λ other ne. reach_step (Accepted (lines.Enter vm number)) h other;
-  seen = λ other ne. seen_stays (Accepted (lines.Enter vm number)) h other refl (λ w was. refl);
+  homes = λ other ne. home_step (Accepted (lines.Enter vm vcpu)) h other ∙ cond-false _ _ _ ne;
+  reach = λ other ne. reach_step (Accepted (lines.Enter vm vcpu)) h other;
+  seen = λ other ne. seen_stays (Accepted (lines.Enter vm vcpu)) h other refl (λ w was. refl);
   rests = λ other. refl;
   majors = λ other m. refl;
   passes = refl;
   host = λ f. refl;
 }
 
-exit_of : (h : History) (vm number : ℕ) → IsMoveOf h (Accepted (lines.Exit vm number)) (vcpu vm number)
+exit_of : (h : History) (vm vcpu : ℕ) → IsMoveOf h (Accepted (lines.Exit vm vcpu)) (vcpu_of vm vcpu)
 unfolding passes_of
-exit_of h vm number = record {
+exit_of h vm vcpu = record {
   plain = refl;
   vms = refl;
-  homes = λ other ne. home_step (Accepted (lines.Exit vm number)) h other ∙ cond-false _ _ _ ne;
-  reach = λ other ne. reach_step (Accepted (lines.Exit vm number)) h other;
-  seen = λ other ne. seen_stays (Accepted (lines.Exit vm number)) h other refl (λ w was. refl);
+  homes = λ other ne. home_step (Accepted (lines.Exit vm vcpu)) h other ∙ cond-false _ _ _ ne;
+  reach = λ other ne. reach_step (Accepted (lines.Exit vm vcpu)) h other;
+  seen = λ other ne. seen_stays (Accepted (lines.Exit vm vcpu)) h other refl (λ w was. refl);
   rests = λ other. refl;
   majors = λ other m. refl;
   passes = refl;
   host = λ f. refl;
 }
 
-still_enter : (h : History) (vm number : ℕ) → IsStill h (Accepted (lines.Enter vm number))
+still_enter : (h : History) (vm vcpu : ℕ) → IsStill h (Accepted (lines.Enter vm vcpu))
 unfolding flight passes_of
-still_enter h vm number = record { first = tt; one = tt; flights = λ v. refl; passes = refl; rest = tt }
+still_enter h vm vcpu = record { first = tt; one = tt; flights = λ v. refl; passes = refl; rest = tt }
 
-still_exit : (h : History) (vm number : ℕ) → IsStill h (Accepted (lines.Exit vm number))
+still_exit : (h : History) (vm vcpu : ℕ) → IsStill h (Accepted (lines.Exit vm vcpu))
 unfolding flight passes_of
-still_exit h vm number = record { first = tt; one = tt; flights = λ v. refl; passes = refl; rest = tt }
+still_exit h vm vcpu = record { first = tt; one = tt; flights = λ v. refl; passes = refl; rest = tt }
 
 -- ---- what they make of the world: nothing, or a notice
 
@@ -124,9 +124,9 @@ same_for x y h event other there notifies held = record {
   n = ap (λ (w : World). w.n) notifies.rest;
   files = λ p holding. notifies.files p (held p holding);
   slot = ap (λ (w : World). mrif_in w.memory (slot_of w.vms other)) notifies.rest;
-  word0 = ap (λ (w : World). slice_index w.memory (entry_word_place other.vm other.number)) notifies.rest;
-  word1 = ap (λ (w : World). slice_index w.memory (entry_word_place other.vm other.number + 1)) notifies.rest;
-  in_force = ap (λ (w : World). entry_in_force (table_of w.tables other.vm) other.number) notifies.rest;
+  word0 = ap (λ (w : World). slice_index w.memory (entry_word_place other.vm other.vcpu)) notifies.rest;
+  word1 = ap (λ (w : World). slice_index w.memory (entry_word_place other.vm other.vcpu + 1)) notifies.rest;
+  in_force = ap (λ (w : World). entry_in_force (table_of w.tables other.vm) other.vcpu) notifies.rest;
   stage = ap (λ (w : World). stage_of w other) notifies.rest;
 }
 
@@ -270,53 +270,53 @@ module _ (x y : CoreState) (h : History) (event : Event) (g : Vcpu) (from to : S
     held = λ p holding. absurd (none_held p holding);
     apart = λ other p inside ne holding. absurd (none_held p holding);
     free = λ p at none. ap shown (c.notifies.files p at) ∙ c.stands.free p at (sym (still_held p) ∙ none);
-    entries = λ other ne. ap (λ (w : World). entry_in_force (table_of w.tables other.vm) other.number) c.notifies.rest;
+    entries = λ other ne. ap (λ (w : World). entry_in_force (table_of w.tables other.vm) other.vcpu) c.notifies.rest;
     slots = λ q few ne. ap (λ (w : World). mrif_in w.memory q) c.notifies.rest;
     stages = λ q ne. ap (λ (w : World). get_or w.stages q no_stage) c.notifies.rest;
   }
 
 -- ---- it enters
 
-pub record IsEnter (x y : CoreState) (vm number : ℕ) : Type 0 where
-  pub there : is_vcpu_in x.world.vms (vcpu vm number) ≡ true
+pub record IsEnter (x y : CoreState) (vm vcpu : ℕ) : Type 0 where
+  pub there : is_vcpu_in x.world.vms (vcpu_of vm vcpu) ≡ true
   pub world : y.world ≡ x.world
   pub leases : y.leases ≡ x.leases
   pub selects : y.selects ≡ x.selects
   pub passes : y.passes ≡ x.passes
 
 -- the refusal of one that is there, by where it is
-enter_by : (x : CoreState) (h : History) (vm number : ℕ) (stay : Stay) → CoreStands x h → has_vcpu h (vcpu vm number) ≡ true
-    → (record_of x (vcpu vm number)).stay ≡ stay
-    → refusal h (lines.Enter vm number) ≡ unless_parked (home_in stay) None
-enter_by x h vm number stay stands inside was =
-    let at : home h (vcpu vm number) ≡ home_in stay = sym (stands.vcpus (vcpu vm number) inside).same_home ∙ ap home_in was in
-    enter_refusal h vm number stands.there
+enter_by : (x : CoreState) (h : History) (vm vcpu : ℕ) (stay : Stay) → CoreStands x h → has_vcpu h (vcpu_of vm vcpu) ≡ true
+    → (record_of x (vcpu_of vm vcpu)).stay ≡ stay
+    → refusal h (lines.Enter vm vcpu) ≡ unless_parked (home_in stay) None
+enter_by x h vm vcpu stay stands inside was =
+    let at : home h (vcpu_of vm vcpu) ≡ home_in stay = sym (stands.vcpus (vcpu_of vm vcpu) inside).same_home ∙ ap home_in was in
+    enter_refusal h vm vcpu stands.there
     ∙ (λ k. cond (not (inside k)) (Some (Refused words.Range)) (unless_parked (at k) None))
 
-same_core : (x y : CoreState) (vm number : ℕ) → IsEnter x y vm number → y.vcpus ≡ x.vcpus → y ≡ x
-same_core x y vm number c vcpus = λ k. record { world = c.world k; leases = c.leases k; vcpus = vcpus k; selects = c.selects k; passes = c.passes k }
+same_core : (x y : CoreState) (vm vcpu : ℕ) → IsEnter x y vm vcpu → y.vcpus ≡ x.vcpus → y ≡ x
+same_core x y vm vcpu c vcpus = λ k. record { world = c.world k; leases = c.leases k; vcpus = vcpus k; selects = c.selects k; passes = c.passes k }
 
-enter_refused : (x y : CoreState) (vm number : ℕ) (stay : Stay) (given : Answer) (word : Refusal) → IsEnter x y vm number → y.vcpus ≡ x.vcpus
-    → given ≡ Refused word → ((h : History) → CoreStands x h → refusal h (lines.Enter vm number) ≡ Some (Refused word))
-    → CoreTakes x y (lines.Enter vm number) given
-enter_refused x y vm number stay given word c vcpus is refuses =
-    subst (λ (z : CoreState). CoreTakes x z (lines.Enter vm number) given) (sym (same_core x y vm number c vcpus))
-    (subst (λ a. CoreTakes x x (lines.Enter vm number) a) (sym is) (refused x (lines.Enter vm number) (Refused word) refuses))
+enter_refused : (x y : CoreState) (vm vcpu : ℕ) (stay : Stay) (given : Answer) (word : Refusal) → IsEnter x y vm vcpu → y.vcpus ≡ x.vcpus
+    → given ≡ Refused word → ((h : History) → CoreStands x h → refusal h (lines.Enter vm vcpu) ≡ Some (Refused word))
+    → CoreTakes x y (lines.Enter vm vcpu) given
+enter_refused x y vm vcpu stay given word c vcpus is refuses =
+    subst (λ (z : CoreState). CoreTakes x z (lines.Enter vm vcpu) given) (sym (same_core x y vm vcpu c vcpus))
+    (subst (λ a. CoreTakes x x (lines.Enter vm vcpu) a) (sym is) (refused x (lines.Enter vm vcpu) (Refused word) refuses))
 
-parked_enters : (x y : CoreState) (vm number : ℕ) (kept : KeptNumbers) (given : Answer) → IsEnter x y vm number
-    → (record_of x (vcpu vm number)).stay ≡ stays.InMemory Parked kept
-    → EntersFrom (Ok kept) x.vcpus y.vcpus (slot_of x.world.vms (vcpu vm number)) given → CoreTakes x y (lines.Enter vm number) given
-parked_enters x y vm number kept given c was e =
-    subst (λ a. CoreTakes x y (lines.Enter vm number) a) (sym e.0) (taken x y (lines.Enter vm number) Okay refl (λ h stands.
-    let g = vcpu vm number in
-    let event = Accepted (lines.Enter vm number) in
+parked_enters : (x y : CoreState) (vm vcpu : ℕ) (kept : KeptNumbers) (given : Answer) → IsEnter x y vm vcpu
+    → (record_of x (vcpu_of vm vcpu)).stay ≡ stays.InMemory Parked kept
+    → EntersFrom (Ok kept) x.vcpus y.vcpus (slot_of x.world.vms (vcpu_of vm vcpu)) given → CoreTakes x y (lines.Enter vm vcpu) given
+parked_enters x y vm vcpu kept given c was e =
+    subst (λ a. CoreTakes x y (lines.Enter vm vcpu) a) (sym e.0) (taken x y (lines.Enter vm vcpu) Okay refl (λ h stands.
+    let g = vcpu_of vm vcpu in
+    let event = Accepted (lines.Enter vm vcpu) in
     let inside = there_in x h g stands c.there in
     let at : home h g ≡ InMemory Parked = sym (stands.vcpus g inside).same_home ∙ ap home_in was in
     let run : IsRun x y h event g (stays.InMemory Parked kept) (stays.InMemory Entered kept) = record {
       stands = stands;
       there = inside;
-      moves = enter_of h vm number;
-      still = still_enter h vm number;
+      moves = enter_of h vm vcpu;
+      still = still_enter h vm vcpu;
       notifies = nothing_told x y h event c.world c.selects refl (λ f. refl);
       was = was;
       vcpus = e.1;
@@ -333,60 +333,60 @@ parked_enters x y vm number kept given c was e =
       same_shown = refl;
       held = λ words q hart reach v file saw held. rest-holds words q hart reach v (hand_of kept) file saw Parked Entered held;
     } in (
-      enter_by x h vm number (stays.InMemory Parked kept) stands inside was,
+      enter_by x h vm vcpu (stays.InMemory Parked kept) stands inside was,
       refl,
       moved_on x y h event g (run_changes x y h event g (stays.InMemory Parked kept) (stays.InMemory Entered kept) run) stands,
     )))
 
-pub enters : (x y : CoreState) (vm number : ℕ) (stay : Stay) (given : Answer) → IsEnter x y vm number → (record_of x (vcpu vm number)).stay ≡ stay
-    → EntersFrom (parked_at stay) x.vcpus y.vcpus (slot_of x.world.vms (vcpu vm number)) given → CoreTakes x y (lines.Enter vm number) given
-enters x y vm number stay given c was e = by (parked_at stay) refl e
+pub enters : (x y : CoreState) (vm vcpu : ℕ) (stay : Stay) (given : Answer) → IsEnter x y vm vcpu → (record_of x (vcpu_of vm vcpu)).stay ≡ stay
+    → EntersFrom (parked_at stay) x.vcpus y.vcpus (slot_of x.world.vms (vcpu_of vm vcpu)) given → CoreTakes x y (lines.Enter vm vcpu) given
+enters x y vm vcpu stay given c was e = by (parked_at stay) refl e
   where
-    by : (r : Result KeptNumbers Refusal) → parked_at stay ≡ r → EntersFrom r x.vcpus y.vcpus (slot_of x.world.vms (vcpu vm number)) given
-        → CoreTakes x y (lines.Enter vm number) given
-    by (Ok kept) is e = parked_enters x y vm number kept given c (was ∙ parked_is stay kept is) e
-    by (Err word) is e = enter_refused x y vm number stay given word c e.1 e.0 (λ h stands.
-        let g = vcpu vm number in
+    by : (r : Result KeptNumbers Refusal) → parked_at stay ≡ r → EntersFrom r x.vcpus y.vcpus (slot_of x.world.vms (vcpu_of vm vcpu)) given
+        → CoreTakes x y (lines.Enter vm vcpu) given
+    by (Ok kept) is e = parked_enters x y vm vcpu kept given c (was ∙ parked_is stay kept is) e
+    by (Err word) is e = enter_refused x y vm vcpu stay given word c e.1 e.0 (λ h stands.
+        let g = vcpu_of vm vcpu in
         let inside = there_in x h g stands c.there in
-        enter_by x h vm number stay stands inside was ∙ word_is x.world g stay word None
+        enter_by x h vm vcpu stay stands inside was ∙ word_is x.world g stay word None
         (subst (PlanStands x.world g) was (stands.vcpus g inside).plan) is)
 
-pub no_vcpu_to_enter : (x : CoreState) (vm number : ℕ) → is_vcpu_in x.world.vms (vcpu vm number) ≡ false
-    → CoreTakes x x (lines.Enter vm number) (Refused words.Range)
-no_vcpu_to_enter x vm number none = refused x (lines.Enter vm number) (Refused words.Range) (λ h stands.
-    enter_refusal h vm number stands.there ∙ cond-true _ _ _
-    (ap not (subst (λ (vs : List Vm). is_vcpu_in vs (vcpu vm number) ≡ false) stands.vms none)))
+pub no_vcpu_to_enter : (x : CoreState) (vm vcpu : ℕ) → is_vcpu_in x.world.vms (vcpu_of vm vcpu) ≡ false
+    → CoreTakes x x (lines.Enter vm vcpu) (Refused words.Range)
+no_vcpu_to_enter x vm vcpu none = refused x (lines.Enter vm vcpu) (Refused words.Range) (λ h stands.
+    enter_refusal h vm vcpu stands.there ∙ cond-true _ _ _
+    (ap not (subst (λ (vs : List Vm). is_vcpu_in vs (vcpu_of vm vcpu) ≡ false) stands.vms none)))
 
 -- ---- it exits
 
-pub record IsExit (x y : CoreState) (vm number : ℕ) (kept : KeptNumbers) : Type 0 where
+pub record IsExit (x y : CoreState) (vm vcpu : ℕ) (kept : KeptNumbers) : Type 0 where
   pub whole : IsWhole x.world
-  pub there : is_vcpu_in x.world.vms (vcpu vm number) ≡ true
-  pub was : (record_of x (vcpu vm number)).stay ≡ stays.InMemory Entered kept
-  pub vcpus : y.vcpus ≡ with_stay x.vcpus (slot_of x.world.vms (vcpu vm number)) (stays.InMemory Parked kept)
+  pub there : is_vcpu_in x.world.vms (vcpu_of vm vcpu) ≡ true
+  pub was : (record_of x (vcpu_of vm vcpu)).stay ≡ stays.InMemory Entered kept
+  pub vcpus : y.vcpus ≡ with_stay x.vcpus (slot_of x.world.vms (vcpu_of vm vcpu)) (stays.InMemory Parked kept)
   pub leases : y.leases ≡ x.leases
   pub selects : y.selects ≡ x.selects
   pub passes : y.passes ≡ x.passes
-  pub notifies : (h : History) → CoreStands x h → OnlyNotifies x y h (Accepted (lines.Exit vm number))
+  pub notifies : (h : History) → CoreStands x h → OnlyNotifies x y h (Accepted (lines.Exit vm vcpu))
 
-exit_by : (x : CoreState) (h : History) (vm number : ℕ) → CoreStands x h → has_vcpu h (vcpu vm number) ≡ true
-    → refusal h (lines.Exit vm number) ≡ cond (not (is_entered (home_in (record_of x (vcpu vm number)).stay))) (Some (Refused words.Idle)) None
-exit_by x h vm number stands inside =
-    let at = sym (stands.vcpus (vcpu vm number) inside).same_home in
-    exit_refusal h vm number stands.there ∙ (λ k. cond (not (inside k)) (Some (Refused words.Range))
+exit_by : (x : CoreState) (h : History) (vm vcpu : ℕ) → CoreStands x h → has_vcpu h (vcpu_of vm vcpu) ≡ true
+    → refusal h (lines.Exit vm vcpu) ≡ cond (not (is_entered (home_in (record_of x (vcpu_of vm vcpu)).stay))) (Some (Refused words.Idle)) None
+exit_by x h vm vcpu stands inside =
+    let at = sym (stands.vcpus (vcpu_of vm vcpu) inside).same_home in
+    exit_refusal h vm vcpu stands.there ∙ (λ k. cond (not (inside k)) (Some (Refused words.Range))
     (cond (not (is_entered (at k))) (Some (Refused words.Idle)) None))
 
-pub exits : (x y : CoreState) (vm number : ℕ) (kept : KeptNumbers) → IsExit x y vm number kept → CoreTakes x y (lines.Exit vm number) Okay
-exits x y vm number kept c = taken x y (lines.Exit vm number) Okay refl (λ h stands.
-    let g = vcpu vm number in
-    let event = Accepted (lines.Exit vm number) in
+pub exits : (x y : CoreState) (vm vcpu : ℕ) (kept : KeptNumbers) → IsExit x y vm vcpu kept → CoreTakes x y (lines.Exit vm vcpu) Okay
+exits x y vm vcpu kept c = taken x y (lines.Exit vm vcpu) Okay refl (λ h stands.
+    let g = vcpu_of vm vcpu in
+    let event = Accepted (lines.Exit vm vcpu) in
     let inside = there_in x h g stands c.there in
     let at : home h g ≡ InMemory Entered = sym (stands.vcpus g inside).same_home ∙ ap home_in c.was in
     let run : IsRun x y h event g (stays.InMemory Entered kept) (stays.InMemory Parked kept) = record {
       stands = stands;
       there = inside;
-      moves = exit_of h vm number;
-      still = still_exit h vm number;
+      moves = exit_of h vm vcpu;
+      still = still_exit h vm vcpu;
       notifies = c.notifies h stands;
       was = c.was;
       vcpus = c.vcpus;
@@ -403,24 +403,24 @@ exits x y vm number kept c = taken x y (lines.Exit vm number) Okay refl (λ h st
       same_shown = refl;
       held = λ words q hart reach v file saw held. rest-holds words q hart reach v (hand_of kept) file saw Entered Parked held;
     } in (
-      exit_by x h vm number stands inside ∙ ap (λ stay. cond (not (is_entered (home_in stay))) (Some (Refused words.Idle)) None) c.was,
+      exit_by x h vm vcpu stands inside ∙ ap (λ stay. cond (not (is_entered (home_in stay))) (Some (Refused words.Idle)) None) c.was,
       refl,
       moved_on x y h event g (run_changes x y h event g (stays.InMemory Entered kept) (stays.InMemory Parked kept) run) stands,
     ))
 
-pub not_entered : (x : CoreState) (vm number : ℕ) → is_vcpu_in x.world.vms (vcpu vm number) ≡ true
-    → entered_at (record_of x (vcpu vm number)).stay ≡ None → CoreTakes x x (lines.Exit vm number) (Refused words.Idle)
-not_entered x vm number there none = refused x (lines.Exit vm number) (Refused words.Idle) (λ h stands.
-    let g = vcpu vm number in
+pub not_entered : (x : CoreState) (vm vcpu : ℕ) → is_vcpu_in x.world.vms (vcpu_of vm vcpu) ≡ true
+    → entered_at (record_of x (vcpu_of vm vcpu)).stay ≡ None → CoreTakes x x (lines.Exit vm vcpu) (Refused words.Idle)
+not_entered x vm vcpu there none = refused x (lines.Exit vm vcpu) (Refused words.Idle) (λ h stands.
+    let g = vcpu_of vm vcpu in
     let inside = there_in x h g stands there in
-    exit_by x h vm number stands inside ∙ cond-true _ _ _
+    exit_by x h vm vcpu stands inside ∙ cond-true _ _ _
     (ap not (entered_as_kept x.world g (record_of x g).stay (stands.vcpus g inside).plan ∙ ap is_some none)))
 
-pub no_vcpu_to_exit : (x : CoreState) (vm number : ℕ) → is_vcpu_in x.world.vms (vcpu vm number) ≡ false
-    → CoreTakes x x (lines.Exit vm number) (Refused words.Range)
-no_vcpu_to_exit x vm number none = refused x (lines.Exit vm number) (Refused words.Range) (λ h stands.
-    exit_refusal h vm number stands.there ∙ cond-true _ _ _
-    (ap not (subst (λ (vs : List Vm). is_vcpu_in vs (vcpu vm number) ≡ false) stands.vms none)))
+pub no_vcpu_to_exit : (x : CoreState) (vm vcpu : ℕ) → is_vcpu_in x.world.vms (vcpu_of vm vcpu) ≡ false
+    → CoreTakes x x (lines.Exit vm vcpu) (Refused words.Range)
+no_vcpu_to_exit x vm vcpu none = refused x (lines.Exit vm vcpu) (Refused words.Range) (λ h stands.
+    exit_refusal h vm vcpu stands.there ∙ cond-true _ _ _
+    (ap not (subst (λ (vs : List Vm). is_vcpu_in vs (vcpu_of vm vcpu) ≡ false) stands.vms none)))
 
 -- ---- its notice
 
@@ -432,15 +432,15 @@ live_top x h g kept q stands whole there was slot =
     let at : home h g ≡ InMemory Entered = sym (stands.vcpus g inside).same_home ∙ ap home_in was in
     live_is x h g kept stands whole inside (ap rests_in_memory at) (ap hand_in was) ∙ ap (λ q. is_some (top_of (file_of_slot x.world q 0))) (sym slot)
 
-pub exit_is_quiet : (x y : CoreState) (h : History) (vm number : ℕ) → y.world ≡ x.world → y.selects ≡ x.selects
-    → a_word_is_live h (vcpu vm number) ≡ false → OnlyNotifies x y h (Accepted (lines.Exit vm number))
-exit_is_quiet x y h vm number world selects none =
-    nothing_told x y h (Accepted (lines.Exit vm number)) world selects (cond-false _ _ _ none) (λ f. refl)
+pub exit_is_quiet : (x y : CoreState) (h : History) (vm vcpu : ℕ) → y.world ≡ x.world → y.selects ≡ x.selects
+    → a_word_is_live h (vcpu_of vm vcpu) ≡ false → OnlyNotifies x y h (Accepted (lines.Exit vm vcpu))
+exit_is_quiet x y h vm vcpu world selects none =
+    nothing_told x y h (Accepted (lines.Exit vm vcpu)) world selects (cond-false _ _ _ none) (λ f. refl)
 
-pub exit_is_loud : (x y : CoreState) (h : History) (vm number : ℕ) → CoreStands x h → IsWhole x.world
-    → is_vcpu_in x.world.vms (vcpu vm number) ≡ true → y.selects ≡ x.selects → a_word_is_live h (vcpu vm number) ≡ true
-    → Posts x.world y.world (spots.SupervisorFile (notice_hart x.world.vms (vcpu vm number))) (notice_identity x.world.vms (vcpu vm number))
-    → OnlyNotifies x y h (Accepted (lines.Exit vm number))
-exit_is_loud x y h vm number stands whole there selects some posts =
-    one_told x y h (Accepted (lines.Exit vm number)) (vcpu vm number) stands whole (there_in x h (vcpu vm number) stands there) selects
+pub exit_is_loud : (x y : CoreState) (h : History) (vm vcpu : ℕ) → CoreStands x h → IsWhole x.world
+    → is_vcpu_in x.world.vms (vcpu_of vm vcpu) ≡ true → y.selects ≡ x.selects → a_word_is_live h (vcpu_of vm vcpu) ≡ true
+    → Posts x.world y.world (spots.SupervisorFile (notice_hart x.world.vms (vcpu_of vm vcpu))) (notice_identity x.world.vms (vcpu_of vm vcpu))
+    → OnlyNotifies x y h (Accepted (lines.Exit vm vcpu))
+exit_is_loud x y h vm vcpu stands whole there selects some posts =
+    one_told x y h (Accepted (lines.Exit vm vcpu)) (vcpu_of vm vcpu) stands whole (there_in x h (vcpu_of vm vcpu) stands there) selects
     (cond-true _ _ _ some) (λ f. refl) posts

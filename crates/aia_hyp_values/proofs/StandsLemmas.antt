@@ -164,7 +164,7 @@ pub record Becomes (x y : CoreState) (h : History) (event : Event) : Type 0 wher
   pub no_vcpu : (g : Vcpu) → has_vcpu (event ∷ h) g ≡ false → (has_vcpu h g ≡ false) × (guest_deed g h event ≡ Rests)
       × (home (event ∷ h) g ≡ home h g) × MajorsRest g event
   pub no_entry : (g : Vcpu) → has_vm (event ∷ h) g.vm ≡ true → has_vcpu (event ∷ h) g ≡ false
-      → entry_in_force (table_of y.world.tables g.vm) g.number ≡ NotValid
+      → entry_in_force (table_of y.world.tables g.vm) g.vcpu ≡ NotValid
   pub no_slot : (q : ℕ) → vcpus_in (vms_of (event ∷ h)) ≤ q → q < VCPUS → (vcpus_in (vms_of h) ≤ q)
       × (mrif_in y.world.memory q ≡ mrif_in x.world.memory q) × (get_or y.world.stages q no_stage ≡ get_or x.world.stages q no_stage)
 
@@ -317,7 +317,7 @@ unfolding notices_sent
 none_sent = refl
 
 nobody : (g : Vcpu) → is_vcpu_in [] g ≡ true → ⊥
-nobody g there = let low = numbered [] g.vm g.number there in omega (arith, low)
+nobody g there = let low = numbered [] g.vm g.vcpu there in omega (arith, low)
 
 none_below_0 : (n : ℕ) → nat_lt n 0 ≡ true → ⊥
 none_below_0 n low = let bad = ltb-true n 0 low in omega (arith, bad)

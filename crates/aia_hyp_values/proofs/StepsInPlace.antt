@@ -2,7 +2,7 @@
 use Rattle.std.proofs.Common.{◌≡◌, ◌≤◌, Bool, true, false, get_or, refl, sym, ap, subst, ◌∙◌}
 use Rattle.std.proofs.Math.ListN.{set}
 use Rattle.std.proofs.lemmas.List.{set-get_or}
-use Rattle.aia_vcpu.specs.Vms.{Vcpu, vcpu}
+use Rattle.aia_vcpu.specs.Vms.{Vcpu, vcpu_of}
 use Rattle.aia_vcpu.specs.Home.{is_moving}
 use Rattle.aia_vcpu.specs.Plans.{is_at_last}
 use Rattle.aia_fabric_values.specs.Whole.{IsWhole}
@@ -26,7 +26,7 @@ use Rattle.aia_hyp_values.proofs.MoveCalls.{step_called, goes_still, who_still, 
 pub record InPlaceCalls (x y : CoreState) (who : Found) (new : Stay) (made : Bool) : Type 0 where
   pub is_who : IsFound x.world who
   pub some : StandsForSome x
-  pub moving : is_moving (home_in (record_of x (vcpu who.vm who.number)).stay) ≡ true
+  pub moving : is_moving (home_in (record_of x (vcpu_of who.vm who.vcpu)).stay) ≡ true
   pub back : y.vcpus ≡ set x.vcpus who.slot (at_stay (get_or x.vcpus who.slot no_record) new)
   pub leases : y.leases ≡ x.leases
   pub selects : y.selects ≡ x.selects
@@ -50,7 +50,7 @@ module _ (x y : CoreState) (who : Found) (new : Stay) (plan : PlanState) (was : 
   same_records : set x.vcpus who.slot (at_stay (get_or x.vcpus who.slot no_record) (stays.Moving plan)) ≡ x.vcpus
   same_records = ap (λ s. set x.vcpus who.slot (at_stay (get_or x.vcpus who.slot no_record) s)) was ∙ set-get_or x.vcpus who.slot no_record
 
-  by_plan : (made : Bool) → InPlaceCalls x y who new made → MoveInPlace x y (vcpu who.vm who.number) made
+  by_plan : (made : Bool) → InPlaceCalls x y who new made → MoveInPlace x y (vcpu_of who.vm who.vcpu) made
   by_plan true c =
       let made = made_of true c in
       let steps : StepsTo (next_aim (moving_of plan)) x.world (moving_of plan) y.world (Again made.0) × MoveFits y.world (moving_of made.0)
@@ -85,21 +85,21 @@ module _ (x y : CoreState) (who : Found) (new : Stay) (plan : PlanState) (was : 
       )
 
 pub made_in_place : (x y : CoreState) (who : Found) (new : Stay) (made : Bool) → InPlaceCalls x y who new made
-    → MoveInPlace x y (vcpu who.vm who.number) made
+    → MoveInPlace x y (vcpu_of who.vm who.vcpu) made
 made_in_place x y who new made c =
     let own = plan_of (get_or x.vcpus who.slot no_record).stay
     (ap (λ q. is_moving (home_in (get_or x.vcpus q no_record).stay)) c.is_who.slot ∙ c.moving) in
     by_plan x y who new own.0 own.1 made c
 
 -- it stands for some history still
-pub in_place_stands : (x y : CoreState) (who : Found) (made : Bool) → MoveInPlace x y (vcpu who.vm who.number) made → StandsForSome x
+pub in_place_stands : (x y : CoreState) (who : Found) (made : Bool) → MoveInPlace x y (vcpu_of who.vm who.vcpu) made → StandsForSome x
     → IsFound x.world who
-    → is_moving (home_in (record_of x (vcpu who.vm who.number)).stay) ≡ true → StandsForSome y
+    → is_moving (home_in (record_of x (vcpu_of who.vm who.vcpu)).stay) ≡ true → StandsForSome y
 in_place_stands x y who true makes some is moving = goes_still x y who false makes some is moving
 in_place_stands x y who false makes some is moving = subst (λ (z : CoreState). StandsForSome z) (sym makes.0) some
 
 -- it is there still, with the same harts
-pub in_place_who : (x y : CoreState) (who : Found) (made : Bool) → MoveInPlace x y (vcpu who.vm who.number) made → StandsForSome x
+pub in_place_who : (x y : CoreState) (who : Found) (made : Bool) → MoveInPlace x y (vcpu_of who.vm who.vcpu) made → StandsForSome x
     → IsFound x.world who → IsFound y.world who
 in_place_who x y who true makes some is = who_still x y who false makes some is
 in_place_who x y who false makes some is = subst (λ (z : CoreState). IsFound z.world who) (sym makes.0) is

@@ -70,9 +70,9 @@ pub record SameFor (w u : World) (g : Vcpu) (there : Home) : Type 0 where
   pub n : u.n ≡ w.n
   pub files : (p : GuestPlace) → holds p there ≡ true → file_at u.imsic (spot_of p) ≡ file_at w.imsic (spot_of p)
   pub slot : mrif_in u.memory (slot_of u.vms g) ≡ mrif_in w.memory (slot_of w.vms g)
-  pub word0 : slice_index u.memory (entry_word_place g.vm g.number) ≡ slice_index w.memory (entry_word_place g.vm g.number)
-  pub word1 : slice_index u.memory (entry_word_place g.vm g.number + 1) ≡ slice_index w.memory (entry_word_place g.vm g.number + 1)
-  pub in_force : entry_in_force (table_of u.tables g.vm) g.number ≡ entry_in_force (table_of w.tables g.vm) g.number
+  pub word0 : slice_index u.memory (entry_word_place g.vm g.vcpu) ≡ slice_index w.memory (entry_word_place g.vm g.vcpu)
+  pub word1 : slice_index u.memory (entry_word_place g.vm g.vcpu + 1) ≡ slice_index w.memory (entry_word_place g.vm g.vcpu + 1)
+  pub in_force : entry_in_force (table_of u.tables g.vm) g.vcpu ≡ entry_in_force (table_of w.tables g.vm) g.vcpu
   pub stage : stage_of u g ≡ stage_of w g
 
 pub same_view : (w u : World) (g : Vcpu) (there : Home) → SameFor w u g there → places_of u g there ≡ places_of w g there
@@ -99,9 +99,9 @@ files_alone w u g there rest files = record {
   n = ap (λ (w : World). w.n) rest;
   files = files;
   slot = ap (λ (w : World). mrif_in w.memory (slot_of w.vms g)) rest;
-  word0 = ap (λ (w : World). slice_index w.memory (entry_word_place g.vm g.number)) rest;
-  word1 = ap (λ (w : World). slice_index w.memory (entry_word_place g.vm g.number + 1)) rest;
-  in_force = ap (λ (w : World). entry_in_force (table_of w.tables g.vm) g.number) rest;
+  word0 = ap (λ (w : World). slice_index w.memory (entry_word_place g.vm g.vcpu)) rest;
+  word1 = ap (λ (w : World). slice_index w.memory (entry_word_place g.vm g.vcpu + 1)) rest;
+  in_force = ap (λ (w : World). entry_in_force (table_of w.tables g.vm) g.vcpu) rest;
   stage = ap (λ (w : World). stage_of w g) rest;
 }
 
@@ -197,8 +197,8 @@ abbrev pub is_quiet_line : Line → Bool
 is_quiet_line (lines.Machine harts guests n sources) = false
 is_quiet_line (lines.Vm vcpus mask hart) = false
 is_quiet_line (lines.Send vm addr value) = false
-is_quiet_line (lines.Refetch vm number) = false
-is_quiet_line (lines.Pass source vm number identity) = false
+is_quiet_line (lines.Refetch vm vcpu) = false
+is_quiet_line (lines.Pass source vm vcpu identity) = false
 is_quiet_line line = not (is_some (rest_after line))
 
 pub quiet_line : (h : History) (line : Line) → is_quiet_line line ≡ true → IsQuiet h (Accepted line)
@@ -206,8 +206,8 @@ unfolding passes_of
 quiet_line h (lines.Machine harts guests n sources) e = absurd (cc)
 quiet_line h (lines.Vm vcpus mask hart) e = absurd (cc)
 quiet_line h (lines.Send vm addr value) e = absurd (cc)
-quiet_line h (lines.Refetch vm number) e = absurd (cc)
-quiet_line h (lines.Pass source vm number identity) e = absurd (cc)
+quiet_line h (lines.Refetch vm vcpu) e = absurd (cc)
+quiet_line h (lines.Pass source vm vcpu identity) e = absurd (cc)
 quiet_line h line e = record {
   stays = stays_line h line refl refl (λ g. none_rests (rest_after line) g (home h g) (not-true _ e)) (λ g. refl)
       (λ g moves. refl);
@@ -277,7 +277,7 @@ pub record IsStill (h : History) (event : Event) : Type 0 where
 pub still_line : (h : History) (line : Line) → is_quiet_line line ≡ true → IsStill h (Accepted line)
 unfolding flight passes_of
 still_line h (lines.Send vm addr value) plain = absurd (cc)
-still_line h (lines.Pass source vm number identity) plain = absurd (cc)
+still_line h (lines.Pass source vm vcpu identity) plain = absurd (cc)
 still_line h line plain = record { first = tt; one = tt; flights = λ v. refl; passes = refl; rest = tt }
 
 pub still_msi : (h : History) (msi : Msi) → IsStill h (Delivered msi)

@@ -28,7 +28,7 @@ use Rattle.aia_entry.specs.Translation.{is_mask}
 use Rattle.aia_entry.proofs.TableLemmas.{ones_counted, mask_parts}
 use Rattle.aia_vcpu.specs.declared.place.GuestPlace.{GuestPlace}
 use Rattle.aia_vcpu.specs.declared.vm.Vm.{Vm}
-use Rattle.aia_vcpu.specs.Vms.{Vcpu, vcpu, is_vcpu_in, vm_in, vcpus_in, slot_of, notice_hart}
+use Rattle.aia_vcpu.specs.Vms.{Vcpu, vcpu_of, is_vcpu_in, vm_in, vcpus_in, slot_of, notice_hart}
 use Rattle.aia_vcpu.specs.Home.{holds}
 use Rattle.aia_vcpu.specs.declared.rest.Rest.TheVariants.{Parked}
 use Rattle.aia_vcpu.specs.Home.Home.{InMemory}
@@ -103,17 +103,17 @@ enabled_stays w u vm q i made few = same_words (enable_place q) w.memory u.memor
 
 -- those that were, and the new VM's
 old_or_new : (vms : List Vm) (vm : Vm) (g : Vcpu) → is_vcpu_in (vms ++ vm ∷ []) g ≡ true → ((g.vm < length vms) × (is_vcpu_in vms g ≡ true))
-    ⊎ ((g.vm ≡ length vms) × (g.number < vm.vcpus))
+    ⊎ ((g.vm ≡ length vms) × (g.vcpu < vm.vcpus))
 old_or_new vms vm g there = elim (cases_lt g.vm (length vms)) [
-  | inl low ↦ inl (low, ap (λ (v : Vm). nat_lt g.number v.vcpus) (sym (vm_stays vms vm g.vm low)) ∙ there)
+  | inl low ↦ inl (low, ap (λ (v : Vm). nat_lt g.vcpu v.vcpus) (sym (vm_stays vms vm g.vm low)) ∙ there)
   | inr past ↦ elim (cases_eq g.vm (length vms)) [
     | inl e ↦ inr (
       e,
-      subst (λ (v : Vm). g.number < v.vcpus) (ap (vm_in (vms ++ vm ∷ [])) e ∙ vm_new vms vm)
-          (numbered (vms ++ vm ∷ []) g.vm g.number there),
+      subst (λ (v : Vm). g.vcpu < v.vcpus) (ap (vm_in (vms ++ vm ∷ [])) e ∙ vm_new vms vm)
+          (numbered (vms ++ vm ∷ []) g.vm g.vcpu there),
     )
     | inr ne ↦
-        let low = numbered (vms ++ vm ∷ []) g.vm g.number there in
+        let low = numbered (vms ++ vm ∷ []) g.vm g.vcpu there in
         let none = vm_past (vms ++ vm ∷ []) g.vm (omega (arith, past, ne, length-append vms (vm ∷ []))) in absurd (omega (arith, low, none))
   ]
 ]
@@ -121,8 +121,8 @@ old_or_new vms vm g there = elim (cases_lt g.vm (length vms)) [
 -- who isn't there now was not there before
 not_there_before : (vms : List Vm) (vm : Vm) (g : Vcpu) → is_vcpu_in (vms ++ vm ∷ []) g ≡ false → is_vcpu_in vms g ≡ false
 not_there_before vms vm g outside = elim (cases_lt g.vm (length vms)) [
-  | inl low ↦ ap (λ (v : Vm). nat_lt g.number v.vcpus) (sym (vm_stays vms vm g.vm low)) ∙ outside
-  | inr past ↦ le-ltb g.number (vm_in vms g.vm).vcpus (let none = vm_past vms g.vm past in omega (arith, none))
+  | inl low ↦ ap (λ (v : Vm). nat_lt g.vcpu v.vcpus) (sym (vm_stays vms vm g.vm low)) ∙ outside
+  | inr past ↦ le-ltb g.vcpu (vm_in vms g.vm).vcpus (let none = vm_past vms g.vm past in omega (arith, none))
 ]
 
 -- ---- the records of its virtual harts
@@ -173,8 +173,8 @@ same_file h vm g = file_by_step (guest_deed g) (made_line vm) h
 -- ---- a virtual hart that was there
 
 -- its number in its VM is small
-small : (x y : CoreState) (h : History) (vm : Vm) (g : Vcpu) → HasMade x y h vm → has_vcpu h g ≡ true → g.number < ENTRIES
-small x y h vm g c there = (vcpu_entry x.world g.vm g.number c.whole (subst (λ (vs : List Vm). is_vcpu_in vs g ≡ true) (sym c.stands.vms) there)).2
+small : (x y : CoreState) (h : History) (vm : Vm) (g : Vcpu) → HasMade x y h vm → has_vcpu h g ≡ true → g.vcpu < ENTRIES
+small x y h vm g c there = (vcpu_entry x.world g.vm g.vcpu c.whole (subst (λ (vs : List Vm). is_vcpu_in vs g ≡ true) (sym c.stands.vms) there)).2
 
 old_shows : (x y : CoreState) (h : History) (vm : Vm) (g : Vcpu) → HasMade x y h vm → g.vm < length (vms_of h) → has_vcpu h g ≡ true
     → SameFor x.world y.world g (home h g)
@@ -198,9 +198,9 @@ old_shows x y h vm g c low there =
             enabled =
                 λ i. enabled_stays x.world y.world vm (slot_of x.world.vms g) i c.makes q k;
           });
-      word0 = c.makes.elsewhere (entry_word_place g.vm g.number) (inl (omega (arith, low, number, table)));
-      word1 = c.makes.elsewhere (entry_word_place g.vm g.number + 1) (inl (omega (arith, low, number, table)));
-      in_force = ap (λ (t : TableState). entry_in_force t g.number) (c.makes.others g.vm (omega (arith, low, table)));
+      word0 = c.makes.elsewhere (entry_word_place g.vm g.vcpu) (inl (omega (arith, low, number, table)));
+      word1 = c.makes.elsewhere (entry_word_place g.vm g.vcpu + 1) (inl (omega (arith, low, number, table)));
+      in_force = ap (λ (t : TableState). entry_in_force t g.vcpu) (c.makes.others g.vm (omega (arith, low, table)));
       stage = (λ k. get_or ((c.makes.rest k).stages) (slot k) no_stage);
     }
 
@@ -223,7 +223,7 @@ fits_grown x y h vm m c low fits =
     let imsic : y.world.imsic ≡ x.world.imsic = ap (λ (w : World). w.imsic) c.makes.rest in
     let stays : vm_in (vms_of h ++ vm ∷ []) g.vm ≡ vm_in (vms_of h) g.vm = vm_stays (vms_of h) vm g.vm low in
     record {
-      there = ap (λ (vs : List Vm). is_vcpu_in vs g) vms ∙ ap (λ (v : Vm). nat_lt g.number v.vcpus) stays
+      there = ap (λ (vs : List Vm). is_vcpu_in vs g) vms ∙ ap (λ (v : Vm). nat_lt g.vcpu v.vcpus) stays
           ∙ ap (λ (vs : List Vm). is_vcpu_in vs g) (sym c.stands.vms) ∙ fits.there;
       slot = fits.slot ∙ ap (λ vs. slot_of vs g) c.stands.vms ∙ sym (slot_stays (vms_of h) vm g low) ∙ ap (λ vs. slot_of vs g) (sym vms);
       notice = fits.notice ∙ ap (λ vs. notice_hart vs g) c.stands.vms ∙ ap (λ (v : Vm). v.notice_hart) (sym stays)
@@ -328,24 +328,24 @@ empty_holds words q hart n v saw own next pending enabled word0 word1 in_force s
   looks = refl;
 }
 
-new_stands : (x y : CoreState) (h : History) (vm : Vm) (g : Vcpu) → HasMade x y h vm → g.vm ≡ length (vms_of h) → g.number < vm.vcpus
+new_stands : (x y : CoreState) (h : History) (vm : Vm) (g : Vcpu) → HasMade x y h vm → g.vm ≡ length (vms_of h) → g.vcpu < vm.vcpus
     → has_vcpu h g ≡ false → VcpuStands y (made_line vm ∷ h) g
 new_stands x y h vm g c last low lacks =
     let none = c.stands.no_vcpu g lacks in
-    let few : vcpus_in (vms_of h) + g.number < VCPUS = let most = c.few in omega (arith, most, low) in
-    let slot : slot_of (vms_of h ++ vm ∷ []) g ≡ vcpus_in (vms_of h) + g.number = ap (λ v. slot_of (vms_of h ++ vm ∷ []) (vcpu v g.number)) last
-    ∙ slot_new (vms_of h) vm g.number in
+    let few : vcpus_in (vms_of h) + g.vcpu < VCPUS = let most = c.few in omega (arith, most, low) in
+    let slot : slot_of (vms_of h ++ vm ∷ []) g ≡ vcpus_in (vms_of h) + g.vcpu = ap (λ v. slot_of (vms_of h ++ vm ∷ []) (vcpu_of v g.vcpu)) last
+    ∙ slot_new (vms_of h) vm g.vcpu in
     let hart : notice_hart (vms_of h ++ vm ∷ []) g ≡ vm.notice_hart =
     ap (λ (v : Vm). v.notice_hart) (ap (vm_in (vms_of h ++ vm ∷ [])) last ∙ vm_new (vms_of h) vm) in
-    let at : slot_of y.world.vms g ≡ vcpus_in (vms_of h) + g.number = ap (λ vs. slot_of vs g) (new_vms x y h vm c) ∙ slot in
-    let empty = c.stands.no_slot (vcpus_in (vms_of h) + g.number) (omega arith) few in
+    let at : slot_of y.world.vms g ≡ vcpus_in (vms_of h) + g.vcpu = ap (λ vs. slot_of vs g) (new_vms x y h vm c) ∙ slot in
+    let empty = c.stands.no_slot (vcpus_in (vms_of h) + g.vcpu) (omega arith) few in
     let table = tables_as_vms x y h vm c in
-    let place : entry_word_place g.vm g.number ≡ entry_word_place (length x.world.tables) g.number =
-    ap (λ v. entry_word_place v g.number) (last ∙ sym table) in
+    let place : entry_word_place g.vm g.vcpu ≡ entry_word_place (length x.world.tables) g.vcpu =
+    ap (λ v. entry_word_place v g.vcpu) (last ∙ sym table) in
     let before : vcpus_in x.world.vms ≡ vcpus_in (vms_of h) = ap vcpus_in c.stands.vms in
     let parked : home (made_line vm ∷ h) g ≡ InMemory Parked = same_home h vm g ∙ none.2 in
     let kept : record_of y g ≡ no_record = (λ k. get_or (c.vcpus k) (at k) no_record)
-    ∙ past_all x.vcpus vm.vcpus (vcpus_in (vms_of h) + g.number) (omega (arith, c.stands.records)) in
+    ∙ past_all x.vcpus vm.vcpus (vcpus_in (vms_of h) + g.vcpu) (omega (arith, c.stands.records)) in
     let stage : stage_of y.world g ≡ no_stage = (λ k. get_or ((c.makes.rest k).stages) (at k) no_stage) ∙ empty.2 in
     let file : guest_file (made_line vm ∷ h) g ≡ empty_file y.world.n = same_file h vm g ∙ none.0
     ∙ ap empty_file (sym (ap (λ (w : World). w.n) c.makes.rest ∙ c.stands.greatest)) in
@@ -366,18 +366,18 @@ new_stands x y h vm g c last low lacks =
         hand = hand_in (sym kept k).stay;
         file = sym file k;
         saw = a_look_saw (made_line vm ∷ h) g;
-      }) (empty_holds (file_words h) (vcpus_in (vms_of h) + g.number) vm.notice_hart y.world.n (places_of y.world g (InMemory Parked))
+      }) (empty_holds (file_words h) (vcpus_in (vms_of h) + g.vcpu) vm.notice_hart y.world.n (places_of y.world g (InMemory Parked))
           (a_look_saw (made_line vm ∷ h) g) refl refl
           (λ i. ap (λ q. (mrif_in y.world.memory q).pending i) at
-          ∙ pending_stays x.world y.world vm (vcpus_in (vms_of h) + g.number) i c.makes few ∙ empty.0 i)
+          ∙ pending_stays x.world y.world vm (vcpus_in (vms_of h) + g.vcpu) i c.makes few ∙ empty.0 i)
           (λ i. ap (λ q. (mrif_in y.world.memory q).enabled i) at
-          ∙ enabled_stays x.world y.world vm (vcpus_in (vms_of h) + g.number) i c.makes few ∙ empty.1 i)
-          (ap (λ p. get_or y.world.memory p 0) place ∙ c.makes.word0 g.number low ∙ ap (λ q. mrif_word (slot_address (q + g.number))) before)
-          (ap (λ p. get_or y.world.memory (p + 1) 0) place ∙ c.makes.word1 g.number low
-          ∙ ap (λ q. notice_word (notice_page vm) (q + g.number + 1)) before)
-          (ap (λ v. entry_in_force (table_of y.world.tables v) g.number) (last ∙ sym table) ∙ c.makes.in_force g.number
-          ∙ cond-true _ _ _ (lt-ltb g.number vm.vcpus low)
-          ∙ ap (λ q. entries.Mrif (slot_address (q + g.number)) (notice_page vm) (q + g.number + 1)) before)
+          ∙ enabled_stays x.world y.world vm (vcpus_in (vms_of h) + g.vcpu) i c.makes few ∙ empty.1 i)
+          (ap (λ p. get_or y.world.memory p 0) place ∙ c.makes.word0 g.vcpu low ∙ ap (λ q. mrif_word (slot_address (q + g.vcpu))) before)
+          (ap (λ p. get_or y.world.memory (p + 1) 0) place ∙ c.makes.word1 g.vcpu low
+          ∙ ap (λ q. notice_word (notice_page vm) (q + g.vcpu + 1)) before)
+          (ap (λ v. entry_in_force (table_of y.world.tables v) g.vcpu) (last ∙ sym table) ∙ c.makes.in_force g.vcpu
+          ∙ cond-true _ _ _ (lt-ltb g.vcpu vm.vcpus low)
+          ∙ ap (λ q. entries.Mrif (slot_address (q + g.vcpu)) (notice_page vm) (q + g.vcpu + 1)) before)
           (ap (λ (s : Stage). s.written) stage) (ap (λ (s : Stage). s.in_force) stage));
     }
   where
@@ -400,7 +400,7 @@ held_grown x y h vm p c = elim (cases_Bool (is_held h p)) [
 ]
   where
     there_still : (g : Vcpu) → has_vcpu h g ≡ true → is_vcpu_in (vms_of h ++ vm ∷ []) g ≡ true
-    there_still g there = ap (λ (v : Vm). nat_lt g.number v.vcpus) (vm_stays (vms_of h) vm g.vm (vm_within (vms_of h) g there)) ∙ there
+    there_still g there = ap (λ (v : Vm). nat_lt g.vcpu v.vcpus) (vm_stays (vms_of h) vm g.vm (vm_within (vms_of h) g there)) ∙ there
 
     by_age : (g : Vcpu) → (has_vcpu h g ≡ true) ⊎ (has_vcpu h g ≡ false) → is_held h p ≡ false → holds p (home h g) ≡ false
     by_age g (inl there) none = of_none (vms_of h) (λ g. holds p (home h g)) g none there
@@ -445,11 +445,11 @@ made_becomes x y h vm c =
           );
     }
   where
-    by_age : (g : Vcpu) → ((g.vm < length (vms_of h)) × (has_vcpu h g ≡ true)) ⊎ ((g.vm ≡ length (vms_of h)) × (g.number < vm.vcpus))
+    by_age : (g : Vcpu) → ((g.vm < length (vms_of h)) × (has_vcpu h g ≡ true)) ⊎ ((g.vm ≡ length (vms_of h)) × (g.vcpu < vm.vcpus))
         → VcpuStands y (made_line vm ∷ h) g
     by_age g (inl (low, there)) = old_stands x y h vm g c low there
     by_age g (inr (last, low)) = new_stands x y h vm g c last low
-        (le-ltb g.number (vm_in (vms_of h) g.vm).vcpus (let none = vm_past (vms_of h) g.vm (omega (arith, last)) in omega (arith, none)))
+        (le-ltb g.vcpu (vm_in (vms_of h) g.vm).vcpus (let none = vm_past (vms_of h) g.vm (omega (arith, last)) in omega (arith, none)))
 
     still_held : (g : Vcpu) (p : GuestPlace) → holds p (home (made_line vm ∷ h) g) ≡ true → holds p (home h g) ≡ true
     still_held g p holding = ap (holds p) (sym (same_home h vm g)) ∙ holding
@@ -459,14 +459,14 @@ made_becomes x y h vm c =
         [ inl t ↦ t | inr lacks ↦ absurd (false≢true (sym (ap (holds p) (c.stands.no_vcpu g lacks).2) ∙ holding)) ]
 
     no_entry_past : (g : Vcpu) → g.vm < length (vms_of h ++ vm ∷ []) → is_vcpu_in (vms_of h ++ vm ∷ []) g ≡ false
-        → length x.world.tables ≡ length (vms_of h) → entry_in_force (table_of y.world.tables g.vm) g.number ≡ entries.NotValid
+        → length x.world.tables ≡ length (vms_of h) → entry_in_force (table_of y.world.tables g.vm) g.vcpu ≡ entries.NotValid
     no_entry_past g low outside table = elim (cases_lt g.vm (length (vms_of h))) [
-      | inl old ↦ ap (λ (t : TableState). entry_in_force t g.number) (c.makes.others g.vm (omega (arith, old, table)))
+      | inl old ↦ ap (λ (t : TableState). entry_in_force t g.vcpu) (c.makes.others g.vm (omega (arith, old, table)))
           ∙ c.stands.no_entry g (lt-ltb g.vm (length (vms_of h)) old) (not_there_before (vms_of h) vm g outside)
       | inr past ↦
           let last : g.vm ≡ length (vms_of h) = omega (arith, past, low, length-append (vms_of h) (vm ∷ [])) in
-          ap (λ v. entry_in_force (table_of y.world.tables v) g.number) (last ∙ sym table) ∙ c.makes.in_force g.number
-          ∙ cond-false _ _ _ (ap (λ (v : Vm). nat_lt g.number v.vcpus)
+          ap (λ v. entry_in_force (table_of y.world.tables v) g.vcpu) (last ∙ sym table) ∙ c.makes.in_force g.vcpu
+          ∙ cond-false _ _ _ (ap (λ (v : Vm). nat_lt g.vcpu v.vcpus)
           (sym (ap (vm_in (vms_of h ++ vm ∷ [])) last ∙ vm_new (vms_of h) vm)) ∙ outside)
     ]
 

@@ -1,6 +1,6 @@
 -- A history in which one virtual hart is resident in a guest file and another one, to which a wired
 -- source is passed, is leaving its own; and the core that stands for it.
-use Rattle.std.specs.Prelude.{ℕ, ◌+◌, ◌-◌, ◌*◌, length, true, false, List, [], ◌∷◌, ◌++◌, replicate, Some, None, zero, suc}
+use Rattle.std.specs.Prelude.{ℕ, nat_eq, ◌+◌, ◌-◌, ◌*◌, length, true, false, List, [], ◌∷◌, ◌++◌, replicate, Some, None, zero, suc}
 use Rattle.aia_vcpu.specs.declared.access.Access.TheVariants.{PutPending}
 use Rattle.aia_vcpu.specs.declared.end.End.TheVariants.{File, Memory}
 use Rattle.aia_vcpu.specs.Plans.{plan_step}
@@ -13,7 +13,7 @@ use Rattle.aia_file.specs.Imsic.{ImsicState}
 use Rattle.aia_entry.specs.declared.entry.Entry.TheVariants.{NotValid}
 use Rattle.aia_entry.specs.Tables.{TableState}
 use Rattle.aia_vcpu.specs.declared.place.GuestPlace.{GuestPlace}
-use Rattle.aia_vcpu.specs.Vms.{Vcpu, vcpu}
+use Rattle.aia_vcpu.specs.Vms.{Vcpu, vcpu_of}
 use Rattle.aia_vcpu.specs.Home.{Progress}
 use Rattle.aia_vcpu.specs.Home.Home.{OnWay}
 use Rattle.aia_vcpu.specs.Home.Way.{Outward}
@@ -23,7 +23,12 @@ use Rattle.aia_vcpu_places.specs.Places.{leads_to, entry_word, second_word}
 use Rattle.aia_fabric_values.specs.declared.stage.Stage.{Stage}
 use Rattle.aia_fabric_values.specs.World.{World, no_stage}
 use Rattle.aia_fabric_values.specs.Making.{new_world, table_byte}
+use Rattle.aia_file.specs.InterruptFile.{InterruptFile}
+use Rattle.aia_vcpu.specs.Aims.{target_to}
+use Rattle.aia_fabric_values.specs.declared.flying.Flying.{Flying}
 use Rattle.aia_move_values.specs.Move.{Moving}
+use Rattle.aia_move_values.specs.PlanState.{PlanState}
+use Rattle.aia_move_values.specs.Targets.{TargetMap}
 use Rattle.aia_model.specs.declared.line.Line.{Line}
 use Rattle.aia_model.specs.declared.line.Line.TheVariants as lines
 use Rattle.aia_model.specs.declared.want.Want.TheVariants as wants
@@ -56,10 +61,10 @@ moved_whole aims h move =
 
 -- The virtual hart that is resident, and the one that leaves.
 abbrev pub stayer : Vcpu
-stayer = vcpu 0 0
+stayer = vcpu_of 0 0
 
 abbrev pub leaver : Vcpu
-leaver = vcpu 0 1
+leaver = vcpu_of 0 1
 
 -- Stores that make a source passable: the child domain has it, as an edge, and delivers by MSIs;
 -- and the registers of MSI addresses make these reach the files of the map.
@@ -182,7 +187,7 @@ example_world = record (new_world example_files 63) {
 abbrev pub leave_under_way : Moving
 leave_under_way = record {
   who = record {
-    found = record { vm = 0; number = 1; slot = 1; notice = 0 };
+    found = record { vm = 0; vcpu = 1; slot = 1; notice = 0 };
     passes = record { items = record { source = 1; identity = 5; number = 0 } ∷ [] };
   };
   home = OnWay (Outward leaver_file) so_far;
@@ -202,4 +207,41 @@ leaving_core = record {
       } ∷ [];
   selects = replicate (2 * HARTS) 0;
   passes = the_pass ∷ [];
+}
+
+-- ---- the ways and the targets then
+
+-- The plan of the leave, which puts its word next.
+abbrev pub leave_plan : PlanState
+leave_plan = record { moving = leave_under_way; phase = Some DrainPhase }
+
+-- Two stores in flight: one of the VM's devices for the one that leaves, which its entry led to the
+-- slot, and one for the other one, led to that one's file.
+abbrev pub sent_to_leaver : Flying
+sent_to_leaver = record { entry = leads_to 1 0 None; offset = 0; value = 3 }
+
+abbrev pub sent_to_stayer : Flying
+sent_to_stayer = record { entry = leads_to 0 0 (Some stayer_file); offset = 0; value = 5 }
+
+abbrev pub flying_world : World
+flying_world =
+    record example_world { flights = (sent_to_leaver ∷ sent_to_stayer ∷ []) ∷ [] }
+
+-- The targets: the one source is ready, and aimed at the notice hart, with the identity of its
+-- pass.
+abbrev pub example_targets : TargetMap
+example_targets = record {
+  harts = 1;
+  target = λ s. target_to 0 0 5 None;
+  ready = λ s. nat_eq s 1;
+}
+
+-- The interrupt file of the one that leaves: identity 1 is pending and enabled.
+abbrev pub leaver_interrupts : InterruptFile
+leaver_interrupts = record {
+  n = 63;
+  pending = λ i. nat_eq 1 i;
+  enabled = λ i. nat_eq 1 i;
+  threshold = 0;
+  delivery = 1;
 }

@@ -7,3 +7,4 @@ pub mod Memory
 pub mod Images
 pub mod Example
 pub mod Loads
+pub mod Targets

@@ -2,7 +2,7 @@
 use Rattle.std.specs.Prelude.{◌≡◌, ℕ, ◌+◌, ◌-◌, ◌<◌, ◌≤◌, Bool, true, false, if◌then◌else◌, ◌∷◌, Option, Some, None, Result, Ok, Err}
 use Rattle.aia_vcpu.specs.declared.place.GuestPlace.{GuestPlace}
 use Rattle.aia_vcpu.specs.declared.rest.Rest.TheVariants.{Parked}
-use Rattle.aia_vcpu.specs.Vms.{Vcpu, vcpu}
+use Rattle.aia_vcpu.specs.Vms.{Vcpu, vcpu_of}
 use Rattle.aia_vcpu.specs.Aims.{aims_done}
 use Rattle.aia_vcpu.specs.Home.{Home, is_moving, old_end, new_end}
 use Rattle.aia_vcpu.specs.Plans.{is_at_last, plan_steps}
@@ -122,14 +122,14 @@ move_begun (Some word) h move = h
 
 -- A move that is to begin is refused as its line is, and the core is then unchanged; else the move
 -- has begun.
-pub record MoveBegins (old new : CoreState) (vm number : ℕ) (want : Want) (given : Answer)
+pub record MoveBegins (old new : CoreState) (vm vcpu : ℕ) (want : Want) (given : Answer)
     : Type 0 where
-  pub answers : (h : History) → CoreStands old h → given ≡ answer h (lines.Move vm number want)
+  pub answers : (h : History) → CoreStands old h → given ≡ answer h (lines.Move vm vcpu want)
   pub begins : (h : History) → CoreStands old h
-      → CoreStands new (move_begun (refusal h (lines.Move vm number want)) h
-      (wanted_move (vcpu vm number) want))
+      → CoreStands new (move_begun (refusal h (lines.Move vm vcpu want)) h
+      (wanted_move (vcpu_of vm vcpu) want))
   pub unchanged : (h : History) (word : Answer) → CoreStands old h
-      → refusal h (lines.Move vm number want) ≡ Some word → new ≡ old
+      → refusal h (lines.Move vm vcpu want) ≡ Some word → new ≡ old
 
 -- ---- a step of it
 
@@ -213,10 +213,10 @@ UnlessRefused (Some word) taken refused = refused
 -- What a whole move makes of the targets: each of its steps in turn.
 abbrev pub WholeAims : {T : Type 0} → (T → ℕ → ℕ → T → Type 0) → History → ℕ → ℕ → Want → T → T
     → Type 0
-WholeAims aim h vm number want old new =
-    StepsAim aim (steps_of (file_words h) (wanted_move (vcpu vm number) want)
-    + passes_for h (vcpu vm number)) (vcpu vm number)
-    (Began (wanted_move (vcpu vm number) want) ∷ h) old new
+WholeAims aim h vm vcpu want old new =
+    StepsAim aim (steps_of (file_words h) (wanted_move (vcpu_of vm vcpu) want)
+    + passes_for h (vcpu_of vm vcpu)) (vcpu_of vm vcpu)
+    (Began (wanted_move (vcpu_of vm vcpu) want) ∷ h) old new
 
 -- A step of the move of a virtual hart is done, and what lands before it has landed; whether it was
 -- the last one.

@@ -4,7 +4,7 @@ use Rattle.std.specs.Prelude.{◌≡◌, ℕ, zero, suc, true, nat_eq, length, s
 use Rattle.std.specs.Int.{is_in_range}
 use Rattle.aia_word.specs.Sets.{least_of}
 use Rattle.std.specs.List.{AllByRecursion}
-use Rattle.aia_vcpu.specs.Vms.{Vcpu, vcpu, is_vcpu}
+use Rattle.aia_vcpu.specs.Vms.{Vcpu, vcpu_of, is_vcpu}
 use Rattle.aia_move_values.specs.declared.who.Pass as plans
 use Rattle.aia_move_values.specs.Targets.{TargetMap}
 use Rattle.aia_move_values.specs.PlanState.{moving_of}
@@ -27,7 +27,7 @@ use Rattle.aia_hyp_values.specs.Core.{CoreState}
 
 -- A pass as the core keeps it.
 abbrev pub pass_shown : Passed → PassedSource
-pass_shown p = record { source = p.source; to = vcpu p.vm p.number; identity = p.identity }
+pass_shown p = record { source = p.source; to = vcpu_of p.vm p.vcpu; identity = p.identity }
 
 -- The number that the pass of a source has among some passes; None where it has none, or no source
 -- is given.

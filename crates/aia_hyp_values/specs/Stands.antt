@@ -140,7 +140,7 @@ pub record CoreStands (x : CoreState) (h : History) : Type 0 where
       → (guest_file h g ≡ empty_file (greatest_identity_of h)) × (guest_select h g ≡ 0)
       × (home h g ≡ InMemory Parked) × (majors_of h g ≡ new_majors)
   pub no_entry : (g : Vcpu) → has_vm h g.vm ≡ true → has_vcpu h g ≡ false
-      → entry_in_force (table_of x.world.tables g.vm) g.number ≡ NotValid
+      → entry_in_force (table_of x.world.tables g.vm) g.vcpu ≡ NotValid
   pub no_slot : (q : ℕ) → vcpus_in (vms_of h) ≤ q → q < VCPUS
       → ((i : ℕ) → (mrif_in x.world.memory q).pending i ≡ false)
       × ((i : ℕ) → (mrif_in x.world.memory q).enabled i ≡ false)
@@ -203,9 +203,9 @@ pub record MayPass (x : CoreState) (targets : TargetMap) (source : ℕ) : Type 0
 -- The word that refuses a line that passes a source, or none, wherever the targets tell of it what
 -- the history does.
 abbrev pub RefusesPass : CoreState → TargetMap → ℕ → ℕ → ℕ → ℕ → Option Answer → Type 0
-RefusesPass x targets source vm number identity word =
+RefusesPass x targets source vm vcpu identity word =
     (h : History) → CoreStands x h → TellsOf targets h source
-    → refusal h (Pass source vm number identity) ≡ word
+    → refusal h (Pass source vm vcpu identity) ≡ word
 
 -- A line that passes a source is answered as the model does, wherever the targets tell of it what
 -- the history does; else as `CoreTakes`.

@@ -1,7 +1,7 @@
 //! What the definitions of this crate mean, as laws: each function does nothing, and its clauses
 //! are what was proved.
 
-ghost use Rattle.std.specs.Prelude.{◌≡◌, ◌≢◌, ◌⊎◌, ℕ, ◌%◌, true, false, [], ◌∷◌, ◌++◌, Some};
+ghost use Rattle.std.specs.Prelude.{◌≡◌, ◌≢◌, ◌⊎◌, ℕ, ◌%◌, true, false, [], ◌∷◌, ◌++◌, Some, None};
 ghost use Rattle.aia_file.specs.Imsic.{IsThere};
 ghost use Rattle.aia_vcpu.specs.declared.place.GuestPlace.{GuestPlace};
 ghost use Rattle.aia_vcpu.specs.Vms.{Vcpu, slot_of, notice_hart};
@@ -20,22 +20,31 @@ ghost use Rattle.aia_fabric_values.specs.Whole.{IsWhole};
 ghost use Rattle.aia_fabric_values.specs.Changes.{spot_of};
 ghost use Rattle.aia_move_values.specs.Views.{places_of};
 ghost use Rattle.aia_move_values.specs.Own.{LeadsToOwn, TouchesOwn, TouchesOneOf};
-ghost use Rattle.aia_model.specs.Event.{History};
+ghost use Rattle.std.specs.Int.{is_in_range};
+ghost use Rattle.aia_model.specs.Event.{Event, History, sources_of};
+ghost use Rattle.aia_model.specs.Aim.{aimed_by};
+ghost use Rattle.aia_model.specs.GuestFile.{guest_file};
+ghost use Rattle.aia_model.specs.Notice.{a_look_saw};
+ghost use Rattle.aia_move_values.specs.Targets.{TargetMap};
+ghost use Rattle.aia_move_values.specs.Ways.{KnowsWays, KnowsAll, OldPlaceIsShut};
+ghost use Rattle.aia_file.specs.InterruptFile.{landed};
+ghost use Rattle.aia_hyp_values.specs.Targets.{TargetsStand, StandsWith, LeavesTheAplic};
 ghost use Rattle.aia_model.specs.Vms.{vms_of, has_vm, has_vcpu};
 ghost use Rattle.aia_model.specs.Refusal.{refusal};
 ghost use Rattle.aia_hyp_values.specs.Moves.{KnowsIts};
 ghost use Rattle.aia_model.specs.ReachOf.{in_force_of, sent_into};
 ghost use Rattle.aia_model.specs.Flight.{Sending, flying};
 ghost use Rattle.aia_model.specs.GuestFile.{sent_to};
-ghost use Rattle.aia_model.specs.Event.Event.{Delivered};
+ghost use Rattle.aia_model.specs.Event.Event.{Accepted, Delivered};
+ghost use Rattle.aia_model.specs.declared.line.Line.TheVariants as lines;
 ghost use Rattle.aia_model.specs.Histories.{IsHistory, MayHappen};
 ghost use Rattle.aia_model.specs.Passes.{passes_of};
 ghost use Rattle.aia_model.specs.HomeOf.{home};
 ghost use Rattle.aia_model.specs.Answer.{msi_taken, after_lines};
-ghost use Rattle.aia_move_values.specs.PlanState.{PlanState};
+ghost use Rattle.aia_move_values.specs.PlanState.{PlanState, moving_of};
 ghost use Rattle.aia_hyp_values.specs.Core.{CoreState, record_of};
-ghost use Rattle.aia_hyp_values.specs.Stands.{CoreStands, CoreTakes, CoreHears, line_served};
-ghost use Rattle.aia_hyp_values.specs.Example.{stayer, leaver, the_pass, so_far, leaving_history, earlier_lines, leave_lines, stayer_file, leaver_file, leaving_core};
+ghost use Rattle.aia_hyp_values.specs.Stands.{CoreStands, CoreTakes, CoreHears, MayPass, line_served};
+ghost use Rattle.aia_hyp_values.specs.Example.{stayer, leaver, the_pass, so_far, leaving_history, earlier_lines, leave_lines, stayer_file, leaver_file, leaving_core, leave_under_way, leave_plan, flying_world, example_targets, leaver_interrupts};
 
 use crate::vcpu::Stay;
 use aia_model::{Answer, Line, Msi};
@@ -73,7 +82,7 @@ pub fn stores_reach_files_that_are_held()
         → is_out x.leases p ≡ false → sent_into v s ≢ Some p }
     ensures in_force { (x : CoreState) (h : History) (g : Vcpu) → CoreStands x h
         → has_vcpu h g ≡ true
-        → (entry_in_force (table_of x.world.tables g.vm) g.number
+        → (entry_in_force (table_of x.world.tables g.vm) g.vcpu
         ≡ leads_to (slot_of (vms_of h) g) (notice_hart (vms_of h) g) (in_force_of h g))
         × ((stage_of x.world g).in_force ≡ peers_reach (home h g)) }
     ensures own { (x : CoreState) (h : History) (v : ℕ) → CoreStands x h → has_vm h v ≡ true
@@ -125,4 +134,48 @@ pub fn a_plan_knows_it_after_every_call()
         → CoreHears x y msi → CoreStands x h → MayHappen h (Delivered msi)
         → has_vcpu (msi_taken msi h) g ≡ true
         → (record_of y g).stay ≡ Stay.Moving plan → KnowsIts y (msi_taken msi h) g plan }
+{}
+
+/// Targets of which no source is ready stand for the machine as it is made. Those that stand for a
+/// history stand for it with an event that aims nothing and is nothing to the APLIC, if they stay
+/// as they are; the core's calls that are given them say so of themselves (`targets`). With targets
+/// that stand beside a core, each source that is there may be passed, or refused.
+pub fn targets_stand_as_the_core_goes_on()
+    ensures begins { (map : TargetMap) (harts guests n sources : ℕ) → map.harts ≡ harts
+        → ((s : ℕ) → map.ready s ≡ false)
+        → TargetsStand map (Accepted (lines.Machine harts guests n sources) ∷ []) }
+    ensures event { (map : TargetMap) (h : History) (event : Event) → MayHappen h event
+        → IsHistory h → LeavesTheAplic event → aimed_by h event ≡ None → TargetsStand map h
+        → TargetsStand map (event ∷ h) }
+    ensures passes { (x : CoreState) (map : TargetMap) (h : History) (source : ℕ) → IsHistory h
+        → StandsWith x map h → is_in_range 1 (sources_of h) source ≡ true
+        → MayPass x map source }
+{}
+
+/// In a core that stands for a history no way leads to a place of a move but those of its own
+/// virtual hart; and with targets that stand for the history, beside it, the plan of each virtual
+/// hart that is moved knows all: of the places, the ways that lead there, and the targets.
+pub fn a_plan_in_a_core_knows_all()
+    ensures ways { (x : CoreState) (h : History) (g : Vcpu) (plan : PlanState) → CoreStands x h
+        → IsWhole x.world → has_vcpu h g ≡ true → (record_of x g).stay ≡ Stay.Moving plan
+        → KnowsWays x.world (moving_of plan) }
+    ensures all { (x : CoreState) (map : TargetMap) (h : History) (g : Vcpu) (plan : PlanState)
+        → IsHistory h → StandsWith x map h → IsWhole x.world → has_vcpu h g ≡ true
+        → (record_of x g).stay ≡ Stay.Moving plan
+        → KnowsAll x.world map plan (in_force_of h g) (guest_file h g) (a_look_saw h g) }
+{}
+
+/// A plan in the middle of a leave that knows all, in a world with two stores in flight, one for
+/// its virtual hart and one for another one, and with a passed source: what is promised of plans
+/// that know all is not promised of none. The targets stand for the history that leads there.
+/// Nothing leads to the guest file that is left; the first of these stores lands in the interrupt
+/// file, and the second one leaves it as it is.
+pub fn a_plan_knows_all_in_the_middle_of_a_leave()
+    ensures knows { KnowsAll flying_world example_targets leave_plan None leaver_interrupts false }
+    ensures targets { TargetsStand example_targets leaving_history }
+    ensures shut { OldPlaceIsShut flying_world example_targets leave_under_way }
+    ensures own { (u : World) → Lands flying_world u 0 0
+        → KnowsAll u example_targets leave_plan None (landed 0 3 leaver_interrupts) false }
+    ensures other { (u : World) → Lands flying_world u 0 1
+        → KnowsAll u example_targets leave_plan None leaver_interrupts false }
 {}

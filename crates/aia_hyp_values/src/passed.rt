@@ -6,7 +6,7 @@ pub struct Passed {
     /// The virtual hart's VM.
     pub vm: u32,
     /// Its number in the VM.
-    pub number: u32,
+    pub vcpu: u32,
     /// The identity for which the source asks there.
     pub identity: u32,
 }

@@ -9,7 +9,7 @@ use Rattle.aia_regs.specs.declared.domain_registers.DomainReg.{DomainReg}
 use Rattle.aia_regs.specs.declared.domain_registers.DomainReg.TheVariants.{DomainCfg, SourceCfg, Target}
 use Rattle.aia_file.specs.Map.{spot_at}
 use Rattle.aia_vcpu.specs.declared.place.GuestPlace.{GuestPlace}
-use Rattle.aia_vcpu.specs.Vms.{Vcpu, vcpu, notice_hart, is_vcpu_in}
+use Rattle.aia_vcpu.specs.Vms.{Vcpu, vcpu_of, notice_hart, is_vcpu_in}
 use Rattle.aia_vcpu.specs.Home.{is_moving}
 use Rattle.aia_vcpu.specs.Aims.{is_aiming, aims_done, aimed, pass_reaches, target_to}
 use Rattle.aia_vcpu.specs.Routes.{is_at_fence}
@@ -74,9 +74,9 @@ aim_in s g p =
     (pass_reaches (aims_done (s.homes g)) (aimed (s.homes g))))
 
 same_aim : (event : Event) (h k : History) → setting_of h ≡ setting_of k → ◌≡◌ {A = Option Act} (aimed_by h event) (aimed_by k event)
-same_aim (Accepted (lines.Pass source vm number identity)) h k e =
-    ap (λ (s : Setting). Some (Aimed source (target_in s (length s.passes) (vcpu vm number) identity
-    (pass_reaches (passes_to (vcpu vm number) s.passes) (s.homes (vcpu vm number)))))) e
+same_aim (Accepted (lines.Pass source vm vcpu identity)) h k e =
+    ap (λ (s : Setting). Some (Aimed source (target_in s (length s.passes) (vcpu_of vm vcpu) identity
+    (pass_reaches (passes_to (vcpu_of vm vcpu) s.passes) (s.homes (vcpu_of vm vcpu)))))) e
 same_aim (Stepped g) h k e =
     ap (λ (s : Setting). if is_aiming (passes_to g s.passes) (s.homes g)
     then Some (aim_in s g (slice_index_or (numbers_to g 0 s.passes) (aims_done (s.homes g)) 0)) else None) e
@@ -245,12 +245,12 @@ same_store addr value h k a =
     ∙ ap (λ b. nat_lt 0 (length (passes_of k)) && b) (same_redirects (domain_at addr) (register_at addr) value h k a)
 
 abbrev pass_word : ℕ → ℕ → ℕ → ℕ → Setting → Past → Option Answer
-pass_word source vm number identity s acts =
+pass_word source vm vcpu identity s acts =
     cond (not (is_some s.machine)) (Some NoMachine)
-    (cond (not (is_in_range 1 (option_map_or (λ (m : MachineSize). m.sources) s.machine 0) source && is_vcpu_in s.vms (vcpu vm number)
+    (cond (not (is_in_range 1 (option_map_or (λ (m : MachineSize). m.sources) s.machine 0) source && is_vcpu_in s.vms (vcpu_of vm vcpu)
     && is_in_range 1 (option_map_or (λ (m : MachineSize). m.n) s.machine 0) identity)) (Some (Refused Range))
     (cond (nat_le PASSES (length s.passes)) (Some (Refused Full))
-    (cond (is_moving (s.homes (vcpu vm number))) (Some (Refused Busy))
+    (cond (is_moving (s.homes (vcpu_of vm vcpu))) (Some (Refused Busy))
     (cond (is_some (least_of (λ p. nat_eq (slice_index_or s.passes p no_pass).source source) 0 (length s.passes))) (Some (Refused Passed))
     (cond (not (is_passable acts source)) (Some (Refused Unready)) None)))))
 
@@ -259,14 +259,14 @@ abbrev pub is_of_sources : Line → Bool
 is_of_sources (Wire source level) = true
 is_of_sources (Load addr) = true
 is_of_sources (Store addr value) = true
-is_of_sources (lines.Pass source vm number identity) = true
+is_of_sources (lines.Pass source vm vcpu identity) = true
 is_of_sources line = false
 
 pub of_sources : (line : Line) → is_about_sources line ≡ true → is_of_sources line ≡ true
 of_sources (Wire source level) its = refl
 of_sources (Load addr) its = refl
 of_sources (Store addr value) its = refl
-of_sources (lines.Pass source vm number identity) its = refl
+of_sources (lines.Pass source vm vcpu identity) its = refl
 of_sources line its = absurd (cc)
 
 pub source_refusal : (line : Line) (h k : History) → is_of_sources line ≡ true → SameAims h k → refusal h line ≡ refusal k line
@@ -277,8 +277,8 @@ source_refusal (Load addr) h k its a = ap (λ (s : Setting). place_word addr s.m
 source_refusal (Store addr value) h k its a =
     ap (store_word addr (machine_of h)) (same_store addr value h k a)
     ∙ ap (λ (s : Setting). store_word addr s.machine (redirects k addr value)) a.setting
-source_refusal (lines.Pass source vm number identity) h k its a =
-    ap (λ s. pass_word source vm number identity s (acts_of h)) a.setting ∙ ap (pass_word source vm number identity (setting_of k)) a.acts
+source_refusal (lines.Pass source vm vcpu identity) h k its a =
+    ap (λ s. pass_word source vm vcpu identity s (acts_of h)) a.setting ∙ ap (pass_word source vm vcpu identity (setting_of k)) a.acts
 source_refusal line h k its a = absurd (cc)
 
 pub source_accepted : (line : Line) (h k : History) → is_of_sources line ≡ true → SameAims h k → accepted_answer h line ≡ accepted_answer k line
@@ -286,5 +286,5 @@ source_accepted (Load addr) h k its a = ap (λ (acts : Past). Narrow
     (option_map_or (λ d. register_read acts d (register_at addr)) (domain_at addr) 0)) a.acts
 source_accepted (Wire source level) h k its a = refl
 source_accepted (Store addr value) h k its a = refl
-source_accepted (lines.Pass source vm number identity) h k its a = refl
+source_accepted (lines.Pass source vm vcpu identity) h k its a = refl
 source_accepted line h k its a = absurd (cc)

@@ -94,17 +94,17 @@ no_act (Store addr value) v e = nothing_there (λ d. Written d (register_at addr
 no_act line v e = refl
 
 passes_none : (line : Line) (v : ℕ) → concerns_by_sources v line ≡ false → passes_source line ≡ false
-passes_none (lines.Pass source vm number identity) v e = absurd (cc)
+passes_none (lines.Pass source vm vcpu identity) v e = absurd (cc)
 passes_none line v e = refl
 
 one_acts : (line : Line) (v : ℕ) (h : History) → concerns_by_sources v line ≡ false → acts_of (line_taken h line) ≡ acts_of h
-one_acts (lines.Move vm number (wants.Arrive hart)) v h e = absurd (cc)
-one_acts (lines.Move vm number wants.Leave) v h e = absurd (cc)
-one_acts (lines.Move vm number (wants.Shift hart)) v h e = absurd (cc)
-one_acts (lines.Begin vm number (wants.Arrive hart)) v h e = absurd (cc)
-one_acts (lines.Begin vm number wants.Leave) v h e = absurd (cc)
-one_acts (lines.Begin vm number (wants.Shift hart)) v h e = absurd (cc)
-one_acts (Step vm number) v h e = absurd (cc)
+one_acts (lines.Move vm vcpu (wants.Arrive hart)) v h e = absurd (cc)
+one_acts (lines.Move vm vcpu wants.Leave) v h e = absurd (cc)
+one_acts (lines.Move vm vcpu (wants.Shift hart)) v h e = absurd (cc)
+one_acts (lines.Begin vm vcpu (wants.Arrive hart)) v h e = absurd (cc)
+one_acts (lines.Begin vm vcpu wants.Leave) v h e = absurd (cc)
+one_acts (lines.Begin vm vcpu (wants.Shift hart)) v h e = absurd (cc)
+one_acts (Step vm vcpu) v h e = absurd (cc)
 one_acts (Land vm n) v h e = refl
 one_acts line v h e = quiet_acts line h (no_act line v e) (passes_none line v e)
 

@@ -61,27 +61,27 @@ other_event v g event past none quiet still silent by =
 -- ---- a line, a landing
 
 other_setup : (line : Line) (v : ℕ) → is_event_for v (Accepted line) ≡ false → sets_up (Accepted line) ≡ false
-other_setup (lines.Pass source vm number identity) v e = absurd (cc)
+other_setup (lines.Pass source vm vcpu identity) v e = absurd (cc)
 other_setup (Machine harts guests n sources) v e = absurd (cc)
 other_setup (lines.Vm vcpus mask hart) v e = absurd (cc)
 other_setup line v e = refl
 
 other_flight : (line : Line) (v : ℕ) → is_event_for v (Accepted line) ≡ false → is_of_flight v (Accepted line) ≡ false
-other_flight (lines.Pass source vm number identity) v e = refl
+other_flight (lines.Pass source vm vcpu identity) v e = refl
 other_flight (Send vm addr value) v e = e
 other_flight line v e = refl
 
 other_said : (line : Line) (v : ℕ) (past : History) (g : Vcpu) → is_event_for v (Accepted line) ≡ false → g.vm ≡ v
     → ◌≡◌ {A = Option Said} (said_by g past (Accepted line)) None
-other_said (lines.Pass source vm number identity) v past g e its = refl
+other_said (lines.Pass source vm vcpu identity) v past g e its = refl
 other_said (Machine harts guests n sources) v past g e its = absurd (cc)
 other_said (lines.Msi vm addr value) v past g e its = unsaid (lines.Msi vm addr value) v past g e its
-other_said (Ipi vm number to value) v past g e its = unsaid (Ipi vm number to value) v past g e its
-other_said (GuestCsr vm number csr op) v past g e its = unsaid (GuestCsr vm number csr op) v past g e its
-other_said (Inject vm number bit level) v past g e its = unsaid (Inject vm number bit level) v past g e its
-other_said (Hviprio vm number value) v past g e its = unsaid (Hviprio vm number value) v past g e its
-other_said (Hvictl vm number value) v past g e its = unsaid (Hvictl vm number value) v past g e its
-other_said (LoadPart vm number part) v past g e its = unsaid (LoadPart vm number part) v past g e its
+other_said (Ipi vm vcpu to value) v past g e its = unsaid (Ipi vm vcpu to value) v past g e its
+other_said (GuestCsr vm vcpu csr op) v past g e its = unsaid (GuestCsr vm vcpu csr op) v past g e its
+other_said (Inject vm vcpu bit level) v past g e its = unsaid (Inject vm vcpu bit level) v past g e its
+other_said (Hviprio vm vcpu value) v past g e its = unsaid (Hviprio vm vcpu value) v past g e its
+other_said (Hvictl vm vcpu value) v past g e its = unsaid (Hvictl vm vcpu value) v past g e its
+other_said (LoadPart vm vcpu part) v past g e its = unsaid (LoadPart vm vcpu part) v past g e its
 other_said line v past g e its = refl
 
 line_event : (v : ℕ) (g : Vcpu) (line : Line) (past : History) → g.vm ≡ v → IsByEvents v g past → IsByEvents v g (Accepted line ∷ past)
@@ -101,7 +101,7 @@ landing_event v g vm n past its by = elim (cases_Bool (nat_eq vm v)) [
 -- ---- a forward
 
 not_its : (v : ℕ) (g x : Vcpu) → nat_eq x.vm v ≡ false → g.vm ≡ v → is_vcpu g x ≡ false
-not_its v g x other its = other_vm v x.vm x.number g other its
+not_its v g x other its = other_vm v x.vm x.vcpu g other its
 
 -- the MSI of a pass, that is given to the VM as its interrupt, whether it was delivered or given on
 forward_event : (v : ℕ) (g : Vcpu) (event : Event) (past : History) (o : Option ℕ) → g.vm ≡ v → event_for v past event ≡ forward_for v past o

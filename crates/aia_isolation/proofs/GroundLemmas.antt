@@ -2,7 +2,7 @@
 -- virtual harts are, or pass sources, is what it answers where all others are left out.
 use Rattle.std.proofs.Common.{◌≡◌, ℕ, true, false, not, ◌||◌, cond, is_some, List, [], ◌∷◌, Some, None, unwrap_or, if◌then◌else◌, refl, sym, ap, subst, ◌∙◌}
 use Rattle.std.proofs.lemmas.Bool.{or_parts, false≢true}
-use Rattle.aia_vcpu.specs.Vms.{Vcpu, vcpu}
+use Rattle.aia_vcpu.specs.Vms.{Vcpu, vcpu_of}
 use Rattle.aia_vcpu.specs.Plans.{is_at_last}
 use Rattle.aia_model.specs.declared.line.Line.{Line}
 use Rattle.aia_model.specs.declared.line.Line.TheVariants.{Machine, Wire, Load, Store, MachineCsr, Step, Land, Enter, Exit}
@@ -85,7 +85,7 @@ same_refusal (lines.Vm vcpus mask hart) h k its a = vm_refusal vcpus mask hart h
 same_refusal (Wire source level) h k its a = source_refusal (Wire source level) h k refl a.aims
 same_refusal (Load addr) h k its a = source_refusal (Load addr) h k refl a.aims
 same_refusal (Store addr value) h k its a = source_refusal (Store addr value) h k refl a.aims
-same_refusal (lines.Pass source vm number identity) h k its a = source_refusal (lines.Pass source vm number identity) h k refl a.aims
+same_refusal (lines.Pass source vm vcpu identity) h k its a = source_refusal (lines.Pass source vm vcpu identity) h k refl a.aims
 same_refusal (MachineCsr hart csr op) h k its a =
     ap (λ (s : Setting). csr_word hart csr op s.machine (select_of h (MachineFile hart))) a.aims.setting
     ∙ ap (λ select. csr_word hart csr op (setting_of k).machine select) (a.hosts.selects hart)
@@ -95,17 +95,17 @@ same_accepted : (line : Line) (h k : History) → is_of_machine_level_by_sources
     → accepted_answer h line ≡ accepted_answer k line
 same_accepted (Load addr) h k its a = source_accepted (Load addr) h k refl a.aims
 same_accepted (MachineCsr hart csr op) h k its a = files_shown hart csr h k a.hosts
-same_accepted (Step vm number) h k its a =
-    ap (λ (s : Setting). if is_at_last (words_in s) (s.homes (vcpu vm number)) then Done else Moving) a.aims.setting
+same_accepted (Step vm vcpu) h k its a =
+    ap (λ (s : Setting). if is_at_last (words_in s) (s.homes (vcpu_of vm vcpu)) then Done else Moving) a.aims.setting
 same_accepted (Machine harts guests n sources) h k its a = refl
 same_accepted (lines.Vm vcpus mask hart) h k its a = refl
 same_accepted (Wire source level) h k its a = refl
 same_accepted (Store addr value) h k its a = refl
-same_accepted (lines.Pass source vm number identity) h k its a = refl
-same_accepted (lines.Move vm number want) h k its a = refl
-same_accepted (lines.Begin vm number want) h k its a = refl
-same_accepted (Enter vm number) h k its a = refl
-same_accepted (Exit vm number) h k its a = refl
+same_accepted (lines.Pass source vm vcpu identity) h k its a = refl
+same_accepted (lines.Move vm vcpu want) h k its a = refl
+same_accepted (lines.Begin vm vcpu want) h k its a = refl
+same_accepted (Enter vm vcpu) h k its a = refl
+same_accepted (Exit vm vcpu) h k its a = refl
 same_accepted line h k its a = absurd (false≢true its)
 
 same_answer : (line : Line) (h k : History) → is_of_machine_level_by_sources line ≡ true → Ground h k → answer h line ≡ answer k line
@@ -117,22 +117,22 @@ same_answer line h k its a =
 
 no_level : (line : Line) → is_of_machine_level_by_sources line ≡ false → is_of_machine_level line ≡ false
 no_level (lines.Vm vcpus mask hart) e = refl
-no_level (lines.Pass source vm number identity) e = refl
+no_level (lines.Pass source vm vcpu identity) e = refl
 no_level line e = (or_parts (is_of_machine_level line) (is_about_homes line) e).0
 
 no_home : (line : Line) → is_of_machine_level_by_sources line ≡ false → is_about_homes line ≡ false
 no_home (lines.Vm vcpus mask hart) e = refl
-no_home (lines.Pass source vm number identity) e = refl
+no_home (lines.Pass source vm vcpu identity) e = refl
 no_home line e = (or_parts (is_of_machine_level line) (is_about_homes line) e).1
 
 passes_none : (line : Line) → is_of_machine_level_by_sources line ≡ false → passes_source line ≡ false
-passes_none (lines.Pass source vm number identity) e = absurd (cc)
+passes_none (lines.Pass source vm vcpu identity) e = absurd (cc)
 passes_none line e = refl
 
 no_setup : (line : Line) → is_of_machine_level_by_sources line ≡ false → sets_up (Accepted line) ≡ false
 no_setup (Machine harts guests n sources) e = absurd (cc)
 no_setup (lines.Vm vcpus mask hart) e = absurd (cc)
-no_setup (lines.Pass source vm number identity) e = absurd (cc)
+no_setup (lines.Pass source vm vcpu identity) e = absurd (cc)
 no_setup line e = refl
 
 setting_less : (event : Event) (h : History) → sets_up event ≡ false → ((x : Vcpu) → moved h (home h) event x ≡ home h x)
@@ -153,9 +153,9 @@ line_less line h e = record {
 }
 
 one_taken : (line : Line) (h : History) → is_of_machine_level_by_sources line ≡ false → Ground (line_taken h line) h
-one_taken (lines.Move vm number want) h e = absurd (false≢true (sym e))
-one_taken (lines.Begin vm number want) h e = absurd (false≢true (sym e))
-one_taken (Step vm number) h e = absurd (false≢true (sym e))
+one_taken (lines.Move vm vcpu want) h e = absurd (false≢true (sym e))
+one_taken (lines.Begin vm vcpu want) h e = absurd (false≢true (sym e))
+one_taken (Step vm vcpu) h e = absurd (false≢true (sym e))
 one_taken (Land vm n) h e = record { aims = aims_landing vm n h; hosts = files_landing vm n h }
 one_taken line h e = line_less line h e
 

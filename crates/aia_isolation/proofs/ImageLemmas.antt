@@ -5,7 +5,7 @@ use Rattle.std.specs.List.{Contains}
 use Rattle.std.proofs.lemmas.List.{reverse-append}
 use Rattle.aia_regs.specs.declared.access.Csr.{Csr}
 use Rattle.aia_regs.specs.declared.access.Op.{Op}
-use Rattle.aia_vcpu.specs.Vms.{Vcpu, vcpu}
+use Rattle.aia_vcpu.specs.Vms.{Vcpu, vcpu_of}
 use Rattle.aia_model.specs.declared.line.Line.TheVariants.{Machine, GuestCsr, Save}
 use Rattle.aia_model.specs.declared.answer.Answer.TheVariants as answers
 use Rattle.aia_model.specs.Event.{Event, History, has_machine, greatest_identity_of}
@@ -127,7 +127,7 @@ answers_on first second g x loaded later good stands whole e =
 pub stays_on : (first second third : History) (g x y : Vcpu) (loaded later : List Said) → IsHistory first → has_machine first ≡ true
     → IsWholeImage (state_of first g) loaded → said second x ≡ later ++ loaded
     → said third y ≡ later ++ said first g → (csr : Csr) (op : Op) → HasCsr second x csr → HasCsr third y csr
-    → answer second (GuestCsr x.vm x.number csr op) ≡ answer third (GuestCsr y.vm y.number csr op)
+    → answer second (GuestCsr x.vm x.vcpu csr op) ≡ answer third (GuestCsr y.vm y.vcpu csr op)
 stays_on first second third g x y loaded later good stands whole e stayed csr op runs too =
     next_by second x csr op runs
     ∙ ap (λ s. answers_next s csr op) (goes_on first second g x loaded later good stands whole e ∙ sym (is_by_said third y ∙ ap guest_by stayed))
@@ -145,14 +145,14 @@ scripts_go_on script other g x loaded later stands whole e =
 
 -- ---- the parts of one save
 
-pub one_save : (h : History) (later : List Event) (vm number k : ℕ) → said_after h later (vcpu vm number) ≡ []
-    → refusal (later ++ h) (Save vm number k) ≡ None
-    → answer (later ++ h) (Save vm number k) ≡ answers.Part (part_of (state_of h (vcpu vm number)) k)
-one_save h later vm number k silent e =
-    saved_answer (later ++ h) vm number k e
-    ∙ ap (λ s. answers.Part (part_of s k)) (is_by_said (later ++ h) (vcpu vm number)
-    ∙ ap guest_by (said_later h later (vcpu vm number) ∙ ap (λ words. words ++ said h (vcpu vm number)) silent)
-    ∙ sym (is_by_said h (vcpu vm number)))
+pub one_save : (h : History) (later : List Event) (vm vcpu k : ℕ) → said_after h later (vcpu_of vm vcpu) ≡ []
+    → refusal (later ++ h) (Save vm vcpu k) ≡ None
+    → answer (later ++ h) (Save vm vcpu k) ≡ answers.Part (part_of (state_of h (vcpu_of vm vcpu)) k)
+one_save h later vm vcpu k silent e =
+    saved_answer (later ++ h) vm vcpu k e
+    ∙ ap (λ s. answers.Part (part_of s k)) (is_by_said (later ++ h) (vcpu_of vm vcpu)
+    ∙ ap guest_by (said_later h later (vcpu_of vm vcpu) ∙ ap (λ words. words ++ said h (vcpu_of vm vcpu)) silent)
+    ∙ sym (is_by_said h (vcpu_of vm vcpu)))
 
 -- ---- a worked one
 

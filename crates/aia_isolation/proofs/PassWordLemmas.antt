@@ -3,7 +3,7 @@ use Rattle.std.proofs.Common.{◌≡◌, ◌⊎◌, ℕ, Bool, true, false, not,
 use Rattle.std.specs.Int.{is_in_range}
 use Rattle.std.specs.Option.{option_map_or}
 use Rattle.aia_regs.specs.declared.limits.TheConstants.{PASSES}
-use Rattle.aia_vcpu.specs.Vms.{vcpu, is_vcpu_in}
+use Rattle.aia_vcpu.specs.Vms.{vcpu_of, is_vcpu_in}
 use Rattle.aia_vcpu.specs.Home.{is_moving}
 use Rattle.aia_model.specs.declared.answer.Answer.{Answer}
 use Rattle.aia_model.specs.declared.answer.Answer.TheVariants.{NoMachine, Refused}
@@ -37,53 +37,53 @@ told false false false false false unready false true = inr (inr refl)
 told false false false false false unready false false = inl refl
 
 abbrev range_of : History → ℕ → ℕ → ℕ → ℕ → Bool
-range_of h source vm number identity =
-    is_in_range 1 (sources_of h) source && has_vcpu h (vcpu vm number) && is_in_range 1 (greatest_identity_of h) identity
+range_of h source vm vcpu identity =
+    is_in_range 1 (sources_of h) source && has_vcpu h (vcpu_of vm vcpu) && is_in_range 1 (greatest_identity_of h) identity
 
-same_range : (v : ℕ) (h k : History) (source vm number identity : ℕ) → LooksAlike v h k
-    → range_of h source vm number identity ≡ range_of k source vm number identity
-same_range v h k source vm number identity a =
-    ap (λ machine. is_in_range 1 (option_map_or (λ (m : MachineSize). m.sources) machine 0) source && has_vcpu h (vcpu vm number)
+same_range : (v : ℕ) (h k : History) (source vm vcpu identity : ℕ) → LooksAlike v h k
+    → range_of h source vm vcpu identity ≡ range_of k source vm vcpu identity
+same_range v h k source vm vcpu identity a =
+    ap (λ machine. is_in_range 1 (option_map_or (λ (m : MachineSize). m.sources) machine 0) source && has_vcpu h (vcpu_of vm vcpu)
     && is_in_range 1 (option_map_or (λ (m : MachineSize). m.n) machine 0) identity) a.machine
-    ∙ ap (λ vms. is_in_range 1 (sources_of k) source && is_vcpu_in vms (vcpu vm number) && is_in_range 1 (greatest_identity_of k) identity) a.vms
+    ∙ ap (λ vms. is_in_range 1 (sources_of k) source && is_vcpu_in vms (vcpu_of vm vcpu) && is_in_range 1 (greatest_identity_of k) identity) a.vms
 
 -- after the second history, by what the first one has where both look alike
-word_then : (v : ℕ) (h k : History) (source vm number identity : ℕ) → LooksAlike v h k
+word_then : (v : ℕ) (h k : History) (source vm vcpu identity : ℕ) → LooksAlike v h k
     → is_passable (acts_of h) source ≡ is_passable (acts_of k) source
-    → refusal k (Pass source vm number identity)
-    ≡ chosen (not (has_machine h)) (not (range_of h source vm number identity)) (nat_le PASSES (length (passes_of k)))
-    (is_moving (home h (vcpu vm number))) (is_passed k source) (not (is_passable (acts_of h) source))
-word_then v h k source vm number identity a ready =
+    → refusal k (Pass source vm vcpu identity)
+    ≡ chosen (not (has_machine h)) (not (range_of h source vm vcpu identity)) (nat_le PASSES (length (passes_of k)))
+    (is_moving (home h (vcpu_of vm vcpu))) (is_passed k source) (not (is_passable (acts_of h) source))
+word_then v h k source vm vcpu identity a ready =
     let full = nat_le PASSES (length (passes_of k)) in
-    sym (ap (λ (machine : Option MachineSize). chosen (not (is_some machine)) (not (range_of h source vm number identity)) full
-    (is_moving (home h (vcpu vm number))) (is_passed k source) (not (is_passable (acts_of h) source))) a.machine
-    ∙ ap (λ range. chosen (not (has_machine k)) (not range) full (is_moving (home h (vcpu vm number))) (is_passed k source)
-    (not (is_passable (acts_of h) source))) (same_range v h k source vm number identity a)
-    ∙ ap (λ there. chosen (not (has_machine k)) (not (range_of k source vm number identity)) full (is_moving there) (is_passed k source)
-    (not (is_passable (acts_of h) source))) (a.homes (vcpu vm number))
-    ∙ ap (λ passable. chosen (not (has_machine k)) (not (range_of k source vm number identity)) full (is_moving (home k (vcpu vm number)))
+    sym (ap (λ (machine : Option MachineSize). chosen (not (is_some machine)) (not (range_of h source vm vcpu identity)) full
+    (is_moving (home h (vcpu_of vm vcpu))) (is_passed k source) (not (is_passable (acts_of h) source))) a.machine
+    ∙ ap (λ range. chosen (not (has_machine k)) (not range) full (is_moving (home h (vcpu_of vm vcpu))) (is_passed k source)
+    (not (is_passable (acts_of h) source))) (same_range v h k source vm vcpu identity a)
+    ∙ ap (λ there. chosen (not (has_machine k)) (not (range_of k source vm vcpu identity)) full (is_moving there) (is_passed k source)
+    (not (is_passable (acts_of h) source))) (a.homes (vcpu_of vm vcpu))
+    ∙ ap (λ passable. chosen (not (has_machine k)) (not (range_of k source vm vcpu identity)) full (is_moving (home k (vcpu_of vm vcpu)))
     (is_passed k source) (not passable)) ready)
 
-pub pass_told : (v : ℕ) (h k : History) (source vm number identity : ℕ) → LooksAlike v h k
+pub pass_told : (v : ℕ) (h k : History) (source vm vcpu identity : ℕ) → LooksAlike v h k
     → is_passable (acts_of h) source ≡ is_passable (acts_of k) source
-    → (refusal h (Pass source vm number identity) ≡ refusal k (Pass source vm number identity))
-    ⊎ ((tells_of_passes (refusal h (Pass source vm number identity)) ≡ true)
-    ⊎ (tells_of_passes (refusal k (Pass source vm number identity)) ≡ true))
-pass_told v h k source vm number identity a ready =
-    subst (λ word. (refusal h (Pass source vm number identity) ≡ word)
-    ⊎ ((tells_of_passes (refusal h (Pass source vm number identity)) ≡ true) ⊎ (tells_of_passes word ≡ true)))
-    (sym (word_then v h k source vm number identity a ready))
-    (told (not (has_machine h)) (not (range_of h source vm number identity)) (nat_le PASSES (length (passes_of h)))
-    (is_moving (home h (vcpu vm number))) (is_passed h source) (not (is_passable (acts_of h) source))
+    → (refusal h (Pass source vm vcpu identity) ≡ refusal k (Pass source vm vcpu identity))
+    ⊎ ((tells_of_passes (refusal h (Pass source vm vcpu identity)) ≡ true)
+    ⊎ (tells_of_passes (refusal k (Pass source vm vcpu identity)) ≡ true))
+pass_told v h k source vm vcpu identity a ready =
+    subst (λ word. (refusal h (Pass source vm vcpu identity) ≡ word)
+    ⊎ ((tells_of_passes (refusal h (Pass source vm vcpu identity)) ≡ true) ⊎ (tells_of_passes word ≡ true)))
+    (sym (word_then v h k source vm vcpu identity a ready))
+    (told (not (has_machine h)) (not (range_of h source vm vcpu identity)) (nat_le PASSES (length (passes_of h)))
+    (is_moving (home h (vcpu_of vm vcpu))) (is_passed h source) (not (is_passable (acts_of h) source))
     (nat_le PASSES (length (passes_of k))) (is_passed k source))
 
-pub pass_counted : (v : ℕ) (h k : History) (source vm number identity : ℕ) → LooksAlike v h k
+pub pass_counted : (v : ℕ) (h k : History) (source vm vcpu identity : ℕ) → LooksAlike v h k
     → is_passable (acts_of h) source ≡ is_passable (acts_of k) source → length (passes_of h) ≡ length (passes_of k)
     → is_passed h source ≡ is_passed k source
-    → refusal h (Pass source vm number identity) ≡ refusal k (Pass source vm number identity)
-pass_counted v h k source vm number identity a ready count passed =
-    ap (λ n. chosen (not (has_machine h)) (not (range_of h source vm number identity)) (nat_le PASSES n)
-    (is_moving (home h (vcpu vm number))) (is_passed h source) (not (is_passable (acts_of h) source))) count
-    ∙ ap (λ b. chosen (not (has_machine h)) (not (range_of h source vm number identity)) (nat_le PASSES (length (passes_of k)))
-    (is_moving (home h (vcpu vm number))) b (not (is_passable (acts_of h) source))) passed
-    ∙ sym (word_then v h k source vm number identity a ready)
+    → refusal h (Pass source vm vcpu identity) ≡ refusal k (Pass source vm vcpu identity)
+pass_counted v h k source vm vcpu identity a ready count passed =
+    ap (λ n. chosen (not (has_machine h)) (not (range_of h source vm vcpu identity)) (nat_le PASSES n)
+    (is_moving (home h (vcpu_of vm vcpu))) (is_passed h source) (not (is_passable (acts_of h) source))) count
+    ∙ ap (λ b. chosen (not (has_machine h)) (not (range_of h source vm vcpu identity)) (nat_le PASSES (length (passes_of k)))
+    (is_moving (home h (vcpu_of vm vcpu))) b (not (is_passable (acts_of h) source))) passed
+    ∙ sym (word_then v h k source vm vcpu identity a ready)

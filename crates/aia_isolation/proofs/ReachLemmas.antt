@@ -1,7 +1,7 @@
 -- A VM reaches the host's files by its notices alone.
 use Rattle.std.proofs.Common.{◌≡◌, List, [], ◌∷◌, ℕ, Bool, true, false, if◌then◌else◌, Option, Some, None, inl, inr, ◌⊎◌, refl, arith, sym, ap, ◌∙◌}
 use Rattle.std.proofs.lemmas.Bool.{cases_Bool, cond-true, cond-false, eqb-true, false≢true}
-use Rattle.aia_vcpu.specs.Vms.{Vcpu, vcpu}
+use Rattle.aia_vcpu.specs.Vms.{Vcpu, vcpu_of}
 use Rattle.aia_vcpu.proofs.VmLemmas.{same_slot}
 use Rattle.aia_model.specs.declared.line.Line.{Line}
 use Rattle.aia_model.specs.declared.line.Line.TheVariants.{Send, Land, GuestCsr, Ipi}
@@ -48,11 +48,11 @@ pub by_notices : (past : History) (line : Line) (v : ℕ) (f : FileName) → ref
     → (deed_at f past (Accepted line) ≡ Rests) ⊎ IsNoticeOf past v f (deed_at f past (Accepted line))
 by_notices past (lines.Msi vm addr value) v f e its =
     either_notice _ past v f (named_by past vm addr) (eqb-true vm v its) (device_allowed past vm addr value e)
-by_notices past (Ipi vm number to value) v f e its =
-    either_notice _ past v f (vcpu vm to) (eqb-true vm v its) (peer_allowed past vm number to value e)
+by_notices past (Ipi vm vcpu to value) v f e its =
+    either_notice _ past v f (vcpu_of vm to) (eqb-true vm v its) (peer_allowed past vm vcpu to value e)
 by_notices past (Send vm addr value) v f e its = inl refl
 by_notices past (Land vm k) v f e its = inl refl
-by_notices past (GuestCsr vm number csr op) v f e its = inl refl
+by_notices past (GuestCsr vm vcpu csr op) v f e its = inl refl
 by_notices past line v f e its = absurd (false≢true its)
 
 pub steps_by_notices : (past : History) (g : Vcpu) (f : FileName) → has_vcpu past g ≡ true → (deed_at f past (Stepped g) ≡ Rests)
@@ -60,12 +60,12 @@ pub steps_by_notices : (past : History) (g : Vcpu) (f : FileName) → has_vcpu p
 steps_by_notices past g f there = either_notice _ past g.vm f g refl there
 
 pub exits_by_notices : (past : History) (g : Vcpu) (f : FileName) → has_vcpu past g ≡ true
-    → (deed_at f past (Accepted (lines.Exit g.vm g.number)) ≡ Rests) ⊎ IsNoticeOf past g.vm f (deed_at f past (Accepted (lines.Exit g.vm g.number)))
+    → (deed_at f past (Accepted (lines.Exit g.vm g.vcpu)) ≡ Rests) ⊎ IsNoticeOf past g.vm f (deed_at f past (Accepted (lines.Exit g.vm g.vcpu)))
 exits_by_notices past g f there = either_notice _ past g.vm f g refl there
 
 pub loads_by_notices : (past : History) (g : Vcpu) (part : Part) (f : FileName) → has_vcpu past g ≡ true
-    → (deed_at f past (Accepted (lines.LoadPart g.vm g.number part)) ≡ Rests)
-    ⊎ IsNoticeOf past g.vm f (deed_at f past (Accepted (lines.LoadPart g.vm g.number part)))
+    → (deed_at f past (Accepted (lines.LoadPart g.vm g.vcpu part)) ≡ Rests)
+    ⊎ IsNoticeOf past g.vm f (deed_at f past (Accepted (lines.LoadPart g.vm g.vcpu part)))
 loads_by_notices past g (parts.Word w pending enable) f there = either_notice _ past g.vm f g refl there
 loads_by_notices past g (parts.Image version n delivery threshold select) f there = inl refl
 loads_by_notices past g (parts.Majors injected enabled) f there = inl refl
@@ -85,10 +85,10 @@ all_sent past = ap (λ waiting. sent_by waiting (acts_of past)) (none_waits past
 
 pub doing_keeps_acts : (past : History) (line : Line) (v : ℕ) → is_doing_of v line ≡ true → acts_of (Accepted line ∷ past) ≡ acts_of past
 doing_keeps_acts past (lines.Msi vm addr value) v its = all_sent past
-doing_keeps_acts past (Ipi vm number to value) v its = all_sent past
+doing_keeps_acts past (Ipi vm vcpu to value) v its = all_sent past
 doing_keeps_acts past (Send vm addr value) v its = all_sent past
 doing_keeps_acts past (Land vm k) v its = all_sent past
-doing_keeps_acts past (GuestCsr vm number csr op) v its = all_sent past
+doing_keeps_acts past (GuestCsr vm vcpu csr op) v its = all_sent past
 doing_keeps_acts past line v its = absurd (false≢true its)
 
 pub own_number : (h : History) (g x : Vcpu) → has_vcpu h g ≡ true → has_vcpu h x ≡ true → notice_number h g ≡ notice_number h x → g ≡ x

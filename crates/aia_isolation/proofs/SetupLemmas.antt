@@ -8,7 +8,7 @@ use Rattle.std.proofs.lemmas.Option.{slice_get-map}
 use Rattle.aia_regs.specs.Request.{requested}
 use Rattle.aia_entry.specs.Translation.{file_number}
 use Rattle.aia_vcpu.specs.declared.vm.Vm.{Vm}
-use Rattle.aia_vcpu.specs.Vms.{Vcpu, vcpu, is_vcpu, vm_in}
+use Rattle.aia_vcpu.specs.Vms.{Vcpu, vcpu_of, is_vcpu, vm_in}
 use Rattle.aia_model.specs.declared.line.Line.TheVariants.{Machine, Send, Ipi}
 use Rattle.aia_model.specs.declared.line.Line.TheVariants as lines
 use Rattle.aia_model.specs.Event.{Event, History, MachineSize, machine_of}
@@ -36,8 +36,8 @@ unfolding passes_of
 both_setup (Accepted (Machine harts guests n sources)) h k same = (refl, same.1, same.2)
 both_setup (Accepted (lines.Vm vcpus mask hart)) h k same =
     (same.0, ap (λ vms. vms ++ record { vcpus = vcpus; mask = mask; notice_hart = hart } ∷ []) same.1, same.2)
-both_setup (Accepted (lines.Pass source vm number identity)) h k same =
-    (same.0, same.1, ap (λ xs. xs ++ record { source = source; to = vcpu vm number; identity = identity } ∷ []) same.2)
+both_setup (Accepted (lines.Pass source vm vcpu identity)) h k same =
+    (same.0, same.1, ap (λ xs. xs ++ record { source = source; to = vcpu_of vm vcpu; identity = identity } ∷ []) same.2)
 both_setup (Accepted line) h k same = same
 both_setup (Began move) h k same = same
 both_setup (Stepped g) h k same = same
@@ -49,7 +49,7 @@ pub left_setup : (event : Event) (h : History) → sets_up event ≡ false → S
 unfolding passes_of
 left_setup (Accepted (Machine harts guests n sources)) h e = absurd (cc)
 left_setup (Accepted (lines.Vm vcpus mask hart)) h e = absurd (cc)
-left_setup (Accepted (lines.Pass source vm number identity)) h e = absurd (cc)
+left_setup (Accepted (lines.Pass source vm vcpu identity)) h e = absurd (cc)
 left_setup (Accepted line) h e = (refl, refl, refl)
 left_setup (Began move) h e = (refl, refl, refl)
 left_setup (Stepped g) h e = (refl, refl, refl)
@@ -89,7 +89,7 @@ sent_both v addr value h k setup same =
     map-append (seen_of v) (flight h v) (record { before = h; addr = addr; value = value } ∷ [])
     ∙ ap (λ xs. xs ++ seen_of v (record { before = h; addr = addr; value = value }) ∷ []) same
     ∙ ap (λ vms. map (seen_of v) (flight k v) ++ record
-    { to = vcpu v (file_number (vm_in vms v).mask addr); addr = addr; value = value } ∷ []) setup.1
+    { to = vcpu_of v (file_number (vm_in vms v).mask addr); addr = addr; value = value } ∷ []) setup.1
     ∙ sym (map-append (seen_of v) (flight k v) (record { before = k; addr = addr; value = value } ∷ []))
 
 both_flight : (v : ℕ) (event : Event) (h k : History) → SameSetup h k → SameFlight v h k → SameFlight v (event ∷ h) (event ∷ k)
@@ -142,12 +142,12 @@ left_for v event h quiet still = (left_setup event h quiet, left_flight v event 
 
 abbrev said_of_msi : Vcpu → ℕ → ℕ → ℕ → Option MachineSize → List Vm → Option Said
 said_of_msi g vm addr value machine vms =
-    if is_vcpu g (vcpu vm (file_number (vm_in vms vm).mask addr)) then option_map Asked
+    if is_vcpu g (vcpu_of vm (file_number (vm_in vms vm).mask addr)) then option_map Asked
     (requested (option_map_or (λ (m : MachineSize). m.n) machine 0) (addr % PAGE) value) else None
 
 abbrev said_of_peer : Vcpu → ℕ → ℕ → ℕ → Option MachineSize → Option Said
 said_of_peer g vm to value machine =
-    if is_vcpu g (vcpu vm to) then option_map Asked (requested (option_map_or (λ (m : MachineSize). m.n) machine 0) 0 value) else None
+    if is_vcpu g (vcpu_of vm to) then option_map Asked (requested (option_map_or (λ (m : MachineSize). m.n) machine 0) 0 value) else None
 
 abbrev said_of_landing : Vcpu → Option MachineSize → Option Seen → Option Said
 said_of_landing g machine None = None
@@ -198,19 +198,19 @@ own_landing n h k g same =
     landing_by h g g.vm (flying h g.vm n) ∙ ap (λ machine. said_of_landing g machine (option_map (seen_of g.vm) (flying h g.vm n))) same.0.0
     ∙ ap (said_of_landing g (machine_of k)) (seen_at g.vm n h k same.1) ∙ sym (landing_by k g g.vm (flying k g.vm n))
 
-pub other_vm : (v vm number : ℕ) (x : Vcpu) → nat_eq vm v ≡ false → x.vm ≡ v → is_vcpu x (vcpu vm number) ≡ false
-other_vm v vm number x other its = and_left (nat_eq x.vm vm) (nat_eq x.number number) (ne_eqb x.vm vm (λ same. eqb-false vm v other (sym same ∙ its)))
+pub other_vm : (v vm vcpu : ℕ) (x : Vcpu) → nat_eq vm v ≡ false → x.vm ≡ v → is_vcpu x (vcpu_of vm vcpu) ≡ false
+other_vm v vm vcpu x other its = and_left (nat_eq x.vm vm) (nat_eq x.vcpu vcpu) (ne_eqb x.vm vm (λ same. eqb-false vm v other (sym same ∙ its)))
 
 -- a store of another VM says nothing
 pub other_landing : (v vm : ℕ) (h : History) (x : Vcpu) (o : Option Sending) → nat_eq vm v ≡ false → x.vm ≡ v
     → ◌≡◌ {A = Option Said} (landing_said x h vm o) None
 other_landing v vm h x None other its = refl
-other_landing v vm h x (Some s) other its = cond-false _ _ _ (other_vm v vm (sent_to vm s).number x other its)
+other_landing v vm h x (Some s) other its = cond-false _ _ _ (other_vm v vm (sent_to vm s).vcpu x other its)
 
 pub same_said : (event : Event) (h k : History) (g : Vcpu) → SameFor g.vm h k → said_by g h event ≡ said_by g k event
 same_said (Accepted (lines.Msi vm addr value)) h k g same =
     ap (λ machine. said_of_msi g vm addr value machine (vms_of h)) same.0.0 ∙ ap (said_of_msi g vm addr value (machine_of k)) same.0.1
-same_said (Accepted (Ipi vm number to value)) h k g same = ap (said_of_peer g vm to value) same.0.0
+same_said (Accepted (Ipi vm vcpu to value)) h k g same = ap (said_of_peer g vm to value) same.0.0
 same_said (Accepted line) h k g same = refl
 same_said (Began move) h k g same = refl
 same_said (Stepped x) h k g same = refl

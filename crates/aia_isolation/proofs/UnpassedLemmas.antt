@@ -39,7 +39,7 @@ none_appended (y ∷ ys) x e = absurd (cc)
 
 pub unpassed_event : (event : Event) (h : History) → IsUnpassed (event ∷ h) → IsUnpassed h
 unfolding passes_of
-unpassed_event (Accepted (lines.Pass source vm number identity)) h e = none_appended (passes_of h) _ e
+unpassed_event (Accepted (lines.Pass source vm vcpu identity)) h e = none_appended (passes_of h) _ e
 unpassed_event (Accepted line) h e = e
 unpassed_event (Began move) h e = e
 unpassed_event (Stepped x) h e = e
@@ -109,7 +109,7 @@ none_passed_first = refl
 -- ---- nor by an event that passes none
 
 abbrev pub passes_source : Line → Bool
-passes_source (lines.Pass source vm number identity) = true
+passes_source (lines.Pass source vm vcpu identity) = true
 passes_source line = false
 
 abbrev pub is_passing : Event → Bool
@@ -118,7 +118,7 @@ is_passing event = false
 
 pub unpassed_on : (event : Event) (h : History) → is_passing event ≡ false → IsUnpassed h → IsUnpassed (event ∷ h)
 unfolding passes_of
-unpassed_on (Accepted (lines.Pass source vm number identity)) h other e = absurd (cc)
+unpassed_on (Accepted (lines.Pass source vm vcpu identity)) h other e = absurd (cc)
 unpassed_on (Accepted line) h other e = e
 unpassed_on (Began move) h other e = e
 unpassed_on (Stepped x) h other e = e
@@ -133,12 +133,12 @@ one_appended (y ∷ ys) x e = cc
 
 passing_passes : (h : History) (line : Line) → IsUnpassed (Accepted line ∷ h) → passes_source line ≡ false
 unfolding passes_of
-passing_passes h (lines.Pass source vm number identity) e = absurd (one_appended (passes_of h) _ e)
+passing_passes h (lines.Pass source vm vcpu identity) e = absurd (one_appended (passes_of h) _ e)
 passing_passes h line e = refl
 
 pub accepted_passes_none : (h : History) (line : Line) → IsUnpassed (after_accepted h line) → passes_source line ≡ false
-accepted_passes_none h (lines.Pass source vm number identity) e =
-    passing_passes h (lines.Pass source vm number identity) (unpassed_accepted h (lines.Pass source vm number identity) e)
+accepted_passes_none h (lines.Pass source vm vcpu identity) e =
+    passing_passes h (lines.Pass source vm vcpu identity) (unpassed_accepted h (lines.Pass source vm vcpu identity) e)
 accepted_passes_none h line e = refl
 
 -- ---- no MSI is given on, no step aims

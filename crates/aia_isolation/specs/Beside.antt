@@ -22,7 +22,7 @@ abbrev pub is_about_sources : Line → Bool
 is_about_sources (Wire source level) = true
 is_about_sources (Load addr) = is_some (domain_at addr)
 is_about_sources (Store addr value) = is_some (domain_at addr)
-is_about_sources (lines.Pass source vm number identity) = true
+is_about_sources (lines.Pass source vm vcpu identity) = true
 is_about_sources line = false
 
 -- Whether a line concerns a VM where sources may be passed: it does where none is, or decides what
@@ -34,7 +34,7 @@ concerns_by_sources v line = concerns v line || is_about_sources line
 -- makes a VM, is about where virtual harts are, or passes a source.
 abbrev pub is_of_machine_level_by_sources : Line → Bool
 is_of_machine_level_by_sources (lines.Vm vcpus mask hart) = true
-is_of_machine_level_by_sources (lines.Pass source vm number identity) = true
+is_of_machine_level_by_sources (lines.Pass source vm vcpu identity) = true
 is_of_machine_level_by_sources line = is_of_machine_level line || is_about_homes line
 
 -- ---- what a pass tells

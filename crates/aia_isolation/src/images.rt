@@ -3,7 +3,7 @@
 ghost use Rattle.std.specs.Prelude.{◌≡◌, ℕ, true, List, [], ◌∷◌, ◌++◌, reverse, None};
 ghost use Rattle.aia_regs.specs.declared.access.Csr.{Csr};
 ghost use Rattle.aia_regs.specs.declared.access.Op.{Op};
-ghost use Rattle.aia_vcpu.specs.Vms.{Vcpu, vcpu};
+ghost use Rattle.aia_vcpu.specs.Vms.{Vcpu, vcpu_of};
 ghost use Rattle.aia_model.specs.declared.answer.Answer.TheVariants as answers;
 ghost use Rattle.aia_model.specs.declared.line.Line.TheVariants.{GuestCsr, Save};
 ghost use Rattle.aia_model.specs.Event.{Event, History, has_machine, greatest_identity_of};
@@ -41,13 +41,13 @@ pub fn a_virtual_hart_is_what_was_loaded_into_it()
 /// each line that saves a part, if it is not refused, answers a part of the state that it had at
 /// first. To save a part says nothing.
 pub fn the_parts_of_one_save_are_of_one_image()
-    ensures parts { (h : History) (since : List Event) (vm number k : ℕ)
-        → said_after h since (vcpu vm number) ≡ []
-        → refusal (since ++ h) (Save vm number k) ≡ None
-        → answer (since ++ h) (Save vm number k)
-        ≡ answers.Part (part_of (state_of h (vcpu vm number)) k) }
-    ensures silent { (h : History) (vm number k : ℕ) (g : Vcpu)
-        → said_by g h (Accepted (Save vm number k)) ≡ None }
+    ensures parts { (h : History) (since : List Event) (vm vcpu k : ℕ)
+        → said_after h since (vcpu_of vm vcpu) ≡ []
+        → refusal (since ++ h) (Save vm vcpu k) ≡ None
+        → answer (since ++ h) (Save vm vcpu k)
+        ≡ answers.Part (part_of (state_of h (vcpu_of vm vcpu)) k) }
+    ensures silent { (h : History) (vm vcpu k : ℕ) (g : Vcpu)
+        → said_by g h (Accepted (Save vm vcpu k)) ≡ None }
 {}
 
 /// An image carries a virtual hart on, to another one of the same machine or of another. Let
@@ -69,8 +69,8 @@ pub fn an_image_carries_a_virtual_hart_on()
         → IsHistory first → has_machine first ≡ true → IsWholeImage (state_of first g) loaded
         → said second x ≡ since ++ loaded → said third y ≡ since ++ said first g
         → (csr : Csr) (op : Op) → HasCsr second x csr → HasCsr third y csr
-        → answer second (GuestCsr x.vm x.number csr op)
-        ≡ answer third (GuestCsr y.vm y.number csr op) }
+        → answer second (GuestCsr x.vm x.vcpu csr op)
+        ≡ answer third (GuestCsr y.vm y.vcpu csr op) }
     ensures scripts { (script other : List ℕ) (g x : Vcpu) (loaded since : List Said)
         → has_machine (history_of script) ≡ true
         → IsWholeImage (state_of (history_of script) g) loaded

@@ -7,7 +7,7 @@ ghost use Rattle.std.specs.Prelude.{◌≡◌, true, false, [], ◌∷◌, ◌++
 ghost use Rattle.aia_regs.specs.declared.access.Csr.TheVariants.{Select, Reg, Topei, Sip};
 ghost use Rattle.aia_regs.specs.declared.access.Op.TheVariants.{Read, Write};
 ghost use Rattle.aia_regs.specs.BitUpdate.BitUpdate.{Ask, Clear};
-ghost use Rattle.aia_vcpu.specs.Vms.{vcpu};
+ghost use Rattle.aia_vcpu.specs.Vms.{vcpu_of};
 ghost use Rattle.aia_model.specs.Event.{has_machine};
 ghost use Rattle.aia_model.specs.Image.{GuestState};
 ghost use Rattle.aia_model.specs.StateOf.{state_of};
@@ -576,22 +576,22 @@ g 0 1 csrr siselect
 /// that read's. A store that names no identity says nothing, and all that says nothing may be left
 /// out.
 pub fn two_scripts_say_the_same()
-    ensures busy { said (history_of BUSY.now) (vcpu 0 0)
+    ensures busy { said (history_of BUSY.now) (vcpu_of 0 0)
         ≡ Asked 6 ∷ Did Topei (Write 0) ∷ Did Sip Read ∷ Asked 5 ∷ Injected 5 true
         ∷ Controlled 0x100 ∷ Did Reg (Write 0x60) ∷ Did Select (Write 0xc0) ∷ Made 63 ∷ [] }
-    ensures still { said (history_of STILL.now) (vcpu 1 1)
+    ensures still { said (history_of STILL.now) (vcpu_of 1 1)
         ≡ Asked 6 ∷ Did Topei (Write 0) ∷ Did Sip Read ∷ Asked 5 ∷ Injected 5 true
         ∷ Controlled 0x100 ∷ Did Reg (Write 0x60) ∷ Did Topei Read ∷ Did Select (Write 0xc0)
         ∷ Made 63 ∷ [] }
-    ensures without_reads { without_reads (said (history_of BUSY.now) (vcpu 0 0))
-        ≡ without_reads (said (history_of STILL.now) (vcpu 1 1)) }
-    ensures busy_replies { script_replies BUSY.now (vcpu 0 0)
+    ensures without_reads { without_reads (said (history_of BUSY.now) (vcpu_of 0 0))
+        ≡ without_reads (said (history_of STILL.now) (vcpu_of 1 1)) }
+    ensures busy_replies { script_replies BUSY.now (vcpu_of 0 0)
         ≡ Wide 0 ∷ Wide 0 ∷ Wide 0x20 ∷ Wide 0x50005 ∷ [] }
-    ensures still_replies { script_replies STILL.now (vcpu 1 1)
+    ensures still_replies { script_replies STILL.now (vcpu_of 1 1)
         ≡ Wide 0 ∷ Wide 0 ∷ Wide 0 ∷ Wide 0x20 ∷ Wide 0x50005 ∷ [] }
-    ensures automaton { replies_by (said (history_of BUSY.now) (vcpu 0 0))
+    ensures automaton { replies_by (said (history_of BUSY.now) (vcpu_of 0 0))
         ≡ Wide 0x50005 ∷ Wide 0x20 ∷ Wide 0 ∷ Wide 0 ∷ [] }
-    ensures left_out { length (purged (history_of BUSY.now) (vcpu 0 0)) ≡ 11 }
+    ensures left_out { length (purged (history_of BUSY.now) (vcpu_of 0 0)) ≡ 11 }
 {}
 
 /// The lines that concern a VM are answered as in the script that has no others, and so are those
@@ -609,15 +609,16 @@ pub fn a_vm_and_the_machine_level_are_answered_alone()
 /// pending then. All that was done at the host's file are the host's own instructions, and that
 /// notice.
 pub fn the_host_is_told_of_what_is_pending()
-    ensures asked { newest (λ past event. guest_pending_said past event (vcpu 0 0) 6)
+    ensures asked { newest (λ past event. guest_pending_said past event (vcpu_of 0 0) 6)
         (history_of BUSY.now) ≡ Ask }
-    ensures cleared { newest (λ past event. guest_pending_said past event (vcpu 0 0) 5)
+    ensures cleared { newest (λ past event. guest_pending_said past event (vcpu_of 0 0) 5)
         (history_of BUSY.now) ≡ Clear }
-    ensures pending { (guest_file (history_of BUSY.now) (vcpu 0 0)).pending 6 ≡ true }
-    ensures parked { home (history_of BUSY.now) (vcpu 0 0) ≡ InMemory Parked }
-    ensures deliverable { is_deliverable (history_of BUSY.now) (vcpu 0 0) 6 ≡ true }
-    ensures told { told_since (history_of BUSY.now) (notice_file (history_of BUSY.now) (vcpu 0 0))
-        (notice_number (history_of BUSY.now) (vcpu 0 0)) (vcpu 0 0) 6 ≡ true }
+    ensures pending { (guest_file (history_of BUSY.now) (vcpu_of 0 0)).pending 6 ≡ true }
+    ensures parked { home (history_of BUSY.now) (vcpu_of 0 0) ≡ InMemory Parked }
+    ensures deliverable { is_deliverable (history_of BUSY.now) (vcpu_of 0 0) 6 ≡ true }
+    ensures told { told_since (history_of BUSY.now)
+        (notice_file (history_of BUSY.now) (vcpu_of 0 0))
+        (notice_number (history_of BUSY.now) (vcpu_of 0 0)) (vcpu_of 0 0) 6 ≡ true }
     ensures seen { (file_of (history_of BUSY.now) (SupervisorFile 0)).pending 1 ≡ true }
     ensures deeds { deeds_of (history_of BUSY.now) (SupervisorFile 0)
         ≡ Accesses Reg Read ∷ Stores 0 1 ∷ Accesses Select (Write 0x80) ∷ Makes 63 ∷ [] }
@@ -633,16 +634,16 @@ pub fn the_host_is_told_of_what_is_pending()
 pub fn a_guest_leaves_while_stores_are_in_flight()
     ensures same_events { events_for 0 (history_of FLYING.now)
         ≡ events_for 0 (history_of STAYING.now) }
-    ensures said { said (history_of FLYING.now) (vcpu 0 0)
+    ensures said { said (history_of FLYING.now) (vcpu_of 0 0)
         ≡ Did Topei (Write 0) ∷ Did Topei (Write 0) ∷ Asked 5 ∷ Asked 6 ∷ Did Reg (Write 0x60)
         ∷ Did Select (Write 0xc0) ∷ Made 63 ∷ [] }
-    ensures flying { script_replies FLYING.now (vcpu 0 0)
+    ensures flying { script_replies FLYING.now (vcpu_of 0 0)
         ≡ Wide 0 ∷ Wide 0 ∷ Wide 0x50005 ∷ Wide 0x60006 ∷ [] }
-    ensures staying { script_replies STAYING.now (vcpu 0 0)
+    ensures staying { script_replies STAYING.now (vcpu_of 0 0)
         ≡ Wide 0 ∷ Wide 0 ∷ Wide 0x50005 ∷ Wide 0x60006 ∷ [] }
     ensures deeds { deeds_of (history_of FLYING.now) (SupervisorFile 0)
         ≡ Stores 0 1 ∷ Makes 63 ∷ [] }
-    ensures left_out { length (purged (history_of FLYING.now) (vcpu 0 0)) ≡ 10 }
+    ensures left_out { length (purged (history_of FLYING.now) (vcpu_of 0 0)) ≡ 10 }
 {}
 
 /// A source that is passed is heard the same whether its virtual hart is in a guest file or away:
@@ -650,12 +651,12 @@ pub fn a_guest_leaves_while_stores_are_in_flight()
 pub fn a_passed_source_is_heard_the_same_wherever_its_guest_is()
     ensures same_events { events_for 0 (history_of PASSED.now)
         ≡ events_for 0 (history_of PASSED_AWAY.now) }
-    ensures said { said (history_of PASSED.now) (vcpu 0 0)
+    ensures said { said (history_of PASSED.now) (vcpu_of 0 0)
         ≡ Did Topei (Write 0) ∷ Asked 5 ∷ Did Reg (Write 0x20) ∷ Did Select (Write 0xc0)
         ∷ Made 63 ∷ [] }
-    ensures here { script_replies PASSED.now (vcpu 0 0)
+    ensures here { script_replies PASSED.now (vcpu_of 0 0)
         ≡ Wide 0 ∷ Wide 0 ∷ Wide 0x50005 ∷ [] }
-    ensures away { script_replies PASSED_AWAY.now (vcpu 0 0)
+    ensures away { script_replies PASSED_AWAY.now (vcpu_of 0 0)
         ≡ Wide 0 ∷ Wide 0 ∷ Wide 0x50005 ∷ [] }
     ensures deeds { deeds_of (history_of PASSED_AWAY.now) (SupervisorFile 0)
         ≡ Relays 33 (Some 1) ∷ Stores 0 33 ∷ Makes 63 ∷ [] }
@@ -665,16 +666,18 @@ pub fn a_passed_source_is_heard_the_same_wherever_its_guest_is()
 /// and with that it adds nothing at a virtual hart to which the source is not passed.
 pub fn a_wire_adds_what_it_forwards()
     ensures stands { has_machine (history_of READY.now) ≡ true }
-    ensures before { (guest_file (history_of READY.now) (vcpu 0 0)).pending 5 ≡ false }
-    ensures after { (guest_file (after (history_of READY.now) (Wire 1 true)) (vcpu 0 0)).pending 5
+    ensures before { (guest_file (history_of READY.now) (vcpu_of 0 0)).pending 5 ≡ false }
+    ensures after { (guest_file (after (history_of READY.now) (Wire 1 true))
+        (vcpu_of 0 0)).pending 5
         ≡ true }
-    ensures other { (guest_file (after (history_of READY.now) (Wire 1 true)) (vcpu 0 0)).pending 6
+    ensures other { (guest_file (after (history_of READY.now) (Wire 1 true))
+        (vcpu_of 0 0)).pending 6
         ≡ false }
     ensures sent { msis_sent_by (history_of READY.now) (Wire 1 true)
         ≡ record { address = 0x28001000; value = 5; source = Some 1 } ∷ [] }
     ensures passed { passed_by (history_of READY.now) (Some 1) ≡ Some 0 }
     ensures pass { nth_pass (history_of READY.now) 0
-        ≡ record { source = 1; to = vcpu 0 0; identity = 5 } }
+        ≡ record { source = 1; to = vcpu_of 0 0; identity = 5 } }
 {}
 
 /// Where a source is passed, neither its VM nor the machine level is answered as if it were alone:
@@ -733,17 +736,17 @@ pub fn what_a_pass_to_another_vm_tells()
 pub fn an_image_is_carried_from_one_script_to_another()
     ensures saved { answers SAVED.now ≡ SAVED_ANSWERS.now }
     ensures stands { has_machine (history_of SAVED.now) ≡ true }
-    ensures size { (state_of (history_of SAVED.now) (vcpu 0 0)).file.n ≡ 63 }
-    ensures said { said (history_of LOADED.now) (vcpu 0 1)
+    ensures size { (state_of (history_of SAVED.now) (vcpu_of 0 0)).file.n ≡ 63 }
+    ensures said { said (history_of LOADED.now) (vcpu_of 0 1)
         ≡ (Did Select Read ∷ Did Topei (Write 0) ∷ Did Sip Read ∷ [])
-        ++ (loads_of (state_of (history_of SAVED.now) (vcpu 0 0)) (2 ∷ 3 ∷ 0 ∷ 1 ∷ 3 ∷ [])
+        ++ (loads_of (state_of (history_of SAVED.now) (vcpu_of 0 0)) (2 ∷ 3 ∷ 0 ∷ 1 ∷ 3 ∷ [])
         ++ Made 63 ∷ []) }
     ensures whole { (image : GuestState) → image.file.n ≡ 63
         → IsWholeImage image (loads_of image (2 ∷ 3 ∷ 0 ∷ 1 ∷ 3 ∷ []) ++ Made 63 ∷ []) }
-    ensures replies { script_replies LOADED.now (vcpu 0 1)
+    ensures replies { script_replies LOADED.now (vcpu_of 0 1)
         ≡ Wide 0x220 ∷ Wide 0x50005 ∷ Wide 0x70 ∷ [] }
     ensures automaton { replies_by ((Did Select Read ∷ Did Topei (Write 0) ∷ Did Sip Read ∷ [])
-        ++ said (history_of SAVED.now) (vcpu 0 0))
+        ++ said (history_of SAVED.now) (vcpu_of 0 0))
         ≡ Wide 0x70 ∷ Wide 0x50005 ∷ Wide 0x220 ∷ Wide 0 ∷ Wide 0 ∷ Wide 0xc0 ∷ Wide 0 ∷ Wide 0
         ∷ [] }
 {}

@@ -14,7 +14,7 @@ use Rattle.std.proofs.Common.{◌≡◌, ◌≢◌, ℕ, zero, suc, true, false,
 use Rattle.std.proofs.lemmas.Bool.{cond-false, not-true, eqb-false, ne_eqb, and_left, and_right, false≢true, eq-eqb, cases_Bool, or_parts}
 use Rattle.aia_regs.specs.BitUpdate.{settle, names}
 use Rattle.aia_file.specs.InterruptFile.{InterruptFile}
-use Rattle.aia_vcpu.specs.Vms.{Vcpu, vcpu, is_vcpu}
+use Rattle.aia_vcpu.specs.Vms.{Vcpu, vcpu_of, is_vcpu}
 use Rattle.aia_model.specs.declared.line.Line.{Line}
 use Rattle.aia_model.specs.declared.line.Line.TheVariants.{Machine, Wire, Load, Store, GuestCsr, Ipi, Step, Land, LoadPart}
 use Rattle.aia_model.specs.declared.line.Line.TheVariants as lines
@@ -260,8 +260,8 @@ move_same h line (Steps x) g moves all = one_step_same x h g all
 move_same h line (Lands vm k) g moves all = one_same vm k h g all
 
 silent_deed : (h : History) (line : Line) (g : Vcpu) → speaks_to h line g ≡ false → still_deed h (line_deed line) g
-silent_deed h (lines.Move vm number want) g e = subst (λ (x : Vcpu). Still h x.vm g) (sym (moves_its_own (vcpu vm number) want)) (still h vm g e)
-silent_deed h (Step vm number) g e = λ fence. still h vm g (sym (ap (λ b. b && flies_to h vm g) fence) ∙ e)
+silent_deed h (lines.Move vm vcpu want) g e = subst (λ (x : Vcpu). Still h x.vm g) (sym (moves_its_own (vcpu_of vm vcpu) want)) (still h vm g e)
+silent_deed h (Step vm vcpu) g e = λ fence. still h vm g (sym (ap (λ b. b && flies_to h vm g) fence) ∙ e)
 silent_deed h (Land vm k) g e = e
 silent_deed h line g e = tt
 
@@ -321,9 +321,9 @@ moved_same h line g moves quiet = let still = none_forwarded h line g (moves_sen
 -- an accepted line that does no steps of a move is one event
 one_event : (h : History) (line : Line) → does_steps (line_deed line) ≡ false → (line_taken h line ≡ event_of line ∷ h)
     ⊎ ((move : WantedMove) × (line_taken h line ≡ Began move ∷ h) × ((g : Vcpu) → guest_deed g h (event_of line) ≡ Rests))
-one_event h (lines.Move vm number want) e = absurd (cc)
-one_event h (Step vm number) e = absurd (cc)
-one_event h (lines.Begin vm number want) e = inr (wanted_move (vcpu vm number) want, refl, λ g. refl)
+one_event h (lines.Move vm vcpu want) e = absurd (cc)
+one_event h (Step vm vcpu) e = absurd (cc)
+one_event h (lines.Begin vm vcpu want) e = inr (wanted_move (vcpu_of vm vcpu) want, refl, λ g. refl)
 one_event h line e = inl refl
 
 select_by_step : (g : Vcpu) (event : Event) (h : History) → guest_select (event ∷ h) g ≡ select_after (guest_deed g h event) (guest_select h g)
@@ -356,9 +356,9 @@ quiet_rests : (line : Line) (h : History) (g : Vcpu) → has_machine h ≡ true 
 quiet_rests (Machine harts guests n sources) h g stands e none quiet =
     absurd (false≢true (sym (machine_allowed h harts guests n sources e).0 ∙ stands))
 quiet_rests (lines.Msi vm addr value) h g stands e none quiet = cond-false _ _ _ quiet
-quiet_rests (Ipi vm number to value) h g stands e none quiet = cond-false _ _ _ quiet
-quiet_rests (GuestCsr vm number csr op) h g stands e none quiet = cond-false _ _ _ quiet
-quiet_rests (LoadPart vm number part) h g stands e none quiet = cond-false _ _ _ quiet
+quiet_rests (Ipi vm vcpu to value) h g stands e none quiet = cond-false _ _ _ quiet
+quiet_rests (GuestCsr vm vcpu csr op) h g stands e none quiet = cond-false _ _ _ quiet
+quiet_rests (LoadPart vm vcpu part) h g stands e none quiet = cond-false _ _ _ quiet
 quiet_rests line h g stands e none quiet = refl
 
 moved_or_not : (deed : LineDeed) → (deed ≡ NoMove) ⊎ (deed ≢ NoMove)
@@ -382,30 +382,30 @@ quiet_same h line g still stands quiet = elim (moved_or_not (line_deed line)) [
   | inr moves ↦ let same = moved_same h line g moves quiet in (same.0, same.1)
 ]
 
-other_vm : (vm number : ℕ) (g : Vcpu) → not (nat_eq vm g.vm) ≡ true → is_vcpu g (vcpu vm number) ≡ false
-other_vm vm number g e = and_left (nat_eq g.vm vm) (nat_eq g.number number) (ne_eqb g.vm vm (λ same. eqb-false vm g.vm (not-true _ e) (sym same)))
+other_vm : (vm vcpu : ℕ) (g : Vcpu) → not (nat_eq vm g.vm) ≡ true → is_vcpu g (vcpu_of vm vcpu) ≡ false
+other_vm vm vcpu g e = and_left (nat_eq g.vm vm) (nat_eq g.vcpu vcpu) (ne_eqb g.vm vm (λ same. eqb-false vm g.vm (not-true _ e) (sym same)))
 
 none_flies_to : (h : History) (vm : ℕ) (g : Vcpu) → not (nat_eq vm g.vm) ≡ true → flies_to h vm g ≡ false
 none_flies_to h vm g e = none_of (flight h vm)
   where
     none_of : (xs : List Sending) → list_any (λ s. is_vcpu g (sent_to vm s)) xs ≡ false
     none_of [] = refl
-    none_of (x ∷ xs) = ap (λ b. b || list_any (λ s. is_vcpu g (sent_to vm s)) xs) (other_vm vm (sent_to vm x).number g e) ∙ none_of xs
+    none_of (x ∷ xs) = ap (λ b. b || list_any (λ s. is_vcpu g (sent_to vm s)) xs) (other_vm vm (sent_to vm x).vcpu g e) ∙ none_of xs
 
 pub other_is_quiet : (h : History) (line : Line) (g : Vcpu) → names_other_vm line g ≡ true → speaks_to h line g ≡ false
-other_is_quiet h (lines.Msi vm addr value) g e = other_vm vm (named_by h vm addr).number g e
-other_is_quiet h (Ipi vm number to value) g e = other_vm vm to g e
-other_is_quiet h (GuestCsr vm number csr op) g e = other_vm vm number g e
+other_is_quiet h (lines.Msi vm addr value) g e = other_vm vm (named_by h vm addr).vcpu g e
+other_is_quiet h (Ipi vm vcpu to value) g e = other_vm vm to g e
+other_is_quiet h (GuestCsr vm vcpu csr op) g e = other_vm vm vcpu g e
 other_is_quiet h (Land vm k) g e = by_store (flying h vm k)
   where
     by_store : (o : Option Sending) → option_map_or (λ s. is_vcpu g (sent_to vm s)) o false ≡ false
     by_store None = refl
-    by_store (Some s) = other_vm vm (sent_to vm s).number g e
-other_is_quiet h (lines.Move vm number (wants.Arrive hart)) g e = none_flies_to h vm g e
-other_is_quiet h (lines.Move vm number wants.Leave) g e = none_flies_to h vm g e
-other_is_quiet h (lines.Move vm number (wants.Shift hart)) g e = none_flies_to h vm g e
-other_is_quiet h (Step vm number) g e = and_right (is_at_fence (home h (vcpu vm number))) (flies_to h vm g) (none_flies_to h vm g e)
-other_is_quiet h (LoadPart vm number part) g e = other_vm vm number g e
+    by_store (Some s) = other_vm vm (sent_to vm s).vcpu g e
+other_is_quiet h (lines.Move vm vcpu (wants.Arrive hart)) g e = none_flies_to h vm g e
+other_is_quiet h (lines.Move vm vcpu wants.Leave) g e = none_flies_to h vm g e
+other_is_quiet h (lines.Move vm vcpu (wants.Shift hart)) g e = none_flies_to h vm g e
+other_is_quiet h (Step vm vcpu) g e = and_right (is_at_fence (home h (vcpu_of vm vcpu))) (flies_to h vm g) (none_flies_to h vm g e)
+other_is_quiet h (LoadPart vm vcpu part) g e = other_vm vm vcpu g e
 other_is_quiet h line g e = refl
 
 -- ---- the word of a line on an identity decides

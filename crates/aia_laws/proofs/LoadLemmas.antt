@@ -22,29 +22,29 @@ use Rattle.aia_model.proofs.SentLemmas.{none_sent_by}
 use Rattle.aia_vcpu.proofs.VmLemmas.{same_vcpu}
 use Rattle.aia_model.proofs.MoveLemmas.{is_itself}
 
-after_load : (h : History) (x : Vcpu) (part : Part) → refusal h (LoadPart x.vm x.number part) ≡ None
-    → after h (LoadPart x.vm x.number part) ≡ Accepted (LoadPart x.vm x.number part) ∷ h
+after_load : (h : History) (x : Vcpu) (part : Part) → refusal h (LoadPart x.vm x.vcpu part) ≡ None
+    → after h (LoadPart x.vm x.vcpu part) ≡ Accepted (LoadPart x.vm x.vcpu part) ∷ h
 after_load h x part e =
-    after_by h (LoadPart x.vm x.number part) None e
-    ∙ ap (λ sent. delivered sent (Accepted (LoadPart x.vm x.number part) ∷ h)) (none_sent_by h (LoadPart x.vm x.number part) refl)
+    after_by h (LoadPart x.vm x.vcpu part) None e
+    ∙ ap (λ sent. delivered sent (Accepted (LoadPart x.vm x.vcpu part) ∷ h)) (none_sent_by h (LoadPart x.vm x.vcpu part) refl)
 
-own_load : (h : History) (g : Vcpu) (part : Part) → state_of (Accepted (LoadPart g.vm g.number part) ∷ h) g ≡ part_loaded part (state_of h g)
+own_load : (h : History) (g : Vcpu) (part : Part) → state_of (Accepted (LoadPart g.vm g.vcpu part) ∷ h) g ≡ part_loaded part (state_of h g)
 unfolding select_by file_by majors_of
 own_load h g part = rw (is_itself g) refl
 
-other_load : (h : History) (x g : Vcpu) (part : Part) → x ≢ g → state_of (Accepted (LoadPart x.vm x.number part) ∷ h) g ≡ state_of h g
+other_load : (h : History) (x g : Vcpu) (part : Part) → x ≢ g → state_of (Accepted (LoadPart x.vm x.vcpu part) ∷ h) g ≡ state_of h g
 unfolding select_by file_by majors_of
 other_load h x g part other = elim (cases_Bool (is_vcpu g x)) [
   | inl own ↦ absurd (other (sym (same_vcpu g x own)))
   | inr away ↦ rw away refl
 ]
 
-pub line_loads : (h : History) (g : Vcpu) (part : Part) → refusal h (LoadPart g.vm g.number part) ≡ None
-    → state_of (after h (LoadPart g.vm g.number part)) g ≡ part_loaded part (state_of h g)
+pub line_loads : (h : History) (g : Vcpu) (part : Part) → refusal h (LoadPart g.vm g.vcpu part) ≡ None
+    → state_of (after h (LoadPart g.vm g.vcpu part)) g ≡ part_loaded part (state_of h g)
 line_loads h g part e = ap (λ now. state_of now g) (after_load h g part e) ∙ own_load h g part
 
-pub line_leaves : (h : History) (x g : Vcpu) (part : Part) → x ≢ g → refusal h (LoadPart x.vm x.number part) ≡ None
-    → state_of (after h (LoadPart x.vm x.number part)) g ≡ state_of h g
+pub line_leaves : (h : History) (x g : Vcpu) (part : Part) → x ≢ g → refusal h (LoadPart x.vm x.vcpu part) ≡ None
+    → state_of (after h (LoadPart x.vm x.vcpu part)) g ≡ state_of h g
 line_leaves h x g part other e = ap (λ now. state_of now g) (after_load h x part e) ∙ other_load h x g part other
 
 -- ---- what it reads follows from its state

@@ -23,7 +23,7 @@ use Rattle.aia_model.proofs.PlaceLemmas.{machine_first}
 use Rattle.aia_model.specs.Histories.{IsHistory}
 
 none_there : (g : Vcpu) → has_vcpu [] g ≡ false
-none_there g = le-ltb g.number 0 (omega arith)
+none_there g = le-ltb g.vcpu 0 (omega arith)
 
 -- where a virtual hart is, a machine stands
 pub machine_of_vcpu : (h : History) (g : Vcpu) → IsHistory h → has_vcpu h g ≡ true → has_machine h ≡ true

@@ -10,7 +10,7 @@ use Rattle.aia_regs.specs.Fields.{bit_number}
 use Rattle.aia_file.specs.InterruptFile.{is_greatest_identity}
 use Rattle.aia_major.specs.VsMajor.{majors_word, fits_hvip, fits_hviprio1, fits_hvictl}
 use Rattle.aia_major.proofs.RegisterLemmas.{majors_word-bit}
-use Rattle.aia_vcpu.specs.Vms.{Vcpu, vcpu}
+use Rattle.aia_vcpu.specs.Vms.{Vcpu, vcpu_of}
 use Rattle.aia_model.specs.declared.line.Line.TheVariants.{Save, LoadPart}
 use Rattle.aia_model.specs.declared.part.Part.{Part}
 use Rattle.aia_model.specs.declared.part.Part.TheVariants as parts
@@ -96,60 +96,60 @@ part_fits x (suc (suc (suc w))) is low =
     let n : x.file.n < 2 ^ 32 = small_identity x.file.n is.greatest in
     (tt, (omega (arith, low, n), (word_of-lt x.file.pending (64 * w) 64, (word_of-lt x.file.enabled (64 * w) 64, tt))))
 
-load_listed : (vm number : ℕ) (part : Part) → IsListed (LoadPart vm number part)
-load_listed vm number (parts.Image version n delivery threshold select) = (tt, (tt, (tt, (tt, (tt, (tt, (tt, (tt, (tt, tt)))))))))
-load_listed vm number (parts.Majors injected enabled) = (tt, (tt, (tt, (tt, (tt, (tt, tt))))))
-load_listed vm number (parts.Prio hviprio hvictl) = (tt, (tt, (tt, (tt, (tt, (tt, tt))))))
-load_listed vm number (parts.Word w pending enable) = (tt, (tt, (tt, (tt, (tt, (tt, (tt, tt)))))))
+load_listed : (vm vcpu : ℕ) (part : Part) → IsListed (LoadPart vm vcpu part)
+load_listed vm vcpu (parts.Image version n delivery threshold select) = (tt, (tt, (tt, (tt, (tt, (tt, (tt, (tt, (tt, tt)))))))))
+load_listed vm vcpu (parts.Majors injected enabled) = (tt, (tt, (tt, (tt, (tt, (tt, tt))))))
+load_listed vm vcpu (parts.Prio hviprio hvictl) = (tt, (tt, (tt, (tt, (tt, (tt, tt))))))
+load_listed vm vcpu (parts.Word w pending enable) = (tt, (tt, (tt, (tt, (tt, (tt, (tt, tt)))))))
 
 -- the text of a part after that of the virtual hart is the printed line
-pub load_printed : (x : Vcpu) (part : Part) → load_text x (part_text part) ≡ line_text (LoadPart x.vm x.number part)
+pub load_printed : (x : Vcpu) (part : Part) → load_text x (part_text part) ≡ line_text (LoadPart x.vm x.vcpu part)
 unfolding line_text
 load_printed x (parts.Image version n delivery threshold select) = refl
 load_printed x (parts.Majors injected enabled) = refl
 load_printed x (parts.Prio hviprio hvictl) = refl
 load_printed x (parts.Word w pending enable) = refl
 
-pub load_read : (x : Vcpu) (part : Part) → x.vm < 2 ^ 64 → x.number < 2 ^ 64 → AllByRecursion FitsField (part_fields part)
-    → reading (load_text x (part_text part)) ≡ parsed.Line (LoadPart x.vm x.number part)
-load_read x part vm number fits = ap reading (load_printed x part)
-    ∙ printed_read (LoadPart x.vm x.number part) (load_listed x.vm x.number part) (tt, (vm, (number, fits)))
+pub load_read : (x : Vcpu) (part : Part) → x.vm < 2 ^ 64 → x.vcpu < 2 ^ 64 → AllByRecursion FitsField (part_fields part)
+    → reading (load_text x (part_text part)) ≡ parsed.Line (LoadPart x.vm x.vcpu part)
+load_read x part vm vcpu fits = ap reading (load_printed x part)
+    ∙ printed_read (LoadPart x.vm x.vcpu part) (load_listed x.vm x.vcpu part) (tt, (vm, (vcpu, fits)))
 
 -- ---- of one that is saved
 
 -- a part that may be loaded is loaded where a virtual hart is parked
-load_accepted : (h : History) (vm number : ℕ) (part : Part) → has_machine h ≡ true → has_vcpu h (vcpu vm number) ≡ true
-    → home h (vcpu vm number) ≡ InMemory Parked → is_loadable (greatest_identity_of h) part ≡ true → refusal h (LoadPart vm number part) ≡ None
-load_accepted h vm number part stands there parked may = rw (stands, there, may, parked) refl
+load_accepted : (h : History) (vm vcpu : ℕ) (part : Part) → has_machine h ≡ true → has_vcpu h (vcpu_of vm vcpu) ≡ true
+    → home h (vcpu_of vm vcpu) ≡ InMemory Parked → is_loadable (greatest_identity_of h) part ≡ true → refusal h (LoadPart vm vcpu part) ≡ None
+load_accepted h vm vcpu part stands there parked may = rw (stands, there, may, parked) refl
 
-saved_low : (h : History) (vm number k : ℕ) → refusal h (Save vm number k) ≡ None → k < part_count (state_of h (vcpu vm number))
-saved_low h vm number k e =
-    subst (λ n. k < parts_in ((n + 1) / 64)) (sym (guest_greatest h (vcpu vm number)))
-    (ltb-true k (parts_in (file_words h)) (save_allowed h vm number k e).fits)
+saved_low : (h : History) (vm vcpu k : ℕ) → refusal h (Save vm vcpu k) ≡ None → k < part_count (state_of h (vcpu_of vm vcpu))
+saved_low h vm vcpu k e =
+    subst (λ n. k < parts_in ((n + 1) / 64)) (sym (guest_greatest h (vcpu_of vm vcpu)))
+    (ltb-true k (parts_in (file_words h)) (save_allowed h vm vcpu k e).fits)
 
-saved_state : (h : History) (vm number k : ℕ) → IsHistory h → refusal h (Save vm number k) ≡ None → IsState (state_of h (vcpu vm number))
-saved_state h vm number k good e = is_state h (vcpu vm number) good (machine_of_vcpu h (vcpu vm number) good (save_allowed h vm number k e).there)
+saved_state : (h : History) (vm vcpu k : ℕ) → IsHistory h → refusal h (Save vm vcpu k) ≡ None → IsState (state_of h (vcpu_of vm vcpu))
+saved_state h vm vcpu k good e = is_state h (vcpu_of vm vcpu) good (machine_of_vcpu h (vcpu_of vm vcpu) good (save_allowed h vm vcpu k e).there)
 
-pub saved_answer : (h : History) (vm number k : ℕ) → refusal h (Save vm number k) ≡ None
-    → answer h (Save vm number k) ≡ answers.Part (part_of (state_of h (vcpu vm number)) k)
-saved_answer h vm number k e = answered h (Save vm number k) None e
+pub saved_answer : (h : History) (vm vcpu k : ℕ) → refusal h (Save vm vcpu k) ≡ None
+    → answer h (Save vm vcpu k) ≡ answers.Part (part_of (state_of h (vcpu_of vm vcpu)) k)
+saved_answer h vm vcpu k e = answered h (Save vm vcpu k) None e
 
-pub saved_loadable : (h : History) (vm number k : ℕ) → IsHistory h → refusal h (Save vm number k) ≡ None
-    → is_loadable (greatest_identity_of h) (part_of (state_of h (vcpu vm number)) k) ≡ true
-saved_loadable h vm number k good e =
-    subst (λ n. is_loadable n (part_of (state_of h (vcpu vm number)) k) ≡ true) (guest_greatest h (vcpu vm number))
-    (part_loadable (state_of h (vcpu vm number)) k (saved_state h vm number k good e) (saved_low h vm number k e))
+pub saved_loadable : (h : History) (vm vcpu k : ℕ) → IsHistory h → refusal h (Save vm vcpu k) ≡ None
+    → is_loadable (greatest_identity_of h) (part_of (state_of h (vcpu_of vm vcpu)) k) ≡ true
+saved_loadable h vm vcpu k good e =
+    subst (λ n. is_loadable n (part_of (state_of h (vcpu_of vm vcpu)) k) ≡ true) (guest_greatest h (vcpu_of vm vcpu))
+    (part_loadable (state_of h (vcpu_of vm vcpu)) k (saved_state h vm vcpu k good e) (saved_low h vm vcpu k e))
 
-pub saved_accepted : (h other : History) (vm number k : ℕ) (x : Vcpu) → IsHistory h → refusal h (Save vm number k) ≡ None
+pub saved_accepted : (h other : History) (vm vcpu k : ℕ) (x : Vcpu) → IsHistory h → refusal h (Save vm vcpu k) ≡ None
     → has_machine other ≡ true → has_vcpu other x ≡ true → home other x ≡ InMemory Parked
-    → greatest_identity_of other ≡ greatest_identity_of h → refusal other (LoadPart x.vm x.number (part_of (state_of h (vcpu vm number)) k)) ≡ None
-saved_accepted h other vm number k x good e stands there parked same =
-    load_accepted other x.vm x.number (part_of (state_of h (vcpu vm number)) k) stands there parked
-    (ap (λ n. is_loadable n (part_of (state_of h (vcpu vm number)) k)) same ∙ saved_loadable h vm number k good e)
+    → greatest_identity_of other ≡ greatest_identity_of h → refusal other (LoadPart x.vm x.vcpu (part_of (state_of h (vcpu_of vm vcpu)) k)) ≡ None
+saved_accepted h other vm vcpu k x good e stands there parked same =
+    load_accepted other x.vm x.vcpu (part_of (state_of h (vcpu_of vm vcpu)) k) stands there parked
+    (ap (λ n. is_loadable n (part_of (state_of h (vcpu_of vm vcpu)) k)) same ∙ saved_loadable h vm vcpu k good e)
 
-pub saved_read : (h : History) (vm number k : ℕ) (x : Vcpu) → IsHistory h → refusal h (Save vm number k) ≡ None → x.vm < 2 ^ 64 → x.number < 2 ^ 64
-    → reading (load_text x (part_text (part_of (state_of h (vcpu vm number)) k))) ≡ parsed.Line
-    (LoadPart x.vm x.number (part_of (state_of h (vcpu vm number)) k))
-saved_read h vm number k x good e low_vm low_number =
-    load_read x (part_of (state_of h (vcpu vm number)) k) low_vm low_number
-    (part_fits (state_of h (vcpu vm number)) k (saved_state h vm number k good e) (saved_low h vm number k e))
+pub saved_read : (h : History) (vm vcpu k : ℕ) (x : Vcpu) → IsHistory h → refusal h (Save vm vcpu k) ≡ None → x.vm < 2 ^ 64 → x.vcpu < 2 ^ 64
+    → reading (load_text x (part_text (part_of (state_of h (vcpu_of vm vcpu)) k))) ≡ parsed.Line
+    (LoadPart x.vm x.vcpu (part_of (state_of h (vcpu_of vm vcpu)) k))
+saved_read h vm vcpu k x good e low_vm low_number =
+    load_read x (part_of (state_of h (vcpu_of vm vcpu)) k) low_vm low_number
+    (part_fits (state_of h (vcpu_of vm vcpu)) k (saved_state h vm vcpu k good e) (saved_low h vm vcpu k e))

@@ -4,7 +4,7 @@ use Rattle.std.specs.Int.{is_in_range}
 use Rattle.aia_file.specs.InterruptFile.{is_greatest_identity}
 use Rattle.aia_regs.specs.declared.access.Csr.TheVariants.{Sip, Sie}
 use Rattle.aia_major.specs.VsMajor.{VsMajorState}
-use Rattle.aia_vcpu.specs.Vms.{Vcpu, vcpu, is_vcpu}
+use Rattle.aia_vcpu.specs.Vms.{Vcpu, vcpu_of, is_vcpu}
 use Rattle.aia_model.specs.declared.line.Line.TheVariants.{GuestCsr, Inject, Hvictl, Hviprio, LoadPart}
 use Rattle.aia_model.specs.Event.{History, has_machine, greatest_identity_of}
 use Rattle.aia_model.specs.Event.Event.{Accepted, Began, Stepped, Delivered, Landed, Relayed}
@@ -26,21 +26,21 @@ one_of_two false x y p q = q
 majors_fit : (h : History) (g : Vcpu) → IsHistory h → AreFit (majors_of h g)
 unfolding majors_of
 majors_fit [] g good = new_fit
-majors_fit (Accepted (Inject vm number bit level) ∷ h) g good =
-    one_of_two (is_vcpu g (vcpu vm number)) _ _ (injection_fit bit level (majors_of h g) (inject_allowed h vm number bit level good.0)
+majors_fit (Accepted (Inject vm vcpu bit level) ∷ h) g good =
+    one_of_two (is_vcpu g (vcpu_of vm vcpu)) _ _ (injection_fit bit level (majors_of h g) (inject_allowed h vm vcpu bit level good.0)
     (majors_fit h g good.1)) (majors_fit h g good.1)
-majors_fit (Accepted (Hviprio vm number value) ∷ h) g good =
-    one_of_two (is_vcpu g (vcpu vm number)) _ _ (hviprio1_fit value (majors_of h g) (majors_fit h g good.1)) (majors_fit h g good.1)
-majors_fit (Accepted (Hvictl vm number value) ∷ h) g good =
-    one_of_two (is_vcpu g (vcpu vm number)) _ _ (hvictl_fit value (majors_of h g) (hvictl_allowed h vm number value good.0)
+majors_fit (Accepted (Hviprio vm vcpu value) ∷ h) g good =
+    one_of_two (is_vcpu g (vcpu_of vm vcpu)) _ _ (hviprio1_fit value (majors_of h g) (majors_fit h g good.1)) (majors_fit h g good.1)
+majors_fit (Accepted (Hvictl vm vcpu value) ∷ h) g good =
+    one_of_two (is_vcpu g (vcpu_of vm vcpu)) _ _ (hvictl_fit value (majors_of h g) (hvictl_allowed h vm vcpu value good.0)
     (majors_fit h g good.1)) (majors_fit h g good.1)
-majors_fit (Accepted (GuestCsr vm number Sip op) ∷ h) g good =
-    one_of_two (is_vcpu g (vcpu vm number)) _ _ (sip_fit op (majors_of h g) (majors_fit h g good.1)) (majors_fit h g good.1)
-majors_fit (Accepted (GuestCsr vm number Sie op) ∷ h) g good =
-    one_of_two (is_vcpu g (vcpu vm number)) _ _ (sie_fit op (majors_of h g) (majors_fit h g good.1)) (majors_fit h g good.1)
-majors_fit (Accepted (LoadPart vm number part) ∷ h) g good =
-    one_of_two (is_vcpu g (vcpu vm number)) _ _ (part_fit (greatest_identity_of h) part (majors_of h g)
-    (load_allowed h vm number part good.0).fits (majors_fit h g good.1)) (majors_fit h g good.1)
+majors_fit (Accepted (GuestCsr vm vcpu Sip op) ∷ h) g good =
+    one_of_two (is_vcpu g (vcpu_of vm vcpu)) _ _ (sip_fit op (majors_of h g) (majors_fit h g good.1)) (majors_fit h g good.1)
+majors_fit (Accepted (GuestCsr vm vcpu Sie op) ∷ h) g good =
+    one_of_two (is_vcpu g (vcpu_of vm vcpu)) _ _ (sie_fit op (majors_of h g) (majors_fit h g good.1)) (majors_fit h g good.1)
+majors_fit (Accepted (LoadPart vm vcpu part) ∷ h) g good =
+    one_of_two (is_vcpu g (vcpu_of vm vcpu)) _ _ (part_fit (greatest_identity_of h) part (majors_of h g)
+    (load_allowed h vm vcpu part good.0).fits (majors_fit h g good.1)) (majors_fit h g good.1)
 majors_fit (Accepted line ∷ h) g good = majors_fit h g good.1
 majors_fit (Began move ∷ h) g good = majors_fit h g good.1
 majors_fit (Stepped x ∷ h) g good = majors_fit h g good.1

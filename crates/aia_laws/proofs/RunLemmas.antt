@@ -26,7 +26,7 @@ use Rattle.aia_laws.specs.Claims.{HasCsr, HasSameFile}
 use Rattle.aia_laws.proofs.AfterLemmas.{IsSameGuest, and_same, by_refusal, taken_same, none_forwarded, file_after_line, select_after_line}
 
 abbrev own_line : Vcpu → Csr → Op → Line
-own_line g csr op = GuestCsr g.vm g.number csr op
+own_line g csr op = GuestCsr g.vm g.vcpu csr op
 
 -- what refuses it, whatever hvictl says
 abbrev file_refusal : History → Vcpu → Csr → Op → Option Answer
@@ -36,11 +36,11 @@ file_refusal h g csr op =
 
 refused_there : (h : History) (g : Vcpu) (csr : Csr) (op : Op) → IsFileCsr csr → HasCsr h g csr
     → refusal h (own_line g csr op) ≡ file_refusal h g csr op
-refused_there h g Select op own at = guest_refusal h g.vm g.number Select op at.machine ∙ cond-false _ _ _ (ap not at.there)
+refused_there h g Select op own at = guest_refusal h g.vm g.vcpu Select op at.machine ∙ cond-false _ _ _ (ap not at.there)
     ∙ cond-false _ _ _ (ap not at.served)
-refused_there h g Reg op own at = guest_refusal h g.vm g.number Reg op at.machine ∙ cond-false _ _ _ (ap not at.there)
+refused_there h g Reg op own at = guest_refusal h g.vm g.vcpu Reg op at.machine ∙ cond-false _ _ _ (ap not at.there)
     ∙ cond-false _ _ _ (ap not at.served)
-refused_there h g Topei op own at = guest_refusal h g.vm g.number Topei op at.machine ∙ cond-false _ _ _ (ap not at.there)
+refused_there h g Topei op own at = guest_refusal h g.vm g.vcpu Topei op at.machine ∙ cond-false _ _ _ (ap not at.there)
     ∙ cond-false _ _ _ (ap not at.served)
 refused_there h g csr op own at = absurd own
 
@@ -98,13 +98,13 @@ reads_the_same h k g csr op own at there same = by_refusal (file_refusal h g csr
 
 -- ---- that it begins to, and ceases to, is nothing to any
 
-entered_same : (vm number : ℕ) (h : History) (g : Vcpu) → IsSameGuest (Accepted (Enter vm number) ∷ h) h g
+entered_same : (vm vcpu : ℕ) (h : History) (g : Vcpu) → IsSameGuest (Accepted (Enter vm vcpu) ∷ h) h g
 unfolding select_by file_by majors_of
-entered_same vm number h g = (refl, refl, refl)
+entered_same vm vcpu h g = (refl, refl, refl)
 
-exited_same : (vm number : ℕ) (h : History) (g : Vcpu) → IsSameGuest (Accepted (Exit vm number) ∷ h) h g
+exited_same : (vm vcpu : ℕ) (h : History) (g : Vcpu) → IsSameGuest (Accepted (Exit vm vcpu) ∷ h) h g
 unfolding select_by file_by majors_of
-exited_same vm number h g = (refl, refl, refl)
+exited_same vm vcpu h g = (refl, refl, refl)
 
 abbrev StaysAfter : History → Line → Vcpu → Type 0
 StaysAfter h line g = HasSameFile (after h line) h g × (majors_of (after h line) g ≡ majors_of h g)
@@ -112,12 +112,12 @@ StaysAfter h line g = HasSameFile (after h line) h g × (majors_of (after h line
 stays_after : (h : History) (line : Line) (g : Vcpu) → IsSameGuest (after h line) h g → StaysAfter h line g
 stays_after h line g same = (record { file = same.0; select = same.1 }, same.2)
 
-pub enters_same : (h : History) (vm number : ℕ) (g : Vcpu) → StaysAfter h (Enter vm number) g
-enters_same h vm number g = stays_after h (Enter vm number) g (by_refusal (λ k. IsSameGuest k h g) h (Enter vm number) (refl, refl, refl)
-    (λ e. and_same (after h (Enter vm number)) (line_taken h (Enter vm number)) h g
-    (taken_same h (Enter vm number) g (none_forwarded h (Enter vm number) g refl) e) (entered_same vm number h g)))
+pub enters_same : (h : History) (vm vcpu : ℕ) (g : Vcpu) → StaysAfter h (Enter vm vcpu) g
+enters_same h vm vcpu g = stays_after h (Enter vm vcpu) g (by_refusal (λ k. IsSameGuest k h g) h (Enter vm vcpu) (refl, refl, refl)
+    (λ e. and_same (after h (Enter vm vcpu)) (line_taken h (Enter vm vcpu)) h g
+    (taken_same h (Enter vm vcpu) g (none_forwarded h (Enter vm vcpu) g refl) e) (entered_same vm vcpu h g)))
 
-pub exits_same : (h : History) (vm number : ℕ) (g : Vcpu) → StaysAfter h (Exit vm number) g
-exits_same h vm number g = stays_after h (Exit vm number) g (by_refusal (λ k. IsSameGuest k h g) h (Exit vm number) (refl, refl, refl)
-    (λ e. and_same (after h (Exit vm number)) (line_taken h (Exit vm number)) h g
-    (taken_same h (Exit vm number) g (none_forwarded h (Exit vm number) g refl) e) (exited_same vm number h g)))
+pub exits_same : (h : History) (vm vcpu : ℕ) (g : Vcpu) → StaysAfter h (Exit vm vcpu) g
+exits_same h vm vcpu g = stays_after h (Exit vm vcpu) g (by_refusal (λ k. IsSameGuest k h g) h (Exit vm vcpu) (refl, refl, refl)
+    (λ e. and_same (after h (Exit vm vcpu)) (line_taken h (Exit vm vcpu)) h g
+    (taken_same h (Exit vm vcpu) g (none_forwarded h (Exit vm vcpu) g refl) e) (exited_same vm vcpu h g)))

@@ -7,7 +7,7 @@ use Rattle.std.proofs.lemmas.Bool.Decides.{nat_tests}
 use Rattle.aia_regs.specs.BitUpdate.{BitUpdate, settle}
 use Rattle.aia_regs.specs.BitUpdate.BitUpdate.{Ask, Clear, Nothing}
 use Rattle.aia_file.specs.InterruptFile.{InterruptFile}
-use Rattle.aia_vcpu.specs.Vms.{Vcpu, vcpu}
+use Rattle.aia_vcpu.specs.Vms.{Vcpu, vcpu_of}
 use Rattle.aia_vcpu.specs.declared.rest.Rest.TheVariants.{Parked}
 use Rattle.aia_vcpu.specs.Home.Home.{InMemory}
 use Rattle.aia_vcpu.proofs.VmLemmas.{slot_below, same_vcpu}
@@ -62,12 +62,12 @@ noticed_is_there : (event : Event) (past : History) (g : Vcpu) → MayHappen pas
     → has_vcpu past g ≡ true
 noticed_is_there (Accepted (lines.Msi vm addr value)) past g may good e = ap (has_vcpu past) (chosen_is _ (named_by past vm addr) g e)
     ∙ device_allowed past vm addr value may
-noticed_is_there (Accepted (Ipi vm number to value)) past g may good e = ap (has_vcpu past) (chosen_is _ (vcpu vm to) g e)
-    ∙ peer_allowed past vm number to value may
-noticed_is_there (Accepted (Exit vm number)) past g may good e = ap (has_vcpu past) (chosen_is _ (vcpu vm number) g e)
-    ∙ (exit_allowed past vm number may).0
-noticed_is_there (Accepted (LoadPart vm number (parts.Word w pending enable))) past g may good e =
-    ap (has_vcpu past) (chosen_is _ (vcpu vm number) g e) ∙ (load_allowed past vm number (parts.Word w pending enable) may).there
+noticed_is_there (Accepted (Ipi vm vcpu to value)) past g may good e = ap (has_vcpu past) (chosen_is _ (vcpu_of vm to) g e)
+    ∙ peer_allowed past vm vcpu to value may
+noticed_is_there (Accepted (Exit vm vcpu)) past g may good e = ap (has_vcpu past) (chosen_is _ (vcpu_of vm vcpu) g e)
+    ∙ (exit_allowed past vm vcpu may).0
+noticed_is_there (Accepted (LoadPart vm vcpu (parts.Word w pending enable))) past g may good e =
+    ap (has_vcpu past) (chosen_is _ (vcpu_of vm vcpu) g e) ∙ (load_allowed past vm vcpu (parts.Word w pending enable) may).there
 noticed_is_there (Stepped x) past g may good e = ap (has_vcpu past) (chosen_is _ x g e) ∙ may.0
 noticed_is_there (Accepted line) past g may good e = absurd (false≢true e)
 noticed_is_there (Began move) past g may good e = absurd (false≢true e)
@@ -92,9 +92,9 @@ IsNoRelay event = Unit {0}
 notice_is_deed : (event : Event) (past : History) (f : FileName) (g : Vcpu) → IsNoRelay event → names_vcpu (noticed past event) g ≡ true
     → deed_at f past event ≡ notice_deed past f (Some g)
 notice_is_deed (Accepted (lines.Msi vm addr value)) past f g other e = ap (notice_deed past f) (noticed_one _ g e)
-notice_is_deed (Accepted (Ipi vm number to value)) past f g other e = ap (notice_deed past f) (noticed_one _ g e)
-notice_is_deed (Accepted (Exit vm number)) past f g other e = ap (notice_deed past f) (noticed_one _ g e)
-notice_is_deed (Accepted (LoadPart vm number part)) past f g other e = ap (notice_deed past f) (noticed_one _ g e)
+notice_is_deed (Accepted (Ipi vm vcpu to value)) past f g other e = ap (notice_deed past f) (noticed_one _ g e)
+notice_is_deed (Accepted (Exit vm vcpu)) past f g other e = ap (notice_deed past f) (noticed_one _ g e)
+notice_is_deed (Accepted (LoadPart vm vcpu part)) past f g other e = ap (notice_deed past f) (noticed_one _ g e)
 notice_is_deed (Stepped x) past f g other e = ap (notice_deed past f) (noticed_one _ g e)
 notice_is_deed (Accepted line) past f g other e = absurd (false≢true e)
 notice_is_deed (Began move) past f g other e = absurd (false≢true e)

@@ -3,6 +3,7 @@
 use Rattle.std.specs.Prelude.{◌≡◌, ℕ, ◌+◌, ◌/◌, ◌<◌, ◌≤◌, true, List, [], ◌∷◌, codes}
 use Rattle.std.specs.Int.{is_in_range}
 use Rattle.std.specs.List.{Contains, join_with_byte}
+use Rattle.aia_regs.specs.declared.limits.TheConstants.{SELECT_NUMBERS}
 use Rattle.aia_file.specs.InterruptFile.{is_greatest_identity, empty_file}
 use Rattle.aia_major.specs.VsMajor.{is_major, fits_hviprio1, fits_hvictl, new_majors}
 use Rattle.aia_vcpu.specs.Vms.{Vcpu}
@@ -15,7 +16,7 @@ use Rattle.aia_model.specs.Image.{GuestState, part_of, parts_in, part_loaded}
 -- AIA 1.0, IMSIC, and Interrupts for Virtual Machines (VS Level).
 pub record IsState (x : GuestState) : Type 0 where
   pub greatest : is_greatest_identity x.file.n ≡ true
-  pub select : x.select < 0x1000
+  pub select : x.select < SELECT_NUMBERS
   pub pending : (i : ℕ) → x.file.pending i ≡ true → is_in_range 1 x.file.n i ≡ true
   pub enabled : (i : ℕ) → x.file.enabled i ≡ true → is_in_range 1 x.file.n i ≡ true
   pub threshold : x.file.threshold ≤ x.file.n
@@ -55,4 +56,4 @@ loaded_all x (k ∷ earlier) was = part_loaded (part_of x k) (loaded_all x earli
 abbrev pub load_text : Vcpu → List ℕ → List ℕ
 load_text x printed =
     join_with_byte 32
-    (codes "load" ∷ decimal_text x.vm ∷ decimal_text x.number ∷ printed ∷ [])
+    (codes "load" ∷ decimal_text x.vm ∷ decimal_text x.vcpu ∷ printed ∷ [])

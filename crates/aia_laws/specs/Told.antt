@@ -2,7 +2,7 @@
 use Rattle.std.specs.Prelude.{◌≡◌, ℕ, Bool, true, false, not, ◌&&◌, ◌||◌, [], ◌∷◌, Option, Some, None, ◌%◌}
 use Rattle.aia_regs.specs.BitUpdate.{BitUpdate}
 use Rattle.aia_regs.specs.BitUpdate.BitUpdate.{Ask, Clear}
-use Rattle.aia_vcpu.specs.Vms.{Vcpu, vcpu, is_vcpu, notice_hart, notice_identity}
+use Rattle.aia_vcpu.specs.Vms.{Vcpu, vcpu_of, is_vcpu, notice_hart, notice_identity}
 use Rattle.aia_vcpu.specs.Home.{is_resident}
 use Rattle.aia_model.specs.Move.WantedMove.{Leaves}
 use Rattle.aia_model.specs.declared.line.Line.{Line}
@@ -53,7 +53,8 @@ guest_pending_said past event g i =
     pending_said (guest_select past g) (guest_file past g) (guest_deed g past event) i
 
 abbrev pub host_pending_said : History → Event → FileName → ℕ → BitUpdate
-host_pending_said past event f n = pending_said (select_of past f) (file_of past f) (deed_at f past event) n
+host_pending_said past event f n =
+    pending_said (select_of past f) (file_of past f) (deed_at f past event) n
 
 -- ---- since the newest request, and since the newest leave
 
@@ -65,7 +66,8 @@ begins_leave past event g = false
 -- Whether the host is to be told anew, after an event, of identity i at a virtual hart: the event
 -- asks for it there, or begins a leave of the virtual hart.
 abbrev pub is_to_be_told : History → Event → Vcpu → ℕ → Bool
-is_to_be_told past event g i = begins_leave past event g || is_ask (guest_pending_said past event g i)
+is_to_be_told past event g i =
+    begins_leave past event g || is_ask (guest_pending_said past event g i)
 
 -- Whether a virtual hart, where there is one, is g.
 abbrev pub names_vcpu : Option Vcpu → Vcpu → Bool
@@ -144,9 +146,9 @@ pub record LoadsDeliverable (past : History) (part : Part) (x g : Vcpu) : Type 0
 
 -- An event is the cause of a notice for a virtual hart.
 abbrev pub IsCause : History → Event → Vcpu → Type 0
-IsCause past (Accepted (Exit vm number)) g = ExitsDeliverable past (vcpu vm number) g
-IsCause past (Accepted (LoadPart vm number part)) g =
-    LoadsDeliverable past part (vcpu vm number) g
+IsCause past (Accepted (Exit vm vcpu)) g = ExitsDeliverable past (vcpu_of vm vcpu) g
+IsCause past (Accepted (LoadPart vm vcpu part)) g =
+    LoadsDeliverable past part (vcpu_of vm vcpu) g
 IsCause past (Accepted line) g = AsksForEnabled past line g
 IsCause past (Stepped x) g = EndsLeave past x g
 IsCause past (Landed vm k) g = LandsForEnabled past vm k g

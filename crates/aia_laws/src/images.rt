@@ -3,7 +3,7 @@
 ghost use Rattle.std.specs.Prelude.{◌≡◌, ◌≢◌, ℕ, ◌^◌, ◌<◌, true, false, List, None};
 ghost use Rattle.std.specs.List.{AllByRecursion};
 ghost use Rattle.aia_regs.specs.declared.access.Csr.{Csr};
-ghost use Rattle.aia_vcpu.specs.Vms.{Vcpu, vcpu};
+ghost use Rattle.aia_vcpu.specs.Vms.{Vcpu, vcpu_of};
 ghost use Rattle.aia_model.specs.declared.answer.Answer.TheVariants as answers;
 ghost use Rattle.aia_model.specs.declared.line.Line.TheVariants.{Save, LoadPart};
 ghost use Rattle.aia_model.specs.declared.parsed.Parsed.TheVariants as parsed;
@@ -52,11 +52,11 @@ pub fn all_parts_give_the_state()
 /// nothing to any other.
 pub fn a_line_loads_its_part()
     ensures own { (h : History) (g : Vcpu) (part : Part)
-        → refusal h (LoadPart g.vm g.number part) ≡ None
-        → state_of (after h (LoadPart g.vm g.number part)) g ≡ part_loaded part (state_of h g) }
+        → refusal h (LoadPart g.vm g.vcpu part) ≡ None
+        → state_of (after h (LoadPart g.vm g.vcpu part)) g ≡ part_loaded part (state_of h g) }
     ensures others { (h : History) (x g : Vcpu) (part : Part) → x ≢ g
-        → refusal h (LoadPart x.vm x.number part) ≡ None
-        → state_of (after h (LoadPart x.vm x.number part)) g ≡ state_of h g }
+        → refusal h (LoadPart x.vm x.vcpu part) ≡ None
+        → state_of (after h (LoadPart x.vm x.vcpu part)) g ≡ state_of h g }
 {}
 
 /// Each part of the image of a state may be loaded where files have as many identities. So may each
@@ -65,16 +65,16 @@ pub fn a_line_loads_its_part()
 pub fn what_is_saved_may_be_loaded()
     ensures parts { (x : GuestState) (k : ℕ) → IsState x → k < part_count x
         → is_loadable x.file.n (part_of x k) ≡ true }
-    ensures answered { (h : History) (vm number k : ℕ) → refusal h (Save vm number k) ≡ None
-        → answer h (Save vm number k) ≡ answers.Part (part_of (state_of h (vcpu vm number)) k) }
-    ensures saved { (h : History) (vm number k : ℕ) → IsHistory h
-        → refusal h (Save vm number k) ≡ None
-        → is_loadable (greatest_identity_of h) (part_of (state_of h (vcpu vm number)) k) ≡ true }
-    ensures accepted { (h other : History) (vm number k : ℕ) (x : Vcpu) → IsHistory h
-        → refusal h (Save vm number k) ≡ None → has_machine other ≡ true
+    ensures answered { (h : History) (vm vcpu k : ℕ) → refusal h (Save vm vcpu k) ≡ None
+        → answer h (Save vm vcpu k) ≡ answers.Part (part_of (state_of h (vcpu_of vm vcpu)) k) }
+    ensures saved { (h : History) (vm vcpu k : ℕ) → IsHistory h
+        → refusal h (Save vm vcpu k) ≡ None
+        → is_loadable (greatest_identity_of h) (part_of (state_of h (vcpu_of vm vcpu)) k) ≡ true }
+    ensures accepted { (h other : History) (vm vcpu k : ℕ) (x : Vcpu) → IsHistory h
+        → refusal h (Save vm vcpu k) ≡ None → has_machine other ≡ true
         → has_vcpu other x ≡ true → home other x ≡ InMemory Parked
         → greatest_identity_of other ≡ greatest_identity_of h
-        → refusal other (LoadPart x.vm x.number (part_of (state_of h (vcpu vm number)) k)) ≡ None }
+        → refusal other (LoadPart x.vm x.vcpu (part_of (state_of h (vcpu_of vm vcpu)) k)) ≡ None }
 {}
 
 /// What is printed for a part is what a line that loads it says of it: after `load` and the numbers
@@ -82,12 +82,12 @@ pub fn what_is_saved_may_be_loaded()
 /// each number is in the range of its field, as it is of all that lines save.
 pub fn what_is_printed_loads_it()
     ensures text { (x : Vcpu) (part : Part)
-        → load_text x (part_text part) ≡ line_text (LoadPart x.vm x.number part) }
-    ensures reading { (x : Vcpu) (part : Part) → x.vm < 2 ^ 64 → x.number < 2 ^ 64
+        → load_text x (part_text part) ≡ line_text (LoadPart x.vm x.vcpu part) }
+    ensures reading { (x : Vcpu) (part : Part) → x.vm < 2 ^ 64 → x.vcpu < 2 ^ 64
         → AllByRecursion FitsField (part_fields part)
-        → reading (load_text x (part_text part)) ≡ parsed.Line (LoadPart x.vm x.number part) }
-    ensures saved { (h : History) (vm number k : ℕ) (x : Vcpu) → IsHistory h
-        → refusal h (Save vm number k) ≡ None → x.vm < 2 ^ 64 → x.number < 2 ^ 64
-        → reading (load_text x (part_text (part_of (state_of h (vcpu vm number)) k)))
-        ≡ parsed.Line (LoadPart x.vm x.number (part_of (state_of h (vcpu vm number)) k)) }
+        → reading (load_text x (part_text part)) ≡ parsed.Line (LoadPart x.vm x.vcpu part) }
+    ensures saved { (h : History) (vm vcpu k : ℕ) (x : Vcpu) → IsHistory h
+        → refusal h (Save vm vcpu k) ≡ None → x.vm < 2 ^ 64 → x.vcpu < 2 ^ 64
+        → reading (load_text x (part_text (part_of (state_of h (vcpu_of vm vcpu)) k)))
+        ≡ parsed.Line (LoadPart x.vm x.vcpu (part_of (state_of h (vcpu_of vm vcpu)) k)) }
 {}

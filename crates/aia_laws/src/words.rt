@@ -24,7 +24,8 @@ pub fn the_newest_word_decides_at_a_guest()
 /// So it is in a file of the host, whose notices ask too.
 pub fn the_newest_word_decides_at_a_host()
     ensures pending { (h : History) (f : FileName) (i : ℕ) → IsHistory h
-        → (file_of h f).pending i ≡ is_ask (newest (λ past event. host_pending_said past event f i) h) }
+        → (file_of h f).pending i
+        ≡ is_ask (newest (λ past event. host_pending_said past event f i) h) }
     ensures enabled { (h : History) (f : FileName) (i : ℕ) → IsHistory h
         → (file_of h f).enabled i
         ≡ is_ask (newest (λ past event. host_enable_said past event f i) h) }

@@ -40,8 +40,8 @@ impl VsMajor {
     }
 
     /// Gives what the guest's `stopi` reads: the major on top in bits 27:16, and in bits 7:0 1, or,
-    /// where IPRIOM of `hvictl` is 1, its priority number, 255 standing for one above it; 0 where no
-    /// major is on top.
+    /// where IPRIOM of `hvictl` is 1, its priority number, 255 standing for one above it; 0 where
+    /// no major is on top.
     ///
     /// `stopei` is what the guest's `stopei` reads, and `signal` whether its interrupt file
     /// signals.

@@ -2,7 +2,7 @@
 use Rattle.std.proofs.Common.{◌≡◌, ℕ, false, is_none, ◌∷◌, Option, Some, None, refl, sym, subst, ◌∙◌}
 use Rattle.std.specs.Option.{option_map_or}
 use Rattle.std.proofs.lemmas.Bool.{cond-true}
-use Rattle.aia_vcpu.specs.Vms.{Vcpu, vcpu}
+use Rattle.aia_vcpu.specs.Vms.{Vcpu, vcpu_of}
 use Rattle.aia_vcpu.specs.Home.{Way, old_end, new_end, Home, is_moving, rests_in_memory, at_first, leaving, arriving, shifting}
 use Rattle.aia_vcpu.specs.declared.rest.Rest.TheVariants.{Parked}
 use Rattle.aia_vcpu.specs.Home.Home.{InMemory, Resident, OnWay}
@@ -22,11 +22,11 @@ use Rattle.aia_model.specs.Histories.{MayHappen}
 use Rattle.aia_model.proofs.MoveLemmas.{is_itself, home_step}
 use Rattle.aia_model.proofs.RefusalLemmas.{arrive_allowed, leave_allowed, shift_allowed}
 
-pub may_begin : (h : History) (vm number : ℕ) (want : Want) → refusal h (lines.Move vm number want) ≡ None
-    → MayHappen h (Began (wanted_move (vcpu vm number) want))
-may_begin h vm number wants.Leave e = let may = leave_allowed h vm number e in (may.0, may.1, refl)
-may_begin h vm number (wants.Arrive hart) e = let may = arrive_allowed h vm number hart e in (may.0, may.1, may.4)
-may_begin h vm number (wants.Shift hart) e = let may = shift_allowed h vm number hart e in (may.0, may.1, may.4)
+pub may_begin : (h : History) (vm vcpu : ℕ) (want : Want) → refusal h (lines.Move vm vcpu want) ≡ None
+    → MayHappen h (Began (wanted_move (vcpu_of vm vcpu) want))
+may_begin h vm vcpu wants.Leave e = let may = leave_allowed h vm vcpu e in (may.0, may.1, refl)
+may_begin h vm vcpu (wants.Arrive hart) e = let may = arrive_allowed h vm vcpu hart e in (may.0, may.1, may.4)
+may_begin h vm vcpu (wants.Shift hart) e = let may = shift_allowed h vm vcpu hart e in (may.0, may.1, may.4)
 
 -- a home is at the beginning of a way of the move, whose steps are those between its ends
 pub record IsBegun (move : WantedMove) (there : Home) : Type 0 where
@@ -49,20 +49,20 @@ shift_begun g hart None there idle kept free = absurd (cc)
 shift_begun g hart (Some f) (Resident p) idle kept free = record { way = Across p (guest_place hart f); at_home = refl; steps = λ words. refl }
 shift_begun g hart (Some f) there idle kept free = absurd (cc)
 
-pub begun : (h : History) (vm number : ℕ) (want : Want) → refusal h (lines.Move vm number want) ≡ None
-    → IsBegun (wanted_move (vcpu vm number) want) (home (Began (wanted_move (vcpu vm number) want) ∷ h) (vcpu vm number))
-begun h vm number wants.Leave e =
-    let g = vcpu vm number in
-    let may = leave_allowed h vm number e in
+pub begun : (h : History) (vm vcpu : ℕ) (want : Want) → refusal h (lines.Move vm vcpu want) ≡ None
+    → IsBegun (wanted_move (vcpu_of vm vcpu) want) (home (Began (wanted_move (vcpu_of vm vcpu) want) ∷ h) (vcpu_of vm vcpu))
+begun h vm vcpu wants.Leave e =
+    let g = vcpu_of vm vcpu in
+    let may = leave_allowed h vm vcpu e in
     subst (IsBegun (Leaves g)) (sym (home_step (Began (Leaves g)) h g ∙ cond-true _ _ _ (is_itself g))) (leave_begun g (home h g) may.1 may.2)
-begun h vm number (wants.Arrive hart) e =
-    let g = vcpu vm number in
-    let may = arrive_allowed h vm number hart e in
+begun h vm vcpu (wants.Arrive hart) e =
+    let g = vcpu_of vm vcpu in
+    let may = arrive_allowed h vm vcpu hart e in
     subst (IsBegun (Arrives g hart)) (sym (home_step (Began (Arrives g hart)) h g ∙ cond-true _ _ _ (is_itself g)))
     (arrive_begun g hart (free_file h (home h) hart) (home h g) may.2 may.3)
-begun h vm number (wants.Shift hart) e =
-    let g = vcpu vm number in
-    let may = shift_allowed h vm number hart e in
+begun h vm vcpu (wants.Shift hart) e =
+    let g = vcpu_of vm vcpu in
+    let may = shift_allowed h vm vcpu hart e in
     subst (IsBegun (Shifts g hart)) (sym (home_step (Began (Shifts g hart)) h g ∙ cond-true _ _ _ (is_itself g)))
     (shift_begun g hart (free_file h (home h) hart) (home h g) may.1 may.2 may.3)
 

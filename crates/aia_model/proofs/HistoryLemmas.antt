@@ -1,7 +1,7 @@
 -- Histories whose every event may happen: that of each script is one.
 use Rattle.std.proofs.Common.{◌≡◌, ℕ, zero, suc, ◌+◌, ◌-◌, ◌<◌, ◌≤◌, Bool, true, false, ◌&&◌, if◌then◌else◌, nat_eq, nat_lt, is_none, is_some, length, List, [], ◌∷◌, Option, Some, None, inl, inr, refl, sym, ap, subst, ◌∙◌, arith}
 use Rattle.std.proofs.lemmas.Bool.{cases_Bool, cases_eq, cases_lt, not-false, eqb-true, eq-eqb, ltb-true, ltb-false, lt-ltb, and_parts, and_from, false≢true}
-use Rattle.aia_vcpu.specs.Vms.{Vcpu, vcpu}
+use Rattle.aia_vcpu.specs.Vms.{Vcpu, vcpu_of}
 use Rattle.aia_vcpu.specs.Home.{Home, is_moving, led_to, at_rest, old_end, new_end}
 use Rattle.aia_vcpu.specs.Plans.{plan_steps}
 use Rattle.aia_vcpu.specs.Aims.{aims_step, AreAimed, further}
@@ -150,23 +150,23 @@ steps_happen (suc count) g h there left good =
 move_left : (passes words : ℕ) (move : WantedMove) (there : Home) → IsBegun move there → steps_left passes words there ≡ steps_of words move + passes
 move_left passes words move there its = ap (steps_left passes words) its.at_home ∙ omega (arith, its.steps words)
 
-move_happens : (h : History) (vm number : ℕ) (want : Want) → refusal h (lines.Move vm number want) ≡ None → IsHistory h
-    → IsHistory (whole_move h (wanted_move (vcpu vm number) want))
+move_happens : (h : History) (vm vcpu : ℕ) (want : Want) → refusal h (lines.Move vm vcpu want) ≡ None → IsHistory h
+    → IsHistory (whole_move h (wanted_move (vcpu_of vm vcpu) want))
 unfolding passes_of
-move_happens h vm number want e good =
-    let move = wanted_move (vcpu vm number) want in
-    let may = may_begin h vm number want e in
+move_happens h vm vcpu want e good =
+    let move = wanted_move (vcpu_of vm vcpu) want in
+    let may = may_begin h vm vcpu want e in
     steps_happen (steps_of (file_words h) move + passes_for h (mover move)) (mover move) (Began move ∷ h) may.0
-    (ap (λ g. steps_left (passes_for h (mover move)) (file_words h) (home (Began move ∷ h) g)) (moves_its_own (vcpu vm number) want)
-    ∙ move_left (passes_for h (mover move)) (file_words h) move (home (Began move ∷ h) (vcpu vm number)) (begun h vm number want e))
+    (ap (λ g. steps_left (passes_for h (mover move)) (file_words h) (home (Began move ∷ h) g)) (moves_its_own (vcpu_of vm vcpu) want)
+    ∙ move_left (passes_for h (mover move)) (file_words h) move (home (Began move ∷ h) (vcpu_of vm vcpu)) (begun h vm vcpu want e))
     (may, good)
 
 -- ---- what a script does is such a history
 
 pub line_happens : (h : History) (line : Line) → refusal h line ≡ None → IsHistory h → IsHistory (line_taken h line)
-line_happens h (lines.Move vm number want) e good = move_happens h vm number want e good
-line_happens h (lines.Begin vm number want) e good = (may_begin h vm number want e, good)
-line_happens h (Step vm number) e good = let may = step_allowed h vm number e in step_happens (vcpu vm number) h may.0 may.1 good
+line_happens h (lines.Move vm vcpu want) e good = move_happens h vm vcpu want e good
+line_happens h (lines.Begin vm vcpu want) e good = (may_begin h vm vcpu want e, good)
+line_happens h (Step vm vcpu) e good = let may = step_allowed h vm vcpu e in step_happens (vcpu_of vm vcpu) h may.0 may.1 good
 line_happens h (Land vm k) e good = (land_allowed h vm k e, good)
 line_happens h line e good = (e, good)
 
@@ -180,11 +180,11 @@ stands_stepped (suc count) g h stands = stands_stepped count g (step_taken g h) 
 -- after an accepted line a machine stands
 pub stands_then : (h : History) (line : Line) → refusal h line ≡ None → has_machine (line_taken h line) ≡ true
 stands_then h (Machine harts guests n sources) e = refl
-stands_then h (lines.Move vm number want) e =
-    let move = wanted_move (vcpu vm number) want in
+stands_then h (lines.Move vm vcpu want) e =
+    let move = wanted_move (vcpu_of vm vcpu) want in
     stands_stepped (steps_of (file_words h) move + passes_for h (mover move)) (mover move) _
-    (not-false _ (machine_stands h (lines.Move vm number want) e))
-stands_then h (Step vm number) e = stands_first (vcpu vm number) h (not-false _ (machine_stands h (Step vm number) e))
+    (not-false _ (machine_stands h (lines.Move vm vcpu want) e))
+stands_then h (Step vm vcpu) e = stands_first (vcpu_of vm vcpu) h (not-false _ (machine_stands h (Step vm vcpu) e))
 stands_then h line e = not-false _ (machine_stands h line e)
 
 same_reach : (msi : Msi) (h : History) (p : ℕ) → (pass_reach (Delivered msi ∷ h) p ≡ pass_reach h p) × (passes_of (Delivered msi ∷ h) ≡ passes_of h)

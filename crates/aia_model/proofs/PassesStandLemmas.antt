@@ -10,7 +10,7 @@ use Rattle.std.proofs.lemmas.List.{take-append-le}
 use Rattle.aia_regs.specs.declared.limits.TheConstants.{PASSES}
 use Rattle.aia_word.specs.Sets.{least_of}
 use Rattle.aia_word.proofs.LeastLemmas.{least_of-found, least_of_is, least_of_is_none}
-use Rattle.aia_vcpu.specs.Vms.{Vcpu, vcpu, is_vcpu, notice_hart}
+use Rattle.aia_vcpu.specs.Vms.{Vcpu, vcpu_of, is_vcpu, notice_hart}
 use Rattle.aia_vcpu.specs.Home.{Home, is_moving}
 use Rattle.aia_vcpu.specs.Home.Home.{OnWay}
 use Rattle.aia_vcpu.specs.BySteps.{new_file, is_drained}
@@ -49,7 +49,7 @@ use Rattle.aia_model.proofs.TargetLemmas.{passed_stays, aim_gives, sent_stays, s
 -- ---- nothing is passed to a virtual hart that is moved, so all are aimed in their turn
 
 passes_rest : (past : History) (event : Event) → MayHappen past event → PassAtRest past event
-passes_rest past (Accepted (lines.Pass source vm number identity)) may = (pass_allowed past source vm number identity may).rests
+passes_rest past (Accepted (lines.Pass source vm vcpu identity)) may = (pass_allowed past source vm vcpu identity may).rests
 passes_rest past (Accepted line) may = tt
 passes_rest past (Began move) may = tt
 passes_rest past (Stepped x) may = tt
@@ -147,11 +147,11 @@ none_without h p none s = by_machine (machine_of h) none (nth_pass h p).identity
     by_machine None e i there = none_there i there
     by_machine (Some m) e i there = absurd (cc)
 
-more_known : (h : History) (source vm number identity p : ℕ) → PassAllowed h source vm number identity → AllPassesStand h
-    → p < length (passes_of h ++ record { source = source; to = vcpu vm number; identity = identity } ∷ [])
-    → IsKnown (Accepted (lines.Pass source vm number identity) ∷ h) p
+more_known : (h : History) (source vm vcpu identity p : ℕ) → PassAllowed h source vm vcpu identity → AllPassesStand h
+    → p < length (passes_of h ++ record { source = source; to = vcpu_of vm vcpu; identity = identity } ∷ [])
+    → IsKnown (Accepted (lines.Pass source vm vcpu identity) ∷ h) p
 unfolding passes_of
-more_known h source vm number identity p may all low = elim (cases_lt p (length (passes_of h))) [
+more_known h source vm vcpu identity p may all low = elim (cases_lt p (length (passes_of h))) [
   | inl old ↦
       let s = all.pass p old in
       let e = old_pass (passes_of h) x p old in
@@ -163,7 +163,7 @@ more_known h source vm number identity p may all low = elim (cases_lt p (length 
       }
   | inr new ↦
       let last : length (passes_of h) ≡ p = let longer = one_longer (passes_of h) x in omega (arith, low, new, longer) in
-      subst (IsKnown (Accepted (lines.Pass source vm number identity) ∷ h)) last (record {
+      subst (IsKnown (Accepted (lines.Pass source vm vcpu identity) ∷ h)) last (record {
         there = subst (λ (y : PassedSource). has_vcpu h y.to ≡ true) (sym (new_pass (passes_of h) x)) may.there;
         identity = subst (λ (y : PassedSource). is_in_range 1 (greatest_identity_of h) y.identity ≡ true) (sym (new_pass (passes_of h) x))
             may.identity_there;
@@ -173,12 +173,12 @@ more_known h source vm number identity p may all low = elim (cases_lt p (length 
 ]
   where
     x : PassedSource
-    x = record { source = source; to = vcpu vm number; identity = identity }
+    x = record { source = source; to = vcpu_of vm vcpu; identity = identity }
 
 known_on : (event : Event) (h : History) (p : ℕ) → MayHappen h event → AllPassesStand h → p < length (passes_of (event ∷ h)) → IsKnown (event ∷ h) p
 unfolding passes_of
-known_on (Accepted (lines.Pass source vm number identity)) h p may all low =
-    more_known h source vm number identity p (pass_allowed h source vm number identity may) all low
+known_on (Accepted (lines.Pass source vm vcpu identity)) h p may all low =
+    more_known h source vm vcpu identity p (pass_allowed h source vm vcpu identity may) all low
 known_on (Accepted (Machine harts guests n sources)) h p may all low =
     absurd (none_without h p (machine_allowed h harts guests n sources may).0 (all.pass p low))
 known_on (Accepted (lines.Vm vcpus mask hart)) h p may all low = let s = all.pass p low in
@@ -197,11 +197,11 @@ abbrev pub acts_by : History → Line → Past
 acts_by h line = with_act (act_of line) (with_act (aimed_by h (Accepted line)) (acts_of h))
 
 -- a pass aims its own source, and leaves the others
-more_aimed : (h : History) (source vm number identity p : ℕ) → PassAllowed h source vm number identity → AllPassesStand h
-    → p < length (passes_of h ++ record { source = source; to = vcpu vm number; identity = identity } ∷ [])
-    → IsAimedIn (Accepted (lines.Pass source vm number identity) ∷ h) p (acts_by h (lines.Pass source vm number identity))
+more_aimed : (h : History) (source vm vcpu identity p : ℕ) → PassAllowed h source vm vcpu identity → AllPassesStand h
+    → p < length (passes_of h ++ record { source = source; to = vcpu_of vm vcpu; identity = identity } ∷ [])
+    → IsAimedIn (Accepted (lines.Pass source vm vcpu identity) ∷ h) p (acts_by h (lines.Pass source vm vcpu identity))
 unfolding passes_of home
-more_aimed h source vm number identity p may all low = elim (cases_lt p (length (passes_of h))) [
+more_aimed h source vm vcpu identity p may all low = elim (cases_lt p (length (passes_of h))) [
   | inl old ↦
       let s = all.pass p old in
       let e = old_pass (passes_of h) x p old in
@@ -218,7 +218,7 @@ more_aimed h source vm number identity p may all low = elim (cases_lt p (length 
       let e = new_pass (passes_of h) x in
       let t : take (length (passes_of h)) (passes_of h ++ x ∷ []) ≡ passes_of h = take-append_seam (passes_of h) (x ∷ []) in
       let own = aim_gives (acts_of h) source aim may.ready in
-      subst (λ p. IsAimedIn (Accepted (lines.Pass source vm number identity) ∷ h) p (acts_by h (lines.Pass source vm number identity))) last (record {
+      subst (λ p. IsAimedIn (Accepted (lines.Pass source vm vcpu identity) ∷ h) p (acts_by h (lines.Pass source vm vcpu identity))) last (record {
         passable = subst (λ (y : PassedSource). is_passable (Aimed source aim ∷ acts_of h) y.source ≡ true) (sym e) own.0;
         target = subst (λ (y : PassedSource). IsTarget (length (passes_of h)) y (take (length (passes_of h)) (passes_of h ++ x ∷ []))) (sym e)
             (subst (IsTarget (length (passes_of h)) x) (sym t) own.1);
@@ -226,10 +226,10 @@ more_aimed h source vm number identity p may all low = elim (cases_lt p (length 
 ]
   where
     x : PassedSource
-    x = record { source = source; to = vcpu vm number; identity = identity }
+    x = record { source = source; to = vcpu_of vm vcpu; identity = identity }
 
     aim : ℕ
-    aim = target_for h (length (passes_of h)) (vcpu vm number) identity (pass_reaches (passes_for h (vcpu vm number)) (home h (vcpu vm number)))
+    aim = target_for h (length (passes_of h)) (vcpu_of vm vcpu) identity (pass_reaches (passes_for h (vcpu_of vm vcpu)) (home h (vcpu_of vm vcpu)))
 
     IsTarget : ℕ → PassedSource → List PassedSource → Type 0
     IsTarget p y xs = target (Aimed source aim ∷ acts_of h) Child y.source ≡ target_to (notice_hart (vms_of h) y.to) p y.identity
@@ -275,8 +275,8 @@ rested_passes h line p = rest_keeps (λ there. pass_reaches (rank_of h p) there 
 pub line_aimed : (h : History) (line : Line) (p : ℕ) → refusal h line ≡ None → AllPassesStand h → p < length (passes_of (Accepted line ∷ h))
     → IsAimedIn (Accepted line ∷ h) p (acts_by h line)
 unfolding passes_of home
-line_aimed h (lines.Pass source vm number identity) p may all low =
-    more_aimed h source vm number identity p (pass_allowed h source vm number identity may) all low
+line_aimed h (lines.Pass source vm vcpu identity) p may all low =
+    more_aimed h source vm vcpu identity p (pass_allowed h source vm vcpu identity may) all low
 line_aimed h (Machine harts guests n sources) p may all low =
     absurd (none_without h p (machine_allowed h harts guests n sources may).0 (all.pass p low))
 line_aimed h (lines.Vm vcpus mask hart) p may all low = let s = all.pass p low in
@@ -448,9 +448,9 @@ event_aimed (Relayed q) h p may all low = let a = aimed_of h p (all.pass p low) 
 
 few_on : (event : Event) (h : History) → MayHappen h event → length (passes_of h) ≤ PASSES → length (passes_of (event ∷ h)) ≤ PASSES
 unfolding passes_of
-few_on (Accepted (lines.Pass source vm number identity)) h may few =
-    let longer = one_longer (passes_of h) (record { source = source; to = vcpu vm number; identity = identity }) in
-    let room = (pass_allowed h source vm number identity may).few in omega (arith, longer, room)
+few_on (Accepted (lines.Pass source vm vcpu identity)) h may few =
+    let longer = one_longer (passes_of h) (record { source = source; to = vcpu_of vm vcpu; identity = identity }) in
+    let room = (pass_allowed h source vm vcpu identity may).few in omega (arith, longer, room)
 few_on (Accepted line) h may few = few
 few_on (Began move) h may few = few
 few_on (Stepped x) h may few = few

@@ -13,7 +13,7 @@ ghost use Rattle.aia_move_values.specs.Move.{IsWho, place_at, spot_in, width};
 ghost use Rattle.aia_move_values.specs.Accesses.{Executes, HasFile, WordFits, moved};
 ghost use Rattle.aia_move_values.specs.Plan.{kept_hand};
 
-use crate::kind::spot;
+use crate::direction::spot;
 use crate::{Access, KeptNumbers, Who};
 use aia_entry::{basic, mrif};
 use aia_fabric::{At, Fabric};
@@ -171,7 +171,7 @@ fn put(fabric: &mut Fabric, file: Option<&FileLease>, reg: FileReg, value: u64)
 #[tactic(auto, using(aia_move_values::proofs::WhoLemmas::small_who))]
 fn write_notice(fabric: &mut Fabric, who: &Who)
     requires { IsWho fabric.old who.now }
-    ensures { fabric.new ≡ with_entry_word fabric.old who.now.found.vm who.now.found.number 1
+    ensures { fabric.new ≡ with_entry_word fabric.old who.now.found.vm who.now.found.vcpu 1
         (second_word who.now.found.slot who.now.found.notice) }
 {
     fabric.recall();
@@ -187,7 +187,7 @@ fn write_notice(fabric: &mut Fabric, who: &Who)
 fn write_entry(fabric: &mut Fabric, who: &Who, to: Option<&FileLease>)
     requires who { IsWho fabric.old who.now }
     requires there { IfSome to (λ lease. IsThere fabric.old.imsic (spot_of lease.now)) }
-    ensures { fabric.new ≡ with_entry_word fabric.old who.now.found.vm who.now.found.number 0
+    ensures { fabric.new ≡ with_entry_word fabric.old who.now.found.vm who.now.found.vcpu 0
         (entry_word who.now.found.slot
         (option_map (λ (lease : Bor GuestPlace). lease.now) to.entry)) }
 {

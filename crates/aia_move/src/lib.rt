@@ -2,17 +2,18 @@
 //! in one, or shifts to another one. Profile: all plans.
 #![tactic(auto)]
 
+mod direction;
 mod hand;
-mod kind;
 pub mod laws;
 mod moves;
 pub mod phase;
 mod plan;
 mod targets;
+pub mod ways;
 
 pub use aia_move_values::{Closed, KeptNumbers, Next, Outcome, Pass, Turn, Who};
 pub use aia_vcpu::Access;
+pub use direction::{Arrive, Leave, Shift, spot};
 pub use hand::Hand;
-pub use kind::{Arrive, Leave, Shift, spot};
 pub use plan::{Plan, State};
 pub use targets::Targets;

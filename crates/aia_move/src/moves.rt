@@ -7,12 +7,12 @@ ghost use Rattle.aia_move_values.specs.Targets.{ArePasses, AimsAs, aim_of, next_
 ghost use Rattle.aia_move_values.specs.Accesses.{ExecutesNext};
 ghost use Rattle.aia_move_values.specs.Landings.{OnceLanded};
 ghost use Rattle.aia_move_values.specs.Turns.{IsIn, IsAtAims, GoesOn, AimsOn, EndsAs, MatchTurn, MatchClosed};
-ghost use Rattle.aia_move.specs.Stages.{phase_at};
+ghost use Rattle.aia_move.specs.PlanViews.{phase_at};
 ghost use Rattle.aia_move_values.specs.Plan.{past_phase};
 ghost use Rattle.aia_move_values.specs.Plan.{IsInDrain, NextStepIsOf, begun, GoesInPhase, GoesInPlace, next_phase};
 
+use crate::direction::{Direction, end_of};
 use crate::hand::Hand;
-use crate::kind::{Direction, end_of};
 use crate::phase::{Aim, Closing, Drain, Enable, First, Last, Look, PlanPhase};
 use crate::{Closed, Outcome, Targets, Turn, Who};
 use aia_fabric::Fabric;
@@ -20,12 +20,12 @@ use aia_regs::limits::FIRST_PASS_IDENTITY;
 use aia_vcpu::access_at;
 use std::marker::{Model, PhantomData};
 
-/// A virtual hart that is moved, by a plan of a kind, in one of its phases. A step is one access,
+/// A virtual hart that is moved, in a direction, in one of its phases. A step is one access,
 /// or one aim in the phase of aims, and says which phase comes next.
 #[derive(Drop)]
-pub struct Move<K: Direction, P> {
+pub struct Move<D: Direction, P> {
     /// What it leaves, and where it leads.
-    kind: K,
+    direction: D,
     /// Who is moved.
     who: Who,
     /// How many of its steps are done, those that aim aside.
@@ -37,7 +37,7 @@ pub struct Move<K: Direction, P> {
     phase: PhantomData<P>,
 }
 
-impl<K: Direction, P> Model for Move<K, P> {
+impl<D: Direction, P> Model for Move<D, P> {
     ghost use Rattle.aia_vcpu.specs.Home.Home.{OnWay};
     ghost use Rattle.aia_move_values.specs.Move.{Moving};
 
@@ -45,19 +45,19 @@ impl<K: Direction, P> Model for Move<K, P> {
 
     ghost view = { λ l. record {
       who = l.who;
-      home = OnWay (K.way l.kind) (record { steps = l.done; aims = l.aims });
+      home = OnWay (D.way l.direction) (record { steps = l.done; aims = l.aims });
       hand = l.hand;
     } };
 }
 
-impl<K: Direction> Move<K, First> {
+impl<D: Direction> Move<D, First> {
     /// Takes eidelivery of the file that is left, where one is; writes the entry, word 1 first
     /// where the move leads to memory, so that it leads to the new place; and puts it in force,
     /// once all stores in flight of the VM have landed, so that none comes to the old place later.
     /// Why here: the file is silent before anything moves; word 1 says where notices go before word
     /// 0 leads to the slot, and has said so from the VM's making on; and the entry is in force
     /// before the first word is taken, so that no store of a device comes after its word.
-    pub fn step(mut self, fabric: &mut Fabric) -> Turn<Self, Move<K, Closing>>
+    pub fn step(mut self, fabric: &mut Fabric) -> Turn<Self, Move<D, Closing>>
         requires fits { MoveFits fabric.old self }
         requires phase { IsIn FirstPhase (width fabric.old) self }
         ensures goes { OnceLanded fabric.old self (λ landed. MatchTurn result
@@ -73,12 +73,12 @@ impl<K: Direction> Move<K, First> {
     }
 }
 
-impl<K: Direction> Move<K, Closing> {
+impl<D: Direction> Move<D, Closing> {
     /// Makes the G-stage record name the new file, or nothing where the move leads to memory, and
     /// puts it in force. Why here: both routes are closed before the first word is taken from the
     /// old place, which is the slot in an arrival and else a guest file, so that no store comes
     /// after its word. `Aimed` exactly where no passed source is to be aimed.
-    pub fn step(mut self, fabric: &mut Fabric) -> Turn<Self, Closed<Move<K, Aim>, Move<K, Drain>>>
+    pub fn step(mut self, fabric: &mut Fabric) -> Turn<Self, Closed<Move<D, Aim>, Move<D, Drain>>>
         requires fits { MoveFits fabric.old self }
         requires phase { IsIn ClosingPhase (width fabric.old) self }
         ensures goes { MatchTurn result (GoesOn fabric.old self fabric.new)
@@ -96,7 +96,7 @@ impl<K: Direction> Move<K, Closing> {
     }
 }
 
-impl<K: Direction> Move<K, Aim> {
+impl<D: Direction> Move<D, Aim> {
     /// Aims the next passed source at the new place: the guest file, with the identity that it has
     /// there, or the notice hart, with the identity of the pass. It makes no access. Why here: the
     /// G-stage record leads to the new place, and no word is taken yet, so that no forward comes to
@@ -105,7 +105,7 @@ impl<K: Direction> Move<K, Aim> {
         mut self,
         fabric: &Fabric,
         targets: &mut T,
-    ) -> Turn<Self, Move<K, Drain>>
+    ) -> Turn<Self, Move<D, Drain>>
         requires fits { MoveFits fabric.now self }
         requires phase { IsAtAims self }
         requires harts { fabric.now.imsic.harts ≡ (T.map targets.old).harts }
@@ -123,10 +123,10 @@ impl<K: Direction> Move<K, Aim> {
     }
 }
 
-impl<K: Direction> Move<K, Drain> {
+impl<D: Direction> Move<D, Drain> {
     /// Takes a word of the pending set from the old place, or puts it in the new one. Why here: no
     /// store reaches the old place any more, so that a word which is taken stays empty.
-    pub fn step(mut self, fabric: &mut Fabric) -> Turn<Self, Move<K, Enable>>
+    pub fn step(mut self, fabric: &mut Fabric) -> Turn<Self, Move<D, Enable>>
         requires fits { MoveFits fabric.old self }
         requires phase { IsInDrain (width fabric.old) self }
         ensures goes { MatchTurn result (GoesOn fabric.old self fabric.new)
@@ -142,17 +142,17 @@ impl<K: Direction> Move<K, Drain> {
     }
 }
 
-impl<K: Direction> Move<K, Enable> {
+impl<D: Direction> Move<D, Enable> {
     /// Takes a word of the enabled set from the old place, or puts it in the new one. Why here: the
     /// new place has all that was pending before anything in it is enabled; where it is the slot,
     /// in a leave, a store to a word is told to the host from the word's enables on.
-    pub fn step(mut self, fabric: &mut Fabric) -> Turn<Self, Move<K, K::After>>
+    pub fn step(mut self, fabric: &mut Fabric) -> Turn<Self, Move<D, D::After>>
         requires fits { MoveFits fabric.old self }
         requires phase { IsIn EnablePhase (width fabric.old) self }
         ensures goes { MatchTurn result (GoesOn fabric.old self fabric.new)
             (GoesOn fabric.old self fabric.new) }
         ensures phase { MatchTurn result (IsIn EnablePhase (width fabric.new))
-            (IsIn K.after (width fabric.new)) }
+            (IsIn D.after (width fabric.new)) }
     {
         fabric.recall();
         if self.step_in(PlanPhase::Enable, fabric) {
@@ -163,10 +163,10 @@ impl<K: Direction> Move<K, Enable> {
     }
 }
 
-impl<K: Direction> Move<K, Look> {
+impl<D: Direction> Move<D, Look> {
     /// Looks at a word of both sets of the slot, in a leave alone. Why here: each word is watched,
     /// so that a look misses only what the host is told of; it finds what had come before.
-    pub fn step(mut self, fabric: &mut Fabric) -> Turn<Self, Move<K, Last>>
+    pub fn step(mut self, fabric: &mut Fabric) -> Turn<Self, Move<D, Last>>
         requires fits { MoveFits fabric.old self }
         requires phase { IsIn LookPhase (width fabric.old) self }
         ensures goes { MatchTurn result (GoesOn fabric.old self fabric.new)
@@ -182,7 +182,7 @@ impl<K: Direction> Move<K, Look> {
     }
 }
 
-impl<K: Direction> Move<K, Last> {
+impl<D: Direction> Move<D, Last> {
     /// Takes eithreshold of the file that is left, where one is. Then puts eithreshold and
     /// eidelivery in the file to which the move leads, or sends the notice where a look saw
     /// something. Why here: the file may signal only once it has both sets and the threshold; and
@@ -201,19 +201,19 @@ impl<K: Direction> Move<K, Last> {
             Turn::Stay(self)
         } else {
             self.access(fabric);
-            Turn::On(self.kind.end(self.hand))
+            Turn::On(self.direction.end(self.hand))
         }
     }
 }
 
 /// What the phases share, and with them a plan, whose phase is a value.
-impl<K: Direction, P> Move<K, P> {
+impl<D: Direction, P> Move<D, P> {
     /// Begins, with this in the hand: no step is done.
-    pub(crate) fn new(kind: K, who: Who, hand: Hand) -> Move<K, P>
-        ensures { result ≡ begun who (K.way kind) hand }
+    pub(crate) fn new(direction: D, who: Who, hand: Hand) -> Move<D, P>
+        ensures { result ≡ begun who (D.way direction) hand }
     {
         Move {
-            kind,
+            direction,
             who,
             done: 0,
             aims: 0,
@@ -224,31 +224,31 @@ impl<K: Direction, P> Move<K, P> {
 
     /// Makes the next step, an access that is not the last one of the plan, and tells whether the
     /// one after it is of its phase too.
-    fn step_in(&mut self, stage: PlanPhase, fabric: &mut Fabric) -> bool
+    fn step_in(&mut self, phase: PlanPhase, fabric: &mut Fabric) -> bool
         requires fits { MoveFits fabric.old self.old }
-        requires access { is_none (phase_at stage) ≡ false }
-        requires phase { NextStepIsOf (phase_at stage) (width fabric.old) self.old }
+        requires access { is_none (phase_at phase) ≡ false }
+        requires phase { NextStepIsOf (phase_at phase) (width fabric.old) self.old }
         requires more { steps_done self.old.home + 1
             < begins (width fabric.old) self.old.home AllDone }
-        ensures { GoesInPhase (phase_at stage) result fabric.old self.old fabric.new self.new }
+        ensures { GoesInPhase (phase_at phase) result fabric.old self.old fabric.new self.new }
     {
         fabric.recall();
-        let stays = self.stays(fabric, stage);
+        let stays = self.stays(fabric, phase);
         self.access(fabric);
         self.done += 1;
         stays
     }
 
     /// Tells whether the next step is not the last one of this phase.
-    fn stays(&self, fabric: &Fabric, stage: PlanPhase) -> bool
+    fn stays(&self, fabric: &Fabric, phase: PlanPhase) -> bool
         requires { steps_done self.now.home < begins (width fabric.now) self.now.home AllDone }
         ensures { result ≡ nat_lt (steps_done self.now.home + 1)
-            (begins (width fabric.now) self.now.home (past_phase (phase_at stage))) }
+            (begins (width fabric.now) self.now.home (past_phase (phase_at phase))) }
     {
         let words = fabric.words();
-        let from = end_of(self.kind.old_file());
-        let to = end_of(self.kind.new_file());
-        self.done + 1 < stage.end(from, to, words)
+        let from = end_of(self.direction.old_file());
+        let to = end_of(self.direction.new_file());
+        self.done + 1 < phase.end(from, to, words)
     }
 
     /// Makes the next access of the plan, and counts it not yet.
@@ -258,8 +258,8 @@ impl<K: Direction, P> Move<K, P> {
         ensures { ExecutesNext fabric.old self.old fabric.new self.new }
     {
         let words = fabric.words();
-        let old = self.kind.old_file();
-        let new = self.kind.new_file();
+        let old = self.direction.old_file();
+        let new = self.direction.new_file();
         let access = access_at(end_of(old), end_of(new), words, self.done);
         self.hand.make(fabric, &self.who, old, new, access);
     }
@@ -276,7 +276,7 @@ impl<K: Direction, P> Move<K, P> {
     {
         fabric.recall();
         let pass = self.who.passes[self.aims];
-        match self.kind.new_file() {
+        match self.direction.new_file() {
             Some(file) => targets.aim(pass.source, file.hart(), file.file(), pass.identity),
             None => {
                 let identity = FIRST_PASS_IDENTITY + pass.number;
@@ -295,14 +295,14 @@ impl<K: Direction, P> Move<K, P> {
 
     /// Comes to another phase, with all that it has; where that is the one after those that all
     /// plans share, as it begins.
-    pub(crate) fn into_phase<Q>(self) -> Move<K, Q>
+    pub(crate) fn into_phase<Q>(self) -> Move<D, Q>
         ensures same { result ≡ self }
         ensures after { (words : ℕ) → 1 ≤ words
             → steps_done self.home ≡ begins words self.home (following EnablePhase)
-            → IsIn K.after words result }
+            → IsIn D.after words result }
     {
         Move {
-            kind: self.kind,
+            direction: self.direction,
             who: self.who,
             done: self.done,
             aims: self.aims,
@@ -312,7 +312,7 @@ impl<K: Direction, P> Move<K, P> {
     }
 
     /// Goes on to the aims while a passed source is to be aimed, and else past them.
-    fn closed(self) -> Closed<Move<K, Aim>, Move<K, Drain>>
+    fn closed(self) -> Closed<Move<D, Aim>, Move<D, Drain>>
         ensures { MatchClosed result (λ t. (t ≡ self) × (has_unaimed t ≡ true))
             (λ t. (t ≡ self) × (has_unaimed t ≡ false)) }
     {
@@ -325,52 +325,52 @@ impl<K: Direction, P> Move<K, P> {
 }
 
 /// What a plan makes of a move whose phase is a value.
-impl<K: Direction> Move<K, ()> {
+impl<D: Direction> Move<D, ()> {
     /// Makes the next step of the plan where it lies, but the last one, and comes to the next phase
     /// with the last step of its own; tells whether it made one.
     pub(crate) fn go_on<T: Targets>(
         &mut self,
-        stage: &mut PlanPhase,
+        phase: &mut PlanPhase,
         fabric: &mut Fabric,
         targets: &mut T,
     ) -> bool
         requires fits { MoveFits fabric.old self.old }
-        requires phase { NextStepIsOf (phase_at stage.old) (width fabric.old) self.old }
+        requires phase { NextStepIsOf (phase_at phase.old) (width fabric.old) self.old }
         requires harts { fabric.old.imsic.harts ≡ (T.map targets.old).harts }
         requires passes { ArePasses self.old.who }
         ensures goes { GoesInPlace result fabric.old self.old fabric.new self.new }
         ensures aims { AimsAs T.aimed (next_aim self.old) targets.old targets.new }
-        ensures phase { NextStepIsOf (phase_at stage.new) (width fabric.new) self.new }
-        ensures still { result ≡ false → stage.new ≡ stage.old }
+        ensures phase { NextStepIsOf (phase_at phase.new) (width fabric.new) self.new }
+        ensures still { result ≡ false → phase.new ≡ phase.old }
     {
         fabric.recall();
-        if stage.aims() {
+        if phase.aims() {
             self.aim(fabric, targets);
-            *stage = self.next(*stage, false);
+            *phase = self.next(*phase, false);
             return true;
         }
-        let stays = self.stays(fabric, *stage);
-        if stage.ends(stays) {
+        let stays = self.stays(fabric, *phase);
+        if phase.ends(stays) {
             return false;
         }
         self.access(fabric);
         self.done += 1;
-        *stage = self.next(*stage, stays);
+        *phase = self.next(*phase, stays);
         true
     }
 
     /// Tells in which phase the plan is after a step of this one: in the same, where it stays.
-    fn next(&self, stage: PlanPhase, stays: bool) -> PlanPhase
+    fn next(&self, phase: PlanPhase, stays: bool) -> PlanPhase
         ensures { phase_at result
-            ≡ (if stays then phase_at stage else next_phase self.now (phase_at stage)) }
+            ≡ (if stays then phase_at phase else next_phase self.now (phase_at phase)) }
     {
-        match stage {
-            _ if stays => stage,
+        match phase {
+            _ if stays => phase,
             PlanPhase::First => PlanPhase::Closing,
             PlanPhase::Closing | PlanPhase::Aim if self.has_unaimed() => PlanPhase::Aim,
             PlanPhase::Closing | PlanPhase::Aim => PlanPhase::Drain,
             PlanPhase::Drain => PlanPhase::Enable,
-            PlanPhase::Enable if self.kind.new_file().is_none() => PlanPhase::Look,
+            PlanPhase::Enable if self.direction.new_file().is_none() => PlanPhase::Look,
             PlanPhase::Enable | PlanPhase::Look | PlanPhase::Last => PlanPhase::Last,
         }
     }
@@ -383,6 +383,6 @@ impl<K: Direction> Move<K, ()> {
     {
         fabric.recall();
         self.access(fabric);
-        self.kind.end(self.hand)
+        self.direction.end(self.hand)
     }
 }

@@ -1,7 +1,7 @@
 ghost use Rattle.std.specs.Prelude.{◌≡◌, ◌≤◌, ◌&&◌, not, is_none};
 ghost use Rattle.aia_regs.specs.declared.limits.TheConstants.{FILE_WORDS};
 ghost use Rattle.aia_vcpu.specs.Phases.{phase_begins};
-ghost use Rattle.aia_move.specs.Stages.{phase_at};
+ghost use Rattle.aia_move.specs.PlanViews.{phase_at};
 ghost use Rattle.aia_move_values.specs.Plan.{past_phase, is_last};
 
 use aia_vcpu::{End, before_entry, plan_steps, word_steps};

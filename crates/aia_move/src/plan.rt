@@ -6,10 +6,10 @@ ghost use Rattle.aia_move_values.specs.Move.{MoveFits, width};
 ghost use Rattle.aia_move_values.specs.Targets.{ArePasses, AimsAs, next_aim};
 ghost use Rattle.aia_move_values.specs.Turns.{EndsAs, LeavesEmpty};
 ghost use Rattle.aia_move_values.specs.PlanState.{moving_of, phase_of};
-ghost use Rattle.aia_move.specs.Stages.{move_of, phase_at, plan_of};
+ghost use Rattle.aia_move.specs.PlanViews.{move_of, phase_at, plan_of};
 ghost use Rattle.aia_move_values.specs.Plan.{IsInPhase, MatchNext, StepsTo, StepsInPlace};
 
-use crate::kind::{ToFile, ToMemory, ToOtherFile};
+use crate::direction::{ToFile, ToMemory, ToOtherFile};
 use crate::moves::Move;
 use crate::phase::{Aim, Closing, Drain, Enable, First, Last, Look, PlanPhase};
 use crate::{Arrive, Leave, Outcome, Shift, Targets};
@@ -21,7 +21,7 @@ use std::marker::Model;
 #[derive(Drop)]
 pub struct Plan {
     course: Course,
-    stage: PlanPhase,
+    phase: PlanPhase,
 }
 
 /// A move, by what it leaves and where it leads.
@@ -34,11 +34,11 @@ pub(crate) enum Course {
 
 impl Model for Plan {
     ghost use Rattle.aia_move_values.specs.PlanState.{PlanState};
-    ghost use Rattle.aia_move.specs.Stages.{move_of, phase_at};
+    ghost use Rattle.aia_move.specs.PlanViews.{move_of, phase_at};
 
     ghost Value = { PlanState };
 
-    ghost view = { λ p. record { moving = move_of p.course; phase = phase_at p.stage } };
+    ghost view = { λ p. record { moving = move_of p.course; phase = phase_at p.phase } };
 }
 
 /// A move under way, as the state of its phase: its type tells which steps can be made.
@@ -92,8 +92,8 @@ impl Plan {
         }
     }
 
-    /// Makes the next step of the plan where it lies, unless that is the last one, and tells whether
-    /// it made one; where it made none, nothing is changed.
+    /// Makes the next step of the plan where it lies, unless that is the last one, and tells
+    /// whether it made one; where it made none, nothing is changed.
     pub fn step_in_place<T: Targets>(&mut self, fabric: &mut Fabric, targets: &mut T) -> bool
         requires fits { MoveFits fabric.old (moving_of self.old) }
         requires phase { IsInPhase (width fabric.old) self.old }
@@ -103,9 +103,9 @@ impl Plan {
         ensures aims { AimsAs T.aimed (next_aim (moving_of self.old)) targets.old targets.new }
     {
         match &mut self.course {
-            Course::Leave(course) => course.go_on(&mut self.stage, fabric, targets),
-            Course::Arrive(course) => course.go_on(&mut self.stage, fabric, targets),
-            Course::Shift(course) => course.go_on(&mut self.stage, fabric, targets),
+            Course::Leave(course) => course.go_on(&mut self.phase, fabric, targets),
+            Course::Arrive(course) => course.go_on(&mut self.phase, fabric, targets),
+            Course::Shift(course) => course.go_on(&mut self.phase, fabric, targets),
         }
     }
 
@@ -131,16 +131,16 @@ impl Plan {
     pub fn phase(&self) -> PlanPhase
         ensures { phase_at result ≡ phase_of self.now }
     {
-        self.stage
+        self.phase
     }
 
-    /// Gives the move as the state of the phase that it is in. An arrival and a shift have no looks,
-    /// and are never in that phase.
+    /// Gives the move as the state of the phase that it is in. An arrival and a shift have no
+    /// looks, and are never in that phase.
     pub fn into_state(self) -> State
         ensures same { moving_of (plan_of result) ≡ moving_of self }
         ensures phase { (words : ℕ) → IsInPhase words self → plan_of result ≡ self }
     {
-        match (self.course, self.stage) {
+        match (self.course, self.phase) {
             (Course::Leave(m), PlanPhase::First) => State::LeaveFirst(m.into_phase()),
             (Course::Leave(m), PlanPhase::Closing) => State::LeaveClosing(m.into_phase()),
             (Course::Leave(m), PlanPhase::Aim) => State::LeaveAim(m.into_phase()),
@@ -173,7 +173,7 @@ impl Plan {
     {
         Plan {
             course,
-            stage: PlanPhase::First,
+            phase: PlanPhase::First,
         }
     }
 }
@@ -183,7 +183,7 @@ impl State {
     pub fn into_plan(self) -> Plan
         ensures { result ≡ plan_of self }
     {
-        let (course, stage) = match self {
+        let (course, phase) = match self {
             State::LeaveFirst(m) => (Course::Leave(m.into_phase()), PlanPhase::First),
             State::LeaveClosing(m) => (Course::Leave(m.into_phase()), PlanPhase::Closing),
             State::LeaveAim(m) => (Course::Leave(m.into_phase()), PlanPhase::Aim),
@@ -204,6 +204,6 @@ impl State {
             State::ShiftEnable(m) => (Course::Shift(m.into_phase()), PlanPhase::Enable),
             State::ShiftLast(m) => (Course::Shift(m.into_phase()), PlanPhase::Last),
         };
-        Plan { course, stage }
+        Plan { course, phase }
     }
 }

@@ -50,7 +50,7 @@ use Rattle.aia_regs.specs.declared.address_map.TheConstants.{PAGE}
 
 -- ---- in a world of the same machine with other places
 
-own_machine : (w u : World) (g : Vcpu) (place : Option GuestPlace) → TouchesOwn w u g place → SameMachine w u
+pub own_machine : (w u : World) (g : Vcpu) (place : Option GuestPlace) → TouchesOwn w u g place → SameMachine w u
 own_machine w u g place t = record {
   n = ap (λ (x : World). x.n) t.rest;
   vms = ap (λ (x : World). x.vms) t.rest;
@@ -62,7 +62,7 @@ module _ (w u : World) (plan : PlanState) (reach : Option GuestPlace) (saw : Boo
   abbrev m : Moving
   m = moving_of plan
 
-  knows_by : (file after : InterruptFile) → Knows w plan reach file saw → (v : Places) → places_of u (mover m) m.home ≡ v
+  pub knows_by : (file after : InterruptFile) → Knows w plan reach file saw → (v : Places) → places_of u (mover m) m.home ≡ v
       → Holds (width w) m.who.found.slot m.who.found.notice reach v m.home m.hand after saw → Knows u plan reach after saw
   knows_by file after knows v seen held = record {
     fits = fits_still w u m same knows.fits;
@@ -75,7 +75,7 @@ module _ (w u : World) (plan : PlanState) (reach : Option GuestPlace) (saw : Boo
 -- ---- a store for the virtual hart that is moved
 
 -- where it lands: in a guest file, or in the slot
-abbrev Lands : World → World → Vcpu → Option GuestPlace → ℕ → ℕ → Type 0
+abbrev pub Lands : World → World → Vcpu → Option GuestPlace → ℕ → ℕ → Type 0
 Lands w u g (Some p) offset value = StoresIn w u (spot_of p) offset value
 Lands w u g None offset value = StoresInSlot w u (Some (slot_of w.vms g)) (SupervisorFile (notice_hart w.vms g)) (notice_identity w.vms g)
     offset value
@@ -112,7 +112,7 @@ module _ (w u : World) (plan : PlanState) (reach : Option GuestPlace) (file : In
     own_machine w u (mover mv) None (touches_slot w u (mover mv) offset value whole knows.fits.there stores),
   )
 
-  lands_knows : (place : Option GuestPlace) → MayLand (width w) mv.home place → Lands w u (mover mv) place offset value
+  pub lands_knows : (place : Option GuestPlace) → MayLand (width w) mv.home place → Lands w u (mover mv) place offset value
       → Knows u plan reach (landed offset value file) saw
   lands_knows place may stores =
       let both = shows place may stores in
@@ -135,13 +135,13 @@ module _ (w u : World) (plan : PlanState) (reach : Option GuestPlace) (file : In
       (subst (λ (o : Option ℕ). StoresInSlot w u o (page_spot w.imsic (supervisor_page (notice_hart w.vms (mover mv)) / PAGE))
       (slot_of w.vms (mover mv) + 1) offset value) (slot_found (slot_of w.vms (mover mv)) (slot_low w (mover mv) whole knows.fits.there)) reaches)
 
-  entry_is : entry_in_force (table_of w.tables mv.who.found.vm) mv.who.found.number ≡ leads_to (slot_of w.vms (mover mv))
+  entry_is : entry_in_force (table_of w.tables mv.who.found.vm) mv.who.found.vcpu ≡ leads_to (slot_of w.vms (mover mv))
       (notice_hart w.vms (mover mv)) reach
   entry_is = knows.holds.routes.in_force ∙ ap (λ q. leads_to q mv.who.found.notice reach) knows.fits.slot
       ∙ ap (λ hart. leads_to (slot_of w.vms (mover mv)) hart reach) knows.fits.notice
 
   pub device_knows : (addr : ℕ) → is_msi_address (table_of w.tables mv.who.found.vm).mask addr ≡ true
-      → file_number (table_of w.tables mv.who.found.vm).mask addr ≡ mv.who.found.number
+      → file_number (table_of w.tables mv.who.found.vm).mask addr ≡ mv.who.found.vcpu
       → Reaches (route_of (table_of w.tables mv.who.found.vm) addr) w u offset value → Knows u plan reach (landed offset value file) saw
   device_knows addr is names reaches =
       let may = reach_lands (width w) mv.home reach knows.holds.routes.may in

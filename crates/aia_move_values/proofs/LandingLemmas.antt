@@ -23,7 +23,7 @@ same_landed w u vm lands =
     }
 
 -- at the fence
-pub all_first : (w u : World) (m : Moving) (fences : Fences w u m.who.found.vm m.who.found.number) → is_at_fence m.home ≡ true
+pub all_first : (w u : World) (m : Moving) (fences : Fences w u m.who.found.vm m.who.found.vcpu) → is_at_fence m.home ≡ true
     → LandsFirst w m fences.landed
 all_first w u m fences at = record {
   fence = λ e. (fences.lands, fences.whole);

@@ -14,7 +14,7 @@ use Rattle.aia_file.specs.InterruptFile.{accessed, is_greatest_identity}
 use Rattle.aia_file.specs.Imsic.{IsThere, file_at}
 use Rattle.aia_file.specs.Mrif.{Mrif, pending_place, enable_place}
 use Rattle.aia_vcpu.specs.declared.place.GuestPlace.{GuestPlace}
-use Rattle.aia_vcpu.specs.Vms.{Vcpu, vcpu, is_vcpu_in, slot_of}
+use Rattle.aia_vcpu.specs.Vms.{Vcpu, vcpu_of, is_vcpu_in, slot_of}
 use Rattle.aia_vcpu.specs.Home.{Way, Home, Progress, left, led_to, is_file, end_at, old_end, is_place}
 use Rattle.aia_vcpu.specs.Home.Home.{OnWay}
 use Rattle.aia_vcpu.specs.Home.Way.{Across}
@@ -186,7 +186,7 @@ carried_word k x members hand now shows c = (
 module _ (w u : World) (who : Who) (there : Home) (hand now : Hand) (whole : IsWhole w)
     (fits : MoveFits w (record { who = who; home = there; hand = hand })) where
   abbrev it : Vcpu
-  it = vcpu who.found.vm who.found.number
+  it = vcpu_of who.found.vm who.found.vcpu
 
   abbrev Made : Access → Type 0
   Made access = StepMade who.found.slot who.found.notice access there (places_of w it there) hand (places_of u it there) now
@@ -257,7 +257,7 @@ module _ (w u : World) (who : Who) (way : Way) (at : Progress) (hand now : Hand)
   its = OnWay way at
 
   abbrev moved : Vcpu
-  moved = vcpu who.found.vm who.found.number
+  moved = vcpu_of who.found.vm who.found.vcpu
 
   abbrev view : Places
   view = places_of w moved its
@@ -408,8 +408,8 @@ module _ (w u : World) (who : Who) (way : Way) (at : Progress) (hand now : Hand)
 made_at : (access : Access) (w u : World) (who : Who) (there : Home) (hand now : Hand) → IsWhole w
     → MoveFits w (record { who = who; home = there; hand = hand }) → AreApart there → IsNext (width w) there access
     → Makes access (record { who = who; home = there; hand = hand }) w u → now ≡ hand_after access (record { who = who; home = there; hand = hand }) w
-    → StepMade who.found.slot who.found.notice access there (places_of w (vcpu who.found.vm who.found.number) there) hand
-    (places_of u (vcpu who.found.vm who.found.number) there) now
+    → StepMade who.found.slot who.found.notice access there (places_of w (vcpu_of who.found.vm who.found.vcpu) there) hand
+    (places_of u (vcpu_of who.found.vm who.found.vcpu) there) now
 made_at access w u who (OnWay way at) hand now whole fits apart next makes c = made_by w u who way at hand now whole fits apart access next makes c
 made_at access w u who there hand now whole fits apart next makes c = let no : false ≡ true = next.has in absurd (cc)
 

@@ -4,7 +4,7 @@ use Rattle.aia_file.specs.InterruptFile.{InterruptFile, empty_file}
 use Rattle.aia_file.specs.FileState.{shown}
 use Rattle.aia_file.specs.Imsic.{IsThere, file_at}
 use Rattle.aia_vcpu.specs.declared.place.GuestPlace.{GuestPlace}
-use Rattle.aia_vcpu.specs.Vms.{Vcpu, vcpu}
+use Rattle.aia_vcpu.specs.Vms.{Vcpu, vcpu_of}
 use Rattle.aia_vcpu.specs.Home.{Home, ended, one_more}
 use Rattle.aia_vcpu.specs.Home.Home.{OnWay}
 use Rattle.aia_vcpu.specs.Home.Way.{Outward, Across}
@@ -40,16 +40,16 @@ pub file_in-size : (w : World) (o : Option GuestPlace) → IsWhole w → ((p : G
 file_in-size w None whole there = refl
 file_in-size w (Some p) whole there = width_at w (spot_of p) whole (there p refl)
 
-files_fit : (w : World) (m : Moving) → IsWhole w → MoveFits w m → FilesFit m.home
+pub files_fit : (w : World) (m : Moving) → IsWhole w → MoveFits w m → FilesFit m.home
 files_fit w m whole fits = record {
   own = λ p e. let there = fits.own p e in (omega (arith, there.0, whole.harts), omega (arith, there.2, whole.guests), there.1);
   next = λ p e. let there = fits.next p e in (omega (arith, there.0, whole.harts), omega (arith, there.2, whole.guests), there.1);
 }
 
-notice_low : (w : World) (m : Moving) → IsWhole w → MoveFits w m → m.who.found.notice < HARTS
+pub notice_low : (w : World) (m : Moving) → IsWhole w → MoveFits w m → m.who.found.notice < HARTS
 notice_low w m whole fits = let low = notice_hart_there w (mover m) whole fits.there in omega (arith, low, fits.notice, whole.harts)
 
-slot_few : (w : World) (m : Moving) → IsWhole w → MoveFits w m → m.who.found.slot < SLOTS
+pub slot_few : (w : World) (m : Moving) → IsWhole w → MoveFits w m → m.who.found.slot < SLOTS
 slot_few w m whole fits = let low = slot_low w (mover m) whole fits.there in omega (arith, low, fits.slot)
 
 -- ---- the places are the same ones with a step more
@@ -88,7 +88,7 @@ module _ (w u : World) (m : Moving) (whole : IsWhole w) (fits : MoveFits w m) (a
       subst (λ (v : Places). Holds (width w) m.who.found.slot m.who.found.notice (reach_stepped m.home reach) v (one_more m.home) t.hand file
       (saw || sees (width w) m.home file)) (sym (further u (mover m) m.home)) kept in
       subst (λ (who : Who). Holds (width w) who.found.slot who.found.notice (reach_stepped m.home reach)
-      (places_of u (vcpu who.found.vm who.found.number) t.home) t.home t.hand file (saw || sees (width w) m.home file)) (sym goes.same_who)
+      (places_of u (vcpu_of who.found.vm who.found.vcpu) t.home) t.home t.hand file (saw || sees (width w) m.home file)) (sym goes.same_who)
       (subst (λ (there : Home). Holds (width w) m.who.found.slot m.who.found.notice (reach_stepped m.home reach) (places_of u (mover m) there)
       there t.hand file (saw || sees (width w) m.home file)) (sym goes.home) same)
 

@@ -22,7 +22,7 @@ use Rattle.aia_entry.specs.declared.table.Route.{Route}
 use Rattle.aia_entry.specs.Tables.{table_of, entry_in_force, leads_by, route_of}
 use Rattle.aia_entry.specs.Translation.{is_msi_address, file_number}
 use Rattle.aia_vcpu.specs.declared.place.GuestPlace.{GuestPlace}
-use Rattle.aia_vcpu.specs.Vms.{Vcpu, vcpu, is_vcpu_in, slot_of, notice_identity, notice_hart}
+use Rattle.aia_vcpu.specs.Vms.{Vcpu, vcpu_of, is_vcpu_in, slot_of, notice_identity, notice_hart}
 use Rattle.aia_vcpu.specs.Home.{Home, holds}
 use Rattle.aia_vcpu.specs.BySteps.{own_file, next_file}
 use Rattle.aia_vcpu.proofs.HomeLemmas.{own_is_held, next_is_held}
@@ -52,8 +52,8 @@ touches_none w u g reach e = record {
   notice = inl (ap (λ (x : World). file_at x.imsic (SupervisorFile (notice_hart w.vms g))) e);
   slots = λ q other. ap (λ (x : World). mrif_in x.memory q) e;
   entry_words = λ x. (
-    ap (λ (u : World). get_or u.memory (entry_word_place x.vm x.number) 0) e,
-    ap (λ (u : World). get_or u.memory (entry_word_place x.vm x.number + 1) 0) e,
+    ap (λ (u : World). get_or u.memory (entry_word_place x.vm x.vcpu) 0) e,
+    ap (λ (u : World). get_or u.memory (entry_word_place x.vm x.vcpu + 1) 0) e,
   );
 }
 
@@ -77,8 +77,8 @@ module _ (w u : World) (g : Vcpu) (p : GuestPlace) (offset value : ℕ) (whole :
     notice = inl (file_kept (SupervisorFile (notice_hart w.vms g)) (notice_hart_there w g whole there) (λ e. absurd (cc)));
     slots = λ q other. ap (λ words. mrif_in words q) memory_kept;
     entry_words = λ x. (
-      ap (λ words. get_or words (entry_word_place x.vm x.number) 0) memory_kept,
-      ap (λ words. get_or words (entry_word_place x.vm x.number + 1) 0) memory_kept,
+      ap (λ words. get_or words (entry_word_place x.vm x.vcpu) 0) memory_kept,
+      ap (λ words. get_or words (entry_word_place x.vm x.vcpu + 1) 0) memory_kept,
     );
   }
 
@@ -95,13 +95,13 @@ module _ (w u : World) (g : Vcpu) (offset value : ℕ) (whole : IsWhole w) (ther
   slot_kept words is q other = ap (λ (m : List ℕ). mrif_in m q) is ∙ other_slot_stays w.memory (slot_of w.vms g) q offset value (λ e. other (sym e))
 
   entries_kept : (words : List ℕ) → words ≡ between.memory → (x : Vcpu)
-      → (get_or words (entry_word_place x.vm x.number) 0 ≡ get_or w.memory (entry_word_place x.vm x.number) 0)
-      × (get_or words (entry_word_place x.vm x.number + 1) 0 ≡ get_or w.memory (entry_word_place x.vm x.number + 1) 0)
+      → (get_or words (entry_word_place x.vm x.vcpu) 0 ≡ get_or w.memory (entry_word_place x.vm x.vcpu) 0)
+      × (get_or words (entry_word_place x.vm x.vcpu + 1) 0 ≡ get_or w.memory (entry_word_place x.vm x.vcpu + 1) 0)
   entries_kept words is x =
       let kept = entry_words_kept w x (slot_of w.vms g) offset value whole low in (
-        ap (λ (m : List ℕ). get_or m (entry_word_place x.vm x.number) 0) is
+        ap (λ (m : List ℕ). get_or m (entry_word_place x.vm x.vcpu) 0) is
             ∙ kept.0,
-        ap (λ (m : List ℕ). get_or m (entry_word_place x.vm x.number + 1) 0) is ∙ kept.1,
+        ap (λ (m : List ℕ). get_or m (entry_word_place x.vm x.vcpu + 1) 0) is ∙ kept.1,
       )
 
   -- with no notice
@@ -176,7 +176,7 @@ own_entry w u g None offset value whole there inside reaches =
     value) (slot_found (slot_of w.vms g) (slot_low w g whole there)) reaches))
 
 one_of : (w u : World) (g : Vcpu) (offset value : ℕ) (reach : Vcpu → Option GuestPlace) → IsWhole w → LeadsToOwn w g.vm reach
-    → Reaches (leads_by (entry_in_force (table_of w.tables g.vm) g.number)) w u offset value → (u ≡ w) ⊎ TouchesOneOf w u g.vm reach
+    → Reaches (leads_by (entry_in_force (table_of w.tables g.vm) g.vcpu)) w u offset value → (u ≡ w) ⊎ TouchesOneOf w u g.vm reach
 one_of w u g offset value reach whole leads at = elim (cases_Bool (is_vcpu_in w.vms g)) [
   | inl there ↦ inr (record {
     g = g;
@@ -191,7 +191,7 @@ one_of w u g offset value reach whole leads at = elim (cases_Bool (is_vcpu_in w.
 pub device_touches : (w u : World) (v addr value : ℕ) (reach : Vcpu → Option GuestPlace) → IsWhole w → LeadsToOwn w v reach
     → Reaches (route_of (table_of w.tables v) addr) w u (addr % PAGE) value → (u ≡ w) ⊎ TouchesOneOf w u v reach
 device_touches w u v addr value reach whole leads reaches = elim (cases_Bool (is_msi_address (table_of w.tables v).mask addr)) [
-  | inl is ↦ one_of w u (vcpu v (file_number (table_of w.tables v).mask addr)) (addr % PAGE) value reach whole leads
+  | inl is ↦ one_of w u (vcpu_of v (file_number (table_of w.tables v).mask addr)) (addr % PAGE) value reach whole leads
       (subst (λ (r : Route). Reaches r w u (addr % PAGE) value) (cond-true _ _ _ is) reaches)
   | inr none ↦ inl (subst (λ (r : Route). Reaches r w u (addr % PAGE) value) (cond-false _ _ _ none) reaches)
 ]
@@ -224,7 +224,7 @@ others_stay w u g x reach there standing inside other t held =
     let slot : mrif_in u.memory (slot_of u.vms x) ≡ mrif_in w.memory (slot_of w.vms x) =
     ap (λ (v : World). mrif_in u.memory (slot_of v.vms x)) t.rest ∙ t.slots (slot_of w.vms x) (λ e. other (same_slot w.vms x g inside standing e)) in
     let entry = t.entry_words x in
-    let tables = ap (λ (v : World). entry_in_force (table_of v.tables x.vm) x.number) t.rest in
+    let tables = ap (λ (v : World). entry_in_force (table_of v.tables x.vm) x.vcpu) t.rest in
     let stages : stage_of u x ≡ stage_of w x = ap (λ (v : World). stage_of v x) t.rest in
     λ k. record {
       own = own k;

@@ -72,7 +72,7 @@ no_aim_in_last words m some is = none_aims words _ m.home
     (λ moves e. let mid = middle words m.home moves in omega (arith, looks_before_last words m.home))
 
 -- so a step aims where it is a step of no phase (of AllDone none is)
-step_aims : (phase : Option Phase) (words : ℕ) (m : Moving) → 1 ≤ words → NextStepIsOf phase words m → aims m ≡ is_none phase
+pub step_aims : (phase : Option Phase) (words : ℕ) (m : Moving) → 1 ≤ words → NextStepIsOf phase words m → aims m ≡ is_none phase
 step_aims None words m some is = is
 step_aims (Some FirstPhase) words m some is = no_aim_in_first words m is
 step_aims (Some ClosingPhase) words m some is = no_aim_in_closing words m is

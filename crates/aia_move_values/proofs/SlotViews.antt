@@ -30,7 +30,7 @@ module _ (w u : World) (q threshold : ℕ) (deed : InterruptFile → InterruptFi
   -- of any virtual hart nothing but its slot
   pub slot_done-places : (g : Vcpu) (there : Home) → places_of u g there ≡ record (places_of w g there) { slot = mrif_in u.memory (slot_of w.vms g) }
   slot_done-places g there =
-      let words = done_entry_words g.vm g.number in
+      let words = done_entry_words g.vm g.vcpu in
       let all : places_of (record w { memory = u.memory }) g there ≡ record (places_of w g there) { slot = mrif_in u.memory (slot_of w.vms g) } =
       λ k. record (places_of w g there) { slot = mrif_in u.memory (slot_of w.vms g); word0 = words.0 k; word1 = words.1 k } in
       ap (λ (x : World). places_of x g there) changed.rest ∙ all

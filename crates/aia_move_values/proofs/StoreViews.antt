@@ -107,14 +107,14 @@ entry_kept words q place (Some i) low high small = let few = small i refl in
     get_or-set_other words (pending_place q (i / 64)) place _ 0 (λ e. omega arith)
 
 module _ (w : World) (g : Vcpu) (q offset value : ℕ) (whole : IsWhole w) (low : q < VCPUS) where
-  pub entry_words_kept : (get_or (with_store w q offset value).memory (entry_word_place g.vm g.number) 0 ≡ get_or w.memory
-      (entry_word_place g.vm g.number) 0)
-      × (get_or (with_store w q offset value).memory (entry_word_place g.vm g.number + 1) 0 ≡ get_or w.memory (entry_word_place g.vm g.number + 1) 0)
+  pub entry_words_kept : (get_or (with_store w q offset value).memory (entry_word_place g.vm g.vcpu) 0 ≡ get_or w.memory
+      (entry_word_place g.vm g.vcpu) 0)
+      × (get_or (with_store w q offset value).memory (entry_word_place g.vm g.vcpu + 1) 0 ≡ get_or w.memory (entry_word_place g.vm g.vcpu + 1) 0)
   entry_words_kept =
       let small : (i : ℕ) → requested IDENTITIES offset value ≡ Some i
       → i ≤ IDENTITIES = λ i e. (requested_in_range IDENTITIES offset value i e).1 in (
-        entry_kept w.memory q (entry_word_place g.vm g.number) (requested IDENTITIES offset value) low (omega arith) small,
-        entry_kept w.memory q (entry_word_place g.vm g.number + 1) (requested IDENTITIES offset value) low (omega arith) small,
+        entry_kept w.memory q (entry_word_place g.vm g.vcpu) (requested IDENTITIES offset value) low (omega arith) small,
+        entry_kept w.memory q (entry_word_place g.vm g.vcpu + 1) (requested IDENTITIES offset value) low (omega arith) small,
       )
 
 module _ (w : World) (g : Vcpu) (there : Home) (q offset value : ℕ) (whole : IsWhole w) (low : q < VCPUS) where

@@ -14,7 +14,7 @@ use Rattle.aia_file.proofs.SlotLemmas.{other_words}
 use Rattle.aia_entry.specs.Tables.{table_of, entry_in_force}
 use Rattle.aia_entry.proofs.TableLemmas.{fenced_elsewhere, fenced_mask, fenced_start, fenced_count}
 use Rattle.aia_vcpu.specs.declared.place.GuestPlace.{GuestPlace}
-use Rattle.aia_vcpu.specs.Vms.{Vcpu, vcpu, is_vcpu_in, slot_of}
+use Rattle.aia_vcpu.specs.Vms.{Vcpu, vcpu_of, is_vcpu_in, slot_of}
 use Rattle.aia_vcpu.specs.Home.{Way, Home, Progress, left, led_to, is_file, end_at, holds}
 use Rattle.aia_vcpu.specs.Home.Home.{OnWay}
 use Rattle.aia_vcpu.specs.BySteps.{own_file, next_file}
@@ -93,8 +93,8 @@ module _ (w u : World) (m : Moving) where
 
   -- a word of memory: one of the slot, or one of the entry
   touches_word : (place v : ℕ) → ((r : ℕ) → r < SLOTS → r ≢ m.who.found.slot → (place < 64 * r) ⊎ (64 * (r + 1) ≤ place))
-      → ((g : Vcpu) → is_vcpu_in w.vms g ≡ true → g ≢ mover m → (entry_word_place g.vm g.number ≢ place)
-      × (entry_word_place g.vm g.number + 1 ≢ place))
+      → ((g : Vcpu) → is_vcpu_in w.vms g ≡ true → g ≢ mover m → (entry_word_place g.vm g.vcpu ≢ place)
+      × (entry_word_place g.vm g.vcpu + 1 ≢ place))
       → u ≡ with_word w place v → Touches false w u m
   touches_word place v apart past e = subst TouchesOwn (sym e) (record {
     rest = refl;
@@ -108,8 +108,8 @@ module _ (w u : World) (m : Moving) where
     count = λ no. refl;
     slots = λ r low other. other_words w.memory r place v (apart r low other);
     entry_words = λ g there other. (
-      get_or-set_other w.memory place (entry_word_place g.vm g.number) v 0 (past g there other).0,
-      get_or-set_other w.memory place (entry_word_place g.vm g.number + 1) v 0 (past g there other).1,
+      get_or-set_other w.memory place (entry_word_place g.vm g.vcpu) v 0 (past g there other).0,
+      get_or-set_other w.memory place (entry_word_place g.vm g.vcpu + 1) v 0 (past g there other).1,
     );
     in_force = λ g other. refl;
     stages = λ q other. refl;
@@ -125,30 +125,30 @@ module _ (w u : World) (m : Moving) where
         ])
         (λ g there other. (λ same. omega arith, λ same. omega arith)) e
 
-    pub touches_entry : (which v : ℕ) → which ≤ 1 → u ≡ with_entry_word w m.who.found.vm m.who.found.number which v → Touches false w u m
-    touches_entry which v one e = touches_word (entry_word_place m.who.found.vm m.who.found.number + which) v
+    pub touches_entry : (which v : ℕ) → which ≤ 1 → u ≡ with_entry_word w m.who.found.vm m.who.found.vcpu which v → Touches false w u m
+    touches_entry which v one e = touches_word (entry_word_place m.who.found.vm m.who.found.vcpu + which) v
         (λ r small other. inr (omega arith)) apart e
       where
         apart : (g : Vcpu) → is_vcpu_in w.vms g ≡ true → g ≢ mover m
-            → (entry_word_place g.vm g.number ≢ entry_word_place m.who.found.vm m.who.found.number + which)
-            × (entry_word_place g.vm g.number + 1 ≢ entry_word_place m.who.found.vm m.who.found.number + which)
+            → (entry_word_place g.vm g.vcpu ≢ entry_word_place m.who.found.vm m.who.found.vcpu + which)
+            × (entry_word_place g.vm g.vcpu + 1 ≢ entry_word_place m.who.found.vm m.who.found.vcpu + which)
         apart g there other =
-            let mine = vcpu_entry w m.who.found.vm m.who.found.number whole stands in
-            let its = vcpu_entry w g.vm g.number whole there in (
-              λ same. let zero : entry_word_place g.vm g.number + 0 ≡ entry_word_place m.who.found.vm m.who.found.number + which =
+            let mine = vcpu_entry w m.who.found.vm m.who.found.vcpu whole stands in
+            let its = vcpu_entry w g.vm g.vcpu whole there in (
+              λ same. let zero : entry_word_place g.vm g.vcpu + 0 ≡ entry_word_place m.who.found.vm m.who.found.vcpu + which =
                   omega (arith, same) in
-                  let both = one_entry g.vm g.number m.who.found.vm m.who.found.number 0 which its.2 mine.2 (omega arith) one zero in
-                  other (λ k. vcpu (both.0 k) (both.1 k)),
-              λ same. let both = one_entry g.vm g.number m.who.found.vm m.who.found.number 1 which its.2 mine.2 (omega arith) one same in
-                  other (λ k. vcpu (both.0 k) (both.1 k)),
+                  let both = one_entry g.vm g.vcpu m.who.found.vm m.who.found.vcpu 0 which its.2 mine.2 (omega arith) one zero in
+                  other (λ k. vcpu_of (both.0 k) (both.1 k)),
+              λ same. let both = one_entry g.vm g.vcpu m.who.found.vm m.who.found.vcpu 1 which its.2 mine.2 (omega arith) one same in
+                  other (λ k. vcpu_of (both.0 k) (both.1 k)),
             )
 
-    pub touches_fence : u ≡ with_fence w m.who.found.vm m.who.found.number → Touches false w u m
+    pub touches_fence : u ≡ with_fence w m.who.found.vm m.who.found.vcpu → Touches false w u m
     touches_fence e = subst TouchesOwn (sym e) (record {
       rest = refl;
-      tables = fenced_count w.tables m.who.found.vm m.who.found.number w.memory;
-      masks = λ v. fenced_mask w.tables m.who.found.vm m.who.found.number w.memory v;
-      starts = λ v. fenced_start w.tables m.who.found.vm m.who.found.number w.memory v;
+      tables = fenced_count w.tables m.who.found.vm m.who.found.vcpu w.memory;
+      masks = λ v. fenced_mask w.tables m.who.found.vm m.who.found.vcpu w.memory v;
+      starts = λ v. fenced_start w.tables m.who.found.vm m.who.found.vcpu w.memory v;
       guest_files = λ r there none. refl;
       machine_files = λ hart low. refl;
       host_files = λ hart low other. refl;
@@ -156,13 +156,13 @@ module _ (w u : World) (m : Moving) where
       count = λ no. refl;
       slots = λ r low other. refl;
       entry_words = λ g there other. (refl, refl);
-      in_force = λ g other. fenced_elsewhere w.tables m.who.found.vm m.who.found.number w.memory g.vm g.number (elsewhere g other);
+      in_force = λ g other. fenced_elsewhere w.tables m.who.found.vm m.who.found.vcpu w.memory g.vm g.vcpu (elsewhere g other);
       stages = λ q other. refl;
     })
       where
-        elsewhere : (g : Vcpu) → g ≢ mover m → (g.vm ≢ m.who.found.vm) ⊎ (g.number ≢ m.who.found.number)
+        elsewhere : (g : Vcpu) → g ≢ mover m → (g.vm ≢ m.who.found.vm) ⊎ (g.vcpu ≢ m.who.found.vcpu)
         elsewhere g other = elim (cases_eq g.vm m.who.found.vm) [
-          | inl same ↦ inr (λ too. other (λ k. vcpu (same k) (too k)))
+          | inl same ↦ inr (λ too. other (λ k. vcpu_of (same k) (too k)))
           | inr ne ↦ inl ne
         ]
 
@@ -213,10 +213,10 @@ module _ (w u : World) (m : Moving) where
     count = λ no. absurd (cc);
     slots = λ r small other. ap (λ (x : World). mrif_in x.memory r) p.rest;
     entry_words = λ g there other. (
-      ap (λ (x : World). get_or x.memory (entry_word_place g.vm g.number) 0) p.rest,
-      ap (λ (x : World). get_or x.memory (entry_word_place g.vm g.number + 1) 0) p.rest,
+      ap (λ (x : World). get_or x.memory (entry_word_place g.vm g.vcpu) 0) p.rest,
+      ap (λ (x : World). get_or x.memory (entry_word_place g.vm g.vcpu + 1) 0) p.rest,
     );
-    in_force = λ g other. ap (λ (x : World). entry_in_force (table_of x.tables g.vm) g.number) p.rest;
+    in_force = λ g other. ap (λ (x : World). entry_in_force (table_of x.tables g.vm) g.vcpu) p.rest;
     stages = λ q other. ap (λ (x : World). get_or x.stages q no_stage) p.rest;
   }
 
@@ -236,7 +236,7 @@ module _ (w u : World) (who : Who) (way : Way) (at : Progress) (hand : Hand) (wh
   it = record { who = who; home = OnWay way at; hand = hand }
 
   slot_few : who.found.slot < SLOTS
-  slot_few = let small = slot_low w (vcpu who.found.vm who.found.number) whole fits.there in omega (arith, small, fits.slot)
+  slot_few = let small = slot_low w (vcpu_of who.found.vm who.found.vcpu) whole fits.there in omega (arith, small, fits.slot)
 
   -- an end of the move, if it is a guest file, is there, and the move holds it
   abbrev IsEnd : Option GuestPlace → Type 0
@@ -283,7 +283,7 @@ module _ (w u : World) (who : Who) (way : Way) (at : Progress) (hand : Hand) (wh
   touches_by (PutEnables k) next makes = touches_enables (led_to way) k hand.word new_is next.has makes.1
   touches_by (Look k) next makes = touches_nothing w u it makes
   touches_by Post next makes =
-      let low : who.found.notice < w.imsic.harts = let small = notice_hart_there w (vcpu who.found.vm who.found.number) whole fits.there in
+      let low : who.found.notice < w.imsic.harts = let small = notice_hart_there w (vcpu_of who.found.vm who.found.vcpu) whole fits.there in
       omega (arith, small, fits.notice) in
       touches_notice_if w u it hand.seen low makes
   touches_by access next makes = touches_stage w u it whole fits.there _ makes

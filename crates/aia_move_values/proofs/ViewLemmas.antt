@@ -179,20 +179,20 @@ module _ (w : World) (g : Vcpu) (there : Home) (whole : IsWhole w) (stands : is_
   pub in_slot-places : (place v : ℕ) → place < WORDS_OF_SLOTS
       → places_of (with_word w place v) g there ≡ record (places_of w g there) { slot = mrif_in (set w.memory place v) (slot_of w.vms g) }
   in_slot-places place v low =
-      let past = entries_past g.vm g.number place low in
-      let first = get_or-set_other w.memory place (entry_word_place g.vm g.number) v 0 past.0 in
-      let second = get_or-set_other w.memory place (entry_word_place g.vm g.number + 1) v 0 past.1 in
+      let past = entries_past g.vm g.vcpu place low in
+      let first = get_or-set_other w.memory place (entry_word_place g.vm g.vcpu) v 0 past.0 in
+      let second = get_or-set_other w.memory place (entry_word_place g.vm g.vcpu + 1) v 0 past.1 in
       λ t. record (places_of w g there) { slot = mrif_in (set w.memory place v) (slot_of w.vms g); word0 = first t; word1 = second t }
 
-  entry_low : entry_word_place g.vm g.number + 1 < MEMORY_WORDS
-  entry_low = let entry = vcpu_entry w g.vm g.number whole stands in (entry_at w g.vm g.number whole entry.0 entry.3).3
+  entry_low : entry_word_place g.vm g.vcpu + 1 < MEMORY_WORDS
+  entry_low = let entry = vcpu_entry w g.vm g.vcpu whole stands in (entry_at w g.vm g.vcpu whole entry.0 entry.3).3
 
   in_table : (place v : ℕ) → WORDS_OF_SLOTS ≤ place → mrif_in (set w.memory place v) (slot_of w.vms g) ≡ mrif_in w.memory (slot_of w.vms g)
   in_table place v high = let low = slot_low w g whole stands in other_words w.memory (slot_of w.vms g) place v (inr (omega (arith, low, high)))
 
-  pub word0-places : (v : ℕ) → places_of (with_word w (entry_word_place g.vm g.number + 0) v) g there ≡ record (places_of w g there) { word0 = v }
+  pub word0-places : (v : ℕ) → places_of (with_word w (entry_word_place g.vm g.vcpu + 0) v) g there ≡ record (places_of w g there) { word0 = v }
   word0-places v =
-      let at = entry_word_place g.vm g.number in
+      let at = entry_word_place g.vm g.vcpu in
       let same : at + 0 ≡ at = omega arith in
       let size = whole.memory in
       let low = entry_low in
@@ -203,9 +203,9 @@ module _ (w : World) (g : Vcpu) (there : Home) (whole : IsWhole w) (stands : is_
       λ t. record (places_of w g there) { slot = slot t; word0 = first t; word1 = second t } in
       ap (λ place. places_of (with_word w place v) g there) same ∙ all
 
-  pub word1-places : (v : ℕ) → places_of (with_word w (entry_word_place g.vm g.number + 1) v) g there ≡ record (places_of w g there) { word1 = v }
+  pub word1-places : (v : ℕ) → places_of (with_word w (entry_word_place g.vm g.vcpu + 1) v) g there ≡ record (places_of w g there) { word1 = v }
   word1-places v =
-      let at = entry_word_place g.vm g.number in
+      let at = entry_word_place g.vm g.vcpu in
       let size = whole.memory in
       let low = entry_low in
       let slot = in_table (at + 1) v (omega arith) in
@@ -215,17 +215,17 @@ module _ (w : World) (g : Vcpu) (there : Home) (whole : IsWhole w) (stands : is_
 
   -- ---- an entry, and a record
 
-  pub fence-places : places_of (with_fence w g.vm g.number) g there ≡ record (places_of w g there)
+  pub fence-places : places_of (with_fence w g.vm g.vcpu) g there ≡ record (places_of w g there)
       { in_force = decoded (places_of w g there).word0 (places_of w g there).word1 }
   fence-places =
-      let entry = vcpu_entry w g.vm g.number whole stands in
-      let at = entry_at w g.vm g.number whole entry.0 entry.3 in
+      let entry = vcpu_entry w g.vm g.vcpu whole stands in
+      let at = entry_at w g.vm g.vcpu whole entry.0 entry.3 in
       let is = whole.vms g.vm entry.0 in
-      let first : entry_byte (table_of w.tables g.vm) g.number / 8 ≡ entry_word_place g.vm g.number = omega (arith, at.1, at.2) in
-      let second : (entry_byte (table_of w.tables g.vm) g.number + 8) / 8 ≡ entry_word_place g.vm g.number + 1 = omega (arith, at.1, at.2) in
-      let new = fenced_here w.tables g.vm g.number w.memory (omega (arith, entry.0, whole.tables)) (omega (arith, entry.2, is.entries))
-      ∙ ap (λ place. decoded (get_or w.memory place 0) (get_or w.memory ((entry_byte (table_of w.tables g.vm) g.number + 8) / 8) 0)) first
-      ∙ ap (λ place. decoded (get_or w.memory (entry_word_place g.vm g.number) 0) (get_or w.memory place 0)) second in
+      let first : entry_byte (table_of w.tables g.vm) g.vcpu / 8 ≡ entry_word_place g.vm g.vcpu = omega (arith, at.1, at.2) in
+      let second : (entry_byte (table_of w.tables g.vm) g.vcpu + 8) / 8 ≡ entry_word_place g.vm g.vcpu + 1 = omega (arith, at.1, at.2) in
+      let new = fenced_here w.tables g.vm g.vcpu w.memory (omega (arith, entry.0, whole.tables)) (omega (arith, entry.2, is.entries))
+      ∙ ap (λ place. decoded (get_or w.memory place 0) (get_or w.memory ((entry_byte (table_of w.tables g.vm) g.vcpu + 8) / 8) 0)) first
+      ∙ ap (λ place. decoded (get_or w.memory (entry_word_place g.vm g.vcpu) 0) (get_or w.memory place 0)) second in
       λ t. record (places_of w g there) { in_force = new t }
 
   stage_here : (s : Stage) → stage_of (with_stage w g s) g ≡ s

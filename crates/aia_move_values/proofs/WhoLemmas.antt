@@ -9,7 +9,7 @@ use Rattle.aia_vcpu.specs.Home.{Way, left, led_to, Home, is_moving, at_first}
 use Rattle.aia_vcpu.specs.Home.Home.{OnWay}
 use Rattle.aia_vcpu.specs.BySteps.{first_file, own_file, next_file}
 use Rattle.aia_vcpu.specs.Plans.{steps_done}
-use Rattle.aia_vcpu.specs.Vms.{Vcpu, vcpu, vcpus_in, is_vcpu_in, slot_of, notice_hart}
+use Rattle.aia_vcpu.specs.Vms.{Vcpu, vcpu_of, vcpus_in, is_vcpu_in, slot_of, notice_hart}
 use Rattle.aia_vcpu.proofs.VmLemmas.{slot_below}
 use Rattle.aia_vcpu.proofs.HomeLemmas.{next_is_led_to, left_is_own, led_to_is_held}
 use Rattle.aia_fabric_values.specs.World.{World}
@@ -24,8 +24,8 @@ pub small_who : (w : World) (who : Who) → IsWhole w → IsWho w who → (who.f
     × (who.found.notice < HARTS)
 small_who w who whole is =
     let slot = is.slot in
-    let below = slot_below w.vms (vcpu who.found.vm who.found.number) is.there in
-    let hart = notice_hart_there w (vcpu who.found.vm who.found.number) whole is.there in
+    let below = slot_below w.vms (vcpu_of who.found.vm who.found.vcpu) is.there in
+    let hart = notice_hart_there w (vcpu_of who.found.vm who.found.vcpu) whole is.there in
     (omega (arith, slot, below), omega (arith, slot, below, whole.vcpus), omega (arith, is.notice, hart, whole.harts))
 
 pub small_file : (w : World) (to : Option GuestPlace) → IsWhole w → ((p : GuestPlace) → to ≡ Some p → IsThere w.imsic (spot_of p))
@@ -41,8 +41,8 @@ pub posts_if : (w u : World) (who same : Who) (seen : Bool) → seen ≡ true �
     → Posts w u (SupervisorFile (notice_hart w.vms g)) (same.found.slot + 1)) → PostsIf seen w u who.found.notice (who.found.slot + 1)
 posts_if w u who same seen on e is posts =
     let slot : same.found.slot ≡ who.found.slot = ap (λ (x : Who). x.found.slot) e in
-    rw (on, is.notice) (subst (λ n. Posts w u (SupervisorFile (notice_hart w.vms (vcpu who.found.vm who.found.number))) (n + 1)) slot
-    (posts (vcpu who.found.vm who.found.number) is.there (sym (slot ∙ is.slot))))
+    rw (on, is.notice) (subst (λ n. Posts w u (SupervisorFile (notice_hart w.vms (vcpu_of who.found.vm who.found.vcpu))) (n + 1)) slot
+    (posts (vcpu_of who.found.vm who.found.vcpu) is.there (sym (slot ∙ is.slot))))
 
 -- the slot of a state m, which is seen as s
 pub slot_there : (w : World) (m s : Moving) → m ≡ s → IsWhole w → MoveFits w s → m.who.found.slot < VCPUS

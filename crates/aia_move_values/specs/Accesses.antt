@@ -45,7 +45,7 @@ moved who way at hand = record { who = who; home = OnWay way at; hand = hand }
 
 -- It changes the world; before the fence of the entry all stores in flight of the VM land.
 abbrev pub MakesLanding : Access → Moving → World → World → Type 0
-MakesLanding Fence m w u = Fences w u m.who.found.vm m.who.found.number
+MakesLanding Fence m w u = Fences w u m.who.found.vm m.who.found.vcpu
 MakesLanding access m w u = Makes access m w u
 
 -- What is taken of word 0 of a set has no identity 0.

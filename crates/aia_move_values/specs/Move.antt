@@ -6,7 +6,7 @@ use Rattle.aia_file.specs.declared.spot.Spot.{Spot}
 use Rattle.aia_file.specs.declared.spot.Spot.TheVariants.{SupervisorFile, Nowhere}
 use Rattle.aia_file.specs.Imsic.{IsThere, file_at}
 use Rattle.aia_vcpu.specs.declared.place.GuestPlace.{GuestPlace}
-use Rattle.aia_vcpu.specs.Vms.{Vcpu, vcpu, is_vcpu_in, slot_of, notice_hart}
+use Rattle.aia_vcpu.specs.Vms.{Vcpu, vcpu_of, is_vcpu_in, slot_of, notice_hart}
 use Rattle.aia_vcpu.specs.Home.{Home, left, led_to, one_more}
 use Rattle.aia_vcpu.specs.Plans.{is_at_last, IsNext, next_access, is_last_made}
 use Rattle.aia_vcpu.specs.declared.access.Access.{Access}
@@ -31,7 +31,7 @@ pub record Moving : Type 0 where
 
 -- The virtual hart that is moved.
 abbrev pub mover : Moving → Vcpu
-mover m = vcpu m.who.found.vm m.who.found.number
+mover m = vcpu_of m.who.found.vm m.who.found.vcpu
 
 -- How many words each set of a file has.
 abbrev pub width : World → ℕ
@@ -83,11 +83,11 @@ PostsIf false w u hart identity = u ≡ w
 abbrev pub Makes : Access → Moving → World → World → Type 0
 Makes TakeDelivery m w u = PutsRegister w u (old_spot m) Delivery 0
 Makes PutDelivery m w u = PutsRegister w u (new_spot m) Delivery m.hand.delivery
-Makes WriteNotice m w u = u ≡ with_entry_word w m.who.found.vm m.who.found.number 1
+Makes WriteNotice m w u = u ≡ with_entry_word w m.who.found.vm m.who.found.vcpu 1
     (second_word m.who.found.slot m.who.found.notice)
-Makes WriteEntry m w u = u ≡ with_entry_word w m.who.found.vm m.who.found.number 0
+Makes WriteEntry m w u = u ≡ with_entry_word w m.who.found.vm m.who.found.vcpu 0
     (entry_word m.who.found.slot (new_file m.home))
-Makes Fence m w u = u ≡ with_fence w m.who.found.vm m.who.found.number
+Makes Fence m w u = u ≡ with_fence w m.who.found.vm m.who.found.vcpu
 Makes Map m w u = u ≡ with_map w (mover m) (new_file m.home)
 Makes GFence m w u = u ≡ with_gfence w (mover m)
 Makes (TakePending k) m w u = u ≡ with_pending w (old_at m) k 0

@@ -36,22 +36,22 @@ pub record TouchesOwn (w u : World) (g : Vcpu) (reach : Option GuestPlace) : Typ
   -- memory: its slot is all that it touches, and no word of a table
   pub slots : (q : ℕ) → q ≢ slot_of w.vms g → mrif_in u.memory q ≡ mrif_in w.memory q
   pub entry_words : (x : Vcpu)
-      → (slice_index u.memory (entry_word_place x.vm x.number)
-      ≡ slice_index w.memory (entry_word_place x.vm x.number))
-      × (slice_index u.memory (entry_word_place x.vm x.number + 1)
-      ≡ slice_index w.memory (entry_word_place x.vm x.number + 1))
+      → (slice_index u.memory (entry_word_place x.vm x.vcpu)
+      ≡ slice_index w.memory (entry_word_place x.vm x.vcpu))
+      × (slice_index u.memory (entry_word_place x.vm x.vcpu + 1)
+      ≡ slice_index w.memory (entry_word_place x.vm x.vcpu + 1))
 
 -- The entries of a VM that are in force lead to its own: that of each virtual hart to the guest
 -- file at which stores are to reach it, which is there, or to its slot, with its notice; and there
 -- is no other entry.
 pub record LeadsToOwn (w : World) (v : ℕ) (reach : Vcpu → Option GuestPlace) : Type 0 where
   pub own : (g : Vcpu) → g.vm ≡ v → is_vcpu_in w.vms g ≡ true
-      → entry_in_force (table_of w.tables g.vm) g.number
+      → entry_in_force (table_of w.tables g.vm) g.vcpu
       ≡ leads_to (slot_of w.vms g) (notice_hart w.vms g) (reach g)
   pub there : (g : Vcpu) (p : GuestPlace) → g.vm ≡ v → is_vcpu_in w.vms g ≡ true → reach g ≡ Some p
       → IsThere w.imsic (spot_of p)
   pub no_other : (g : Vcpu) → g.vm ≡ v → is_vcpu_in w.vms g ≡ false
-      → entry_in_force (table_of w.tables g.vm) g.number ≡ NotValid
+      → entry_in_force (table_of w.tables g.vm) g.vcpu ≡ NotValid
 
 -- A store touches one virtual hart of a VM, and its own alone.
 pub record TouchesOneOf (w u : World) (v : ℕ) (reach : Vcpu → Option GuestPlace) : Type 0 where

@@ -94,13 +94,14 @@ abbrev pub is_last : Option Phase → Bool
 is_last (Some LastPhase) = true
 is_last phase = false
 
--- The next step of a move, of which `NextStepIsOf` says that it is one of this phase, is the last one
--- of it, in files of so many words: so many steps are done, with it, as come before the next phase.
+-- The next step of a move, of which `NextStepIsOf` says that it is one of this phase, is the last
+-- one of it, in files of so many words: so many steps are done, with it, as come before the next
+-- phase.
 abbrev pub IsLastOf : Phase → ℕ → Moving → Type 0
 IsLastOf phase words m = steps_done m.home + 1 ≡ begins words m.home (following phase)
 
--- A step of this phase, as `NextStepIsOf` says before it, is done, with whether the one after it is of
--- the phase too; else it was the last one. None: no access is made in the phase of aims.
+-- A step of this phase, as `NextStepIsOf` says before it, is done, with whether the one after it is
+-- of the phase too; else it was the last one. None: no access is made in the phase of aims.
 abbrev pub GoesInPhase : Option Phase → Bool → World → Moving → World → Moving → Type 0
 GoesInPhase None stays w m u t = ⊥
 GoesInPhase (Some phase) true w m u t =
@@ -112,9 +113,9 @@ GoesInPhase (Some phase) false w m u t = GoesOnIn phase w m u t × IsLastOf phas
 abbrev pub past_closing : Moving → Option Phase
 past_closing m = if has_unaimed m then None else Some DrainPhase
 
--- The phase that a plan comes to from this one, with the last of its steps, or with an aim. The move
--- is as that step leaves it. After the looks comes the last phase. Past the last one there is none:
--- a plan that makes the last step of that one is at its end, and nothing asks for this.
+-- The phase that a plan comes to from this one, with the last of its steps, or with an aim. The
+-- move is as that step leaves it. After the looks comes the last phase. Past the last one there is
+-- none: a plan that makes the last step of that one is at its end, and nothing asks for this.
 abbrev pub next_phase : Moving → Option Phase → Option Phase
 next_phase m None = past_closing m
 next_phase m (Some FirstPhase) = Some ClosingPhase

@@ -63,11 +63,11 @@ pub record Touches (sent : Bool) (w u : World) (m : Moving) : Type 0 where
   -- slots, entries and records of other virtual harts
   pub slots : (r : ℕ) → r < VCPUS → r ≢ m.who.found.slot → mrif_in u.memory r ≡ mrif_in w.memory r
   pub entry_words : (g : Vcpu) → is_vcpu_in w.vms g ≡ true → g ≢ mover m
-      → (slice_index u.memory (entry_word_place g.vm g.number)
-      ≡ slice_index w.memory (entry_word_place g.vm g.number))
-      × (slice_index u.memory (entry_word_place g.vm g.number + 1)
-      ≡ slice_index w.memory (entry_word_place g.vm g.number + 1))
-  pub in_force : (g : Vcpu) → g ≢ mover m → entry_in_force (table_of u.tables g.vm) g.number
-      ≡ entry_in_force (table_of w.tables g.vm) g.number
+      → (slice_index u.memory (entry_word_place g.vm g.vcpu)
+      ≡ slice_index w.memory (entry_word_place g.vm g.vcpu))
+      × (slice_index u.memory (entry_word_place g.vm g.vcpu + 1)
+      ≡ slice_index w.memory (entry_word_place g.vm g.vcpu + 1))
+  pub in_force : (g : Vcpu) → g ≢ mover m → entry_in_force (table_of u.tables g.vm) g.vcpu
+      ≡ entry_in_force (table_of w.tables g.vm) g.vcpu
   pub stages : (q : ℕ) → q ≢ slot_of w.vms (mover m)
       → slice_index_or u.stages q no_stage ≡ slice_index_or w.stages q no_stage

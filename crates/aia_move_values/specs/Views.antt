@@ -16,9 +16,9 @@ places_of w g there = record {
   own = file_in w (own_file there);
   next = file_in w (next_file there);
   slot = mrif_in w.memory (slot_of w.vms g);
-  word0 = slice_index w.memory (entry_word_place g.vm g.number);
-  word1 = slice_index w.memory (entry_word_place g.vm g.number + 1);
-  in_force = entry_in_force (table_of w.tables g.vm) g.number;
+  word0 = slice_index w.memory (entry_word_place g.vm g.vcpu);
+  word1 = slice_index w.memory (entry_word_place g.vm g.vcpu + 1);
+  in_force = entry_in_force (table_of w.tables g.vm) g.vcpu;
   stage = (stage_of w g).written;
   stage_in_force = (stage_of w g).in_force;
 }

@@ -4,22 +4,22 @@ use Rattle.std.specs.List.{list_any, AllByRecursion}
 use Rattle.std.proofs.lemmas.Bool.{false≢true, eq-eqb, eqb-true, and_parts, not-true}
 use Rattle.aia_plan.specs.declared.step.Step.{Step}
 use Rattle.aia_plan.specs.declared.step.Step.TheVariants.{Word0, Fence, Map, Unmap, Remap, GFence, TakeP, TakeE}
-use Rattle.aia_plan.specs.Plan.{Plan, IsInside, is_step}
+use Rattle.aia_plan.specs.Plan.{WrittenPlan, IsInside, is_step}
 use Rattle.aia_plan.specs.Rule.{is_same, are_paired, takes_pending, puts_pending, takes_enables, puts_enables, is_record}
 use Rattle.aia_plan.proofs.StepKept.{Guard}
 
 -- Whether no step that passes one test has one that passes another behind it: `comes_before` said
 -- of tests.
-abbrev pub before : (Step → Bool) → (Step → Bool) → Plan → Bool
+abbrev pub before : (Step → Bool) → (Step → Bool) → WrittenPlan → Bool
 before first second [] = true
 before first second (x ∷ later) = not (second x && list_any first later) && before first second later
 
-abbrev pub Before : (Step → Bool) → (Step → Bool) → Plan → Type 0
+abbrev pub Before : (Step → Bool) → (Step → Bool) → WrittenPlan → Type 0
 Before first second rest = before first second rest ≡ true
 
 -- The steps that are left keep the rule, as far as it speaks of what stands behind what; c and e
 -- are the words that the step just before them took.
-pub record Left (words : ℕ) (c e : Option ℕ) (rest : Plan) : Type 0 where
+pub record Left (words : ℕ) (c e : Option ℕ) (rest : WrittenPlan) : Type 0 where
   pub one_word0 : Before (is_step Word0) (is_step Word0) rest
   pub one_fence : Before (is_step Fence) (is_step Fence) rest
   pub one_gfence : Before (is_step GFence) (is_step GFence) rest
@@ -35,18 +35,18 @@ pub record Left (words : ℕ) (c e : Option ℕ) (rest : Plan) : Type 0 where
 
 -- ---- one step further
 
-after : (first second : Step → Bool) (x : Step) (rest : Plan) → Before first second (x ∷ rest) → Before first second rest
+after : (first second : Step → Bool) (x : Step) (rest : WrittenPlan) → Before first second (x ∷ rest) → Before first second rest
 after first second x rest h = (and_parts (not (second x && list_any first rest)) (before first second rest) h).1
 
 none_after : (second any : Bool) → not (second && any) ≡ true → second ≡ true → any ≡ false
 none_after true any h e = not-true any h
 none_after false any h e = absurd (false≢true e)
 
-none_behind : (first second : Step → Bool) (x : Step) (rest : Plan) → Before first second (x ∷ rest) → second x ≡ true → list_any first rest ≡ false
+none_behind : (first second : Step → Bool) (x : Step) (rest : WrittenPlan) → Before first second (x ∷ rest) → second x ≡ true → list_any first rest ≡ false
 none_behind first second x rest h e = none_after (second x) (list_any first rest)
     (and_parts (not (second x && list_any first rest)) (before first second rest) h).0 e
 
-pub left_after : (words : ℕ) (c e : Option ℕ) (x : Step) (rest : Plan) → Left words c e (x ∷ rest)
+pub left_after : (words : ℕ) (c e : Option ℕ) (x : Step) (rest : WrittenPlan) → Left words c e (x ∷ rest)
     → Left words (takes_pending x) (takes_enables x) rest
 left_after words c e x rest r = record {
   one_word0 = after _ _ x rest r.one_word0;
@@ -71,10 +71,10 @@ same_words (Some v) (Some w) e = ap Some (eqb-true v w e)
 same_words None (Some w) e = absurd (false≢true e)
 same_words (Some v) None e = absurd (false≢true e)
 
-pub pending_carried : (words : ℕ) (c e : Option ℕ) (x : Step) (rest : Plan) → Left words c e (x ∷ rest) → c ≡ puts_pending x
+pub pending_carried : (words : ℕ) (c e : Option ℕ) (x : Step) (rest : WrittenPlan) → Left words c e (x ∷ rest) → c ≡ puts_pending x
 pending_carried words c e x rest r = same_words c (puts_pending x) (and_parts (is_same c (puts_pending x)) _ r.pending_paired).0
 
-pub enables_carried : (words : ℕ) (c e : Option ℕ) (x : Step) (rest : Plan) → Left words c e (x ∷ rest) → e ≡ puts_enables x
+pub enables_carried : (words : ℕ) (c e : Option ℕ) (x : Step) (rest : WrittenPlan) → Left words c e (x ∷ rest) → e ≡ puts_enables x
 enables_carried words c e x rest r = same_words e (puts_enables x) (and_parts (is_same e (puts_enables x)) _ r.enables_paired).0
 
 pub none_carried : (words : ℕ) (c e : Option ℕ) → Left words c e [] → (c ≡ None) × (e ≡ None)
@@ -85,7 +85,7 @@ none_carried words c e r = (same_words c None r.pending_paired, same_words e Non
 itself : (w : ℕ) → nat_eq w w ≡ true
 itself w = eq-eqb w w refl
 
-pub guard_of : (words : ℕ) (c e : Option ℕ) (x : Step) (rest : Plan) → Left words c e (x ∷ rest) → Guard x rest
+pub guard_of : (words : ℕ) (c e : Option ℕ) (x : Step) (rest : WrittenPlan) → Left words c e (x ∷ rest) → Guard x rest
 guard_of words c e Word0 rest r = none_behind (is_step Word0) (is_step Word0) Word0 rest r.one_word0 refl
 guard_of words c e Fence rest r = (
   none_behind (is_step Word0) (is_step Fence) Fence rest r.word0_first refl,

@@ -3,16 +3,17 @@
 use Rattle.std.proofs.Common.{◌≡◌, ℕ, zero, suc, ◌+◌, ◌<◌, ◌≤◌, Bool, true, false, [], ◌∷◌, ◌++◌, None, inl, inr, refl, sym, subst, arith}
 use Rattle.std.proofs.lemmas.Bool.{and_parts}
 use Rattle.std.specs.List.{All, AllByRecursion, list_all}
+use Rattle.aia_regs.specs.declared.limits.TheConstants.{FILE_WORDS}
 use Rattle.aia_plan.specs.declared.step.Kind.{Kind}
 use Rattle.aia_plan.specs.declared.step.Kind.TheVariants.{Leave, Arrive, Shift}
 use Rattle.aia_plan.specs.declared.step.Step.{Step}
 use Rattle.aia_plan.specs.declared.step.Step.TheVariants.{TakeP, PutP, TakeE, PutE, Look}
-use Rattle.aia_plan.specs.Plan.{Plan, IsWidth, IsInside, each_word, all_words, first_steps, last_steps, core_plan}
+use Rattle.aia_plan.specs.Plan.{WrittenPlan, IsWidth, IsInside, each_word, all_words, first_steps, last_steps, core_plan}
 use Rattle.aia_plan.specs.Rule.{failing}
 use Rattle.aia_plan.proofs.Throughout.{by_place}
 
 -- what holds of the six numbers of words holds of each
-pub of_width : (P : ℕ → Type 0) → P 1 → P 2 → P 4 → P 8 → P 16 → P 32 → (words : ℕ) → IsWidth words → P words
+pub of_width : (P : ℕ → Type 0) → P 1 → P 2 → P 4 → P 8 → P 16 → P FILE_WORDS → (words : ℕ) → IsWidth words → P words
 of_width P p1 p2 p4 p8 p16 p32 words (inl e) = subst P (sym e) p1
 of_width P p1 p2 p4 p8 p16 p32 words (inr (inl e)) = subst P (sym e) p2
 of_width P p1 p2 p4 p8 p16 p32 words (inr (inr (inl e))) = subst P (sym e) p4
@@ -30,11 +31,11 @@ plans_keep Shift = of_width (λ words. failing Shift words (core_plan Shift word
 
 -- ---- the words that they name
 
-appended : (P : Step → Type 0) (xs ys : Plan) → AllByRecursion P xs → AllByRecursion P ys → AllByRecursion P (xs ++ ys)
+appended : (P : Step → Type 0) (xs ys : WrittenPlan) → AllByRecursion P xs → AllByRecursion P ys → AllByRecursion P (xs ++ ys)
 appended P [] ys all others = others
 appended P (x ∷ xs) ys all others = (all.0, appended P xs ys all.1 others)
 
-each_inside : (words : ℕ) (of_word : ℕ → Plan) → ((w : ℕ) → w < words → AllByRecursion (IsInside words) (of_word w)) → (from count : ℕ)
+each_inside : (words : ℕ) (of_word : ℕ → WrittenPlan) → ((w : ℕ) → w < words → AllByRecursion (IsInside words) (of_word w)) → (from count : ℕ)
     → from + count ≤ words → AllByRecursion (IsInside words) (each_word of_word from count)
 each_inside words of_word each from zero most = tt
 each_inside words of_word each from (suc count) most =
@@ -51,7 +52,7 @@ looks_inside : (words : ℕ) → AllByRecursion (IsInside words) (each_word (λ 
 looks_inside words = each_inside words (λ w. Look w ∷ []) (λ w low. (low, tt)) 0 words (omega arith)
 
 -- steps in front, all words, and steps at the end
-around : (words : ℕ) (front last : Plan) → AllByRecursion (IsInside words) front → AllByRecursion (IsInside words) last
+around : (words : ℕ) (front last : WrittenPlan) → AllByRecursion (IsInside words) front → AllByRecursion (IsInside words) last
     → AllByRecursion (IsInside words) (front ++ all_words words ++ last)
 around words front last first end = appended (IsInside words) (front ++ all_words words) last
     (appended (IsInside words) front (all_words words) first (all_inside words)) end
@@ -73,7 +74,7 @@ one_inside words (PutE w) e = absurd (cc)
 one_inside words (Look w) e = absurd (cc)
 one_inside words step e = tt
 
-plain_inside : (words : ℕ) (plan : Plan) → list_all is_plain plan ≡ true → AllByRecursion (IsInside words) plan
+plain_inside : (words : ℕ) (plan : WrittenPlan) → list_all is_plain plan ≡ true → AllByRecursion (IsInside words) plan
 plain_inside words [] e = tt
 plain_inside words (x ∷ later) e = let both = and_parts (is_plain x) (list_all is_plain later) e in
     (one_inside words x both.0, plain_inside words later both.1)
@@ -90,7 +91,7 @@ last_inside Shift words = plain_inside words (last_steps Shift) refl
 
 core_inside : (kind : Kind) (words : ℕ) → AllByRecursion (IsInside words) (core_plan kind words)
 core_inside Leave words =
-    let looks : Plan = each_word (λ w. Look w ∷ []) 0 words in
+    let looks : WrittenPlan = each_word (λ w. Look w ∷ []) 0 words in
     appended (IsInside words) (first_steps Leave ++ all_words words ++ looks) (last_steps Leave)
     (around words (first_steps Leave) looks (first_inside Leave words) (looks_inside words))
     (last_inside Leave words)

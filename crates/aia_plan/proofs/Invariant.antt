@@ -5,7 +5,7 @@ use Rattle.std.specs.Prelude.{⊤, slice_get}
 use Rattle.std.specs.List.{list_any, AllByRecursion}
 use Rattle.std.proofs.lemmas.Bool.{false≢true}
 use Rattle.aia_plan.specs.declared.step.Step.TheVariants.{Word0, Fence, GFence, TakeP, TakeE}
-use Rattle.aia_plan.specs.Plan.{Plan}
+use Rattle.aia_plan.specs.Plan.{WrittenPlan}
 use Rattle.aia_plan.specs.Rule.{is_record, names, stands}
 use Rattle.aia_plan.specs.Transit.{TransitSide, Flight, Transit, Happening, is_identity, landed, all_landed, all_but, one_landed, happened}
 use Rattle.aia_plan.specs.Transit.TransitSide.{Old, New}
@@ -51,7 +51,7 @@ pub record Enabled (words : ℕ) (carried : Option ℕ) (later : ℕ → Bool) (
 
 -- All of it, before the steps of `rest`; c and e are the words of the pending set and of the
 -- enabled set that are carried.
-pub record Between (words : ℕ) (first : ℕ → Bool) (c e : Option ℕ) (rest : Plan) (z : Transit) : Type 0 where
+pub record Between (words : ℕ) (first : ℕ → Bool) (c e : Option ℕ) (rest : WrittenPlan) (z : Transit) : Type 0 where
   pub routed : Routed (stands Word0 rest) (stands Fence rest) (list_any is_record rest) (stands GFence rest) z.entry_written z.entry_in_force
       z.record_written z.record_in_force z.flights
   pub pended : Pended words c (λ w. stands (TakeP w) rest) (stands Fence rest) (stands GFence rest) z.due z.old_pending z.new_pending
@@ -61,7 +61,7 @@ pub record Between (words : ℕ) (first : ℕ → Bool) (c e : Option ℕ) (rest
 -- ---- a store lands
 
 -- A store may land on a side: no word is taken from there yet.
-abbrev pub MayLand : ℕ → Plan → TransitSide → Type 0
+abbrev pub MayLand : ℕ → WrittenPlan → TransitSide → Type 0
 MayLand words rest s = (w : ℕ) → w < words → stands (TakeP w) rest ≡ false → s ≡ New
 
 old_is_new : Old ≡ New → ⊥
@@ -71,7 +71,7 @@ old_is_new e = false≢true (ap is_new e)
     is_new Old = false
     is_new New = true
 
-pub lands : (words : ℕ) (first : ℕ → Bool) (c e : Option ℕ) (rest : Plan) (s : TransitSide) (x : ℕ) (z : Transit) → MayLand words rest s
+pub lands : (words : ℕ) (first : ℕ → Bool) (c e : Option ℕ) (rest : WrittenPlan) (s : TransitSide) (x : ℕ) (z : Transit) → MayLand words rest s
     → Between words first c e rest z → Between words first c e rest (landed s x z)
 lands words first c e rest Old x z may v = record {
   routed = v.routed;
@@ -100,11 +100,11 @@ led_new : (fence word0 : Bool) (s : TransitSide) → MayLead fence word0 s → f
 led_new true word0 s led none = absurd (false≢true (sym none))
 led_new false word0 s led none = led
 
-pub may_land : (words : ℕ) (first : ℕ → Bool) (c e : Option ℕ) (rest : Plan) (s : TransitSide) (z : Transit)
+pub may_land : (words : ℕ) (first : ℕ → Bool) (c e : Option ℕ) (rest : WrittenPlan) (s : TransitSide) (z : Transit)
     → MayLead (stands Fence rest) (stands Word0 rest) s → Between words first c e rest z → MayLand words rest s
 may_land words first c e rest s z led v = λ w inside taken. led_new (stands Fence rest) (stands Word0 rest) s led (v.pended.late w inside taken).0
 
-peers_may_land : (words : ℕ) (first : ℕ → Bool) (c e : Option ℕ) (rest : Plan) (z : Transit) → Between words first c e rest z
+peers_may_land : (words : ℕ) (first : ℕ → Bool) (c e : Option ℕ) (rest : WrittenPlan) (z : Transit) → Between words first c e rest z
     → MayLand words rest z.record_in_force
 peers_may_land words first c e rest z v = λ w inside taken. v.routed.record_in_force ∙ ap side_if (v.pended.late w inside taken).1
 
@@ -126,13 +126,13 @@ all_without P k [] all = tt
 all_without P zero (f ∷ later) all = all.1
 all_without P (suc k) (f ∷ later) all = (all.0, all_without P k later all.1)
 
-pub all_land : (words : ℕ) (first : ℕ → Bool) (c e : Option ℕ) (rest : Plan) (fs : List Flight) (z : Transit)
+pub all_land : (words : ℕ) (first : ℕ → Bool) (c e : Option ℕ) (rest : WrittenPlan) (fs : List Flight) (z : Transit)
     → AllByRecursion (λ (f : Flight). MayLand words rest f.side) fs → Between words first c e rest z → Between words first c e rest (all_landed fs z)
 all_land words first c e rest [] z all v = v
 all_land words first c e rest (f ∷ later) z all v =
     all_land words first c e rest later (landed f.side f.identity z) all.1 (lands words first c e rest f.side f.identity z all.0 v)
 
-one_lands : (words : ℕ) (first : ℕ → Bool) (c e : Option ℕ) (rest : Plan) (k : ℕ) (fs : List Flight) (z : Transit)
+one_lands : (words : ℕ) (first : ℕ → Bool) (c e : Option ℕ) (rest : WrittenPlan) (k : ℕ) (fs : List Flight) (z : Transit)
     → AllByRecursion (λ (f : Flight). MayLand words rest f.side) fs → Between words first c e rest z
     → Between words first c e rest (one_landed (slice_get fs k) z)
 one_lands words first c e rest k [] z all v = v
@@ -140,13 +140,13 @@ one_lands words first c e rest zero (f ∷ later) z all v = lands words first c 
 one_lands words first c e rest (suc k) (f ∷ later) z all v = one_lands words first c e rest k later z all.1 v
 
 -- each store in flight may land
-pub flights_may_land : (words : ℕ) (first : ℕ → Bool) (c e : Option ℕ) (rest : Plan) (z : Transit) → Between words first c e rest z
+pub flights_may_land : (words : ℕ) (first : ℕ → Bool) (c e : Option ℕ) (rest : WrittenPlan) (z : Transit) → Between words first c e rest z
     → AllByRecursion (λ (f : Flight). MayLand words rest f.side) z.flights
 flights_may_land words first c e rest z v = all_changed (MayLead (stands Fence rest) (stands Word0 rest)) (MayLand words rest)
     (λ s led. may_land words first c e rest s z led v) z.flights v.routed.flights
 
 -- other stores in flight, that may lead where they do
-reflown : (words : ℕ) (first : ℕ → Bool) (c e : Option ℕ) (rest : Plan) (fs : List Flight) (z : Transit)
+reflown : (words : ℕ) (first : ℕ → Bool) (c e : Option ℕ) (rest : WrittenPlan) (fs : List Flight) (z : Transit)
     → AllByRecursion (λ (f : Flight). MayLead (stands Fence rest) (stands Word0 rest) f.side) fs → Between words first c e rest z
     → Between words first c e rest (record z { flights = fs })
 reflown words first c e rest fs z all v = record {
@@ -172,7 +172,7 @@ abbrev pub IsNoStep : Happening → Type 0
 IsNoStep (Does step) = ⊥
 IsNoStep x = ⊤
 
-pub kept : (words : ℕ) (first : ℕ → Bool) (c e : Option ℕ) (rest : Plan) (x : Happening) (z : Transit) → IsNoStep x
+pub kept : (words : ℕ) (first : ℕ → Bool) (c e : Option ℕ) (rest : WrittenPlan) (x : Happening) (z : Transit) → IsNoStep x
     → Between words first c e rest z → Between words first c e rest (happened x z)
 kept words first c e rest (Does step) z none v = absurd none
 kept words first c e rest (Stores x) z none v =

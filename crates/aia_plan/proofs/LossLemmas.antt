@@ -2,7 +2,7 @@
 use Rattle.std.proofs.Common.{◌≡◌, ℕ, zero, suc, ◌<◌, Bool, true, refl, sym, ◌∙◌, arith, lit<}
 use Rattle.std.proofs.lemmas.List.Elements.{All-nil}
 use Rattle.std.proofs.lemmas.Bool.{false≢true}
-use Rattle.aia_plan.specs.Plan.{Plan, is_step}
+use Rattle.aia_plan.specs.Plan.{WrittenPlan, is_step}
 use Rattle.aia_plan.specs.Rule.{stands}
 use Rattle.aia_plan.specs.declared.step.Step.TheVariants.{Fence, GFence, TakeP, TakeE}
 use Rattle.aia_plan.specs.Transit.{Flight, no_bits}
@@ -14,16 +14,16 @@ use Rattle.aia_plan.proofs.RunKept.{left_is_safe}
 
 -- ---- what is lost is not moved
 
-moved : (words : ℕ) (plan : Plan) (i : ℕ) (r : RunOf words plan i) → IsSafe words plan → IsMoved words r.start (end_of r)
+moved : (words : ℕ) (plan : WrittenPlan) (i : ℕ) (r : RunOf words plan i) → IsSafe words plan → IsMoved words r.start (end_of r)
 moved words plan i r safe = safe r.start r.run r.begins r.steps
 
-pub lost_unsafe : (words : ℕ) (plan : Plan) (i : ℕ) → Loses words plan i → IsSafe words plan → ⊥
+pub lost_unsafe : (words : ℕ) (plan : WrittenPlan) (i : ℕ) → Loses words plan i → IsSafe words plan → ⊥
 lost_unsafe words plan i (r, due, lost) safe = false≢true (sym lost ∙ (moved words plan i r safe).pending i r.within ∙ due)
 
-pub doubled_unsafe : (words : ℕ) (plan : Plan) (i : ℕ) → Doubles words plan i → IsSafe words plan → ⊥
+pub doubled_unsafe : (words : ℕ) (plan : WrittenPlan) (i : ℕ) → Doubles words plan i → IsSafe words plan → ⊥
 doubled_unsafe words plan i (r, due, doubled) safe = false≢true (sym due ∙ sym ((moved words plan i r safe).pending i r.within) ∙ doubled)
 
-pub enable_unsafe : (words : ℕ) (plan : Plan) (i : ℕ) → LosesEnable words plan i → IsSafe words plan → ⊥
+pub enable_unsafe : (words : ℕ) (plan : WrittenPlan) (i : ℕ) → LosesEnable words plan i → IsSafe words plan → ⊥
 enable_unsafe words plan i (r, was, lost) safe = false≢true (sym lost ∙ (moved words plan i r safe).enabled i r.within ∙ was)
 
 -- ---- runs

@@ -6,7 +6,7 @@ use Rattle.aia_plan.specs.declared.step.Kind.{Kind}
 use Rattle.aia_plan.specs.declared.step.Kind.TheVariants as kinds
 use Rattle.aia_plan.specs.declared.step.Step.{Step}
 use Rattle.aia_plan.specs.declared.step.Step.TheVariants.{Word0, Fence, Map, Unmap, Remap, GFence, TakeP, TakeE}
-use Rattle.aia_plan.specs.Plan.{Plan, IsInside, is_step}
+use Rattle.aia_plan.specs.Plan.{WrittenPlan, IsInside, is_step}
 use Rattle.aia_plan.specs.Rule.{stands, is_never, is_once, comes_before, all_below, own_record, other_records, names_notice, turns_routes, takes_late, puts_at_once, moves_enables, are_paired, takes_enables, puts_enables, failing, first_failing, is_record}
 use Rattle.aia_plan.specs.Safe.{IsSafe}
 use Rattle.aia_plan.proofs.BoolLaws.{or_none}
@@ -16,12 +16,12 @@ use Rattle.aia_plan.proofs.Throughout.{by_recursion}
 
 -- ---- once, and before
 
-pub comes_before-before : (first second : Step) (plan : Plan) → comes_before first second plan ≡ before (is_step first) (is_step second) plan
+pub comes_before-before : (first second : Step) (plan : WrittenPlan) → comes_before first second plan ≡ before (is_step first) (is_step second) plan
 comes_before-before first second [] = refl
 comes_before-before first second (x ∷ later) = ap (λ b. not (is_step second x && stands first later) && b) (comes_before-before first second later)
 
 -- where a step never stands, it stands behind none
-pub none_before : (first second : Step) (plan : Plan) → stands first plan ≡ false → comes_before first second plan ≡ true
+pub none_before : (first second : Step) (plan : WrittenPlan) → stands first plan ≡ false → comes_before first second plan ≡ true
 none_before first second [] none = refl
 none_before first second (x ∷ later) none =
     ap (λ b. not (is_step second x && b) && comes_before first second later) (or_parts (is_step first x) (stands first later) none).1
@@ -39,19 +39,19 @@ once_law true true once before e none = refl
 once_law true false once before e none = sym (none refl)
 once_law false any once before e none = e
 
-pub once_is : (step : Step) (plan : Plan) → is_once step plan ≡ (stands step plan && comes_before step step plan)
+pub once_is : (step : Step) (plan : WrittenPlan) → is_once step plan ≡ (stands step plan && comes_before step step plan)
 once_is step [] = refl
 once_is step (x ∷ later) = once_law (is_step step x) (stands step later) (is_once step later) (comes_before step step later) (once_is step later)
     (none_before step step later)
 
-pub once_stands : (step : Step) (plan : Plan) → is_once step plan ≡ true → stands step plan ≡ true
+pub once_stands : (step : Step) (plan : WrittenPlan) → is_once step plan ≡ true → stands step plan ≡ true
 once_stands step plan once = (and_parts (stands step plan) (comes_before step step plan) (sym (once_is step plan) ∙ once)).0
 
-pub once_before : (step : Step) (plan : Plan) → is_once step plan ≡ true → Before (is_step step) (is_step step) plan
+pub once_before : (step : Step) (plan : WrittenPlan) → is_once step plan ≡ true → Before (is_step step) (is_step step) plan
 once_before step plan once = sym (comes_before-before step step plan)
     ∙ (and_parts (stands step plan) (comes_before step step plan) (sym (once_is step plan) ∙ once)).1
 
-pub in_order : (first second : Step) (plan : Plan) → comes_before first second plan ≡ true → Before (is_step first) (is_step second) plan
+pub in_order : (first second : Step) (plan : WrittenPlan) → comes_before first second plan ≡ true → Before (is_step first) (is_step second) plan
 in_order first second plan e = sym (comes_before-before first second plan) ∙ e
 
 -- ---- all numbers below one
@@ -96,21 +96,21 @@ split_law false false true any_b e = absurd (false≢true e)
 split_law false false false true e = absurd (false≢true e)
 split_law false false false false e = (refl, refl)
 
-split : (kind : Kind) (x : Step) (later : Plan) → NoOther kind (λ step. stands step (x ∷ later)) → NoOther kind (λ step. is_step step x)
+split : (kind : Kind) (x : Step) (later : WrittenPlan) → NoOther kind (λ step. stands step (x ∷ later)) → NoOther kind (λ step. is_step step x)
     × NoOther kind (λ step. stands step later)
 split kinds.Leave x later none = split_law (is_step Map x) (is_step Remap x) (stands Map later) (stands Remap later) none
 split kinds.Arrive x later none = split_law (is_step Unmap x) (is_step Remap x) (stands Unmap later) (stands Remap later) none
 split kinds.Shift x later none = split_law (is_step Map x) (is_step Unmap x) (stands Map later) (stands Unmap later) none
 
 -- so the steps that write the record are the kind's own
-pub any_record : (kind : Kind) (plan : Plan) → NoOther kind (λ step. stands step plan) → list_any is_record plan ≡ stands (own_record kind) plan
+pub any_record : (kind : Kind) (plan : WrittenPlan) → NoOther kind (λ step. stands step plan) → list_any is_record plan ≡ stands (own_record kind) plan
 any_record kind [] none = refl
 any_record kind (x ∷ later) none =
     let both = split kind x later none in
     ap (λ b. b || list_any is_record later) (own_is kind (λ step. is_step step x) both.0)
     ∙ ap (λ b. is_step (own_record kind) x || b) (any_record kind later both.1)
 
-pub record_before_record : (kind : Kind) (plan : Plan) → NoOther kind (λ step. stands step plan)
+pub record_before_record : (kind : Kind) (plan : WrittenPlan) → NoOther kind (λ step. stands step plan)
     → before is_record is_record plan ≡ comes_before (own_record kind) (own_record kind) plan
 record_before_record kind [] none = refl
 record_before_record kind (x ∷ later) none =
@@ -119,7 +119,7 @@ record_before_record kind (x ∷ later) none =
     ∙ ap (λ b. not (is_step (own_record kind) x && b) && before is_record is_record later) (any_record kind later both.1)
     ∙ ap (λ b. not (is_step (own_record kind) x && stands (own_record kind) later) && b) (record_before_record kind later both.1)
 
-pub record_before : (kind : Kind) (second : Step) (plan : Plan) → NoOther kind (λ step. stands step plan)
+pub record_before : (kind : Kind) (second : Step) (plan : WrittenPlan) → NoOther kind (λ step. stands step plan)
     → before is_record (is_step second) plan ≡ comes_before (own_record kind) second plan
 record_before kind second [] none = refl
 record_before kind second (x ∷ later) none =
@@ -130,7 +130,7 @@ record_before kind second (x ∷ later) none =
 -- ---- the parts of the rule
 
 -- What part 1 says, apart.
-pub record Turns (kind : Kind) (plan : Plan) : Type 0 where
+pub record Turns (kind : Kind) (plan : WrittenPlan) : Type 0 where
   pub word0 : is_once Word0 plan ≡ true
   pub fence : is_once Fence plan ≡ true
   pub word0_first : comes_before Word0 Fence plan ≡ true
@@ -139,7 +139,7 @@ pub record Turns (kind : Kind) (plan : Plan) : Type 0 where
   pub gfence : is_once GFence plan ≡ true
   pub own_first : comes_before (own_record kind) GFence plan ≡ true
 
-pub all_turns : (kind : Kind) (plan : Plan) → turns_routes kind plan ≡ true → Turns kind plan
+pub all_turns : (kind : Kind) (plan : WrittenPlan) → turns_routes kind plan ≡ true → Turns kind plan
 all_turns kind plan e =
     let s7 = (and_parts _ (names_notice kind plan) e).0 in
     let p6 = and_parts _ (comes_before (own_record kind) GFence plan) s7 in
@@ -151,12 +151,12 @@ all_turns kind plan e =
     record { word0 = p1.0; fence = p1.1; word0_first = p2.1; own = p3.1; others = p4.1; gfence = p5.1; own_first = p6.1 }
 
 -- What part 2 says of a word, apart.
-pub record TakesLate (w : ℕ) (plan : Plan) : Type 0 where
+pub record TakesLate (w : ℕ) (plan : WrittenPlan) : Type 0 where
   pub once : is_once (TakeP w) plan ≡ true
   pub fence : comes_before Fence (TakeP w) plan ≡ true
   pub gfence : comes_before GFence (TakeP w) plan ≡ true
 
-pub all_late : (words : ℕ) (plan : Plan) → takes_late words plan ≡ true → (w : ℕ) → w < words → TakesLate w plan
+pub all_late : (words : ℕ) (plan : WrittenPlan) → takes_late words plan ≡ true → (w : ℕ) → w < words → TakesLate w plan
 all_late words plan e w low =
     let here = below_passes (λ w. is_once (TakeP w) plan && comes_before Fence (TakeP w) plan && comes_before GFence (TakeP w) plan) words w e low in
     let p2 = and_parts _ (comes_before GFence (TakeP w) plan) here in
@@ -168,13 +168,13 @@ passed true r later e = (refl, e)
 passed false r later e = absurd (false≢true (ap is_none e))
 
 -- What a plan that keeps the rule keeps.
-pub record Keeps (kind : Kind) (words : ℕ) (plan : Plan) : Type 0 where
+pub record Keeps (kind : Kind) (words : ℕ) (plan : WrittenPlan) : Type 0 where
   pub turns : turns_routes kind plan ≡ true
   pub late : takes_late words plan ≡ true
   pub pending : puts_at_once plan ≡ true
   pub enables : moves_enables words plan ≡ true
 
-pub keeps_all : (kind : Kind) (words : ℕ) (plan : Plan) → failing kind words plan ≡ None → Keeps kind words plan
+pub keeps_all : (kind : Kind) (words : ℕ) (plan : WrittenPlan) → failing kind words plan ≡ None → Keeps kind words plan
 keeps_all kind words plan e =
     let p1 = passed (turns_routes kind plan) 1 (first_failing 2 (takes_late words plan ∷ puts_at_once plan ∷ moves_enables words plan ∷ [])) e in
     let p2 = passed (takes_late words plan) 2 (first_failing 3 (puts_at_once plan ∷ moves_enables words plan ∷ [])) p1.1 in
@@ -184,7 +184,7 @@ keeps_all kind words plan e =
 
 -- ---- the theorem
 
-pub rule_is_safe : (kind : Kind) (words : ℕ) (plan : Plan) → All (IsInside words) plan → failing kind words plan ≡ None → IsSafe words plan
+pub rule_is_safe : (kind : Kind) (words : ℕ) (plan : WrittenPlan) → All (IsInside words) plan → failing kind words plan ≡ None → IsSafe words plan
 rule_is_safe kind words plan inside e =
     let keeps = keeps_all kind words plan e in
     let turns = all_turns kind plan keeps.turns in

@@ -4,7 +4,7 @@ use Rattle.std.specs.List.{list_any, AllByRecursion}
 use Rattle.std.proofs.lemmas.Bool.{false≢true}
 use Rattle.aia_plan.specs.declared.step.Step.{Step}
 use Rattle.aia_plan.specs.declared.step.Step.TheVariants.{Word0, Fence, GFence, TakeP, TakeE}
-use Rattle.aia_plan.specs.Plan.{Plan}
+use Rattle.aia_plan.specs.Plan.{WrittenPlan}
 use Rattle.aia_plan.specs.Rule.{stands, takes_pending, takes_enables, puts_enables, is_record}
 use Rattle.aia_plan.specs.Transit.{TransitSide, Flight, Transit, Happening, is_identity, stepped, all_happened, steps_in}
 use Rattle.aia_plan.specs.Transit.TransitSide.{Old, New}
@@ -18,7 +18,7 @@ use Rattle.aia_plan.proofs.Behind.{Left, left_after, pending_carried, enables_ca
 
 -- ---- a run
 
-step_run : (words : ℕ) (first : ℕ → Bool) (c e : Option ℕ) (x : Step) (rest : Plan) (z : Transit) → Left words c e (x ∷ rest)
+step_run : (words : ℕ) (first : ℕ → Bool) (c e : Option ℕ) (x : Step) (rest : WrittenPlan) (z : Transit) → Left words c e (x ∷ rest)
     → Between words first c e (x ∷ rest) z → Between words first (takes_pending x) (takes_enables x) rest (stepped x z)
 step_run words first c e x rest z left v = step_kept words first x rest z (guard_of words c e x rest left)
     (subst (λ k. Between words first k (puts_enables x) (x ∷ rest) z) (pending_carried words c e x rest left)
@@ -41,7 +41,7 @@ runs words first c e (Refetches ∷ later) z left v = runs words first c e later
 -- ---- how it begins
 
 -- What has to stand in a plan.
-pub record HoldsAll (words : ℕ) (plan : Plan) : Type 0 where
+pub record HoldsAll (words : ℕ) (plan : WrittenPlan) : Type 0 where
   pub word0 : stands Word0 plan ≡ true
   pub fence : stands Fence plan ≡ true
   pub record_step : list_any is_record plan ≡ true
@@ -62,7 +62,7 @@ none_yet : (due is old new : Bool) → due ≡ (is && old) → new ≡ false →
 none_yet due is old new e none = e ∙ sym (or_none (is && old)) ∙ ap (λ x. (is && x) || false) (sym (or_none old))
     ∙ ap (λ x. (is && (old || false)) || x) (sym none)
 
-begins : (words : ℕ) (plan : Plan) (z : Transit) → HoldsAll words plan → IsStart words z → Between words z.old_enabled None None plan z
+begins : (words : ℕ) (plan : WrittenPlan) (z : Transit) → HoldsAll words plan → IsStart words z → Between words z.old_enabled None None plan z
 begins words plan z has start = record {
   routed = record {
     entry_written = start.routes.entry_written ∙ ap side_if (sym has.word0);
@@ -106,7 +106,7 @@ ends words start z v = record {
   none_enabled = λ i inside. v.enabled.drained i inside refl;
 }
 
-pub left_is_safe : (words : ℕ) (plan : Plan) → Left words None None plan → HoldsAll words plan → IsSafe words plan
+pub left_is_safe : (words : ℕ) (plan : WrittenPlan) → Left words None None plan → HoldsAll words plan → IsSafe words plan
 left_is_safe words plan left has start run begun same =
     ends words start _ (runs words start.old_enabled None None run start
     (subst (Left words None None) (sym same) left)

@@ -5,7 +5,7 @@ use Rattle.std.specs.List.{list_any}
 use Rattle.std.proofs.lemmas.Bool.{false≢true, eqb-true, or_left}
 use Rattle.aia_plan.specs.declared.step.Step.{Step}
 use Rattle.aia_plan.specs.declared.step.Step.TheVariants.{Word0, Fence, Map, Unmap, Remap, GFence, TakeP, PutP, TakeE, PutE}
-use Rattle.aia_plan.specs.Plan.{Plan}
+use Rattle.aia_plan.specs.Plan.{WrittenPlan}
 use Rattle.aia_plan.specs.Rule.{stands, takes_pending, puts_pending, takes_enables, puts_enables, is_record}
 use Rattle.aia_plan.specs.Transit.{TransitSide, Flight, Transit, is_identity, all_landed, stepped, word_bits, without_word, of_word, no_bits}
 use Rattle.aia_plan.specs.Transit.TransitSide.{New}
@@ -13,7 +13,7 @@ use Rattle.aia_plan.proofs.BoolLaws.{take_law, put_law, replace_law, drain_law, 
 use Rattle.aia_plan.proofs.Invariant.{side_if, MayLead, Routed, Pended, Enabled, Between, all_changed, all_land, flights_may_land}
 
 -- What the rule says of the steps behind a step.
-abbrev pub Guard : Step → Plan → Type 0
+abbrev pub Guard : Step → WrittenPlan → Type 0
 Guard Word0 rest = stands Word0 rest ≡ false
 Guard Fence rest = (stands Word0 rest ≡ false) × (stands Fence rest ≡ false)
 Guard Map rest = list_any is_record rest ≡ false
@@ -122,7 +122,7 @@ gfenced words c later fence gfence due old new hand p = record {
   late = λ w inside taken. absurd (false≢true (sym (p.late w inside taken).1));
 }
 
-step_fence : (words : ℕ) (first : ℕ → Bool) (rest : Plan) (z : Transit) → Guard Fence rest → Between words first None None (Fence ∷ rest) z
+step_fence : (words : ℕ) (first : ℕ → Bool) (rest : WrittenPlan) (z : Transit) → Guard Fence rest → Between words first None None (Fence ∷ rest) z
     → Between words first None None rest (stepped Fence z)
 step_fence words first rest z guard v =
     let u : Between words first None None (Fence ∷ rest) (all_landed z.flights z) =
@@ -140,7 +140,7 @@ step_fence words first rest z guard v =
       enabled = u.enabled;
     }
 
-pub step_kept : (words : ℕ) (first : ℕ → Bool) (x : Step) (rest : Plan) (z : Transit) → Guard x rest
+pub step_kept : (words : ℕ) (first : ℕ → Bool) (x : Step) (rest : WrittenPlan) (z : Transit) → Guard x rest
     → Between words first (puts_pending x) (puts_enables x) (x ∷ rest) z → Between words first (takes_pending x) (takes_enables x) rest (stepped x z)
 step_kept words first Fence rest z guard v = step_fence words first rest z guard v
 step_kept words first Word0 rest z guard v = record

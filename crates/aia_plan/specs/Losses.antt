@@ -2,7 +2,7 @@
 -- look right and have such runs; and plans that the rule refuses though they are safe. Vocabulary:
 -- the laws of this crate speak of them.
 use Rattle.std.specs.Prelude.{◌≡◌, ℕ, ◌/◌, ◌<◌, Bool, true, false, not, ◌&&◌, nat_eq, List, [], ◌∷◌, ◌++◌, map}
-use Rattle.aia_plan.specs.Plan.{Plan}
+use Rattle.aia_plan.specs.Plan.{WrittenPlan}
 use Rattle.aia_plan.specs.Rule.{parts_kept}
 use Rattle.aia_plan.specs.declared.step.Kind.{Kind}
 use Rattle.aia_plan.specs.Transit.{Transit, Happening, is_identity, no_bits, all_happened, steps_in}
@@ -12,33 +12,33 @@ use Rattle.aia_plan.specs.Safe.{IsStart}
 use Rattle.aia_plan.specs.declared.step.Step.TheVariants.{Quiet, Word1, Word0, Fence, Map, Unmap, Remap, GFence, TakeP, PutP, TakeE, PutE, TakeT, PutT, Post, Wake}
 
 -- A plan of a move fails one part of the rule alone.
-abbrev pub FailsAlone : ℕ → Kind → ℕ → Plan → Type 0
+abbrev pub FailsAlone : ℕ → Kind → ℕ → WrittenPlan → Type 0
 FailsAlone part kind words plan =
     parts_kept kind words plan ≡ map (λ p. not (nat_eq p part)) (1 ∷ 2 ∷ 3 ∷ 4 ∷ [])
 
 -- A run of a plan, and what is left at its end of an identity of a file of so many words.
-pub record RunOf (words : ℕ) (plan : Plan) (i : ℕ) : Type 0 where
+pub record RunOf (words : ℕ) (plan : WrittenPlan) (i : ℕ) : Type 0 where
   pub start : Transit
   pub run : List Happening
   pub begins : IsStart words start
   pub steps : steps_in run ≡ plan
   pub within : i / 64 < words
 
-abbrev pub end_of : {words : ℕ} {plan : Plan} {i : ℕ} → RunOf words plan i → Transit
+abbrev pub end_of : {words : ℕ} {plan : WrittenPlan} {i : ℕ} → RunOf words plan i → Transit
 end_of r = all_happened r.run r.start
 
 -- An interrupt is lost: it is due, and is not pending in the new place.
-abbrev pub Loses : ℕ → Plan → ℕ → Type 0
+abbrev pub Loses : ℕ → WrittenPlan → ℕ → Type 0
 Loses words plan i =
     (r : RunOf words plan i) × ((end_of r).due i ≡ true) × ((end_of r).new_pending i ≡ false)
 
 -- An interrupt is doubled: it is pending in the new place, and is not due.
-abbrev pub Doubles : ℕ → Plan → ℕ → Type 0
+abbrev pub Doubles : ℕ → WrittenPlan → ℕ → Type 0
 Doubles words plan i =
     (r : RunOf words plan i) × ((end_of r).due i ≡ false) × ((end_of r).new_pending i ≡ true)
 
 -- An enable is lost: the identity was enabled at the start, and is not in the new place.
-abbrev pub LosesEnable : ℕ → Plan → ℕ → Type 0
+abbrev pub LosesEnable : ℕ → WrittenPlan → ℕ → Type 0
 LosesEnable words plan i =
     (r : RunOf words plan i) × ((is_identity i && r.start.old_enabled i) ≡ true)
     × ((end_of r).new_enabled i ≡ false)
@@ -67,18 +67,18 @@ abbrev pub only : ℕ → ℕ → Bool
 only x i = nat_eq x i
 
 -- Each step of a plan, and nothing between.
-abbrev pub all_steps : Plan → List Happening
+abbrev pub all_steps : WrittenPlan → List Happening
 all_steps [] = []
 all_steps (step ∷ later) = Does step ∷ all_steps later
 
 -- ---- plans of an arrival that look right
 
 -- The enables of word 0 are moved, and the file is woken.
-abbrev pub enables_and_wake : Plan
+abbrev pub enables_and_wake : WrittenPlan
 enables_and_wake = TakeE 0 ∷ PutE 0 ∷ PutT ∷ Wake ∷ []
 
 -- The fence comes before what it is to put in force.
-abbrev pub fence_too_early : Plan
+abbrev pub fence_too_early : WrittenPlan
 fence_too_early = Fence ∷ Word0 ∷ Map ∷ GFence ∷ TakeP 0 ∷ PutP 0 ∷ enables_and_wake
 
 abbrev pub fence_too_early_run : List Happening
@@ -87,7 +87,7 @@ fence_too_early_run =
     ++ all_steps (PutP 0 ∷ enables_and_wake)
 
 -- So does the G fence.
-abbrev pub gfence_too_early : Plan
+abbrev pub gfence_too_early : WrittenPlan
 gfence_too_early = Word0 ∷ Fence ∷ GFence ∷ Map ∷ TakeP 0 ∷ PutP 0 ∷ enables_and_wake
 
 abbrev pub gfence_too_early_run : List Happening
@@ -96,7 +96,7 @@ gfence_too_early_run =
     ++ all_steps (PutP 0 ∷ enables_and_wake)
 
 -- The pending word is taken while devices still reach the old place.
-abbrev pub taken_before_fence : Plan
+abbrev pub taken_before_fence : WrittenPlan
 taken_before_fence = Word0 ∷ Map ∷ GFence ∷ TakeP 0 ∷ PutP 0 ∷ Fence ∷ enables_and_wake
 
 abbrev pub taken_before_fence_run : List Happening
@@ -105,7 +105,7 @@ taken_before_fence_run =
     ++ all_steps (PutP 0 ∷ Fence ∷ enables_and_wake)
 
 -- It is taken while other virtual harts still do.
-abbrev pub taken_before_gfence : Plan
+abbrev pub taken_before_gfence : WrittenPlan
 taken_before_gfence = Word0 ∷ Fence ∷ Map ∷ TakeP 0 ∷ PutP 0 ∷ GFence ∷ enables_and_wake
 
 abbrev pub taken_before_gfence_run : List Happening
@@ -114,28 +114,28 @@ taken_before_gfence_run =
     ++ all_steps (PutP 0 ∷ GFence ∷ enables_and_wake)
 
 -- Both pending words of a file of two are taken, and then put.
-abbrev pub taken_together : Plan
+abbrev pub taken_together : WrittenPlan
 taken_together =
     Word0 ∷ Fence ∷ Map ∷ GFence ∷ TakeP 0 ∷ TakeP 1 ∷ PutP 0 ∷ PutP 1
     ∷ TakeE 1 ∷ PutE 1 ∷ enables_and_wake
 
 -- The enables are put a second time.
-abbrev pub enables_put_twice : Plan
+abbrev pub enables_put_twice : WrittenPlan
 enables_put_twice = Word0 ∷ Fence ∷ Map ∷ GFence ∷ TakeP 0 ∷ PutP 0 ∷ TakeE 0 ∷ PutE 0
     ∷ PutE 0 ∷ PutT ∷ Wake ∷ []
 
 -- ---- plans that the rule refuses, though they are safe
 
 -- A leave that does not say where notices go; one that writes the record by the step of a shift.
-abbrev pub leave_without_notice : Plan
+abbrev pub leave_without_notice : WrittenPlan
 leave_without_notice = Quiet ∷ Word0 ∷ Fence ∷ Unmap ∷ GFence ∷ TakeP 0 ∷ PutP 0
     ∷ TakeE 0 ∷ PutE 0 ∷ TakeT ∷ Post ∷ []
 
-abbrev pub leave_by_remap : Plan
+abbrev pub leave_by_remap : WrittenPlan
 leave_by_remap = Quiet ∷ Word1 ∷ Word0 ∷ Fence ∷ Remap ∷ GFence ∷ TakeP 0 ∷ PutP 0
     ∷ TakeE 0 ∷ PutE 0 ∷ TakeT ∷ Post ∷ []
 
 -- A pending word is taken and put again, when nothing can be left of it.
-abbrev pub taken_again : Plan
+abbrev pub taken_again : WrittenPlan
 taken_again = Word0 ∷ Fence ∷ Map ∷ GFence ∷ TakeP 0 ∷ PutP 0 ∷ TakeP 0 ∷ PutP 0
     ∷ enables_and_wake

@@ -1,13 +1,14 @@
 -- Plans of moves as lists of steps, and those that the hypervisor's core makes. Profile.
 use Rattle.std.specs.Prelude.{◌≡◌, ℕ, zero, suc, ◌<◌, ◌⊎◌, ⊤, Bool, true, false, nat_eq, List, [], ◌∷◌, ◌++◌}
+use Rattle.aia_regs.specs.declared.limits.TheConstants.{FILE_WORDS}
 use Rattle.aia_plan.specs.declared.step.Kind.{Kind}
 use Rattle.aia_plan.specs.declared.step.Kind.TheVariants as kinds
 use Rattle.aia_plan.specs.declared.step.Step.{Step}
 use Rattle.aia_plan.specs.declared.step.Step.TheVariants.{Quiet, Word1, Word0, Fence, Map, Unmap, Remap, GFence, TakeP, PutP, TakeE, PutE, Look, TakeT, PutT, Post, Wake}
 
 -- The steps in their order.
-abbrev pub Plan : Type 0
-Plan = List Step
+abbrev pub WrittenPlan : Type 0
+WrittenPlan = List Step
 
 -- Whether a step is the other.
 abbrev pub is_step : Step → Step → Bool
@@ -36,7 +37,8 @@ is_step step other = false
 -- Profile: the powers of two.
 abbrev pub IsWidth : ℕ → Type 0
 IsWidth words =
-    (words ≡ 1) ⊎ ((words ≡ 2) ⊎ ((words ≡ 4) ⊎ ((words ≡ 8) ⊎ ((words ≡ 16) ⊎ (words ≡ 32)))))
+    (words ≡ 1)
+    ⊎ ((words ≡ 2) ⊎ ((words ≡ 4) ⊎ ((words ≡ 8) ⊎ ((words ≡ 16) ⊎ (words ≡ FILE_WORDS)))))
 
 -- A step names no word, or one below so many.
 abbrev pub IsInside : ℕ → Step → Type 0
@@ -50,30 +52,30 @@ IsInside words step = ⊤
 -- ---- the plans of the core
 
 -- The steps of so many words from a given word on, each word's in order.
-abbrev pub each_word : (ℕ → Plan) → ℕ → ℕ → Plan
+abbrev pub each_word : (ℕ → WrittenPlan) → ℕ → ℕ → WrittenPlan
 each_word of_word from zero = []
 each_word of_word from (suc count) = of_word from ++ each_word of_word (suc from) count
 
 -- Both sets, word by word: each is taken from the old place and put in the new one.
-abbrev pub all_words : ℕ → Plan
+abbrev pub all_words : ℕ → WrittenPlan
 all_words words =
     each_word (λ w. TakeP w ∷ PutP w ∷ []) 0 words
     ++ each_word (λ w. TakeE w ∷ PutE w ∷ []) 0 words
 
 -- What the core does before it carries the sets, in a move of each kind; and what in the end.
-abbrev pub first_steps : Kind → Plan
+abbrev pub first_steps : Kind → WrittenPlan
 first_steps kinds.Leave = Quiet ∷ Word1 ∷ Word0 ∷ Fence ∷ Unmap ∷ GFence ∷ []
 first_steps kinds.Arrive = Word0 ∷ Fence ∷ Map ∷ GFence ∷ []
 first_steps kinds.Shift = Quiet ∷ Word0 ∷ Fence ∷ Remap ∷ GFence ∷ []
 
-abbrev pub last_steps : Kind → Plan
+abbrev pub last_steps : Kind → WrittenPlan
 last_steps kinds.Leave = TakeT ∷ Post ∷ []
 last_steps kinds.Arrive = PutT ∷ Wake ∷ []
 last_steps kinds.Shift = TakeT ∷ PutT ∷ Wake ∷ []
 
 -- The plan that the core makes for a move of each kind, of files of so many words. One to memory
 -- looks there at all words.
-abbrev pub core_plan : Kind → ℕ → Plan
+abbrev pub core_plan : Kind → ℕ → WrittenPlan
 core_plan kinds.Leave words =
     first_steps kinds.Leave ++ all_words words ++ each_word (λ w. Look w ∷ []) 0 words
     ++ last_steps kinds.Leave

@@ -2,7 +2,7 @@
 -- is proved: so nobody has to believe the rule. Profile.
 use Rattle.std.specs.Prelude.{ℕ, zero, suc, Bool, true, false, not, ◌&&◌, ◌||◌, nat_eq, if◌then◌else◌, List, [], ◌∷◌, Option, Some, None}
 use Rattle.std.specs.List.{list_any, list_all}
-use Rattle.aia_plan.specs.Plan.{Plan, is_step}
+use Rattle.aia_plan.specs.Plan.{WrittenPlan, is_step}
 use Rattle.aia_plan.specs.declared.step.Kind.{Kind}
 use Rattle.aia_plan.specs.declared.step.Kind.TheVariants as kinds
 use Rattle.aia_plan.specs.declared.step.Step.{Step}
@@ -15,19 +15,19 @@ abbrev pub is_record : Step → Bool
 is_record x = is_step Map x || (is_step Unmap x || is_step Remap x)
 
 -- Whether a step stands in a plan; never; exactly once.
-abbrev pub stands : Step → Plan → Bool
+abbrev pub stands : Step → WrittenPlan → Bool
 stands step plan = list_any (is_step step) plan
 
-abbrev pub is_never : Step → Plan → Bool
+abbrev pub is_never : Step → WrittenPlan → Bool
 is_never step plan = not (stands step plan)
 
-abbrev pub is_once : Step → Plan → Bool
+abbrev pub is_once : Step → WrittenPlan → Bool
 is_once step [] = false
 is_once step (x ∷ later) = if is_step step x then is_never step later else is_once step later
 
 -- Whether the second of two steps never stands before the first: so, where each stands once, the
 -- first comes before the second.
-abbrev pub comes_before : Step → Step → Plan → Bool
+abbrev pub comes_before : Step → Step → WrittenPlan → Bool
 comes_before first second [] = true
 comes_before first second (x ∷ later) =
     not (is_step second x && stands first later) && comes_before first second later
@@ -51,12 +51,12 @@ other_records kinds.Arrive = Unmap ∷ Remap ∷ []
 other_records kinds.Shift = Map ∷ Unmap ∷ []
 
 -- A leave says where notices go, once, before the entry leads to memory; no other move does.
-abbrev pub names_notice : Kind → Plan → Bool
+abbrev pub names_notice : Kind → WrittenPlan → Bool
 names_notice kinds.Leave plan = is_once Word1 plan && comes_before Word1 Word0 plan
 names_notice kind plan = is_never Word1 plan
 
 -- The entry and the G-stage record are each written once and then put in force once.
-abbrev pub turns_routes : Kind → Plan → Bool
+abbrev pub turns_routes : Kind → WrittenPlan → Bool
 turns_routes kind plan =
     is_once Word0 plan && is_once Fence plan && comes_before Word0 Fence plan
     && is_once (own_record kind) plan && list_all (λ step. is_never step plan) (other_records kind)
@@ -66,7 +66,7 @@ turns_routes kind plan =
 -- ---- part 2: the pending words are taken late
 
 -- Each pending word is taken once, after both fences.
-abbrev pub takes_late : ℕ → Plan → Bool
+abbrev pub takes_late : ℕ → WrittenPlan → Bool
 takes_late words plan =
     all_below (λ w. is_once (TakeP w) plan && comes_before Fence (TakeP w) plan
     && comes_before GFence (TakeP w) plan) words
@@ -103,17 +103,17 @@ is_same v w = false
 
 -- Whether each step that takes a word is followed at once by one that puts it, and no other step
 -- puts one; given the word that the step before the first took.
-abbrev pub are_paired : (Step → Option ℕ) → (Step → Option ℕ) → Option ℕ → Plan → Bool
+abbrev pub are_paired : (Step → Option ℕ) → (Step → Option ℕ) → Option ℕ → WrittenPlan → Bool
 are_paired takes puts taken [] = is_same taken None
 are_paired takes puts taken (x ∷ later) =
     is_same taken (puts x) && are_paired takes puts (takes x) later
 
 -- Part 3: each pending word that is taken is put at once, and no other is put.
-abbrev pub puts_at_once : Plan → Bool
+abbrev pub puts_at_once : WrittenPlan → Bool
 puts_at_once plan = are_paired takes_pending puts_pending None plan
 
 -- Part 4: each word of the enables is taken once, and put at once, and no other is put.
-abbrev pub moves_enables : ℕ → Plan → Bool
+abbrev pub moves_enables : ℕ → WrittenPlan → Bool
 moves_enables words plan =
     all_below (λ w. is_once (TakeE w) plan) words
     && are_paired takes_enables puts_enables None plan
@@ -127,11 +127,11 @@ first_failing part [] = None
 first_failing part (holds ∷ later) = if holds then first_failing (suc part) later else Some part
 
 -- Of each part, whether the plan of a move of a kind between files of so many words keeps it.
-abbrev pub parts_kept : Kind → ℕ → Plan → List Bool
+abbrev pub parts_kept : Kind → ℕ → WrittenPlan → List Bool
 parts_kept kind words plan =
     turns_routes kind plan ∷ takes_late words plan ∷ puts_at_once plan
     ∷ moves_enables words plan ∷ []
 
 -- The least part of the rule that a plan fails; None where it keeps the rule.
-abbrev pub failing : Kind → ℕ → Plan → Option ℕ
+abbrev pub failing : Kind → ℕ → WrittenPlan → Option ℕ
 failing kind words plan = first_failing 1 (parts_kept kind words plan)

@@ -1,7 +1,7 @@
 -- When a plan is safe: it loses nothing, doubles nothing and leaves nothing behind, whatever
 -- devices and other virtual harts do, and wherever between its steps. Profile.
 use Rattle.std.specs.Prelude.{◌≡◌, ℕ, ◌/◌, ◌<◌, false, ◌&&◌, List, All}
-use Rattle.aia_plan.specs.Plan.{Plan}
+use Rattle.aia_plan.specs.Plan.{WrittenPlan}
 use Rattle.aia_plan.specs.Transit.{TransitSide, Flight, Transit, Happening, is_identity, all_happened, steps_in}
 use Rattle.aia_plan.specs.Transit.TransitSide.{Old, New}
 
@@ -36,7 +36,7 @@ pub record IsMoved (words : ℕ) (start z : Transit) : Type 0 where
 
 -- A plan is safe: from every start, whatever happens before, between and after its steps, the move
 -- ends so.
-abbrev pub IsSafe : ℕ → Plan → Type 0
+abbrev pub IsSafe : ℕ → WrittenPlan → Type 0
 IsSafe words plan =
     (start : Transit) (run : List Happening) → IsStart words start → steps_in run ≡ plan
     → IsMoved words start (all_happened run start)

@@ -3,7 +3,7 @@
 
 ghost use Rattle.std.specs.Prelude.{◌≡◌, ℕ, Some, None};
 ghost use Rattle.std.specs.List.{All};
-ghost use Rattle.aia_plan.specs.Plan.{Plan, IsWidth, IsInside, core_plan};
+ghost use Rattle.aia_plan.specs.Plan.{WrittenPlan, IsWidth, IsInside, core_plan};
 ghost use Rattle.aia_plan.specs.Rule.{failing};
 ghost use Rattle.aia_plan.specs.Safe.{IsSafe};
 ghost use Rattle.aia_plan.specs.Losses.{FailsAlone, Loses, Doubles, LosesEnable, fence_too_early, gfence_too_early, taken_before_fence, taken_before_gfence, taken_together, enables_put_twice, leave_without_notice, leave_by_remap, taken_again};
@@ -15,7 +15,7 @@ use crate::Kind;
 /// its steps.
 #[tactic(auto, using(crate::proofs::RuleIsSafe::rule_is_safe))]
 pub fn the_rule_is_safe()
-    ensures { (kind : Kind) (words : ℕ) (plan : Plan) → All (IsInside words) plan
+    ensures { (kind : Kind) (words : ℕ) (plan : WrittenPlan) → All (IsInside words) plan
         → failing kind words plan ≡ None → IsSafe words plan }
 {}
 
@@ -32,10 +32,11 @@ pub fn the_plans_of_the_core_keep_the_rule()
 /// an enable is lost, is not safe.
 #[tactic(auto, using(crate::proofs::LossLemmas::lost_unsafe, crate::proofs::LossLemmas::doubled_unsafe, crate::proofs::LossLemmas::enable_unsafe))]
 pub fn a_plan_that_loses_is_not_safe()
-    ensures lost { (words : ℕ) (plan : Plan) (i : ℕ) → Loses words plan i → ¬ IsSafe words plan }
-    ensures doubled { (words : ℕ) (plan : Plan) (i : ℕ) → Doubles words plan i
+    ensures lost { (words : ℕ) (plan : WrittenPlan) (i : ℕ) → Loses words plan i
         → ¬ IsSafe words plan }
-    ensures enable { (words : ℕ) (plan : Plan) (i : ℕ) → LosesEnable words plan i
+    ensures doubled { (words : ℕ) (plan : WrittenPlan) (i : ℕ) → Doubles words plan i
+        → ¬ IsSafe words plan }
+    ensures enable { (words : ℕ) (plan : WrittenPlan) (i : ℕ) → LosesEnable words plan i
         → ¬ IsSafe words plan }
 {}
 

@@ -3,6 +3,7 @@
 -- AIA 1.0, IMSIC, "Indirectly accessed interrupt-file registers".
 use Rattle.std.specs.Prelude.{◌≡◌, ℕ, ◌+◌, ◌-◌, ◌*◌, ◌%◌, ◌<◌, Bool, ◌&&◌, nat_eq, if◌then◌else◌}
 use Rattle.std.specs.Int.{is_in_range}
+use Rattle.aia_regs.specs.declared.limits.TheConstants.{SELECT_NUMBERS}
 use Rattle.aia_regs.specs.declared.access.Op.{Op}
 use Rattle.aia_regs.specs.declared.file_registers.FileReg.{FileReg}
 use Rattle.aia_regs.specs.declared.file_registers.FileReg.TheVariants.{Delivery, Threshold, Pending, Enable, Reserved, Odd, Outside}
@@ -69,6 +70,6 @@ abbrev pub delivery_after : FileReg → Op → ℕ → ℕ
 delivery_after Delivery op was = number_after (λ v. v % 2) op was
 delivery_after r op was = was
 
--- What a select CSR is after an access. Profile: a write keeps the low 12 bits.
+-- What a select CSR is after an access. Profile: a write keeps the number modulo SELECT_NUMBERS.
 abbrev pub select_written : Op → ℕ → ℕ
-select_written op was = number_after (λ v. v % 4096) op was
+select_written op was = number_after (λ v. v % SELECT_NUMBERS) op was

@@ -54,7 +54,7 @@ pub const MEMORY_END: u64 = TABLES + VMS as u64 * TABLE;
 
 /// The bits of the page number of a VM's MSI address where its mask has a 0: the address pattern,
 /// the same for all VMs, which is the number of the page of hart 0's supervisor file.
-pub const PATTERN: u64 = 0x28000;
+pub const PATTERN: u64 = SUPERVISOR_FILES / PAGE;
 
 /// Gives the first address of the page of a hart's supervisor file, where its notices go.
 pub fn supervisor_page(hart: u32) -> u64

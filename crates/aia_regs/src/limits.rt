@@ -15,6 +15,9 @@ pub const IDENTITIES: u32 = 2047;
 /// The most words of 64 identities that each set of an interrupt file has.
 pub const FILE_WORDS: usize = (IDENTITIES as usize + 1) / 64;
 
+/// The select numbers that a select CSR keeps are below this.
+pub const SELECT_NUMBERS: u64 = 0x1000;
+
 /// The most wired sources of a machine.
 pub const SOURCES: u32 = 1023;
 
@@ -42,8 +45,12 @@ pub const MASK_BITS: u32 = 15;
 /// The entries of a VM's MSI page table: as many as [`MASK_ONES`] bits number.
 pub const ENTRIES: usize = 1 << MASK_ONES;
 
-/// The words of memory, 64 bits each, that the slots fill; those of the tables come after them.
-pub const WORDS_OF_SLOTS: usize = SLOTS as usize * SLOT as usize / 8;
+/// The words of a slot of memory, 64 bits each: for each word of a file's sets one of pending and
+/// one of enable bits.
+pub const SLOT_WORDS: usize = SLOT as usize / 8;
+
+/// The words of memory that the slots fill; those of the tables come after them.
+pub const WORDS_OF_SLOTS: usize = SLOTS as usize * SLOT_WORDS;
 
 /// The words of memory: those of all slots, then those of the tables of all VMs.
 pub const MEMORY_WORDS: usize = WORDS_OF_SLOTS + VMS as usize * TABLE as usize / 8;

@@ -16,7 +16,7 @@ use Rattle.aia_entry.proofs.TableLemmas.{fenced_elsewhere}
 use Rattle.aia_vcpu.specs.declared.place.GuestPlace.{GuestPlace}
 use Rattle.aia_vcpu.specs.declared.rest.Rest.TheVariants.{Parked}
 use Rattle.aia_vcpu.specs.Home.Home.{InMemory}
-use Rattle.aia_vcpu.specs.Vms.{Vcpu, vcpu, is_vcpu_in, slot_of, notice_identity, notice_hart}
+use Rattle.aia_vcpu.specs.Vms.{Vcpu, vcpu_of, is_vcpu_in, slot_of, notice_identity, notice_hart}
 use Rattle.aia_vcpu.proofs.VmLemmas.{same_slot}
 use Rattle.aia_vcpu_places.specs.Places.{Places}
 use Rattle.aia_fabric_values.specs.declared.stage.Stage.{Stage}
@@ -79,7 +79,7 @@ alone_by w u p same kept alone = record {
 
 -- a passage of another virtual hart, of which nothing else matters
 abbrev of_other : Passage → Vcpu → Passage
-of_other p g = record { who = record p.who { found = record p.who.found { vm = g.vm; number = g.number } }; old = Slot; new = Slot }
+of_other p g = record { who = record p.who { found = record p.who.found { vm = g.vm; vcpu = g.vcpu } }; old = Slot; new = Slot }
 
 module _ (w u : World) (p : Passage) (whole : IsWhole w) where
   entry_kept : (entry : Entry) (offset value : ℕ) → ReachesBy entry w u offset value → (g : Vcpu) → routes_of u g ≡ routes_of w g
@@ -109,28 +109,28 @@ all_landed_kept (suc count) w u p vm (mid, before, whole, l) g = lands_kept mid 
 
 -- ---- the steps of the rehearsal
 
-elsewhere : (g h : Vcpu) → g ≢ h → (g.vm ≢ h.vm) ⊎ (g.number ≢ h.number)
+elsewhere : (g h : Vcpu) → g ≢ h → (g.vm ≢ h.vm) ⊎ (g.vcpu ≢ h.vcpu)
 elsewhere g h other = elim (cases_eq g.vm h.vm) [
-  | inl same ↦ inr (λ too. other (λ k. vcpu (same k) (too k)))
+  | inl same ↦ inr (λ too. other (λ k. vcpu_of (same k) (too k)))
   | inr ne ↦ inl ne
 ]
 
 module _ (w : World) (p : Passage) (whole : IsWhole w) (of : IsOf w p) where
   words_apart : (g : Vcpu) (which : ℕ) → which ≤ 1 → is_vcpu_in w.vms g ≡ true → g ≢ mover_of p → (x : ℕ) → x ≤ 1
-      → entry_word_place g.vm g.number + x ≢ entry_word_place p.who.found.vm p.who.found.number + which
+      → entry_word_place g.vm g.vcpu + x ≢ entry_word_place p.who.found.vm p.who.found.vcpu + which
   words_apart g which one there other x two same =
-      let mine = vcpu_entry w p.who.found.vm p.who.found.number whole of.who.there in
-      let its = vcpu_entry w g.vm g.number whole there in
-      let both = one_entry g.vm g.number p.who.found.vm p.who.found.number x which its.2 mine.2 two one same in
-      other (λ k. vcpu (both.0 k) (both.1 k))
+      let mine = vcpu_entry w p.who.found.vm p.who.found.vcpu whole of.who.there in
+      let its = vcpu_entry w g.vm g.vcpu whole there in
+      let both = one_entry g.vm g.vcpu p.who.found.vm p.who.found.vcpu x which its.2 mine.2 two one same in
+      other (λ k. vcpu_of (both.0 k) (both.1 k))
 
-  word_kept : (which v : ℕ) → which ≤ 1 → OthersKept w (with_entry_word w p.who.found.vm p.who.found.number which v) p
+  word_kept : (which v : ℕ) → which ≤ 1 → OthersKept w (with_entry_word w p.who.found.vm p.who.found.vcpu which v) p
   word_kept which v one = record {
     in_force = λ g other. refl;
     routes = λ g there other.
-        let first = get_or-set_other w.memory (entry_word_place p.who.found.vm p.who.found.number + which) (entry_word_place g.vm g.number) v 0
-        (λ e. words_apart g which one there other 0 (omega arith) (zero_more (entry_word_place g.vm g.number) ∙ e)) in
-        let second = get_or-set_other w.memory (entry_word_place p.who.found.vm p.who.found.number + which) (entry_word_place g.vm g.number + 1) v
+        let first = get_or-set_other w.memory (entry_word_place p.who.found.vm p.who.found.vcpu + which) (entry_word_place g.vm g.vcpu) v 0
+        (λ e. words_apart g which one there other 0 (omega arith) (zero_more (entry_word_place g.vm g.vcpu) ∙ e)) in
+        let second = get_or-set_other w.memory (entry_word_place p.who.found.vm p.who.found.vcpu + which) (entry_word_place g.vm g.vcpu + 1) v
         0 (words_apart g which one there other 1 (omega arith)) in
         λ k. record (routes_of w g) { word0 = first k; word1 = second k };
   }
@@ -147,10 +147,10 @@ module _ (w : World) (p : Passage) (whole : IsWhole w) (of : IsOf w p) where
         λ k. record (routes_of w g) { stage = stage k };
   }
 
-  fence_kept : OthersKept w (with_fence w p.who.found.vm p.who.found.number) p
+  fence_kept : OthersKept w (with_fence w p.who.found.vm p.who.found.vcpu) p
   fence_kept = record {
-    in_force = λ g other. fenced_elsewhere w.tables p.who.found.vm p.who.found.number w.memory g.vm g.number (elsewhere g (mover_of p) other);
-    routes = λ g there other. let e = fenced_elsewhere w.tables p.who.found.vm p.who.found.number w.memory g.vm g.number
+    in_force = λ g other. fenced_elsewhere w.tables p.who.found.vm p.who.found.vcpu w.memory g.vm g.vcpu (elsewhere g (mover_of p) other);
+    routes = λ g there other. let e = fenced_elsewhere w.tables p.who.found.vm p.who.found.vcpu w.memory g.vm g.vcpu
         (elsewhere g (mover_of p) other) in λ k. record (routes_of w g) { in_force = e k };
   }
 
@@ -185,11 +185,11 @@ step_kept steps.Word0 w u r whole of e = kept_by w u _ r.passage e (word_kept w 
 step_kept steps.Fence w u r whole of f =
     let landed = all_landed_kept (length (flight_of w r.passage.who.found.vm)) w f.landed r.passage r.passage.who.found.vm f.lands in
     kept_by w u _ r.passage f.fenced (record {
-      in_force = λ g other. fenced_elsewhere f.landed.tables r.passage.who.found.vm r.passage.who.found.number f.landed.memory g.vm g.number
+      in_force = λ g other. fenced_elsewhere f.landed.tables r.passage.who.found.vm r.passage.who.found.vcpu f.landed.memory g.vm g.vcpu
           (elsewhere g (mover_of r.passage) other) ∙ ap (λ (x : RoutesSeen). x.in_force) (landed g);
-      routes = λ g there other. let e = fenced_elsewhere f.landed.tables r.passage.who.found.vm r.passage.who.found.number f.landed.memory g.vm
-          g.number (elsewhere g (mover_of r.passage) other) in
-          let fenced : routes_of (with_fence f.landed r.passage.who.found.vm r.passage.who.found.number) g ≡ routes_of f.landed g =
+      routes = λ g there other. let e = fenced_elsewhere f.landed.tables r.passage.who.found.vm r.passage.who.found.vcpu f.landed.memory g.vm
+          g.vcpu (elsewhere g (mover_of r.passage) other) in
+          let fenced : routes_of (with_fence f.landed r.passage.who.found.vm r.passage.who.found.vcpu) g ≡ routes_of f.landed g =
           λ k. record (routes_of f.landed g) { in_force = e k } in fenced ∙ landed g;
     })
 step_kept (steps.TakeP k) w u r whole of makes = kept_by w u _ r.passage makes.1 (pending_kept w r.passage whole of k 0 r.passage.old makes.0)
@@ -215,7 +215,7 @@ sends_kept Other w u p vm offset value e = equal_kept w u p e
 sends_kept (Fault entry) w u p vm offset value e = equal_kept w u p e
 
 -- an entry that is read again leads where it says
-read_alone : (w : World) (p : Passage) (vm file : ℕ) → IsWhole w → is_vcpu_in w.vms (vcpu vm file) ≡ true → IsAlone w p
+read_alone : (w : World) (p : Passage) (vm file : ℕ) → IsWhole w → is_vcpu_in w.vms (vcpu_of vm file) ≡ true → IsAlone w p
     → IsAlone (with_fence w vm file) p
 read_alone w p vm file whole there alone = record {
   in_force = in_force;
@@ -223,19 +223,19 @@ read_alone w p vm file whole there alone = record {
   records = alone.records;
 }
   where
-    seen : places_of (with_fence w vm file) (vcpu vm file) (InMemory Parked) ≡ record (places_of w (vcpu vm file) (InMemory Parked))
-        { in_force = decoded (places_of w (vcpu vm file) (InMemory Parked)).word0 (places_of w (vcpu vm file) (InMemory Parked)).word1 }
-    seen = fence-places w (vcpu vm file) (InMemory Parked) whole there
+    seen : places_of (with_fence w vm file) (vcpu_of vm file) (InMemory Parked) ≡ record (places_of w (vcpu_of vm file) (InMemory Parked))
+        { in_force = decoded (places_of w (vcpu_of vm file) (InMemory Parked)).word0 (places_of w (vcpu_of vm file) (InMemory Parked)).word1 }
+    seen = fence-places w (vcpu_of vm file) (InMemory Parked) whole there
 
     in_force : (g : Vcpu) → g ≢ mover_of p → side_of (with_fence w vm file).imsic p (routes_of (with_fence w vm file) g).in_force ≡ None
     in_force g other = elim (cases_eq g.vm vm) [
-      | inl same ↦ elim (cases_eq g.number file) [
-        | inl too ↦ let is : g ≡ vcpu vm file = λ k. vcpu (same k) (too k) in
+      | inl same ↦ elim (cases_eq g.vcpu file) [
+        | inl too ↦ let is : g ≡ vcpu_of vm file = λ k. vcpu_of (same k) (too k) in
             subst (λ (x : Vcpu). side_of w.imsic p (routes_of (with_fence w vm file) x).in_force ≡ None) (sym is)
-            (ap (λ (v : Places). side_of w.imsic p v.in_force) seen ∙ alone.written (vcpu vm file) there (λ e. other (is ∙ e)))
-        | inr ne ↦ ap (side_of w.imsic p) (fenced_elsewhere w.tables vm file w.memory g.vm g.number (inr ne)) ∙ alone.in_force g other
+            (ap (λ (v : Places). side_of w.imsic p v.in_force) seen ∙ alone.written (vcpu_of vm file) there (λ e. other (is ∙ e)))
+        | inr ne ↦ ap (side_of w.imsic p) (fenced_elsewhere w.tables vm file w.memory g.vm g.vcpu (inr ne)) ∙ alone.in_force g other
       ]
-      | inr ne ↦ ap (side_of w.imsic p) (fenced_elsewhere w.tables vm file w.memory g.vm g.number (inl ne)) ∙ alone.in_force g other
+      | inr ne ↦ ap (side_of w.imsic p) (fenced_elsewhere w.tables vm file w.memory g.vm g.vcpu (inl ne)) ∙ alone.in_force g other
     ]
 
 pub alone_stays : (event : RehearsedEvent) (w u : World) (r t : Rehearsed) → IsWhole w → IsOf w r.passage → Happens event w r u t
@@ -247,7 +247,7 @@ alone_stays (DeviceStores vm addr value) w u r t whole of (low, reaches, e) alon
     (all_kept w u r.passage (reaches_kept w u r.passage whole (route_of (table_of w.tables vm) addr) (addr % PAGE) value reaches)) alone
 alone_stays (PeerStores vm to value) w u r t whole of (there, relays, e) alone =
     alone_by w u r.passage (event_same (PeerStores vm to value) w r u t (there, relays, e))
-    (all_kept w u r.passage (relays_kept w u r.passage whole (vcpu vm to) (stage_of w (vcpu vm to)).in_force value there relays)) alone
+    (all_kept w u r.passage (relays_kept w u r.passage whole (vcpu_of vm to) (stage_of w (vcpu_of vm to)).in_force value there relays)) alone
 alone_stays (DeviceSends vm addr value) w u r t whole of (low, sends, e) alone =
     alone_by w u r.passage (event_same (DeviceSends vm addr value) w r u t (low, sends, e))
     (sends_kept (route_of (table_of w.tables vm) addr) w u r.passage vm (addr % PAGE) value sends) alone

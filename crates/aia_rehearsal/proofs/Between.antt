@@ -85,9 +85,9 @@ module _ (w : World) (r : Rehearsed) (z : Transit) (whole : IsWhole w) (s : Stan
   own_route vm addr is =
       let here : vm ≡ p.who.found.vm = grind (arith, nat_tests) in
       let msi : is_msi_address (table_of w.tables vm).mask addr ≡ true = grind (arith, nat_tests) in
-      let file : file_number (table_of w.tables vm).mask addr ≡ p.who.found.number = grind (arith, nat_tests) in
+      let file : file_number (table_of w.tables vm).mask addr ≡ p.who.found.vcpu = grind (arith, nat_tests) in
       cond-true _ _ _ msi ∙ ap (λ n. leads_by (entry_in_force (table_of w.tables vm) n)) file
-      ∙ ap (λ v. leads_by (entry_in_force (table_of w.tables v) p.who.found.number)) here
+      ∙ ap (λ v. leads_by (entry_in_force (table_of w.tables v) p.who.found.vcpu)) here
       ∙ ap leads_by s.routes.entry_in_force ∙ to_place (names_on z.entry_in_force p)
     where
       to_place : (o : Option GuestPlace) → leads_by (leads_to q p.who.found.notice o) ≡ To (leads_to q p.who.found.notice o)
@@ -284,15 +284,15 @@ module _ (w : World) (r : Rehearsed) (z : Transit) (whole : IsWhole w) (s : Stan
 
   -- ---- entries that are read again
 
-  pub other_refetched : (vm file : ℕ) → (vm ≢ p.who.found.vm) ⊎ (file ≢ p.who.found.number) → StandsFor (with_fence w vm file) r z
+  pub other_refetched : (vm file : ℕ) → (vm ≢ p.who.found.vm) ⊎ (file ≢ p.who.found.vcpu) → StandsFor (with_fence w vm file) r z
   other_refetched vm file other =
-      let in_force : entry_in_force (table_of (with_fence w vm file).tables p.who.found.vm) p.who.found.number ≡ entry_in_force
-      (table_of w.tables p.who.found.vm) p.who.found.number =
-      fenced_elsewhere w.tables vm file w.memory p.who.found.vm p.who.found.number (turned other) in
+      let in_force : entry_in_force (table_of (with_fence w vm file).tables p.who.found.vm) p.who.found.vcpu ≡ entry_in_force
+      (table_of w.tables p.who.found.vm) p.who.found.vcpu =
+      fenced_elsewhere w.tables vm file w.memory p.who.found.vm p.who.found.vcpu (turned other) in
       all_kept w r z whole s (with_fence w vm file) r.hand (record { n = refl; vms = refl; harts = refl; guests = refl }) refl (same_at p.old)
       (same_at p.new) (λ k. record (routes_of w (mover_of p)) { in_force = in_force k }) refl refl
     where
-      turned : (vm ≢ p.who.found.vm) ⊎ (file ≢ p.who.found.number) → (p.who.found.vm ≢ vm) ⊎ (p.who.found.number ≢ file)
+      turned : (vm ≢ p.who.found.vm) ⊎ (file ≢ p.who.found.vcpu) → (p.who.found.vm ≢ vm) ⊎ (p.who.found.vcpu ≢ file)
       turned (inl a) = inl (λ e. a (sym e))
       turned (inr b) = inr (λ e. b (sym e))
 

@@ -5,7 +5,7 @@ use Rattle.aia_file.specs.declared.spot.Spot.{Spot}
 use Rattle.aia_file.specs.Imsic.{ImsicState, IsThere}
 use Rattle.aia_entry.specs.declared.entry.Entry.{Entry}
 use Rattle.aia_entry.specs.declared.entry.Entry.TheVariants.{Basic, Mrif, NotValid, Custom, Misconfigured}
-use Rattle.aia_vcpu.specs.Vms.{vcpu, is_vcpu_in, slot_of, notice_hart}
+use Rattle.aia_vcpu.specs.Vms.{vcpu_of, is_vcpu_in, slot_of, notice_hart}
 use Rattle.aia_fabric_values.specs.declared.flying.Flying.{Flying}
 use Rattle.aia_fabric_values.specs.World.{World, flight_of}
 use Rattle.aia_fabric_values.specs.Stores.{page_spot}
@@ -37,9 +37,9 @@ of_same w u p same of = record {
   where
     is_who : (who : Who) → IsWho w who → IsWho u who
     is_who who is = record {
-      there = ap (λ vms. is_vcpu_in vms (vcpu who.found.vm who.found.number)) same.vms ∙ is.there;
-      slot = is.slot ∙ ap (λ vms. slot_of vms (vcpu who.found.vm who.found.number)) (sym same.vms);
-      notice = is.notice ∙ ap (λ vms. notice_hart vms (vcpu who.found.vm who.found.number)) (sym same.vms);
+      there = ap (λ vms. is_vcpu_in vms (vcpu_of who.found.vm who.found.vcpu)) same.vms ∙ is.there;
+      slot = is.slot ∙ ap (λ vms. slot_of vms (vcpu_of who.found.vm who.found.vcpu)) (sym same.vms);
+      notice = is.notice ∙ ap (λ vms. notice_hart vms (vcpu_of who.found.vm who.found.vcpu)) (sym same.vms);
     }
 
     is_there : (place : ends.Place) → IsFileThere w place → IsFileThere u place

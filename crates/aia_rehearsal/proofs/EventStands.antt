@@ -9,7 +9,7 @@ use Rattle.aia_entry.specs.declared.entry.Entry.{Entry}
 use Rattle.aia_entry.specs.declared.entry.Entry.TheVariants.{Basic, Mrif, NotValid, Custom, Misconfigured}
 use Rattle.aia_entry.specs.Tables.{table_of, entry_in_force, leads_by, route_of}
 use Rattle.aia_entry.specs.Translation.{is_msi_address, file_number}
-use Rattle.aia_vcpu.specs.Vms.{Vcpu, vcpu, is_vcpu}
+use Rattle.aia_vcpu.specs.Vms.{Vcpu, vcpu_of, is_vcpu}
 use Rattle.aia_vcpu.proofs.VmLemmas.{same_vcpu}
 use Rattle.aia_fabric_values.specs.World.{World, flight_of, stage_of}
 use Rattle.aia_fabric_values.specs.Whole.{IsWhole}
@@ -30,7 +30,7 @@ use Rattle.aia_rehearsal.proofs.Between.{LeadsElsewhere, own_route, own_store, o
 -- what is for another virtual hart does not come to the places
 abbrev KeepsAway : RehearsedEvent → World → Passage → Type 0
 KeepsAway (DeviceStores vm addr value) w p = is_for_moved w p vm addr ≡ false → LeadsElsewhere w p (route_of (table_of w.tables vm) addr)
-KeepsAway (PeerStores vm to value) w p = is_vcpu (vcpu vm to) (mover_of p) ≡ false → NamesElsewhere p (stage_of w (vcpu vm to)).in_force
+KeepsAway (PeerStores vm to value) w p = is_vcpu (vcpu_of vm to) (mover_of p) ≡ false → NamesElsewhere p (stage_of w (vcpu_of vm to)).in_force
 KeepsAway (DeviceSends vm addr value) w p = is_for_moved w p vm addr ≡ false → LeadsElsewhere w p (route_of (table_of w.tables vm) addr)
 KeepsAway event w p = Unit {0}
 
@@ -64,16 +64,16 @@ module _ (w u : World) (r : Rehearsed) (z : Transit) (whole : IsWhole w) (s : St
       by_side (Some side) t = t
 
   entry_read : (vm file : ℕ) → u ≡ with_fence w vm file
-      → StandsFor u r (all_happened (cond (is_vcpu (vcpu vm file) (mover_of p)) (happenings.Refetches ∷ []) []) z)
-  entry_read vm file e = one_or_none u r z (is_vcpu (vcpu vm file) (mover_of p)) happenings.Refetches
-      (λ mine. let same = same_vcpu (vcpu vm file) (mover_of p) mine in
-      subst (λ (x : World). StandsFor x r (happened happenings.Refetches z)) (sym (e ∙ ap (λ (g : Vcpu). with_fence w g.vm g.number) same))
+      → StandsFor u r (all_happened (cond (is_vcpu (vcpu_of vm file) (mover_of p)) (happenings.Refetches ∷ []) []) z)
+  entry_read vm file e = one_or_none u r z (is_vcpu (vcpu_of vm file) (mover_of p)) happenings.Refetches
+      (λ mine. let same = same_vcpu (vcpu_of vm file) (mover_of p) mine in
+      subst (λ (x : World). StandsFor x r (happened happenings.Refetches z)) (sym (e ∙ ap (λ (g : Vcpu). with_fence w g.vm g.vcpu) same))
       (refetched w r z whole s))
       (λ not. subst (λ (x : World). StandsFor x r z) (sym e) (other_refetched w r z whole s vm file (apart vm file not)))
     where
-      apart : (vm file : ℕ) → is_vcpu (vcpu vm file) (mover_of p) ≡ false → (vm ≢ p.who.found.vm) ⊎ (file ≢ p.who.found.number)
+      apart : (vm file : ℕ) → is_vcpu (vcpu_of vm file) (mover_of p) ≡ false → (vm ≢ p.who.found.vm) ⊎ (file ≢ p.who.found.vcpu)
       apart vm file none = elim (cases_eq vm p.who.found.vm) [
-        | inl e ↦ inr (λ f. let no : is_vcpu (vcpu vm file) (mover_of p) ≡ true = grind (arith, nat_tests) in absurd (cc))
+        | inl e ↦ inr (λ f. let no : is_vcpu (vcpu_of vm file) (mover_of p) ≡ true = grind (arith, nat_tests) in absurd (cc))
         | inr ne ↦ inl ne
       ]
 
@@ -86,10 +86,10 @@ module _ (w u : World) (r : Rehearsed) (z : Transit) (whole : IsWhole w) (s : St
       (λ not. other_store w r z whole s u (addr % PAGE) value (route_of (table_of w.tables vm) addr) (away not) reaches))
   between (PeerStores vm to value) t (there, relays, e) away =
       subst (λ (x : Rehearsed). StandsFor u x (all_happened (seen (PeerStores vm to value) w p) z)) (sym e)
-      (one_or_none u r z (is_vcpu (vcpu vm to) (mover_of p)) (happenings.PeerStores (identity_asked 0 value))
+      (one_or_none u r z (is_vcpu (vcpu_of vm to) (mover_of p)) (happenings.PeerStores (identity_asked 0 value))
       (λ mine. own_peer w r z whole s u value (subst (λ (g : Vcpu). ReachesByRecord (stage_of w g).in_force w u g value)
-      (same_vcpu (vcpu vm to) (mover_of p) mine) relays))
-      (λ not. other_peer w r z whole s u value (vcpu vm to) (stage_of w (vcpu vm to)).in_force there (other_vcpu (vcpu vm to) (mover_of p) not)
+      (same_vcpu (vcpu_of vm to) (mover_of p) mine) relays))
+      (λ not. other_peer w r z whole s u value (vcpu_of vm to) (stage_of w (vcpu_of vm to)).in_force there (other_vcpu (vcpu_of vm to) (mover_of p) not)
       (away not) relays))
   between (DeviceSends vm addr value) t (low, sends, e) away =
       subst (λ (x : Rehearsed). StandsFor u x (all_happened (seen (DeviceSends vm addr value) w p) z)) (sym e)
@@ -114,9 +114,9 @@ route_elsewhere : (w : World) (p : Passage) (vm addr : ℕ) → IsAlone w p → 
     → LeadsElsewhere w p (route_of (table_of w.tables vm) addr)
 route_elsewhere w p vm addr alone not = elim (cases_Bool (is_msi_address (table_of w.tables vm).mask addr)) [
   | inl msi ↦
-      let g = vcpu vm (file_number (table_of w.tables vm).mask addr) in
+      let g = vcpu_of vm (file_number (table_of w.tables vm).mask addr) in
       let other : g ≢ mover_of p = λ e. let here : vm ≡ p.who.found.vm = ap (λ (x : Vcpu). x.vm) e in
-      let file : file_number (table_of w.tables vm).mask addr ≡ p.who.found.number = ap (λ (x : Vcpu). x.number) e in
+      let file : file_number (table_of w.tables vm).mask addr ≡ p.who.found.vcpu = ap (λ (x : Vcpu). x.vcpu) e in
       let no : is_for_moved w p vm addr ≡ true = grind (arith, nat_tests) in absurd (cc) in
       subst (LeadsElsewhere w p) (sym (cond-true _ _ _ msi))
       (led_elsewhere w p (entry_in_force (table_of w.tables vm) (file_number (table_of w.tables vm).mask addr)) (alone.in_force g other))
@@ -127,7 +127,7 @@ keeps_away : (event : RehearsedEvent) (w u : World) (r t : Rehearsed) → IsAlon
 keeps_away (Steps step) w u r t alone happens = tt
 keeps_away (DeviceStores vm addr value) w u r t alone happens = route_elsewhere w r.passage vm addr alone
 keeps_away (PeerStores vm to value) w u r t alone happens =
-    λ not. alone.records (vcpu vm to) happens.0 (other_vcpu (vcpu vm to) (mover_of r.passage) not)
+    λ not. alone.records (vcpu_of vm to) happens.0 (other_vcpu (vcpu_of vm to) (mover_of r.passage) not)
 keeps_away (DeviceSends vm addr value) w u r t alone happens = route_elsewhere w r.passage vm addr alone
 keeps_away (StoreLands vm k) w u r t alone happens = tt
 keeps_away (EntryRead vm file) w u r t alone happens = tt

@@ -271,15 +271,15 @@ entry_stays (store ∷ later) z = entry_stays later (landed store.side store.ide
     one New = refl
 
 pub fenced : (w u : World) (r : Rehearsed) (z : Transit) → IsWhole w → StandsFor w r z
-    → Fences w u r.passage.who.found.vm r.passage.who.found.number → StandsFor u r (stepped Fence z)
+    → Fences w u r.passage.who.found.vm r.passage.who.found.vcpu → StandsFor u r (stepped Fence z)
 fenced w u r z whole s f =
     let vm = r.passage.who.found.vm in
     let have = oldest_landed (length (flight_of w vm)) w f.landed r z whole s f.lands in
-    let low = (vcpu_entry w vm r.passage.who.found.number whole s.of.who.there).0 in
+    let low = (vcpu_entry w vm r.passage.who.found.vcpu whole s.of.who.there).0 in
     let none : flight_of f.landed vm ≡ [] = sym (ap (λ (x : World). flight_of x vm) f.fenced)
-    ∙ fence_leaves_none w u vm r.passage.who.found.number whole low f in
+    ∙ fence_leaves_none w u vm r.passage.who.found.vcpu whole low f in
     let landed_all = all_have have.count z.flights z (have.stands.flights.own ∙ ap (flights_in f.landed.imsic r.passage) none) in
     let last = refetched f.landed r (emptied (all_landed z.flights z)) f.whole (subst (λ y. StandsFor f.landed r y) landed_all have.stands) in
     subst (λ (x : World). StandsFor x r (stepped Fence z)) (sym f.fenced)
-    (subst (λ side. StandsFor (with_fence f.landed vm r.passage.who.found.number) r
+    (subst (λ side. StandsFor (with_fence f.landed vm r.passage.who.found.vcpu) r
     (record (emptied (all_landed z.flights z)) { entry_in_force = side })) (entry_stays z.flights z) last)

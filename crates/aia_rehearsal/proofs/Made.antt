@@ -9,7 +9,7 @@ use Rattle.aia_file.specs.Imsic.{ImsicState, IsThere, file_at}
 use Rattle.aia_entry.specs.Tables.{table_of, entry_in_force}
 use Rattle.aia_vcpu.specs.declared.place.GuestPlace.{GuestPlace}
 use Rattle.aia_vcpu.specs.declared.vm.Vm.{Vm}
-use Rattle.aia_vcpu.specs.Vms.{Vcpu, vcpu, is_vcpu_in, slot_of, notice_hart, vcpus_in}
+use Rattle.aia_vcpu.specs.Vms.{Vcpu, vcpu_of, is_vcpu_in, slot_of, notice_hart, vcpus_in}
 use Rattle.aia_fabric_values.specs.declared.flying.Flying.{Flying}
 use Rattle.aia_fabric_values.specs.declared.stage.Stage.{Stage}
 use Rattle.aia_fabric_values.specs.World.{World, flight_of, stage_of, no_stage}
@@ -59,16 +59,16 @@ use Rattle.aia_rehearsal.proofs.Theorem.{led_stands, begun_stands}
 module _ (files : ImsicState) (w : World) (n harts guests : ℕ) (vm : Vm) (who : Who) (new : IsNew (new_world files n) harts guests n)
     (whole : IsWhole w) (makes : MakesVm (new_world files n) w vm) (is : IsWho w who) (first : who.found.vm ≡ 0) where
   abbrev g : Vcpu
-  g = vcpu who.found.vm who.found.number
+  g = vcpu_of who.found.vm who.found.vcpu
 
-  vcpu_low : who.found.number < vm.vcpus
-  vcpu_low = ltb-true _ _ (sym (ap (λ vms. is_vcpu_in vms g) makes.vms ∙ ap (λ v. is_vcpu_in (vm ∷ []) (vcpu v who.found.number)) first) ∙ is.there)
+  vcpu_low : who.found.vcpu < vm.vcpus
+  vcpu_low = ltb-true _ _ (sym (ap (λ vms. is_vcpu_in vms g) makes.vms ∙ ap (λ v. is_vcpu_in (vm ∷ []) (vcpu_of v who.found.vcpu)) first) ∙ is.there)
 
-  none_before : 0 + who.found.number ≡ who.found.slot
-  none_before = sym (is.slot ∙ ap (λ vms. slot_of vms g) makes.vms ∙ ap (λ v. slot_of (vm ∷ []) (vcpu v who.found.number)) first)
+  none_before : 0 + who.found.vcpu ≡ who.found.slot
+  none_before = sym (is.slot ∙ ap (λ vms. slot_of vms g) makes.vms ∙ ap (λ v. slot_of (vm ∷ []) (vcpu_of v who.found.vcpu)) first)
 
   notice_is : vm.notice_hart ≡ who.found.notice
-  notice_is = sym (is.notice ∙ ap (λ vms. notice_hart vms g) makes.vms ∙ ap (λ v. notice_hart (vm ∷ []) (vcpu v who.found.number)) first)
+  notice_is = sym (is.notice ∙ ap (λ vms. notice_hart vms g) makes.vms ∙ ap (λ v. notice_hart (vm ∷ []) (vcpu_of v who.found.vcpu)) first)
 
   stage_is : stage_of w g ≡ no_stage
   stage_is = let low = slot_low w g whole is.there in ap (λ (x : World). slice_index_or x.stages (slot_of w.vms g) no_stage) makes.rest
@@ -95,12 +95,12 @@ module _ (files : ImsicState) (w : World) (n harts guests : ℕ) (vm : Vm) (who 
 
     led : (side : TransitSide) → names_on side p ≡ None → LeadsTo w p side
     led side none = record {
-      word0 = ap (λ v. get_or w.memory (entry_word_place v who.found.number) 0) first ∙ makes.word0 who.found.number vcpu_low
+      word0 = ap (λ v. get_or w.memory (entry_word_place v who.found.vcpu) 0) first ∙ makes.word0 who.found.vcpu vcpu_low
           ∙ ap (λ q. mrif_word (slot_address q)) none_before ∙ ap (entry_word who.found.slot) (sym none);
-      word1 = ap (λ v. get_or w.memory (entry_word_place v who.found.number + 1) 0) first ∙ makes.word1 who.found.number vcpu_low
+      word1 = ap (λ v. get_or w.memory (entry_word_place v who.found.vcpu + 1) 0) first ∙ makes.word1 who.found.vcpu vcpu_low
           ∙ ap (λ q. notice_word (notice_page vm) (q + 1)) none_before
           ∙ ap (λ hart. notice_word (supervisor_page hart / PAGE) (who.found.slot + 1)) notice_is;
-      in_force = ap (λ v. entry_in_force (table_of w.tables v) who.found.number) first ∙ makes.in_force who.found.number
+      in_force = ap (λ v. entry_in_force (table_of w.tables v) who.found.vcpu) first ∙ makes.in_force who.found.vcpu
           ∙ cond-true _ _ _ (lt-ltb _ _ vcpu_low) ∙ ap (λ q. Mrif (slot_address q) (notice_page vm) (q + 1)) none_before
           ∙ ap (λ hart. Mrif (slot_address who.found.slot) (supervisor_page hart / PAGE) (who.found.slot + 1)) notice_is
           ∙ ap (leads_to who.found.slot who.found.notice) (sym none);
@@ -123,14 +123,14 @@ module _ (files : ImsicState) (w : World) (n harts guests : ℕ) (vm : Vm) (who 
     plus_none : (n : ℕ) → 0 + n ≡ n
     plus_none n = omega arith
 
-    other_number : (n : ℕ) → g ≢ vcpu who.found.vm n → n ≢ who.found.slot
-    other_number n other e = other (let same : who.found.number ≡ n = sym (plus_none who.found.number) ∙ none_before
-        ∙ sym e in λ k. vcpu who.found.vm (same k))
+    other_number : (n : ℕ) → g ≢ vcpu_of who.found.vm n → n ≢ who.found.slot
+    other_number n other e = other (let same : who.found.vcpu ≡ n = sym (plus_none who.found.vcpu) ∙ none_before
+        ∙ sym e in λ k. vcpu_of who.found.vm (same k))
 
     few_vcpus : vm.vcpus ≤ VCPUS
     few_vcpus = let total : vcpus_in w.vms ≡ vm.vcpus + 0 = ap vcpus_in makes.vms in let most = whole.vcpus in omega (arith, total, most)
 
-    made_elsewhere : (n : ℕ) → g ≢ vcpu who.found.vm n → side_of w.imsic arrival (made_entry vm 0 n) ≡ None
+    made_elsewhere : (n : ℕ) → g ≢ vcpu_of who.found.vm n → side_of w.imsic arrival (made_entry vm 0 n) ≡ None
     made_elsewhere n other = elim (cases_Bool (nat_lt n vm.vcpus)) [
       | inl inside ↦ ap (side_of w.imsic arrival) (cond-true _ _ _ inside)
           ∙ ap (λ q. side_of w.imsic arrival (Mrif (slot_address q) (notice_page vm) (q + 1))) (plus_none n)
@@ -139,43 +139,43 @@ module _ (files : ImsicState) (w : World) (n harts guests : ℕ) (vm : Vm) (who 
       | inr past ↦ ap (side_of w.imsic arrival) (cond-false _ _ _ past) ∙ not_valid
     ]
 
-    in_force_elsewhere : (x : Vcpu) → x ≢ g → side_of w.imsic arrival (entry_in_force (table_of w.tables x.vm) x.number) ≡ None
+    in_force_elsewhere : (x : Vcpu) → x ≢ g → side_of w.imsic arrival (entry_in_force (table_of w.tables x.vm) x.vcpu) ≡ None
     in_force_elsewhere x other = elim (cases_eq x.vm 0) [
-      | inl zero_vm ↦ ap (λ v. side_of w.imsic arrival (entry_in_force (table_of w.tables v) x.number)) zero_vm
-          ∙ ap (side_of w.imsic arrival) (makes.in_force x.number)
-          ∙ made_elsewhere x.number (λ e. other (let number : who.found.number ≡ x.number = ap (λ (y : Vcpu). y.number) e in
-          λ k. vcpu ((zero_vm ∙ sym first) k) (sym number k)))
+      | inl zero_vm ↦ ap (λ v. side_of w.imsic arrival (entry_in_force (table_of w.tables v) x.vcpu)) zero_vm
+          ∙ ap (side_of w.imsic arrival) (makes.in_force x.vcpu)
+          ∙ made_elsewhere x.vcpu (λ e. other (let vcpu : who.found.vcpu ≡ x.vcpu = ap (λ (y : Vcpu). y.vcpu) e in
+          λ k. vcpu_of ((zero_vm ∙ sym first) k) (sym vcpu k)))
       | inr some_vm ↦
           let past : length w.tables ≤ x.vm = let one : length w.tables ≡ 0 + 1 = makes.count in omega (arith, one, some_vm) in
-          ap (λ t. side_of w.imsic arrival (entry_in_force t x.number)) (get_or_past w.tables x.vm no_table past) ∙ not_valid
+          ap (λ t. side_of w.imsic arrival (entry_in_force t x.vcpu)) (get_or_past w.tables x.vm no_table past) ∙ not_valid
     ]
 
-    first_vm : (x : Vcpu) → is_vcpu_in w.vms x ≡ true → (x.vm ≡ 0) × (x.number < vm.vcpus)
+    first_vm : (x : Vcpu) → is_vcpu_in w.vms x ≡ true → (x.vm ≡ 0) × (x.vcpu < vm.vcpus)
     first_vm x there = by_vm x.vm refl (ap (λ vms. is_vcpu_in vms x) (sym makes.vms) ∙ there)
       where
-        by_vm : (v : ℕ) → x.vm ≡ v → is_vcpu_in (vm ∷ []) x ≡ true → (x.vm ≡ 0) × (x.number < vm.vcpus)
-        by_vm zero is inside = (is, ltb-true _ _ (sym (ap (λ n. is_vcpu_in (vm ∷ []) (vcpu n x.number)) is) ∙ inside))
-        by_vm (suc v) is inside = let none : is_vcpu_in (vm ∷ []) (vcpu (suc v) x.number) ≡ true =
-            sym (ap (λ n. is_vcpu_in (vm ∷ []) (vcpu n x.number)) is) ∙ inside in absurd (omega (arith, ltb-true _ _ none))
+        by_vm : (v : ℕ) → x.vm ≡ v → is_vcpu_in (vm ∷ []) x ≡ true → (x.vm ≡ 0) × (x.vcpu < vm.vcpus)
+        by_vm zero is inside = (is, ltb-true _ _ (sym (ap (λ n. is_vcpu_in (vm ∷ []) (vcpu_of n x.vcpu)) is) ∙ inside))
+        by_vm (suc v) is inside = let none : is_vcpu_in (vm ∷ []) (vcpu_of (suc v) x.vcpu) ≡ true =
+            sym (ap (λ n. is_vcpu_in (vm ∷ []) (vcpu_of n x.vcpu)) is) ∙ inside in absurd (omega (arith, ltb-true _ _ none))
 
     written_elsewhere : (x : Vcpu) → is_vcpu_in w.vms x ≡ true → x ≢ g
         → side_of w.imsic arrival (decoded (routes_of w x).word0 (routes_of w x).word1) ≡ None
     written_elsewhere x there other =
         let at = first_vm x there in
-        let low : x.number < VCPUS = let small = at.1 in omega (arith, small, few_vcpus) in
+        let low : x.vcpu < VCPUS = let small = at.1 in omega (arith, small, few_vcpus) in
         let hart : vm.notice_hart < HARTS = let there_hart = notice_hart_there w g whole is.there in
         omega (arith, there_hart, is.notice, notice_is, whole.harts) in
-        let word0 : (routes_of w x).word0 ≡ entry_word x.number None = ap (λ v. get_or w.memory (entry_word_place v x.number) 0) at.0
-        ∙ makes.word0 x.number at.1 ∙ ap (λ q. mrif_word (slot_address q)) (plus_none x.number) in
-        let word1 : (routes_of w x).word1 ≡ second_word x.number vm.notice_hart =
-        ap (λ v. get_or w.memory (entry_word_place v x.number + 1) 0) at.0 ∙ makes.word1 x.number at.1
-        ∙ ap (λ q. notice_word (notice_page vm) (q + 1)) (plus_none x.number) in
+        let word0 : (routes_of w x).word0 ≡ entry_word x.vcpu None = ap (λ v. get_or w.memory (entry_word_place v x.vcpu) 0) at.0
+        ∙ makes.word0 x.vcpu at.1 ∙ ap (λ q. mrif_word (slot_address q)) (plus_none x.vcpu) in
+        let word1 : (routes_of w x).word1 ≡ second_word x.vcpu vm.notice_hart =
+        ap (λ v. get_or w.memory (entry_word_place v x.vcpu + 1) 0) at.0 ∙ makes.word1 x.vcpu at.1
+        ∙ ap (λ q. notice_word (notice_page vm) (q + 1)) (plus_none x.vcpu) in
         ap (λ n. side_of w.imsic arrival (decoded n (routes_of w x).word1)) word0
-        ∙ ap (λ n. side_of w.imsic arrival (decoded (entry_word x.number None) n)) word1
-        ∙ ap (side_of w.imsic arrival) (entry_back x.number vm.notice_hart None low hart (λ p e. absurd (cc)))
-        ∙ other_slot x.number (supervisor_page vm.notice_hart / PAGE) (x.number + 1) low
-        (other_number x.number (λ e. other (let number : who.found.number ≡ x.number = ap (λ (y : Vcpu). y.number) e in
-        λ k. vcpu ((at.0 ∙ sym first) k) (sym number k))))
+        ∙ ap (λ n. side_of w.imsic arrival (decoded (entry_word x.vcpu None) n)) word1
+        ∙ ap (side_of w.imsic arrival) (entry_back x.vcpu vm.notice_hart None low hart (λ p e. absurd (cc)))
+        ∙ other_slot x.vcpu (supervisor_page vm.notice_hart / PAGE) (x.vcpu + 1) low
+        (other_number x.vcpu (λ e. other (let vcpu : who.found.vcpu ≡ x.vcpu = ap (λ (y : Vcpu). y.vcpu) e in
+        λ k. vcpu_of ((at.0 ∙ sym first) k) (sym vcpu k))))
 
     alone : IsAlone w arrival
     alone = record {
@@ -238,9 +238,9 @@ module _ (before w : World) (n harts guests : ℕ) (vm : Vm) (who : Who) (new : 
   -- once the entry and the record were written for a file and put in force, it may shift to another one
   pub may_shift : (a b : GuestPlace) → IsThere w.imsic (spot_of a) → IsThere w.imsic (spot_of b) → is_place a b ≡ false → (x y v u : World)
       → IsWhole x → IsWhole y → IsWhole v
-      → x ≡ with_entry_word w who.found.vm who.found.number 0 (entry_word who.found.slot (Some a))
-      → y ≡ with_fence x who.found.vm who.found.number → v ≡ with_map y (vcpu who.found.vm who.found.number) (Some a)
-      → u ≡ with_gfence v (vcpu who.found.vm who.found.number)
+      → x ≡ with_entry_word w who.found.vm who.found.vcpu 0 (entry_word who.found.slot (Some a))
+      → y ≡ with_fence x who.found.vm who.found.vcpu → v ≡ with_map y (vcpu_of who.found.vm who.found.vcpu) (Some a)
+      → u ≡ with_gfence v (vcpu_of who.found.vm who.found.vcpu)
       → StandsFor u (record { passage = record { who = who; old = File a; new = File b }; hand = empty_hand })
       (state_at Old u (record { passage = record { who = who; old = File a; new = File b }; hand = empty_hand }))
   may_shift a b there too apart x y v u whole_x whole_y whole_v e1 e2 e3 e4 =

@@ -82,8 +82,8 @@ module _ (w : World) (slot k v : ℕ) (whole : IsWhole w) (low : slot < VCPUS) w
 
   word_elsewhere : (g : Vcpu) (place : ℕ) → place < WORDS_OF_SLOTS → routes_of (with_word w place v) g ≡ routes_of w g
   word_elsewhere g place few =
-      let first = get_or-set_other w.memory place (entry_word_place g.vm g.number) v 0 (λ e. omega (arith, e, few)) in
-      let second = get_or-set_other w.memory place (entry_word_place g.vm g.number + 1) v 0 (λ e. omega (arith, e, few)) in
+      let first = get_or-set_other w.memory place (entry_word_place g.vm g.vcpu) v 0 (λ e. omega (arith, e, few)) in
+      let second = get_or-set_other w.memory place (entry_word_place g.vm g.vcpu + 1) v 0 (λ e. omega (arith, e, few)) in
       λ t. record (routes_of w g) { word0 = first t; word1 = second t }
 
   pub pending_routes : (g : Vcpu) (place : ends.Place) → k < pending_words w (at_of slot place)

@@ -237,9 +237,9 @@ module _ (w : World) (r : Rehearsed) (z : Transit) (whole : IsWhole w) (s : Stan
       ap (λ n. of_slot (mrif_in u.memory n)) (s.of.who.slot ∙ ap (λ v. slot_of v (mover_of p)) (sym vms)) ∙ ap of_slot slot
       ∙ ap (λ n. of_slot (mrif_in w.memory n)) (sym s.of.who.slot)
 
-  pub write_notice : StandsFor (with_entry_word w p.who.found.vm p.who.found.number 1 (second_word q p.who.found.notice)) r z
+  pub write_notice : StandsFor (with_entry_word w p.who.found.vm p.who.found.vcpu 1 (second_word q p.who.found.notice)) r z
   write_notice =
-      let u = with_entry_word w p.who.found.vm p.who.found.number 1 (second_word q p.who.found.notice) in
+      let u = with_entry_word w p.who.found.vm p.who.found.vcpu 1 (second_word q p.who.found.notice) in
       let seen = word1-places w (mover_of p) (InMemory Parked) whole s.of.who.there (second_word q p.who.found.notice) in
       let slot : mrif_in u.memory (slot_of u.vms (mover_of p)) ≡ mrif_in w.memory (slot_of w.vms (mover_of p)) = ap (λ (v : Places). v.slot) seen in
       stand_on w u r r.hand z z (record { n = refl; vms = refl; harts = refl; guests = refl }) refl refl
@@ -254,9 +254,9 @@ module _ (w : World) (r : Rehearsed) (z : Transit) (whole : IsWhole w) (s : Stan
         record_in_force = s.routes.record_in_force;
       })) s
 
-  pub write_entry : StandsFor (with_entry_word w p.who.found.vm p.who.found.number 0 (entry_word q (names_on New p))) r (stepped Word0 z)
+  pub write_entry : StandsFor (with_entry_word w p.who.found.vm p.who.found.vcpu 0 (entry_word q (names_on New p))) r (stepped Word0 z)
   write_entry =
-      let u = with_entry_word w p.who.found.vm p.who.found.number 0 (entry_word q (names_on New p)) in
+      let u = with_entry_word w p.who.found.vm p.who.found.vcpu 0 (entry_word q (names_on New p)) in
       let seen = word0-places w (mover_of p) (InMemory Parked) whole s.of.who.there (entry_word q (names_on New p)) in
       let slot : mrif_in u.memory (slot_of u.vms (mover_of p)) ≡ mrif_in w.memory (slot_of w.vms (mover_of p)) = ap (λ (v : Places). v.slot) seen in
       stand_on w u r r.hand z (stepped Word0 z) (record { n = refl; vms = refl; harts = refl; guests = refl }) refl refl
@@ -315,9 +315,9 @@ module _ (w : World) (r : Rehearsed) (z : Transit) (whole : IsWhole w) (s : Stan
       in_map (File b) e inside = subst (λ o. IfSome o IsInMap) e (let fits = file_in_map w b whole inside in (fits.0, fits.1, inside.1))
       in_map Slot e inside = absurd (cc)
 
-  pub refetched : StandsFor (with_fence w p.who.found.vm p.who.found.number) r (record z { entry_in_force = z.entry_written })
+  pub refetched : StandsFor (with_fence w p.who.found.vm p.who.found.vcpu) r (record z { entry_in_force = z.entry_written })
   refetched =
-      let u = with_fence w p.who.found.vm p.who.found.number in
+      let u = with_fence w p.who.found.vm p.who.found.vcpu in
       let y : Transit = record z { entry_in_force = z.entry_written } in
       let seen = fence-places w (mover_of p) (InMemory Parked) whole s.of.who.there in
       let small = small_who w p.who whole s.of.who in

@@ -4,7 +4,7 @@ use Rattle.std.specs.Prelude.{slice_get, is_some, length, take}
 use Rattle.std.specs.List.{list_any}
 use Rattle.std.proofs.lemmas.Bool.{cases_eq, ne_eqb}
 use Rattle.aia_regs.specs.declared.address_map.TheConstants.{PAGE}
-use Rattle.aia_vcpu.specs.Vms.{vcpu, is_vcpu}
+use Rattle.aia_vcpu.specs.Vms.{vcpu_of, is_vcpu}
 use Rattle.aia_fabric_values.specs.declared.flying.Flying.{Flying}
 use Rattle.aia_fabric_values.specs.World.{World, flight_of}
 use Rattle.aia_fabric_values.specs.Whole.{IsWhole}
@@ -84,7 +84,7 @@ run_steps (DeviceStores vm addr value ∷ later) w r u t (x, y, whole, happens, 
     no_steps (is_for_moved w r.passage vm addr) (happenings.Stores (identity_asked (addr % PAGE) value)) (all_seen later x y u t rest) refl refl
     ∙ run_steps later x y u t rest
 run_steps (PeerStores vm to value ∷ later) w r u t (x, y, whole, happens, rest) =
-    no_steps (is_vcpu (vcpu vm to) (mover_of r.passage)) (happenings.PeerStores (identity_asked 0 value)) (all_seen later x y u t rest) refl refl
+    no_steps (is_vcpu (vcpu_of vm to) (mover_of r.passage)) (happenings.PeerStores (identity_asked 0 value)) (all_seen later x y u t rest) refl refl
     ∙ run_steps later x y u t rest
 run_steps (DeviceSends vm addr value ∷ later) w r u t (x, y, whole, happens, rest) =
     no_steps (is_for_moved w r.passage vm addr) (happenings.Sends (identity_asked (addr % PAGE) value)) (all_seen later x y u t rest) refl refl
@@ -93,7 +93,7 @@ run_steps (StoreLands vm k ∷ later) w r u t (x, y, whole, happens, rest) =
     no_landing_step (nat_eq vm r.passage.who.found.vm) w r.passage k (slice_get (flight_of w vm) k) (all_seen later x y u t rest)
     ∙ run_steps later x y u t rest
 run_steps (EntryRead vm file ∷ later) w r u t (x, y, whole, happens, rest) =
-    no_steps (is_vcpu (vcpu vm file) (mover_of r.passage)) happenings.Refetches (all_seen later x y u t rest) refl refl ∙ run_steps later x y u t rest
+    no_steps (is_vcpu (vcpu_of vm file) (mover_of r.passage)) happenings.Refetches (all_seen later x y u t rest) refl refl ∙ run_steps later x y u t rest
 
 -- ---- the passage stays
 
@@ -167,7 +167,7 @@ event_due (DeviceStores vm addr value) w r z i s =
     store_due (is_for_moved w r.passage vm addr) z.entry_in_force (identity_asked (addr % PAGE) value) i
     (happenings.Stores (identity_asked (addr % PAGE) value)) z refl
 event_due (PeerStores vm to value) w r z i s =
-    store_due (is_vcpu (vcpu vm to) (mover_of r.passage)) z.record_in_force (identity_asked 0 value) i
+    store_due (is_vcpu (vcpu_of vm to) (mover_of r.passage)) z.record_in_force (identity_asked 0 value) i
     (happenings.PeerStores (identity_asked 0 value)) z refl
 event_due (DeviceSends vm addr value) w r z i s =
     none_due (is_for_moved w r.passage vm addr) i (happenings.Sends (identity_asked (addr % PAGE) value)) z refl
@@ -178,7 +178,7 @@ event_due (StoreLands vm k) w r z i s = elim (cases_eq vm r.passage.who.found.vm
       s.flights.own)
   | inr ne ↦ rw (ne_eqb vm r.passage.who.found.vm ne) (or_false (z.due i) (is_identity i))
 ]
-event_due (EntryRead vm file) w r z i s = none_due (is_vcpu (vcpu vm file) (mover_of r.passage)) i happenings.Refetches z refl
+event_due (EntryRead vm file) w r z i s = none_due (is_vcpu (vcpu_of vm file) (mover_of r.passage)) i happenings.Refetches z refl
 
 pub run_due : (events : List RehearsedEvent) (w : World) (r : Rehearsed) (u : World) (t : Rehearsed) (run : Runs events w r u t) (z : Transit)
     (i : ℕ) → IsAlone w r.passage → StandsFor w r z

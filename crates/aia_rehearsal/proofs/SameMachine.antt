@@ -13,7 +13,7 @@ use Rattle.aia_regs.specs.declared.address_map.TheConstants.{PAGE}
 use Rattle.aia_entry.specs.declared.table.Route.{Route}
 use Rattle.aia_entry.specs.declared.table.Route.TheVariants.{Other, Fault, To}
 use Rattle.aia_entry.specs.Tables.{table_of, route_of}
-use Rattle.aia_vcpu.specs.Vms.{vcpu}
+use Rattle.aia_vcpu.specs.Vms.{vcpu_of}
 use Rattle.aia_fabric_values.specs.World.{stage_of}
 use Rattle.aia_fabric_values.specs.Flights.{Sends}
 use Rattle.aia_rehearsal.specs.Events.{RehearsedEvent, Happens}
@@ -92,7 +92,7 @@ event_same (Steps step) w r u t (inside, makes, e) = step_same step w u r makes
 event_same (DeviceStores vm addr value) w r u t (low, reaches, e) =
     stored_same w u (reaches_rest (route_of (table_of w.tables vm) addr) w u (addr % PAGE) value reaches)
 event_same (PeerStores vm to value) w r u t (there, relays, e) =
-    stored_same w u (record_rest (stage_of w (vcpu vm to)).in_force w u (vcpu vm to) value relays)
+    stored_same w u (record_rest (stage_of w (vcpu_of vm to)).in_force w u (vcpu_of vm to) value relays)
 event_same (DeviceSends vm addr value) w r u t (low, sends, e) = sends_same (route_of (table_of w.tables vm) addr) w u vm (addr % PAGE) value sends
 event_same (StoreLands vm k) w r u t (low, l, e) =
     let same = stored_same w l.stored (entry_rest l.store.entry w l.stored l.store.offset l.store.value l.reaches) in

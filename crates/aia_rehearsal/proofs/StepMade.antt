@@ -141,7 +141,7 @@ module _ (w u : World) (r : Rehearsed) (way : Way) (hand : Hand) (leaves : left 
   by_step : (step : Step) → IfSome (access_made step r.passage) (λ access. IsMade (Makes step r w u) (carrying access hand ≡ after step r w) access)
   by_step Quiet = quiet r.passage.old leaves
   by_step Word0 = λ is. (
-    subst (λ o. u ≡ with_entry_word w r.passage.who.found.vm r.passage.who.found.number 0 (entry_word slot o)) leads is.makes,
+    subst (λ o. u ≡ with_entry_word w r.passage.who.found.vm r.passage.who.found.vcpu 0 (entry_word slot o)) leads is.makes,
     ap (carrying accesses.WriteEntry) is.carries,
   )
   by_step Map = λ is. (subst (λ o. u ≡ with_map w (mover_of r.passage) o) leads is.makes, ap (carrying accesses.Map) is.carries)

@@ -111,12 +111,12 @@ module _ (w u : World) (p : Passage) (offset value : ℕ) (whole : IsWhole w) wh
   inside : (i : ℕ) → i / 64 < width w → i ≤ w.n
   inside i low = let all = all_words w.n whole.greatest in omega (arith, low, all)
 
-  routes_by : OnlyStores w u → get_or u.memory (entry_word_place (mover_of p).vm (mover_of p).number) 0 ≡ get_or w.memory
-      (entry_word_place (mover_of p).vm (mover_of p).number) 0
-      → get_or u.memory (entry_word_place (mover_of p).vm (mover_of p).number + 1) 0 ≡ get_or w.memory
-      (entry_word_place (mover_of p).vm (mover_of p).number + 1) 0 → routes_of u (mover_of p) ≡ routes_of w (mover_of p)
+  routes_by : OnlyStores w u → get_or u.memory (entry_word_place (mover_of p).vm (mover_of p).vcpu) 0 ≡ get_or w.memory
+      (entry_word_place (mover_of p).vm (mover_of p).vcpu) 0
+      → get_or u.memory (entry_word_place (mover_of p).vm (mover_of p).vcpu + 1) 0 ≡ get_or w.memory
+      (entry_word_place (mover_of p).vm (mover_of p).vcpu + 1) 0 → routes_of u (mover_of p) ≡ routes_of w (mover_of p)
   routes_by rest first second =
-      let tables = ap (λ (x : World). entry_in_force (table_of x.tables (mover_of p).vm) (mover_of p).number) rest in
+      let tables = ap (λ (x : World). entry_in_force (table_of x.tables (mover_of p).vm) (mover_of p).vcpu) rest in
       let stages : stage_of u (mover_of p) ≡ stage_of w (mover_of p) = ap (λ (x : World). stage_of x (mover_of p)) rest in
       λ k. record { word0 = first k; word1 = second k; in_force = tables k; stage = stages k }
 
@@ -203,8 +203,8 @@ module _ (w u : World) (p : Passage) (offset value : ℕ) (whole : IsWhole w) wh
     in_slot : s < VCPUS → StoresInSlot w u (Some s) spot identity offset value → Seen w u p (slot_hit (Some s) q) offset value
     in_slot low stores = record {
       rest = rest;
-      routes = routes_by rest (ap (λ words. get_or words (entry_word_place (mover_of p).vm (mover_of p).number) 0) noticed.memory ∙ kept.0)
-          (ap (λ words. get_or words (entry_word_place (mover_of p).vm (mover_of p).number + 1) 0) noticed.memory ∙ kept.1);
+      routes = routes_by rest (ap (λ words. get_or words (entry_word_place (mover_of p).vm (mover_of p).vcpu) 0) noticed.memory ∙ kept.0)
+          (ap (λ words. get_or words (entry_word_place (mover_of p).vm (mover_of p).vcpu + 1) 0) noticed.memory ∙ kept.1);
       hit = hit;
       missed = missed;
     }
@@ -215,10 +215,10 @@ module _ (w u : World) (p : Passage) (offset value : ℕ) (whole : IsWhole w) wh
         noticed : Noticed s
         noticed = noticed_by (stored (mrif_in w.memory s) (requested IDENTITIES offset value)) stores
 
-        kept : (get_or (with_store w s offset value).memory (entry_word_place (mover_of p).vm (mover_of p).number) 0 ≡ get_or w.memory
-            (entry_word_place (mover_of p).vm (mover_of p).number) 0)
-            × (get_or (with_store w s offset value).memory (entry_word_place (mover_of p).vm (mover_of p).number + 1) 0 ≡ get_or w.memory
-            (entry_word_place (mover_of p).vm (mover_of p).number + 1) 0)
+        kept : (get_or (with_store w s offset value).memory (entry_word_place (mover_of p).vm (mover_of p).vcpu) 0 ≡ get_or w.memory
+            (entry_word_place (mover_of p).vm (mover_of p).vcpu) 0)
+            × (get_or (with_store w s offset value).memory (entry_word_place (mover_of p).vm (mover_of p).vcpu + 1) 0 ≡ get_or w.memory
+            (entry_word_place (mover_of p).vm (mover_of p).vcpu + 1) 0)
         kept = entry_words_kept w (mover_of p) s offset value whole low
 
         here : Adds (width w) (of_slot (mrif_in w.memory s)) (of_slot (mrif_in u.memory s)) (identity_asked offset value)

@@ -6,7 +6,7 @@ use Rattle.aia_entry.specs.Tables.{table_of, route_of}
 use Rattle.aia_entry.specs.Translation.{is_msi_address, file_number}
 use Rattle.aia_vcpu.specs.declared.place.GuestPlace.{GuestPlace}
 use Rattle.aia_entry.specs.Format.{decoded}
-use Rattle.aia_vcpu.specs.Vms.{Vcpu, vcpu, is_vcpu, is_vcpu_in}
+use Rattle.aia_vcpu.specs.Vms.{Vcpu, vcpu_of, is_vcpu, is_vcpu_in}
 use Rattle.aia_fabric_values.specs.declared.flying.Flying.{Flying}
 use Rattle.aia_fabric_values.specs.World.{World, flight_of, stage_of}
 use Rattle.aia_fabric_values.specs.Stores.{Reaches, ReachesByRecord}
@@ -40,13 +40,13 @@ Happens (Steps step) w r u t =
     IsInside (width w) step × Makes step r w u × (t ≡ after step r w)
 Happens (DeviceStores vm addr value) w r u t = (vm < length w.vms)
     × Reaches (route_of (table_of w.tables vm) addr) w u (addr % PAGE) value × (t ≡ r)
-Happens (PeerStores vm to value) w r u t = (is_vcpu_in w.vms (vcpu vm to) ≡ true)
-    × ReachesByRecord (stage_of w (vcpu vm to)).in_force w u (vcpu vm to) value × (t ≡ r)
+Happens (PeerStores vm to value) w r u t = (is_vcpu_in w.vms (vcpu_of vm to) ≡ true)
+    × ReachesByRecord (stage_of w (vcpu_of vm to)).in_force w u (vcpu_of vm to) value × (t ≡ r)
 Happens (DeviceSends vm addr value) w r u t = (vm < length w.vms)
     × Sends (route_of (table_of w.tables vm) addr) w u vm (addr % PAGE) value × (t ≡ r)
 Happens (StoreLands vm k) w r u t = (vm < length w.vms) × Lands w u vm k × (t ≡ r)
 Happens (EntryRead vm file) w r u t =
-    (is_vcpu_in w.vms (vcpu vm file) ≡ true) × (u ≡ with_fence w vm file) × (t ≡ r)
+    (is_vcpu_in w.vms (vcpu_of vm file) ≡ true) × (u ≡ with_fence w vm file) × (t ≡ r)
 
 -- ---- whom it concerns
 
@@ -54,7 +54,7 @@ Happens (EntryRead vm file) w r u t =
 abbrev pub is_for_moved : World → Passage → ℕ → ℕ → Bool
 is_for_moved w p vm addr =
     nat_eq vm p.who.found.vm && (is_msi_address (table_of w.tables vm).mask addr
-    && nat_eq (file_number (table_of w.tables vm).mask addr) p.who.found.number)
+    && nat_eq (file_number (table_of w.tables vm).mask addr) p.who.found.vcpu)
 
 -- ---- what is not its own
 
@@ -90,12 +90,15 @@ landing_seen w p k (Some store) = landing_by (side_of w.imsic p store.entry)
 abbrev pub seen : RehearsedEvent → World → Passage → List Happening
 seen (Steps step) w p = happenings.Does step ∷ []
 seen (DeviceStores vm addr value) w p =
-    if is_for_moved w p vm addr then happenings.Stores (identity_asked (addr % PAGE) value) ∷ [] else []
+    if is_for_moved w p vm addr then happenings.Stores (identity_asked (addr % PAGE) value) ∷ []
+    else []
 seen (PeerStores vm to value) w p =
-    if is_vcpu (vcpu vm to) (mover_of p) then happenings.PeerStores (identity_asked 0 value) ∷ [] else []
+    if is_vcpu (vcpu_of vm to) (mover_of p) then happenings.PeerStores (identity_asked 0 value) ∷ []
+    else []
 seen (DeviceSends vm addr value) w p =
-    if is_for_moved w p vm addr then happenings.Sends (identity_asked (addr % PAGE) value) ∷ [] else []
+    if is_for_moved w p vm addr then happenings.Sends (identity_asked (addr % PAGE) value) ∷ []
+    else []
 seen (StoreLands vm k) w p =
     if nat_eq vm p.who.found.vm then landing_seen w p k (slice_get (flight_of w vm) k) else []
 seen (EntryRead vm file) w p =
-    if is_vcpu (vcpu vm file) (mover_of p) then happenings.Refetches ∷ [] else []
+    if is_vcpu (vcpu_of vm file) (mover_of p) then happenings.Refetches ∷ [] else []

@@ -2,7 +2,7 @@
 -- steps. Profile.
 use Rattle.std.specs.Prelude.{◌≡◌, ℕ, ⊤, Bool, false, Option, Some, None}
 use Rattle.aia_vcpu.specs.declared.place.GuestPlace.{GuestPlace}
-use Rattle.aia_vcpu.specs.Vms.{Vcpu, vcpu}
+use Rattle.aia_vcpu.specs.Vms.{Vcpu, vcpu_of}
 use Rattle.aia_vcpu.specs.Home.{is_place}
 use Rattle.aia_fabric_values.specs.declared.at.At.{At}
 use Rattle.aia_fabric_values.specs.declared.at.At.TheVariants as ats
@@ -52,7 +52,7 @@ from_to who old new = record {
 
 -- The virtual hart that is moved.
 abbrev pub mover_of : Passage → Vcpu
-mover_of p = vcpu p.who.found.vm p.who.found.number
+mover_of p = vcpu_of p.who.found.vm p.who.found.vcpu
 
 -- The place on one of its sides.
 abbrev pub on : TransitSide → Passage → ends.Place

@@ -4,13 +4,13 @@ use Rattle.std.specs.Prelude.{◌≡◌, ◌≢◌, ℕ, ◌/◌, ◌%◌, ◌<�
 use Rattle.std.specs.List.{list_any}
 use Rattle.aia_word.specs.Sets.{has_bit}
 use Rattle.aia_regs.specs.declared.address_map.TheConstants.{PAGE}
-use Rattle.aia_vcpu.specs.Vms.{vcpu, is_vcpu}
+use Rattle.aia_vcpu.specs.Vms.{vcpu_of, is_vcpu}
 use Rattle.aia_vcpu_places.specs.Places.{leads_to, entry_word, second_word}
 use Rattle.aia_fabric_values.specs.declared.flying.Flying.{Flying}
 use Rattle.aia_fabric_values.specs.World.{World, flight_of}
 use Rattle.aia_fabric_values.specs.Whole.{IsWhole}
 use Rattle.aia_move_values.specs.Move.{width}
-use Rattle.aia_plan.specs.Plan.{Plan}
+use Rattle.aia_plan.specs.Plan.{WrittenPlan}
 use Rattle.aia_plan.specs.declared.step.Step.TheVariants as steps
 use Rattle.aia_plan.specs.Transit.{TransitSide, Flight, Transit, is_identity}
 use Rattle.aia_plan.specs.Transit.TransitSide.{Old, New}
@@ -28,7 +28,7 @@ Runs (event ∷ later) w r u t = (x : World) × (y : Rehearsed) × IsWhole w
     × Happens event w r x y × Runs later x y u t
 
 -- The steps of the plan among them.
-abbrev pub steps_in : List RehearsedEvent → Plan
+abbrev pub steps_in : List RehearsedEvent → WrittenPlan
 steps_in [] = []
 steps_in (Steps step ∷ later) = step ∷ steps_in later
 steps_in (event ∷ later) = steps_in later
@@ -50,7 +50,7 @@ asks (Steps steps.Fence) w p i =
 asks (DeviceStores vm addr value) w p i =
     is_for_moved w p vm addr && nat_eq (identity_asked (addr % PAGE) value) i
 asks (PeerStores vm to value) w p i =
-    is_vcpu (vcpu vm to) (mover_of p) && nat_eq (identity_asked 0 value) i
+    is_vcpu (vcpu_of vm to) (mover_of p) && nat_eq (identity_asked 0 value) i
 asks (StoreLands vm k) w p i =
     nat_eq vm p.who.found.vm && lands_for w p i (slice_get (flight_of w vm) k)
 asks event w p i = false

@@ -60,9 +60,9 @@ pub record RoutesSeen : Type 0 where
 
 abbrev pub routes_of : World → Vcpu → RoutesSeen
 routes_of w g = record {
-  word0 = slice_index w.memory (entry_word_place g.vm g.number);
-  word1 = slice_index w.memory (entry_word_place g.vm g.number + 1);
-  in_force = entry_in_force (table_of w.tables g.vm) g.number;
+  word0 = slice_index w.memory (entry_word_place g.vm g.vcpu);
+  word1 = slice_index w.memory (entry_word_place g.vm g.vcpu + 1);
+  in_force = entry_in_force (table_of w.tables g.vm) g.vcpu;
   stage = stage_of w g;
 }
 

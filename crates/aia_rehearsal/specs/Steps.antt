@@ -34,11 +34,11 @@ Puts w u Slot reg v = u ≡ w
 -- place. A look reads the slot, and a post sends the notice where a look saw reason to.
 abbrev pub Makes : Step → Rehearsed → World → World → Type 0
 Makes Quiet r w u = Puts w u r.passage.old Delivery 0
-Makes Word1 r w u = u ≡ with_entry_word w r.passage.who.found.vm r.passage.who.found.number 1
+Makes Word1 r w u = u ≡ with_entry_word w r.passage.who.found.vm r.passage.who.found.vcpu 1
     (second_word r.passage.who.found.slot r.passage.who.found.notice)
-Makes Word0 r w u = u ≡ with_entry_word w r.passage.who.found.vm r.passage.who.found.number 0
+Makes Word0 r w u = u ≡ with_entry_word w r.passage.who.found.vm r.passage.who.found.vcpu 0
     (entry_word r.passage.who.found.slot (names_on New r.passage))
-Makes Fence r w u = Fences w u r.passage.who.found.vm r.passage.who.found.number
+Makes Fence r w u = Fences w u r.passage.who.found.vm r.passage.who.found.vcpu
 Makes Map r w u = u ≡ with_map w (mover_of r.passage) (names_on New r.passage)
 Makes Unmap r w u = u ≡ with_map w (mover_of r.passage) (names_on New r.passage)
 Makes Remap r w u = u ≡ with_map w (mover_of r.passage) (names_on New r.passage)

@@ -11,7 +11,7 @@ ghost use Rattle.aia_file.specs.Imsic.{IsThere};
 ghost use Rattle.aia_vcpu.specs.declared.place.GuestPlace.{GuestPlace};
 ghost use Rattle.aia_vcpu.specs.declared.vm.Vm.{Vm};
 ghost use Rattle.aia_vcpu.specs.Home.{is_place};
-ghost use Rattle.aia_vcpu.specs.Vms.{vcpu};
+ghost use Rattle.aia_vcpu.specs.Vms.{vcpu_of};
 ghost use Rattle.aia_vcpu_places.specs.Places.{entry_word};
 ghost use Rattle.aia_fabric_values.specs.World.{World};
 ghost use Rattle.aia_fabric_values.specs.Whole.{IsWhole};
@@ -75,10 +75,10 @@ pub fn rehearsals_stand_for_something()
         → who.found.vm ≡ 0 → (a b : GuestPlace) → IsThere w.imsic (spot_of a)
         → IsThere w.imsic (spot_of b) → is_place a b ≡ false
         → (x y v u : World) → IsWhole x → IsWhole y → IsWhole v
-        → x ≡ with_entry_word w who.found.vm who.found.number 0 (entry_word who.found.slot (Some a))
-        → y ≡ with_fence x who.found.vm who.found.number
-        → v ≡ with_map y (vcpu who.found.vm who.found.number) (Some a)
-        → u ≡ with_gfence v (vcpu who.found.vm who.found.number)
+        → x ≡ with_entry_word w who.found.vm who.found.vcpu 0 (entry_word who.found.slot (Some a))
+        → y ≡ with_fence x who.found.vm who.found.vcpu
+        → v ≡ with_map y (vcpu_of who.found.vm who.found.vcpu) (Some a)
+        → u ≡ with_gfence v (vcpu_of who.found.vm who.found.vcpu)
         → StandsFor u (from_to who (places.File a) (places.File b))
         (state_at Old u (from_to who (places.File a) (places.File b))) }
     ensures next { (w u : World) (r t : Rehearsed) (asked_for : ℕ → Bool) (place : ends.Place)

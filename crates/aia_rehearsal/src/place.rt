@@ -17,7 +17,8 @@ pub enum Place {
 impl Place {
     /// Gives the guest file that the place is; `None`: it is the slot.
     pub(crate) fn file(&self) -> Option<&FileLease>
-        ensures { option_map (λ (lease : Bor files.GuestPlace). lease.now) result ≡ file_of self.now }
+        ensures { option_map (λ (lease : Bor files.GuestPlace). lease.now) result
+            ≡ file_of self.now }
     {
         match self {
             Place::File(lease) => Some(lease),

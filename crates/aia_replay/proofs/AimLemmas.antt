@@ -3,7 +3,7 @@ use Rattle.std.proofs.Common.{◌≡◌, ℕ, zero, suc, ◌<◌, Bool, true, fa
 use Rattle.std.specs.List.{AllByRecursion}
 use Rattle.std.specs.Int.{is_in_range}
 use Rattle.std.proofs.lemmas.Bool.{cases_Bool, and_parts, and_from, ltb-true, true≢false}
-use Rattle.aia_vcpu.specs.Vms.{Vcpu, vcpu}
+use Rattle.aia_vcpu.specs.Vms.{Vcpu, vcpu_of}
 use Rattle.aia_vcpu.specs.Home.{Home}
 use Rattle.aia_vcpu.specs.Routes.{is_at_fence}
 use Rattle.aia_vcpu.specs.Aims.{is_aiming, aims_done}
@@ -59,9 +59,9 @@ IsThere h pass = is_in_range 1 (sources_of h) pass.source ≡ true
 sources_there : (h : History) → IsHistory h → AllByRecursion (IsThere h) (passes_of h)
 unfolding passes_of
 sources_there [] good = tt
-sources_there (Accepted (lines.Pass source vm number identity) ∷ h) good =
-    all_append (IsThere h) (passes_of h) (record { source = source; to = vcpu vm number; identity = identity }) (sources_there h good.1)
-    (pass_allowed h source vm number identity good.0).source_there
+sources_there (Accepted (lines.Pass source vm vcpu identity) ∷ h) good =
+    all_append (IsThere h) (passes_of h) (record { source = source; to = vcpu_of vm vcpu; identity = identity }) (sources_there h good.1)
+    (pass_allowed h source vm vcpu identity good.0).source_there
 sources_there (Accepted (lines.Machine harts guests n sources) ∷ h) good =
     subst (λ (x : History). AllByRecursion (IsThere (Accepted (lines.Machine harts guests n sources) ∷ h)) (passes_of x))
     (sym (machine_first h good.1 (machine_allowed h harts guests n sources good.0).0)) tt
@@ -173,63 +173,63 @@ unless_accepted r taken refused e so = subst (λ (o : Option Answer). UnlessRefu
 unless_refused : (r : Option Answer) (word : Answer) (taken refused : Type 0) → r ≡ Some word → UnlessRefused r taken refused → refused
 unless_refused r word taken refused e so = subst (λ (o : Option Answer). UnlessRefused o taken refused) e so
 
-pub step_taken_by : (m n : Machine) (vm number : ℕ) (given : Answer) → CoreTakes m.core n.core (lines.Step vm number) given
-    → ((h : History) → CoreStands m.core h → UnlessRefused (refusal h (lines.Step vm number))
-    (AimsBy wires_aim (aimed_by h (Stepped (vcpu vm number))) m.wires n.wires) (n.wires ≡ m.wires))
-    → MachineTakes m n (lines.Step vm number) given
-step_taken_by m n vm number given takes aims = taken_by m n (lines.Step vm number) given takes
-    (λ h stands e. subst (AplicStands n.wires.aplic) (sym (acts_step (vcpu vm number) h))
-    (aim_stands m.wires n.wires h (vcpu vm number) stands.happens stands.holds.aplic (unless_accepted _ _ _ e (aims h stands.holds.core))))
+pub step_taken_by : (m n : Machine) (vm vcpu : ℕ) (given : Answer) → CoreTakes m.core n.core (lines.Step vm vcpu) given
+    → ((h : History) → CoreStands m.core h → UnlessRefused (refusal h (lines.Step vm vcpu))
+    (AimsBy wires_aim (aimed_by h (Stepped (vcpu_of vm vcpu))) m.wires n.wires) (n.wires ≡ m.wires))
+    → MachineTakes m n (lines.Step vm vcpu) given
+step_taken_by m n vm vcpu given takes aims = taken_by m n (lines.Step vm vcpu) given takes
+    (λ h stands e. subst (AplicStands n.wires.aplic) (sym (acts_step (vcpu_of vm vcpu) h))
+    (aim_stands m.wires n.wires h (vcpu_of vm vcpu) stands.happens stands.holds.aplic (unless_accepted _ _ _ e (aims h stands.holds.core))))
     (λ h word stands e. unless_refused _ word _ _ e (aims h stands.holds.core))
 
 -- the steps of a whole move
-whole_acts : (new : Wires) (h : History) (vm number : ℕ) (want : Want)
-    → AplicStands new.aplic (acts_of (line_taken h (lines.Move vm number want)))
-    → AplicStands new.aplic (act_taken None h (lines.Move vm number want))
-whole_acts new h vm number wants.Leave s = s
-whole_acts new h vm number (wants.Arrive hart) s = s
-whole_acts new h vm number (wants.Shift hart) s = s
+whole_acts : (new : Wires) (h : History) (vm vcpu : ℕ) (want : Want)
+    → AplicStands new.aplic (acts_of (line_taken h (lines.Move vm vcpu want)))
+    → AplicStands new.aplic (act_taken None h (lines.Move vm vcpu want))
+whole_acts new h vm vcpu wants.Leave s = s
+whole_acts new h vm vcpu (wants.Arrive hart) s = s
+whole_acts new h vm vcpu (wants.Shift hart) s = s
 
-whole_aims : (old new : Wires) (h : History) (vm number : ℕ) (want : Want) → IsHistory (line_taken h (lines.Move vm number want))
-    → AplicStands old.aplic (acts_of h) → WholeAims wires_aim h vm number want old new
-    → AplicStands new.aplic (acts_of (line_taken h (lines.Move vm number want)))
-whole_aims old new h vm number wants.Leave good stands aims =
-    steps_aim _ (vcpu vm number) (Began (wanted_move (vcpu vm number) wants.Leave) ∷ h) old new good stands aims
-whole_aims old new h vm number (wants.Arrive hart) good stands aims =
-    steps_aim _ (vcpu vm number) (Began (wanted_move (vcpu vm number) (wants.Arrive hart)) ∷ h) old new good stands aims
-whole_aims old new h vm number (wants.Shift hart) good stands aims =
-    steps_aim _ (vcpu vm number) (Began (wanted_move (vcpu vm number) (wants.Shift hart)) ∷ h) old new good stands aims
+whole_aims : (old new : Wires) (h : History) (vm vcpu : ℕ) (want : Want) → IsHistory (line_taken h (lines.Move vm vcpu want))
+    → AplicStands old.aplic (acts_of h) → WholeAims wires_aim h vm vcpu want old new
+    → AplicStands new.aplic (acts_of (line_taken h (lines.Move vm vcpu want)))
+whole_aims old new h vm vcpu wants.Leave good stands aims =
+    steps_aim _ (vcpu_of vm vcpu) (Began (wanted_move (vcpu_of vm vcpu) wants.Leave) ∷ h) old new good stands aims
+whole_aims old new h vm vcpu (wants.Arrive hart) good stands aims =
+    steps_aim _ (vcpu_of vm vcpu) (Began (wanted_move (vcpu_of vm vcpu) (wants.Arrive hart)) ∷ h) old new good stands aims
+whole_aims old new h vm vcpu (wants.Shift hart) good stands aims =
+    steps_aim _ (vcpu_of vm vcpu) (Began (wanted_move (vcpu_of vm vcpu) (wants.Shift hart)) ∷ h) old new good stands aims
 
-pub whole_taken_by : (m n : Machine) (vm number : ℕ) (want : Want) (given : Answer) → CoreTakes m.core n.core (lines.Move vm number want) given
-    → ((h : History) → CoreStands m.core h → UnlessRefused (refusal h (lines.Move vm number want))
-    (WholeAims wires_aim h vm number want m.wires n.wires) (n.wires ≡ m.wires)) → MachineTakes m n (lines.Move vm number want) given
-whole_taken_by m n vm number want given takes aims = taken_by m n (lines.Move vm number want) given takes
-    (λ h stands e. whole_acts n.wires h vm number want
-    (whole_aims m.wires n.wires h vm number want (line_happens h (lines.Move vm number want) e stands.happens) stands.holds.aplic
+pub whole_taken_by : (m n : Machine) (vm vcpu : ℕ) (want : Want) (given : Answer) → CoreTakes m.core n.core (lines.Move vm vcpu want) given
+    → ((h : History) → CoreStands m.core h → UnlessRefused (refusal h (lines.Move vm vcpu want))
+    (WholeAims wires_aim h vm vcpu want m.wires n.wires) (n.wires ≡ m.wires)) → MachineTakes m n (lines.Move vm vcpu want) given
+whole_taken_by m n vm vcpu want given takes aims = taken_by m n (lines.Move vm vcpu want) given takes
+    (λ h stands e. whole_acts n.wires h vm vcpu want
+    (whole_aims m.wires n.wires h vm vcpu want (line_happens h (lines.Move vm vcpu want) e stands.happens) stands.holds.aplic
     (unless_accepted _ _ _ e (aims h stands.holds.core))))
     (λ h word stands e. unless_refused _ word _ _ e (aims h stands.holds.core))
 
 -- a source that is there is passed, or refused
-pub pass_taken_by : (m n : Machine) (source vm number identity : ℕ) (given : Answer)
+pub pass_taken_by : (m n : Machine) (source vm vcpu identity : ℕ) (given : Answer)
     → ((h : History) → MachineStands m h → TellsOf (targets_of m.wires.aplic) h source)
-    → CorePasses m.core n.core (targets_of m.wires.aplic) source (lines.Pass source vm number identity) given
+    → CorePasses m.core n.core (targets_of m.wires.aplic) source (lines.Pass source vm vcpu identity) given
     → ((h : History) → CoreStands m.core h → TellsOf (targets_of m.wires.aplic) h source
-    → UnlessRefused (refusal h (lines.Pass source vm number identity))
-    (AimsBy wires_aim (aimed_by h (Accepted (lines.Pass source vm number identity))) m.wires n.wires) (n.wires ≡ m.wires))
-    → MachineTakes m n (lines.Pass source vm number identity) given
-pass_taken_by m n source vm number identity given tells passes aims = record {
+    → UnlessRefused (refusal h (lines.Pass source vm vcpu identity))
+    (AimsBy wires_aim (aimed_by h (Accepted (lines.Pass source vm vcpu identity))) m.wires n.wires) (n.wires ≡ m.wires))
+    → MachineTakes m n (lines.Pass source vm vcpu identity) given
+pass_taken_by m n source vm vcpu identity given tells passes aims = record {
   answers = λ h stands. passes.answers h stands.holds.core (tells h stands);
   takes = λ h stands. record {
     core = passes.stands h stands.holds.core (tells h stands);
     aplic =
-        by_refusal h stands (refusal h (lines.Pass source vm number identity)) refl;
+        by_refusal h stands (refusal h (lines.Pass source vm vcpu identity)) refl;
   };
 }
   where
-    by_refusal : (h : History) → MachineStands m h → (r : Option Answer) → refusal h (lines.Pass source vm number identity) ≡ r
-        → AplicStands n.wires.aplic (act_taken r h (lines.Pass source vm number identity))
+    by_refusal : (h : History) → MachineStands m h → (r : Option Answer) → refusal h (lines.Pass source vm vcpu identity) ≡ r
+        → AplicStands n.wires.aplic (act_taken r h (lines.Pass source vm vcpu identity))
     by_refusal h stands None e =
-        let may = pass_allowed h source vm number identity e in
+        let may = pass_allowed h source vm vcpu identity e in
         let ready = and_from _ _ (source_in h source may.source_there) may.ready in
         one_aim m.wires n.wires (acts_of h) source _ ready stands.holds.aplic (unless_accepted _ _ _ e (aims h stands.holds.core (tells h stands)))
     by_refusal h stands (Some word) e = subst (λ (w : Wires). AplicStands w.aplic (acts_of h))

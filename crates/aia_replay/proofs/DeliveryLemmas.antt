@@ -64,40 +64,40 @@ all_sent m h past none holds = subst (λ p. MachineHolds m (delivered (waiting_m
 
 -- the MSIs that wait are those that the line sends
 waiting_are : (h : History) (line : Line) → waiting_msis (act_taken None h line) ≡ msis_sent_by h line
-waiting_are h (lines.Move vm number (wants.Arrive hart)) = none_waiting (line_taken h (lines.Move vm number (wants.Arrive hart)))
-    ∙ sym (none_sent_by h (lines.Move vm number (wants.Arrive hart)) refl)
-waiting_are h (lines.Move vm number wants.Leave) = none_waiting (line_taken h (lines.Move vm number wants.Leave))
-    ∙ sym (none_sent_by h (lines.Move vm number wants.Leave) refl)
-waiting_are h (lines.Move vm number (wants.Shift hart)) = none_waiting (line_taken h (lines.Move vm number (wants.Shift hart)))
-    ∙ sym (none_sent_by h (lines.Move vm number (wants.Shift hart)) refl)
-waiting_are h (lines.Begin vm number (wants.Arrive hart)) = none_waiting (line_taken h (lines.Begin vm number (wants.Arrive hart)))
-    ∙ sym (none_sent_by h (lines.Begin vm number (wants.Arrive hart)) refl)
-waiting_are h (lines.Begin vm number wants.Leave) = none_waiting (line_taken h (lines.Begin vm number wants.Leave))
-    ∙ sym (none_sent_by h (lines.Begin vm number wants.Leave) refl)
-waiting_are h (lines.Begin vm number (wants.Shift hart)) = none_waiting (line_taken h (lines.Begin vm number (wants.Shift hart)))
-    ∙ sym (none_sent_by h (lines.Begin vm number (wants.Shift hart)) refl)
-waiting_are h (lines.Step vm number) = none_waiting (line_taken h (lines.Step vm number)) ∙ sym (none_sent_by h (lines.Step vm number) refl)
+waiting_are h (lines.Move vm vcpu (wants.Arrive hart)) = none_waiting (line_taken h (lines.Move vm vcpu (wants.Arrive hart)))
+    ∙ sym (none_sent_by h (lines.Move vm vcpu (wants.Arrive hart)) refl)
+waiting_are h (lines.Move vm vcpu wants.Leave) = none_waiting (line_taken h (lines.Move vm vcpu wants.Leave))
+    ∙ sym (none_sent_by h (lines.Move vm vcpu wants.Leave) refl)
+waiting_are h (lines.Move vm vcpu (wants.Shift hart)) = none_waiting (line_taken h (lines.Move vm vcpu (wants.Shift hart)))
+    ∙ sym (none_sent_by h (lines.Move vm vcpu (wants.Shift hart)) refl)
+waiting_are h (lines.Begin vm vcpu (wants.Arrive hart)) = none_waiting (line_taken h (lines.Begin vm vcpu (wants.Arrive hart)))
+    ∙ sym (none_sent_by h (lines.Begin vm vcpu (wants.Arrive hart)) refl)
+waiting_are h (lines.Begin vm vcpu wants.Leave) = none_waiting (line_taken h (lines.Begin vm vcpu wants.Leave))
+    ∙ sym (none_sent_by h (lines.Begin vm vcpu wants.Leave) refl)
+waiting_are h (lines.Begin vm vcpu (wants.Shift hart)) = none_waiting (line_taken h (lines.Begin vm vcpu (wants.Shift hart)))
+    ∙ sym (none_sent_by h (lines.Begin vm vcpu (wants.Shift hart)) refl)
+waiting_are h (lines.Step vm vcpu) = none_waiting (line_taken h (lines.Step vm vcpu)) ∙ sym (none_sent_by h (lines.Step vm vcpu) refl)
 waiting_are h (lines.Land vm k) = none_waiting (line_taken h (lines.Land vm k)) ∙ sym (none_sent_by h (lines.Land vm k) refl)
 waiting_are h line = refl
 
 -- and when all are sent, the APLIC is as the history makes it
 acts_are : (h : History) (line : Line) → with_all_sent (act_taken None h line) ≡ acts_of (line_taken h line)
-acts_are h (lines.Move vm number (wants.Arrive hart)) =
-    none_sent (acts_of (line_taken h (lines.Move vm number (wants.Arrive hart))))
-    (none_waits (line_taken h (lines.Move vm number (wants.Arrive hart))))
-acts_are h (lines.Move vm number wants.Leave) =
-    none_sent (acts_of (line_taken h (lines.Move vm number wants.Leave))) (none_waits (line_taken h (lines.Move vm number wants.Leave)))
-acts_are h (lines.Move vm number (wants.Shift hart)) =
-    none_sent (acts_of (line_taken h (lines.Move vm number (wants.Shift hart)))) (none_waits (line_taken h (lines.Move vm number (wants.Shift hart))))
-acts_are h (lines.Begin vm number (wants.Arrive hart)) =
-    none_sent (acts_of (line_taken h (lines.Begin vm number (wants.Arrive hart))))
-    (none_waits (line_taken h (lines.Begin vm number (wants.Arrive hart))))
-acts_are h (lines.Begin vm number wants.Leave) =
-    none_sent (acts_of (line_taken h (lines.Begin vm number wants.Leave))) (none_waits (line_taken h (lines.Begin vm number wants.Leave)))
-acts_are h (lines.Begin vm number (wants.Shift hart)) =
-    none_sent (acts_of (line_taken h (lines.Begin vm number (wants.Shift hart))))
-    (none_waits (line_taken h (lines.Begin vm number (wants.Shift hart))))
-acts_are h (lines.Step vm number) = none_sent (acts_of (line_taken h (lines.Step vm number))) (none_waits (line_taken h (lines.Step vm number)))
+acts_are h (lines.Move vm vcpu (wants.Arrive hart)) =
+    none_sent (acts_of (line_taken h (lines.Move vm vcpu (wants.Arrive hart))))
+    (none_waits (line_taken h (lines.Move vm vcpu (wants.Arrive hart))))
+acts_are h (lines.Move vm vcpu wants.Leave) =
+    none_sent (acts_of (line_taken h (lines.Move vm vcpu wants.Leave))) (none_waits (line_taken h (lines.Move vm vcpu wants.Leave)))
+acts_are h (lines.Move vm vcpu (wants.Shift hart)) =
+    none_sent (acts_of (line_taken h (lines.Move vm vcpu (wants.Shift hart)))) (none_waits (line_taken h (lines.Move vm vcpu (wants.Shift hart))))
+acts_are h (lines.Begin vm vcpu (wants.Arrive hart)) =
+    none_sent (acts_of (line_taken h (lines.Begin vm vcpu (wants.Arrive hart))))
+    (none_waits (line_taken h (lines.Begin vm vcpu (wants.Arrive hart))))
+acts_are h (lines.Begin vm vcpu wants.Leave) =
+    none_sent (acts_of (line_taken h (lines.Begin vm vcpu wants.Leave))) (none_waits (line_taken h (lines.Begin vm vcpu wants.Leave)))
+acts_are h (lines.Begin vm vcpu (wants.Shift hart)) =
+    none_sent (acts_of (line_taken h (lines.Begin vm vcpu (wants.Shift hart))))
+    (none_waits (line_taken h (lines.Begin vm vcpu (wants.Shift hart))))
+acts_are h (lines.Step vm vcpu) = none_sent (acts_of (line_taken h (lines.Step vm vcpu))) (none_waits (line_taken h (lines.Step vm vcpu)))
 acts_are h (lines.Land vm k) = none_sent (acts_of (line_taken h (lines.Land vm k))) (none_waits (line_taken h (lines.Land vm k)))
 acts_are h line = refl
 

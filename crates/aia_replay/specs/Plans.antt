@@ -7,7 +7,7 @@ use Rattle.aia_io.specs.Taken.{IsAllLeft}
 use Rattle.aia_io.specs.Lines.{NoEnd}
 use Rattle.aia_model.specs.Text.{texts_of}
 use Rattle.aia_model.specs.declared.limits.TheConstants.{LINE_BYTES}
-use Rattle.aia_plan.specs.Plan.{Plan, IsInside}
+use Rattle.aia_plan.specs.Plan.{WrittenPlan, IsInside}
 use Rattle.aia_audit.specs.PlanText.{PlanRead, plan_of, with_texts}
 use Rattle.aia_audit.specs.PlanText.PlanRead.{Steps, BadAt}
 use Rattle.aia_replay.specs.declared.plan_so_far.PlanSoFar.{PlanSoFar}
@@ -16,7 +16,7 @@ use Rattle.aia_replay.specs.declared.program.Status.{Status}
 use Rattle.aia_replay.specs.declared.program.Status.TheVariants.{Done, ReadFault, TooLong}
 
 -- What was read: the steps, or which text is bad.
-abbrev pub read_by : Option ℕ → Plan → PlanRead
+abbrev pub read_by : Option ℕ → WrittenPlan → PlanRead
 read_by None plan = Steps plan
 read_by (Some k) plan = BadAt k
 

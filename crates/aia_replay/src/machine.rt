@@ -96,43 +96,38 @@ impl Machine {
             Line::Msi { vm, addr, value } => self.msi(vm, addr, value),
             Line::Send { vm, addr, value } => self.send(vm, addr, value),
             Line::Land { vm, k } => self.land(vm, k),
-            Line::Refetch { vm, number } => self.refetch(vm, number),
+            Line::Refetch { vm, vcpu } => self.refetch(vm, vcpu),
             Line::Pass {
                 source,
                 vm,
-                number,
+                vcpu,
                 identity,
-            } => self.pass(source, vm, number, identity),
+            } => self.pass(source, vm, vcpu, identity),
             Line::MachineCsr { hart, csr, op } => self.access(Level::Machine, hart, csr, op),
             Line::HostCsr { hart, csr, op } => self.access(Level::Host, hart, csr, op),
             Line::Hgeip { hart } => self.hgeip(hart),
-            Line::GuestCsr {
-                vm,
-                number,
-                csr,
-                op,
-            } => self.guest(vm, number, csr, op),
+            Line::GuestCsr { vm, vcpu, csr, op } => self.guest(vm, vcpu, csr, op),
             Line::Ipi {
                 vm,
-                number,
+                vcpu,
                 to,
                 value,
-            } => self.ipi(vm, number, to, value),
-            Line::Move { vm, number, want } => self.whole_move(vm, number, want),
-            Line::Begin { vm, number, want } => self.begin_move(vm, number, want),
-            Line::Step { vm, number } => self.step(vm, number),
-            Line::Enter { vm, number } => self.enter(vm, number),
-            Line::Exit { vm, number } => self.exit(vm, number),
-            Line::Save { vm, number, k } => self.save(vm, number, k),
-            Line::LoadPart { vm, number, part } => self.load_part(vm, number, &part),
+            } => self.ipi(vm, vcpu, to, value),
+            Line::Move { vm, vcpu, want } => self.whole_move(vm, vcpu, want),
+            Line::Begin { vm, vcpu, want } => self.begin_move(vm, vcpu, want),
+            Line::Step { vm, vcpu } => self.step(vm, vcpu),
+            Line::Enter { vm, vcpu } => self.enter(vm, vcpu),
+            Line::Exit { vm, vcpu } => self.exit(vm, vcpu),
+            Line::Save { vm, vcpu, k } => self.save(vm, vcpu, k),
+            Line::LoadPart { vm, vcpu, part } => self.load_part(vm, vcpu, &part),
             Line::Inject {
                 vm,
-                number,
+                vcpu,
                 bit,
                 level,
-            } => self.inject(vm, number, bit, level),
-            Line::Hvictl { vm, number, value } => self.hvictl(vm, number, value),
-            Line::Hviprio { vm, number, value } => self.hviprio(vm, number, value),
+            } => self.inject(vm, vcpu, bit, level),
+            Line::Hvictl { vm, vcpu, value } => self.hvictl(vm, vcpu, value),
+            Line::Hviprio { vm, vcpu, value } => self.hviprio(vm, vcpu, value),
             Line::Pins { hart } => self.pins(hart),
             Line::Entry { w0, w1 } => self.entry(w0, w1),
         };
@@ -161,33 +156,33 @@ impl Machine {
     }
 
     /// Passes a wired source to a virtual hart, by the core; `Range` where the source isn't there.
-    fn pass(&mut self, source: u64, vm: u64, number: u64, identity: u64) -> Answer
+    fn pass(&mut self, source: u64, vm: u64, vcpu: u64, identity: u64) -> Answer
         requires { EngineStandsForSome self.old }
-        ensures { MachineTakes self.old self.new (Line.Pass source vm number identity) result }
+        ensures { MachineTakes self.old self.new (Line.Pass source vm vcpu identity) result }
     {
         if !self.has_source(source) {
             return Answer::Refused(Refusal::Range);
         }
         okay(
             self.core
-                .pass(source as u32, vm, number, identity, &mut self.wires),
+                .pass(source as u32, vm, vcpu, identity, &mut self.wires),
         )
     }
 
     /// Moves a virtual hart, by all steps of its move.
-    fn whole_move(&mut self, vm: u64, number: u64, want: Want) -> Answer
+    fn whole_move(&mut self, vm: u64, vcpu: u64, want: Want) -> Answer
         requires { EngineStandsForSome self.old }
-        ensures { MachineTakes self.old self.new (Line.Move vm number want) result }
+        ensures { MachineTakes self.old self.new (Line.Move vm vcpu want) result }
     {
-        okay(self.core.whole(vm, number, want, &mut self.wires))
+        okay(self.core.whole(vm, vcpu, want, &mut self.wires))
     }
 
     /// Does the next step of the move of a virtual hart.
-    fn step(&mut self, vm: u64, number: u64) -> Answer
+    fn step(&mut self, vm: u64, vcpu: u64) -> Answer
         requires { EngineStandsForSome self.old }
-        ensures { MachineTakes self.old self.new (Line.Step vm number) result }
+        ensures { MachineTakes self.old self.new (Line.Step vm vcpu) result }
     {
-        match self.core.step(vm, number, &mut self.wires) {
+        match self.core.step(vm, vcpu, &mut self.wires) {
             Ok(true) => Answer::Done,
             Ok(false) => Answer::Moving,
             Err(word) => Answer::Refused(word),
@@ -344,10 +339,10 @@ impl Machine {
     }
 
     /// Has the entry of a virtual hart read again, by the core.
-    fn refetch(&mut self, vm: u64, number: u64) -> Answer
-        ensures { MachineTakes self.old self.new (Line.Refetch vm number) result }
+    fn refetch(&mut self, vm: u64, vcpu: u64) -> Answer
+        ensures { MachineTakes self.old self.new (Line.Refetch vm vcpu) result }
     {
-        okay(self.core.refetch(vm, number))
+        okay(self.core.refetch(vm, vcpu))
     }
 
     /// Tells which guest files of a hart signal.
@@ -358,73 +353,73 @@ impl Machine {
     }
 
     /// Does a CSR instruction of a virtual hart.
-    fn guest(&mut self, vm: u64, number: u64, csr: Csr, op: Op) -> Answer
-        ensures { MachineTakes self.old self.new (Line.GuestCsr vm number csr op) result }
+    fn guest(&mut self, vm: u64, vcpu: u64, csr: Csr, op: Op) -> Answer
+        ensures { MachineTakes self.old self.new (Line.GuestCsr vm vcpu csr op) result }
     {
-        wide(self.core.guest(vm, number, csr, op))
+        wide(self.core.guest(vm, vcpu, csr, op))
     }
 
     /// Takes a store of a virtual hart for one of its VM, by the core.
-    fn ipi(&mut self, vm: u64, number: u64, to: u64, value: u32) -> Answer
-        ensures { MachineTakes self.old self.new (Line.Ipi vm number to value) result }
+    fn ipi(&mut self, vm: u64, vcpu: u64, to: u64, value: u32) -> Answer
+        ensures { MachineTakes self.old self.new (Line.Ipi vm vcpu to value) result }
     {
-        okay(self.core.ipi(vm, number, to, value))
+        okay(self.core.ipi(vm, vcpu, to, value))
     }
 
     /// Begins to move a virtual hart.
-    fn begin_move(&mut self, vm: u64, number: u64, want: Want) -> Answer
-        ensures { MachineTakes self.old self.new (Line.Begin vm number want) result }
+    fn begin_move(&mut self, vm: u64, vcpu: u64, want: Want) -> Answer
+        ensures { MachineTakes self.old self.new (Line.Begin vm vcpu want) result }
     {
-        okay(self.core.begin(vm, number, want))
+        okay(self.core.begin(vm, vcpu, want))
     }
 
     /// Has a virtual hart run from memory, by the core.
-    fn enter(&mut self, vm: u64, number: u64) -> Answer
-        ensures { MachineTakes self.old self.new (Line.Enter vm number) result }
+    fn enter(&mut self, vm: u64, vcpu: u64) -> Answer
+        ensures { MachineTakes self.old self.new (Line.Enter vm vcpu) result }
     {
-        okay(self.core.enter(vm, number))
+        okay(self.core.enter(vm, vcpu))
     }
 
     /// Has a virtual hart cease to run from memory, by the core.
-    fn exit(&mut self, vm: u64, number: u64) -> Answer
-        ensures { MachineTakes self.old self.new (Line.Exit vm number) result }
+    fn exit(&mut self, vm: u64, vcpu: u64) -> Answer
+        ensures { MachineTakes self.old self.new (Line.Exit vm vcpu) result }
     {
-        okay(self.core.exit(vm, number))
+        okay(self.core.exit(vm, vcpu))
     }
 
     /// Gives a part of the image of a virtual hart, by the core.
-    fn save(&self, vm: u64, number: u64, k: u64) -> Answer
-        ensures { MachineTakes self.now self.now (Line.Save vm number k) result }
+    fn save(&self, vm: u64, vcpu: u64, k: u64) -> Answer
+        ensures { MachineTakes self.now self.now (Line.Save vm vcpu k) result }
     {
-        part(self.core.save(vm, number, k))
+        part(self.core.save(vm, vcpu, k))
     }
 
     /// Loads a part of an image into a virtual hart, by the core.
-    fn load_part(&mut self, vm: u64, number: u64, part: &Part) -> Answer
-        ensures { MachineTakes self.old self.new (Line.LoadPart vm number part.now) result }
+    fn load_part(&mut self, vm: u64, vcpu: u64, part: &Part) -> Answer
+        ensures { MachineTakes self.old self.new (Line.LoadPart vm vcpu part.now) result }
     {
-        okay(self.core.load_part(vm, number, part))
+        okay(self.core.load_part(vm, vcpu, part))
     }
 
     /// Gives a major interrupt of a virtual hart a level in `hvip`, by the core.
-    fn inject(&mut self, vm: u64, number: u64, bit: u64, level: bool) -> Answer
-        ensures { MachineTakes self.old self.new (Line.Inject vm number bit level) result }
+    fn inject(&mut self, vm: u64, vcpu: u64, bit: u64, level: bool) -> Answer
+        ensures { MachineTakes self.old self.new (Line.Inject vm vcpu bit level) result }
     {
-        okay(self.core.inject(vm, number, bit, level))
+        okay(self.core.inject(vm, vcpu, bit, level))
     }
 
     /// Writes `hvictl` of a virtual hart, by the core.
-    fn hvictl(&mut self, vm: u64, number: u64, value: u64) -> Answer
-        ensures { MachineTakes self.old self.new (Line.Hvictl vm number value) result }
+    fn hvictl(&mut self, vm: u64, vcpu: u64, value: u64) -> Answer
+        ensures { MachineTakes self.old self.new (Line.Hvictl vm vcpu value) result }
     {
-        okay(self.core.hvictl(vm, number, value))
+        okay(self.core.hvictl(vm, vcpu, value))
     }
 
     /// Writes `hviprio1` of a virtual hart, by the core.
-    fn hviprio(&mut self, vm: u64, number: u64, value: u64) -> Answer
-        ensures { MachineTakes self.old self.new (Line.Hviprio vm number value) result }
+    fn hviprio(&mut self, vm: u64, vcpu: u64, value: u64) -> Answer
+        ensures { MachineTakes self.old self.new (Line.Hviprio vm vcpu value) result }
     {
-        okay(self.core.hviprio(vm, number, value))
+        okay(self.core.hviprio(vm, vcpu, value))
     }
 
     /// Does a CSR instruction of a hart at a level of the host.

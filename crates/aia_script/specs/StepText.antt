@@ -3,7 +3,7 @@ use Rattle.std.specs.Prelude.{ℕ, nat_le, if◌then◌else◌, List, [], ◌∷
 use Rattle.aia_model.specs.declared.limits.TheConstants.{LINE_BYTES}
 use Rattle.aia_model.specs.Text.{words_of, below, ◌>>=◌}
 use Rattle.aia_model.specs.Grammar.{row_of}
-use Rattle.aia_model.specs.Reading.{Words, word_at, number_at, whole}
+use Rattle.aia_model.specs.Reading.{WordsLeft, word_at, number_at, whole}
 use Rattle.aia_plan.specs.declared.step.Step.{Step}
 use Rattle.aia_plan.specs.declared.step.Step.TheVariants.{Quiet, Word1, Word0, Fence, Map, Unmap, Remap, GFence, TakeP, PutP, TakeE, PutE, Look, TakeT, PutT, Post, Wake}
 
@@ -36,7 +36,7 @@ step_forms =
 
 -- The step that the words which are left spell, where they are one number: that of a word of a set,
 -- below `count`.
-unfoldable pub word_step : ℕ → (ℕ → Step) → Words → Option Step
+unfoldable pub word_step : ℕ → (ℕ → Step) → WordsLeft → Option Step
 word_step count step words = do
   number ← number_at words
   w ← below count number.0
@@ -44,12 +44,12 @@ word_step count step words = do
 
 -- The step that a form and the words after the name spell, of files of so many words of 64
 -- identities.
-abbrev pub step_after : ℕ → StepForm → Words → Option Step
+abbrev pub step_after : ℕ → StepForm → WordsLeft → Option Step
 step_after count (Alone step) words = whole words step
 step_after count (OfWord step) words = word_step count step words
 
 -- The step that words spell.
-unfoldable pub step_at : ℕ → Words → Option Step
+unfoldable pub step_at : ℕ → WordsLeft → Option Step
 step_at count words = do
   name ← word_at words
   form ← row_of step_forms name.0

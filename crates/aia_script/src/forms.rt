@@ -1,5 +1,5 @@
-//! The forms of lines, as a table in parts: the keyword, the kinds of the fields in their order, the
-//! line. Lines are read and printed by its rows.
+//! The forms of lines, as a table in parts: the keyword, the kinds of the fields in their order,
+//! the line. Lines are read and printed by its rows.
 //!
 //! Those that end with a CSR instruction or a part of an image, `begin`, and those that have a word
 //! of their own behind a hart or a virtual hart, have functions beside it.
@@ -46,11 +46,11 @@ macro_rules! stores {
 macro_rules! virtual_harts {
     (($take:ident $args:tt) $($rows:tt)*) => {
         $take! { $args $($rows)*
-            b"step" [vm: VmNumber, number: Decimal] (Line::Step { vm, number })
-            b"refetch" [vm: VmNumber, number: Decimal] (Line::Refetch { vm, number })
-            b"enter" [vm: VmNumber, number: Decimal] (Line::Enter { vm, number })
-            b"exit" [vm: VmNumber, number: Decimal] (Line::Exit { vm, number })
-            b"save" [vm: VmNumber, number: Decimal, k: Decimal] (Line::Save { vm, number, k })
+            b"step" [vm: VmNumber, vcpu: Decimal] (Line::Step { vm, vcpu })
+            b"refetch" [vm: VmNumber, vcpu: Decimal] (Line::Refetch { vm, vcpu })
+            b"enter" [vm: VmNumber, vcpu: Decimal] (Line::Enter { vm, vcpu })
+            b"exit" [vm: VmNumber, vcpu: Decimal] (Line::Exit { vm, vcpu })
+            b"save" [vm: VmNumber, vcpu: Decimal, k: Decimal] (Line::Save { vm, vcpu, k })
         }
     };
 }
@@ -59,12 +59,12 @@ macro_rules! virtual_harts {
 macro_rules! majors {
     (($take:ident $args:tt) $($rows:tt)*) => {
         $take! { $args $($rows)*
-            b"inject" [vm: VmNumber, number: Decimal, bit: Decimal, level: Bit]
-                (Line::Inject { vm, number, bit, level })
-            b"hvictl" [vm: VmNumber, number: Decimal, value: Hex]
-                (Line::Hvictl { vm, number, value })
-            b"hviprio" [vm: VmNumber, number: Decimal, value: Hex]
-                (Line::Hviprio { vm, number, value })
+            b"inject" [vm: VmNumber, vcpu: Decimal, bit: Decimal, level: Bit]
+                (Line::Inject { vm, vcpu, bit, level })
+            b"hvictl" [vm: VmNumber, vcpu: Decimal, value: Hex]
+                (Line::Hvictl { vm, vcpu, value })
+            b"hviprio" [vm: VmNumber, vcpu: Decimal, value: Hex]
+                (Line::Hviprio { vm, vcpu, value })
         }
     };
 }
@@ -75,8 +75,8 @@ macro_rules! machine {
         $take! { $args $($rows)*
             b"pins" [hart: Decimal] (Line::Pins { hart })
             b"entry" [w0: Hex, w1: Hex] (Line::Entry { w0, w1 })
-            b"pass" [source: Decimal, vm: VmNumber, number: Decimal, identity: Decimal]
-                (Line::Pass { source, vm, number, identity })
+            b"pass" [source: Decimal, vm: VmNumber, vcpu: Decimal, identity: Decimal]
+                (Line::Pass { source, vm, vcpu, identity })
             b"vm" [vcpus: Decimal, mask: Hex, hart: Decimal] (Line::Vm { vcpus, mask, hart })
             b"machine" [harts: Decimal, guests: Decimal, n: Decimal, sources: Decimal]
                 (Line::Machine { harts, guests, n, sources })
@@ -88,11 +88,11 @@ macro_rules! machine {
 macro_rules! moves {
     ($take:ident $args:tt $line:ident) => {
         $take! { $args
-            b"arrive" [vm: VmNumber, number: Decimal, hart: Decimal]
-                (Line::$line { vm, number, want: Want::Arrive(hart) })
-            b"leave" [vm: VmNumber, number: Decimal] (Line::$line { vm, number, want: Want::Leave })
-            b"shift" [vm: VmNumber, number: Decimal, hart: Decimal]
-                (Line::$line { vm, number, want: Want::Shift(hart) })
+            b"arrive" [vm: VmNumber, vcpu: Decimal, hart: Decimal]
+                (Line::$line { vm, vcpu, want: Want::Arrive(hart) })
+            b"leave" [vm: VmNumber, vcpu: Decimal] (Line::$line { vm, vcpu, want: Want::Leave })
+            b"shift" [vm: VmNumber, vcpu: Decimal, hart: Decimal]
+                (Line::$line { vm, vcpu, want: Want::Shift(hart) })
         }
     };
 }
@@ -130,7 +130,7 @@ fn guest_at(words: &mut Words<'_>) -> Option<Line>
     ensures { result ≡ line_by guest (left words.old) }
 {
     let vm = number_at(words)?;
-    let number = number_at(words)?;
+    let vcpu = number_at(words)?;
     let text = words.rest()?;
     if let Some(mut words) = after_name(text, b"ipi") {
         let to = number_at(&mut words)?;
@@ -139,19 +139,14 @@ fn guest_at(words: &mut Words<'_>) -> Option<Line>
             &words,
             Line::Ipi {
                 vm,
-                number,
+                vcpu,
                 to,
                 value,
             },
         );
     }
     let (csr, op) = instruction_of(Level::Guest, text)?;
-    Some(Line::GuestCsr {
-        vm,
-        number,
-        csr,
-        op,
-    })
+    Some(Line::GuestCsr { vm, vcpu, csr, op })
 }
 
 /// Reads the line that the words after `begin` spell; `None` where they spell none.
@@ -167,12 +162,12 @@ fn begin_at(words: &Words<'_>) -> Option<Line>
 /// Reads the line that the words after `load` and the numbers of a virtual hart spell; `None` where
 /// they spell none.
 #[inline(always)]
-fn load_part_of(vm: u64, number: u64, words: &Words<'_>) -> Option<Line>
+fn load_part_of(vm: u64, vcpu: u64, words: &Words<'_>) -> Option<Line>
     ensures { result
-        ≡ read part_shape (λ values. Line.LoadPart vm number (part values)) (left words.now) }
+        ≡ read part_shape (λ values. Line.LoadPart vm vcpu (part values)) (left words.now) }
 {
     let part = part_at(words)?;
-    Some(Line::LoadPart { vm, number, part })
+    Some(Line::LoadPart { vm, vcpu, part })
 }
 
 /// Reads the line that the words after `load` spell; `None` where they spell none.
@@ -181,8 +176,8 @@ fn load_part_at(words: &mut Words<'_>) -> Option<Line>
     ensures { result ≡ line_by load_part (left words.old) }
 {
     let vm = number_at(words)?;
-    let number = number_at(words)?;
-    load_part_of(vm, number, words)
+    let vcpu = number_at(words)?;
+    load_part_of(vm, vcpu, words)
 }
 
 /// Reads the line that a text spells, of the machine, a VM, a pass, pins or an entry; `None` where
@@ -283,26 +278,26 @@ fn push_access(
 
 /// Appends `g` and a CSR instruction of a virtual hart to `out`, which is empty.
 #[tactic(auto, unfolding(aia_model::specs::Printing::line_text), using(crate::proofs::PrintLemmas::joined_instruction, crate::proofs::PrintLemmas::access_in_range))]
-fn push_guest(out: &mut ArrayVec<u8, LINE_BYTES>, vm: u64, number: u64, csr: Csr, op: Op)
+fn push_guest(out: &mut ArrayVec<u8, LINE_BYTES>, vm: u64, vcpu: u64, csr: Csr, op: Op)
     requires empty { out.old.items ≡ [] }
-    ensures text { out.new.items ≡ line_text (Line.GuestCsr vm number csr op) }
-    ensures range { AllNumbersFit (Line.GuestCsr vm number csr op) }
+    ensures text { out.new.items ≡ line_text (Line.GuestCsr vm vcpu csr op) }
+    ensures range { AllNumbersFit (Line.GuestCsr vm vcpu csr op) }
 {
     push_text(out, b"g");
     push_decimal(out, vm);
-    push_decimal(out, number);
+    push_decimal(out, vcpu);
     push_instruction(out, Level::Guest, csr, op);
 }
 
 /// Appends `g` and a store of a virtual hart at the file of another to `out`, which is empty.
 #[tactic(auto, unfolding(aia_model::specs::Printing::line_text))]
-fn push_ipi(out: &mut ArrayVec<u8, LINE_BYTES>, vm: u64, number: u64, to: u64, value: u32)
+fn push_ipi(out: &mut ArrayVec<u8, LINE_BYTES>, vm: u64, vcpu: u64, to: u64, value: u32)
     requires { out.old.items ≡ [] }
-    ensures { out.new.items ≡ line_text (Line.Ipi vm number to value) }
+    ensures { out.new.items ≡ line_text (Line.Ipi vm vcpu to value) }
 {
     push_text(out, b"g");
     push_decimal(out, vm);
-    push_decimal(out, number);
+    push_decimal(out, vcpu);
     push_text(out, b" ipi");
     push_decimal(out, to);
     push_decimal32(out, value);
@@ -322,38 +317,38 @@ fn push_hgeip(out: &mut ArrayVec<u8, LINE_BYTES>, hart: u64)
 /// Appends `load` and a part to `out`, which is empty. The numbers of the part are in range by
 /// their types.
 #[tactic(auto, unfolding(aia_model::specs::Printing::line_text), using(crate::proofs::PrintLemmas::joined_part))]
-fn push_load(out: &mut ArrayVec<u8, LINE_BYTES>, vm: u64, number: u64, part: Part)
+fn push_load(out: &mut ArrayVec<u8, LINE_BYTES>, vm: u64, vcpu: u64, part: Part)
     requires { out.old.items ≡ [] }
-    ensures text { out.new.items ≡ line_text (Line.LoadPart vm number part) }
+    ensures text { out.new.items ≡ line_text (Line.LoadPart vm vcpu part) }
     ensures range { AllByRecursion FitsField (part_fields part) }
 {
     push_text(out, b"load");
     push_decimal(out, vm);
-    push_decimal(out, number);
+    push_decimal(out, vcpu);
     push_text(out, b" ");
     push_part(out, part);
 }
 
 /// Appends a move to `out`, which is empty. Its numbers are in range by their types.
 #[tactic(auto, unfolding(aia_model::specs::Printing::line_text))]
-fn push_move(out: &mut ArrayVec<u8, LINE_BYTES>, vm: u64, number: u64, want: Want)
+fn push_move(out: &mut ArrayVec<u8, LINE_BYTES>, vm: u64, vcpu: u64, want: Want)
     requires { out.old.items ≡ [] }
-    ensures text { out.new.items ≡ line_text (Line.Move vm number want) }
-    ensures range { AllNumbersFit (Line.Move vm number want) }
+    ensures text { out.new.items ≡ line_text (Line.Move vm vcpu want) }
+    ensures range { AllNumbersFit (Line.Move vm vcpu want) }
 {
-    moves!(print_by_row (Line::Move { vm, number, want }, out, _ => {}) Move)
+    moves!(print_by_row (Line::Move { vm, vcpu, want }, out, _ => {}) Move)
 }
 
 /// Appends the beginning of a move to `out`, which is empty. Its numbers are in range by their
 /// types.
 #[tactic(auto, unfolding(aia_model::specs::Printing::line_text))]
-fn push_beginning(out: &mut ArrayVec<u8, LINE_BYTES>, vm: u64, number: u64, want: Want)
+fn push_beginning(out: &mut ArrayVec<u8, LINE_BYTES>, vm: u64, vcpu: u64, want: Want)
     requires { out.old.items ≡ [] }
-    ensures text { out.new.items ≡ line_text (Line.Begin vm number want) }
-    ensures range { AllNumbersFit (Line.Begin vm number want) }
+    ensures text { out.new.items ≡ line_text (Line.Begin vm vcpu want) }
+    ensures range { AllNumbersFit (Line.Begin vm vcpu want) }
 {
     push_text(out, b"begin ");
-    moves!(print_by_row (Line::Begin { vm, number, want }, out, _ => {}) Begin)
+    moves!(print_by_row (Line::Begin { vm, vcpu, want }, out, _ => {}) Begin)
 }
 
 /// Appends a line to `out`, which is empty. Its numbers are in range by their types.
@@ -367,11 +362,11 @@ fn push_line(line: &Line, out: &mut ArrayVec<u8, LINE_BYTES>)
         Line::MachineCsr { hart, csr, op } => push_access(out, b"m", hart, Level::Machine, csr, op),
         Line::HostCsr { hart, csr, op } => push_access(out, b"h", hart, Level::Host, csr, op),
         Line::Hgeip { hart } => push_hgeip(out, hart),
-        Line::GuestCsr { vm, number, csr, op } => push_guest(out, vm, number, csr, op),
-        Line::Ipi { vm, number, to, value } => push_ipi(out, vm, number, to, value),
-        Line::Move { vm, number, want } => push_move(out, vm, number, want),
-        Line::Begin { vm, number, want } => push_beginning(out, vm, number, want),
-        Line::LoadPart { vm, number, part } => push_load(out, vm, number, part),
+        Line::GuestCsr { vm, vcpu, csr, op } => push_guest(out, vm, vcpu, csr, op),
+        Line::Ipi { vm, vcpu, to, value } => push_ipi(out, vm, vcpu, to, value),
+        Line::Move { vm, vcpu, want } => push_move(out, vm, vcpu, want),
+        Line::Begin { vm, vcpu, want } => push_beginning(out, vm, vcpu, want),
+        Line::LoadPart { vm, vcpu, part } => push_load(out, vm, vcpu, part),
     ))))))
 }
 

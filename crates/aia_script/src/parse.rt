@@ -11,7 +11,7 @@ use aia_model::limits::LINE_BYTES;
 use aia_model::{Line, Parsed};
 
 /// Tells whether a text of a script, or of a plan, is skipped: it is empty, or a comment, which
-/// begins with `#` and has at most 128 bytes.
+/// begins with `#` and has at most [`LINE_BYTES`] bytes.
 pub fn is_skipped(text: &[u8]) -> bool
     ensures { result ≡ is_skipped text.now }
 {
@@ -25,8 +25,8 @@ pub fn is_skipped(text: &[u8]) -> bool
 ///
 /// `Line(line)` says that the text spells `line`, and no other line; its CSR, if it has one, is one
 /// that lines of its form name. `Skip` says that it is empty, or a comment: it begins with `#` and
-/// has at most 128 bytes. `Bad` says that it is neither: it spells no line, as every text of more
-/// than 128 bytes. Nothing is allocated.
+/// has at most [`LINE_BYTES`] bytes. `Bad` says that it is neither: it spells no line, as every
+/// text that is longer. Nothing is allocated.
 #[inline(always)]
 pub fn parse_line(text: &[u8]) -> Parsed
     ensures line { (line : Line) → (result ≡ Parsed.Line line) ↔ Spells text.now line }

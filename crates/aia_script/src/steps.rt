@@ -100,8 +100,8 @@ fn step_at(words: &Words<'_>, count: u32) -> Option<Step>
 ///
 /// A step is a name, or a name, a single space and the number of a word, 0 to `words` - 1, spelled
 /// as numbers of scripts are: in decimal, or `0x` and 1 to 16 hexadecimal digits. `None` says that
-/// the text spells no step: so does every text that is empty, a comment, or longer than 128 bytes.
-/// Nothing is allocated.
+/// the text spells no step: so does every text that is empty, a comment, or longer than
+/// [`LINE_BYTES`] bytes. Nothing is allocated.
 #[tactic(auto, unfolding(crate::specs::StepText::step_of))]
 pub fn parse_step(text: &[u8], words: u32) -> Option<Step>
     ensures step { result ≡ step_of words text.now }

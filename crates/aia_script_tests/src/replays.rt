@@ -106,16 +106,16 @@ fn is_skipped(line: &[u8]) -> bool {
 fn tell_difference(rt: &HostRuntime, script: &[u8], wanted: &[u8], got: &[u8]) -> io::Result<()> {
     let mut wanted = wanted.split(|byte| *byte == b'\n');
     let mut got = got.split(|byte| *byte == b'\n');
-    let mut number = 0u64;
+    let mut vcpu = 0u64;
     for line in script.split(|byte| *byte == b'\n') {
-        number = number.saturating_add(1);
+        vcpu = vcpu.saturating_add(1);
         if is_skipped(line) {
             continue;
         }
         let (want, answer) = (wanted.next(), got.next());
         if want != answer {
             let (want, answer) = (shown(want), shown(answer));
-            println!(rt; "  line {number}: {}", shown(Some(line)))?;
+            println!(rt; "  line {vcpu}: {}", shown(Some(line)))?;
             println!(rt; "  wanted: {want}")?;
             return println!(rt; "  got:    {answer}");
         }

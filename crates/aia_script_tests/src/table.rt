@@ -70,7 +70,7 @@ impl<'a> Table<'a> {
             "everywhere" => self.rows.push(Row::Everywhere(between(rest)?))?,
             "anywhere" => self.rows.push(Row::Anywhere(between(rest)?))?,
             "==" => self.begin(rt.alloc(), rest),
-            "steps" => self.current.steps = number(rest)?,
+            "steps" => self.current.steps = vcpu(rest)?,
             "before" => push_pairs(&mut self.current.before, between(rest)?)?,
             "after" => push_pairs(&mut self.current.looks, between(rest)?)?,
             "rows" => self.replay_rows(rt)?,
@@ -108,7 +108,7 @@ impl<'a> Table<'a> {
         let (from, rest) = row.split_once(' ').ok_or_else(no_line)?;
         let (to, rest) = rest.split_once(' ').ok_or_else(no_line)?;
         let between = between(rest)?;
-        for gap in number(from)?..number(to)? {
+        for gap in vcpu(from)?..vcpu(to)? {
             self.tally.count(self.current.replay_at(rt, between, gap)?);
         }
         Ok(())
@@ -116,7 +116,7 @@ impl<'a> Table<'a> {
 }
 
 /// Reads a number.
-fn number(text: &str) -> io::Result<u32> {
+fn vcpu(text: &str) -> io::Result<u32> {
     text.parse::<u32>().map_err(|_| no_line())
 }
 

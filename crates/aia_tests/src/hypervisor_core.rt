@@ -110,8 +110,8 @@ fn the_core_moves_virtual_harts(rt: HostRuntime) -> Result<(), Fail> {
         (0, 1, Want::Arrive(1), Ok(())),
         (0, 1, Want::Leave, Ok(())),
     ];
-    for (vm, number, want, given) in moves {
-        same!(rt; moved(&mut core, vm, number, want), given; (vm, number));
+    for (vm, vcpu, want, given) in moves {
+        same!(rt; moved(&mut core, vm, vcpu, want), given; (vm, vcpu));
     }
     drop(core);
     Ok(())
@@ -131,8 +131,8 @@ fn the_core_serves_resident_virtual_harts(rt: HostRuntime) -> Result<(), Fail> {
         (1, Csr::Topei, Op::Read, Err(Refusal::Away)),
         (2, Csr::Topei, Op::Read, Err(Refusal::Range)),
     ];
-    for (number, csr, op, given) in accesses {
-        same!(rt; core.guest(0, number, csr, op), given; number);
+    for (vcpu, csr, op, given) in accesses {
+        same!(rt; core.guest(0, vcpu, csr, op), given; vcpu);
     }
     same!(rt; core.hgeip(0), Ok(0));
     same!(rt; core.msi(0, 0x2800_0000, 5), Ok(()));
@@ -147,8 +147,8 @@ fn the_core_serves_resident_virtual_harts(rt: HostRuntime) -> Result<(), Fail> {
         (0, 0, 2, Err(Refusal::GFault)),
         (0, 0, 0, Ok(())),
     ];
-    for (vm, number, to, given) in stores {
-        same!(rt; core.ipi(vm, number, to, 5), given; (number, to));
+    for (vm, vcpu, to, given) in stores {
+        same!(rt; core.ipi(vm, vcpu, to, 5), given; (vcpu, to));
     }
     same!(rt; core.hgeip(0), Ok(2));
     drop(core);
@@ -167,8 +167,8 @@ fn the_core_has_virtual_harts_run_from_memory(rt: HostRuntime) -> Result<(), Fai
         (0, 1, Ok(())),
         (0, 1, Err(Refusal::Entered)),
     ];
-    for (vm, number, given) in enters {
-        same!(rt; core.enter(vm, number), given; (vm, number));
+    for (vm, vcpu, given) in enters {
+        same!(rt; core.enter(vm, vcpu), given; (vm, vcpu));
     }
     same!(rt; moved(&mut core, 0, 1, Want::Arrive(0)), Err(Refusal::Entered));
     same!(rt; moved(&mut core, 0, 1, Want::Leave), Err(Refusal::Parked));
@@ -182,9 +182,9 @@ fn the_core_has_virtual_harts_run_from_memory(rt: HostRuntime) -> Result<(), Fai
     same!(rt; core.ipi(0, 1, 0, 6), Ok(()));
     same!(rt; core.ipi(0, 0, 1, 7), Ok(()));
     let selects = [(0, 0, 0x40), (1, 0x70, 0x80)];
-    for (number, before, pending) in selects {
-        same!(rt; core.guest(0, number, Csr::Select, Op::Write(0x80)), Ok(before); number);
-        same!(rt; core.guest(0, number, Csr::Reg, Op::Read), Ok(pending); number);
+    for (vcpu, before, pending) in selects {
+        same!(rt; core.guest(0, vcpu, Csr::Select, Op::Write(0x80)), Ok(before); vcpu);
+        same!(rt; core.guest(0, vcpu, Csr::Reg, Op::Read), Ok(pending); vcpu);
     }
     drop(core);
     Ok(())
@@ -213,8 +213,8 @@ fn the_core_tells_of_what_is_pending_as_one_ceases_to_run(rt: HostRuntime) -> Re
         (0, 1, Ok(())),
         (0, 1, Err(Refusal::Idle)),
     ];
-    for (vm, number, given) in exits {
-        same!(rt; core.exit(vm, number), given; (vm, number));
+    for (vm, vcpu, given) in exits {
+        same!(rt; core.exit(vm, vcpu), given; (vm, vcpu));
     }
     same!(rt; core.guest(0, 1, Csr::Topei, Op::Read), Err(Refusal::Away));
     same!(rt; moved(&mut core, 0, 1, Want::Arrive(0)), Ok(()));
@@ -392,17 +392,17 @@ fn no_targets(core: &Core) -> Option<NoTargets>
 }
 
 /// Moves a virtual hart, to which no source is passed.
-fn moved(core: &mut Core, vm: u64, number: u64, want: Want) -> Result<(), Refusal> {
+fn moved(core: &mut Core, vm: u64, vcpu: u64, want: Want) -> Result<(), Refusal> {
     match no_targets(core) {
-        Some(mut targets) => core.whole(vm, number, want, &mut targets),
+        Some(mut targets) => core.whole(vm, vcpu, want, &mut targets),
         None => Err(Refusal::Fault),
     }
 }
 
 /// Makes the next step of its move.
-fn stepped(core: &mut Core, vm: u64, number: u64) -> Result<bool, Refusal> {
+fn stepped(core: &mut Core, vm: u64, vcpu: u64) -> Result<bool, Refusal> {
     match no_targets(core) {
-        Some(mut targets) => core.step(vm, number, &mut targets),
+        Some(mut targets) => core.step(vm, vcpu, &mut targets),
         None => Err(Refusal::Fault),
     }
 }
@@ -416,13 +416,13 @@ fn make_vms(rt: &impl Abort, core: &mut Core, sizes: &[u64]) {
 
 /// Moves virtual harts of a VM to guest files of hart 1.
 fn arrive(rt: &impl Abort, core: &mut Core, vm: u64, vcpus: u64) {
-    for number in 0..vcpus {
-        same!(*rt; moved(core, vm, number, Want::Arrive(1)), Ok(()); (vm, number));
+    for vcpu in 0..vcpus {
+        same!(*rt; moved(core, vm, vcpu, Want::Arrive(1)), Ok(()); (vm, vcpu));
     }
 }
 
 /// Has a resident virtual hart enable identity 5, and its file signal.
-fn listens(rt: &impl Abort, core: &mut Core, vm: u64, number: u64) {
+fn listens(rt: &impl Abort, core: &mut Core, vm: u64, vcpu: u64) {
     let accesses = [
         (Csr::Select, 0xc0, 0),
         (Csr::Reg, 0x20, 0),
@@ -430,7 +430,7 @@ fn listens(rt: &impl Abort, core: &mut Core, vm: u64, number: u64) {
         (Csr::Reg, 1, 0),
     ];
     for (csr, value, before) in accesses {
-        same!(*rt; core.guest(vm, number, csr, Op::Write(value)), Ok(before); value);
+        same!(*rt; core.guest(vm, vcpu, csr, Op::Write(value)), Ok(before); value);
     }
 }
 
@@ -459,22 +459,22 @@ fn the_core_hands_out_the_last_guest_file(rt: HostRuntime) -> Result<(), Fail> {
 #[test]
 fn the_core_parks_the_last_virtual_hart_in_the_last_slot(rt: HostRuntime) -> Result<(), Fail> {
     let mut core = Core::new(rt.alloc(), 2, 1, 63)?;
-    let (vm, number) = (u64::from(VMS) - 1, u64::from(VM_VCPUS) - 1);
+    let (vm, vcpu) = (u64::from(VMS) - 1, u64::from(VM_VCPUS) - 1);
     make_vms(&rt, &mut core, &[2, 2, 2, 2, 2, 3, 3]);
     same!(rt; core.msi(vm, 0x2800_f000, 5), Err(Refusal::Range));
-    make_vms(&rt, &mut core, &[number + 1]);
+    make_vms(&rt, &mut core, &[vcpu + 1]);
     same!(rt; core.vm(1, 0xf, 1), Err(Refusal::Full));
-    same!(rt; moved(&mut core, vm, number, Want::Arrive(0)), Ok(()));
-    listens(&rt, &mut core, vm, number);
-    same!(rt; moved(&mut core, vm, number, Want::Leave), Ok(()));
+    same!(rt; moved(&mut core, vm, vcpu, Want::Arrive(0)), Ok(()));
+    listens(&rt, &mut core, vm, vcpu);
+    same!(rt; moved(&mut core, vm, vcpu, Want::Leave), Ok(()));
     same!(rt; core.host(Level::Host, 1, Csr::Select, Op::Write(0x80)), Ok(0));
     same!(rt; core.msi(vm, 0x2800_e000, 5), Ok(()));
     same!(rt; core.host(Level::Host, 1, Csr::Reg, Op::Write(0)), Ok(0));
     same!(rt; core.msi(vm, 0x2800_f000, 5), Ok(()));
     same!(rt; core.host(Level::Host, 1, Csr::Reg, Op::Write(0)), Ok(1 << VCPUS));
-    same!(rt; moved(&mut core, vm, number, Want::Arrive(1)), Ok(()));
-    same!(rt; core.guest(vm, number, Csr::Topei, Op::Write(0)), Ok(0x5_0005));
-    same!(rt; moved(&mut core, vm, number + 1, Want::Leave), Err(Refusal::Range));
+    same!(rt; moved(&mut core, vm, vcpu, Want::Arrive(1)), Ok(()));
+    same!(rt; core.guest(vm, vcpu, Csr::Topei, Op::Write(0)), Ok(0x5_0005));
+    same!(rt; moved(&mut core, vm, vcpu + 1, Want::Leave), Err(Refusal::Range));
     same!(rt; moved(&mut core, vm + 1, 0, Want::Leave), Err(Refusal::Range));
     drop(core);
     Ok(())

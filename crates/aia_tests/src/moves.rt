@@ -156,13 +156,13 @@ fn topei(fabric: &Fabric) -> Option<u64> {
 }
 
 /// Finds a virtual hart, to which no source is passed.
-pub(crate) fn who_is(fabric: &Fabric, vm: u32, number: u32) -> Option<Who>
+pub(crate) fn who_is(fabric: &Fabric, vm: u32, vcpu: u32) -> Option<Who>
     ensures there { IfSome result (IsWho fabric.now) }
     ensures none_passed { IfSome result (λ who. who.passes.items ≡ []) }
-    ensures named { IfSome result (λ who. (who.found.vm ≡ vm) × (who.found.number ≡ number)) }
+    ensures named { IfSome result (λ who. (who.found.vm ≡ vm) × (who.found.vcpu ≡ vcpu)) }
 {
     Some(Who {
-        found: fabric.find(u64::from(vm), u64::from(number))?,
+        found: fabric.find(u64::from(vm), u64::from(vcpu))?,
         passes: ArrayVec::new(),
     })
 }

@@ -57,14 +57,14 @@ fn pass_one(
     alloc: Global,
     source: u32,
     vm: u64,
-    number: u64,
+    vcpu: u64,
     identity: u64,
 ) -> Result<(Result<(), Refusal>, u64), AllocError>
     requires { is_in_range 1 2 source ≡ true }
 {
     let mut core = made_core(alloc)?;
     let mut targets = FirstSource { target: 0 };
-    let given = core.pass(source, vm, number, identity, &mut targets);
+    let given = core.pass(source, vm, vcpu, identity, &mut targets);
     let aimed = targets.target;
     drop(core);
     Ok((given, aimed))

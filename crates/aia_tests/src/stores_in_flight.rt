@@ -54,8 +54,8 @@ fn name_the_file(fabric: &mut Fabric) {
 }
 
 /// Reads the entry of a virtual hart again, where it is there.
-fn read_again(fabric: &mut Fabric, number: u32) {
-    if let Some(found) = fabric.find(0, u64::from(number)) {
+fn read_again(fabric: &mut Fabric, vcpu: u32) {
+    if let Some(found) = fabric.find(0, u64::from(vcpu)) {
         fabric.refetch(found);
     }
 }

@@ -14,10 +14,10 @@ fn numbers_follow_one_another(rt: HostRuntime) {
     same!(rt; lcg(u64::MAX), 13525302890751722018);
 }
 
-fn guest(vm: u64, number: u64, csr: Csr, operand: u64) -> Line {
+fn guest(vm: u64, vcpu: u64, csr: Csr, operand: u64) -> Line {
     Line::GuestCsr {
         vm,
-        number,
+        vcpu,
         csr,
         op: Op::Write(operand),
     }
@@ -46,7 +46,7 @@ fn the_head_is_always_the_same(rt: HostRuntime) {
     };
     let arrival = Line::Move {
         vm: 1,
-        number: 0,
+        vcpu: 0,
         want: Want::Arrive(1),
     };
     same!(rt; generate(0, 1), machine);
@@ -63,7 +63,7 @@ fn the_head_is_always_the_same(rt: HostRuntime) {
 /// A leave that begins.
 const LEAVE: Line = Line::Begin {
     vm: 1,
-    number: 0,
+    vcpu: 0,
     want: Want::Leave,
 };
 
@@ -81,13 +81,13 @@ fn a_number_draws_a_line(rt: HostRuntime) {
     };
     let ipi = Line::Ipi {
         vm: 0,
-        number: 1,
+        vcpu: 1,
         to: 0,
         value: 63,
     };
     let arrival = Line::Begin {
         vm: 0,
-        number: 1,
+        vcpu: 1,
         want: Want::Arrive(1),
     };
     draws(&rt, 80 * 5 + 20 + 10, msi);
@@ -96,11 +96,11 @@ fn a_number_draws_a_line(rt: HostRuntime) {
     draws(&rt, 80 * 63 + 20 + 3, ipi);
     draws(&rt, 10 + 4, LEAVE);
     draws(&rt, 40 + 20 + 5, arrival);
-    draws(&rt, 20 + 10 + 6, Line::Step { vm: 1, number: 1 });
-    draws(&rt, 7, Line::Step { vm: 0, number: 0 });
-    draws(&rt, 8, Line::Step { vm: 0, number: 0 });
+    draws(&rt, 20 + 10 + 6, Line::Step { vm: 1, vcpu: 1 });
+    draws(&rt, 7, Line::Step { vm: 0, vcpu: 0 });
+    draws(&rt, 8, Line::Step { vm: 0, vcpu: 0 });
     draws(&rt, 40 + 9, host(1, Csr::Topei, 0));
-    same!(rt; generate(lcg(0), 32), Line::Step { vm: 0, number: 0 });
+    same!(rt; generate(lcg(0), 32), Line::Step { vm: 0, vcpu: 0 });
     same!(rt; generate(lcg(1), 32), LEAVE);
 }
 
@@ -108,12 +108,12 @@ fn a_number_draws_a_line(rt: HostRuntime) {
 fn a_script_has_its_head_and_its_body(rt: HostRuntime) {
     let last = Line::Begin {
         vm: 0,
-        number: 0,
+        vcpu: 0,
         want: Want::Arrive(1),
     };
     same!(rt; generated_lines(0, 7).last(), Some(host(1, Csr::Reg, 1)));
     same!(rt; generated_lines(0, 7).nth(31), None);
-    same!(rt; generated_lines(5, 0).nth(31), Some(Line::Step { vm: 0, number: 0 }));
+    same!(rt; generated_lines(5, 0).nth(31), Some(Line::Step { vm: 0, vcpu: 0 }));
     same!(rt; generated_lines(5, 0).nth(35), Some(last));
     same!(rt; generated_lines(5, 0).nth(36), None);
     same!(rt; generated_lines(u64::MAX, 1).nth(31), Some(LEAVE));

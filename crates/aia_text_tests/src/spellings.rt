@@ -175,19 +175,19 @@ fn texts_are_read_by_the_grammar(rt: HostRuntime) {
     reads(
         &rt,
         "enter 1 0x2",
-        Parsed::Line(Line::Enter { vm: 1, number: 2 }),
+        Parsed::Line(Line::Enter { vm: 1, vcpu: 2 }),
     );
     reads(
         &rt,
         "exit 7 15",
-        Parsed::Line(Line::Exit { vm: 7, number: 15 }),
+        Parsed::Line(Line::Exit { vm: 7, vcpu: 15 }),
     );
     reads(
         &rt,
         "save 1 2 0x23",
         Parsed::Line(Line::Save {
             vm: 1,
-            number: 2,
+            vcpu: 2,
             k: 35,
         }),
     );
@@ -196,7 +196,7 @@ fn texts_are_read_by_the_grammar(rt: HostRuntime) {
         "load 0 1 word 0 0x20 96",
         Parsed::Line(Line::LoadPart {
             vm: 0,
-            number: 1,
+            vcpu: 1,
             part: Part::Word {
                 w: 0,
                 pending: 0x20,

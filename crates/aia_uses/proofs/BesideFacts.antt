@@ -52,7 +52,7 @@ then_told word other (inl same) none = inl (sym same ∙ none)
 then_told word other (inr (inl tells)) none = absurd (false≢true (sym (ap tells_of_passes none) ∙ tells))
 then_told word other (inr (inr tells)) none = inr (full_or_passed other tells)
 
-pub pass_unseen : (v : ℕ) (h : History) (source vm number identity : ℕ)
-    → LooksAlike v (Accepted (lines.Pass source vm number identity) ∷ h) h
+pub pass_unseen : (v : ℕ) (h : History) (source vm vcpu identity : ℕ)
+    → LooksAlike v (Accepted (lines.Pass source vm vcpu identity) ∷ h) h
 unfolding select_by file_by majors_of home flight
-pass_unseen v h source vm number identity = record { machine = refl; vms = refl; homes = λ x. refl; flights = refl; guests = λ x own. refl }
+pass_unseen v h source vm vcpu identity = record { machine = refl; vms = refl; homes = λ x. refl; flights = refl; guests = λ x own. refl }

@@ -2,7 +2,7 @@
 use Rattle.std.proofs.Common.{◌≡◌, true, [], refl}
 use Rattle.aia_word.specs.Sets.{word_of, least_of}
 use Rattle.aia_word.specs.Packed.{packed, ones}
-use Rattle.aia_vcpu.specs.Vms.{Vcpu, vcpu}
+use Rattle.aia_vcpu.specs.Vms.{Vcpu, vcpu_of}
 use Rattle.aia_model.specs.Event.{History, has_machine}
 use Rattle.aia_model.specs.FileAfter.{select_by, file_by}
 use Rattle.aia_model.specs.MajorOf.{majors_of}
@@ -20,7 +20,7 @@ made_happens = (refl, (refl, tt))
 pub made_stands : has_machine made ≡ true
 made_stands = refl
 
-pub none_heard : HeardNothing made (vcpu 0 0)
+pub none_heard : HeardNothing made (vcpu_of 0 0)
 none_heard = (refl, (refl, tt))
 
 pub none_since : (h : History) (g : Vcpu) → said_after h [] g ≡ []

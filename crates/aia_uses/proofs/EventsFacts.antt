@@ -16,13 +16,13 @@ pub step_unseen : (v : ℕ) (h : History) (x : Vcpu) → events_for v (Stepped x
 unfolding events_for
 step_unseen v h x = refl
 
-pub enter_unseen : (v : ℕ) (h : History) (vm number : ℕ) → events_for v (Accepted (lines.Enter vm number) ∷ h) ≡ events_for v h
+pub enter_unseen : (v : ℕ) (h : History) (vm vcpu : ℕ) → events_for v (Accepted (lines.Enter vm vcpu) ∷ h) ≡ events_for v h
 unfolding events_for
-enter_unseen v h vm number = refl
+enter_unseen v h vm vcpu = refl
 
-pub save_unseen : (v : ℕ) (h : History) (vm number k : ℕ) → events_for v (Accepted (lines.Save vm number k) ∷ h) ≡ events_for v h
+pub save_unseen : (v : ℕ) (h : History) (vm vcpu k : ℕ) → events_for v (Accepted (lines.Save vm vcpu k) ∷ h) ≡ events_for v h
 unfolding events_for
-save_unseen v h vm number k = refl
+save_unseen v h vm vcpu k = refl
 
 pub wire_unseen : (v : ℕ) (h : History) (source : ℕ) (level : Bool) → events_for v (Accepted (lines.Wire source level) ∷ h) ≡ events_for v h
 unfolding events_for

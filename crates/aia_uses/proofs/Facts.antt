@@ -7,7 +7,7 @@ use Rattle.aia_word.specs.Top.{lets_through}
 use Rattle.aia_regs.specs.declared.access.Csr.TheVariants.{Reg, Topei}
 use Rattle.aia_regs.specs.declared.access.Op.TheVariants as ops
 use Rattle.aia_file.specs.InterruptFile.{top_of}
-use Rattle.aia_vcpu.specs.Vms.{vcpu, is_vcpu}
+use Rattle.aia_vcpu.specs.Vms.{vcpu_of, is_vcpu}
 use Rattle.aia_regs.specs.declared.address_map.TheConstants.{PAGE}
 use Rattle.aia_regs.specs.Request.{requested}
 use Rattle.aia_regs.specs.BitUpdate.{names}
@@ -39,37 +39,37 @@ unfolding word_of least_of packed ones select_by file_by majors_of home flight p
     genmsi_waits all_senders answer after
 msi_taken = refl
 
-pub msi_alone : forwards_to enabled (lines.Msi 0 0x28000000 1) (vcpu 0 0) ≡ false
+pub msi_alone : forwards_to enabled (lines.Msi 0 0x28000000 1) (vcpu_of 0 0) ≡ false
 unfolding word_of least_of packed ones select_by file_by majors_of home flight passes_of in_force_of stage_in_force_of look_saw newest
     genmsi_waits all_senders answer after
 msi_alone = refl
 
-pub was_silent : (guest_file enabled (vcpu 0 0)).pending 1 ≡ false
+pub was_silent : (guest_file enabled (vcpu_of 0 0)).pending 1 ≡ false
 unfolding word_of least_of packed ones select_by file_by majors_of home flight passes_of in_force_of stage_in_force_of look_saw newest
     genmsi_waits all_senders answer after
 was_silent = refl
 
-pub msi_asks : (guest_file (after enabled (lines.Msi 0 0x28000000 1)) (vcpu 0 0)).pending 1 ≡ true
+pub msi_asks : (guest_file (after enabled (lines.Msi 0 0x28000000 1)) (vcpu_of 0 0)).pending 1 ≡ true
 unfolding word_of least_of packed ones select_by file_by majors_of home flight passes_of in_force_of stage_in_force_of look_saw newest
     genmsi_waits all_senders answer after
 msi_asks = refl
 
-pub is_asked : (guest_file asked (vcpu 0 0)).pending 1 ≡ true
+pub is_asked : (guest_file asked (vcpu_of 0 0)).pending 1 ≡ true
 unfolding word_of least_of packed ones select_by file_by majors_of home flight passes_of in_force_of stage_in_force_of look_saw newest
     genmsi_waits all_senders answer after
 is_asked = refl
 
-pub claim_clears : (guest_file (after asked (lines.GuestCsr 0 0 Topei (ops.Write 0))) (vcpu 0 0)).pending 1 ≡ false
+pub claim_clears : (guest_file (after asked (lines.GuestCsr 0 0 Topei (ops.Write 0))) (vcpu_of 0 0)).pending 1 ≡ false
 unfolding word_of least_of packed ones select_by file_by majors_of home flight passes_of in_force_of stage_in_force_of look_saw newest
     genmsi_waits all_senders answer after
 claim_clears = refl
 
-pub still_asked : (guest_file selected (vcpu 0 0)).pending 1 ≡ true
+pub still_asked : (guest_file selected (vcpu_of 0 0)).pending 1 ≡ true
 unfolding word_of least_of packed ones select_by file_by majors_of home flight passes_of in_force_of stage_in_force_of look_saw newest
     genmsi_waits all_senders answer after
 still_asked = refl
 
-pub write_clears : (guest_file (after selected (lines.GuestCsr 0 0 Reg (ops.Clear 2))) (vcpu 0 0)).pending 1 ≡ false
+pub write_clears : (guest_file (after selected (lines.GuestCsr 0 0 Reg (ops.Clear 2))) (vcpu_of 0 0)).pending 1 ≡ false
 unfolding word_of least_of packed ones select_by file_by majors_of home flight passes_of in_force_of stage_in_force_of look_saw newest
     genmsi_waits all_senders answer after
 write_clears = refl
@@ -86,22 +86,22 @@ unfolding word_of least_of packed ones select_by file_by majors_of home flight p
     genmsi_waits all_senders answer after
 empty_claim_allowed = refl
 
-pub one_in_file : 1 ≤ (guest_file asked (vcpu 0 0)).n
+pub one_in_file : 1 ≤ (guest_file asked (vcpu_of 0 0)).n
 unfolding word_of least_of packed ones select_by file_by majors_of home flight passes_of in_force_of stage_in_force_of look_saw newest
     genmsi_waits all_senders answer after
 one_in_file = omega arith
 
-pub is_enabled : (guest_file asked (vcpu 0 0)).enabled 1 ≡ true
+pub is_enabled : (guest_file asked (vcpu_of 0 0)).enabled 1 ≡ true
 unfolding word_of least_of packed ones select_by file_by majors_of home flight passes_of in_force_of stage_in_force_of look_saw newest
     genmsi_waits all_senders answer after
 is_enabled = refl
 
-pub all_pass : lets_through (guest_file asked (vcpu 0 0)).threshold 1 ≡ true
+pub all_pass : lets_through (guest_file asked (vcpu_of 0 0)).threshold 1 ≡ true
 unfolding word_of least_of packed ones select_by file_by majors_of home flight passes_of in_force_of stage_in_force_of look_saw newest
     genmsi_waits all_senders answer after
 all_pass = refl
 
-pub none_asked : (i : ℕ) → (guest_file enabled (vcpu 0 0)).pending i ≢ true
+pub none_asked : (i : ℕ) → (guest_file enabled (vcpu_of 0 0)).pending i ≢ true
 unfolding word_of least_of packed ones select_by file_by majors_of home flight passes_of in_force_of stage_in_force_of look_saw newest
     genmsi_waits all_senders answer after
 none_asked i e = false≢true e
@@ -113,59 +113,59 @@ unfolding word_of least_of packed ones select_by file_by majors_of home flight p
     genmsi_waits all_senders answer after
 read_allowed = refl
 
-pub top_asked : top_of (guest_file asked (vcpu 0 0)) ≡ Some 1
+pub top_asked : top_of (guest_file asked (vcpu_of 0 0)) ≡ Some 1
 unfolding word_of least_of packed ones select_by file_by majors_of home flight passes_of in_force_of stage_in_force_of look_saw newest
     genmsi_waits all_senders answer after
 top_asked = refl
 
-pub serves_it : serves (home asked (vcpu 0 0)) Topei ≡ true
+pub serves_it : serves (home asked (vcpu_of 0 0)) Topei ≡ true
 unfolding word_of least_of packed ones select_by file_by majors_of home flight passes_of in_force_of stage_in_force_of look_saw newest
     genmsi_waits all_senders answer after
 serves_it = refl
 
-pub serves_in_memory : serves (home entered (vcpu 0 0)) Topei ≡ true
+pub serves_in_memory : serves (home entered (vcpu_of 0 0)) Topei ≡ true
 unfolding word_of least_of packed ones select_by file_by majors_of home flight passes_of in_force_of stage_in_force_of look_saw newest
     genmsi_waits all_senders answer after
 serves_in_memory = refl
 
-pub same_file : guest_file entered (vcpu 0 0) ≡ guest_file asked (vcpu 0 0)
+pub same_file : guest_file entered (vcpu_of 0 0) ≡ guest_file asked (vcpu_of 0 0)
 unfolding word_of least_of packed ones select_by file_by majors_of home flight passes_of in_force_of stage_in_force_of look_saw newest
     genmsi_waits all_senders answer after
 same_file = refl
 
-pub same_select : guest_select entered (vcpu 0 0) ≡ guest_select asked (vcpu 0 0)
+pub same_select : guest_select entered (vcpu_of 0 0) ≡ guest_select asked (vcpu_of 0 0)
 unfolding word_of least_of packed ones select_by file_by majors_of home flight passes_of in_force_of stage_in_force_of look_saw newest
     genmsi_waits all_senders answer after
 same_select = refl
 
-pub asked_when_parked : (guest_file parked_asked (vcpu 0 0)).pending 1 ≡ true
+pub asked_when_parked : (guest_file parked_asked (vcpu_of 0 0)).pending 1 ≡ true
 unfolding word_of least_of packed ones select_by file_by majors_of home flight passes_of in_force_of stage_in_force_of look_saw newest
     genmsi_waits all_senders answer after
 asked_when_parked = refl
 
-pub asked_when_entered : (guest_file entered (vcpu 0 0)).pending 1 ≡ true
+pub asked_when_entered : (guest_file entered (vcpu_of 0 0)).pending 1 ≡ true
 unfolding word_of least_of packed ones select_by file_by majors_of home flight passes_of in_force_of stage_in_force_of look_saw newest
     genmsi_waits all_senders answer after
 asked_when_entered = refl
 
 -- ---- moves
 
-pub none_at_fence : (is_at_fence (home moving (vcpu 0 0)) && list_any (λ s. is_vcpu (vcpu 0 0) (sent_to 0 s)) (flight moving 0)) ≡ false
+pub none_at_fence : (is_at_fence (home moving (vcpu_of 0 0)) && list_any (λ s. is_vcpu (vcpu_of 0 0) (sent_to 0 s)) (flight moving 0)) ≡ false
 unfolding word_of least_of packed ones select_by file_by majors_of home flight passes_of in_force_of stage_in_force_of look_saw newest
     genmsi_waits all_senders answer after
 none_at_fence = refl
 
-pub asked_while_moving : (guest_file moving (vcpu 0 0)).pending 1 ≡ true
+pub asked_while_moving : (guest_file moving (vcpu_of 0 0)).pending 1 ≡ true
 unfolding word_of least_of packed ones select_by file_by majors_of home flight passes_of in_force_of stage_in_force_of look_saw newest
     genmsi_waits all_senders answer after
 asked_while_moving = refl
 
-pub enabled_while_moving : (guest_file moving (vcpu 0 0)).enabled 1 ≡ true
+pub enabled_while_moving : (guest_file moving (vcpu_of 0 0)).enabled 1 ≡ true
 unfolding word_of least_of packed ones select_by file_by majors_of home flight passes_of in_force_of stage_in_force_of look_saw newest
     genmsi_waits all_senders answer after
 enabled_while_moving = refl
 
-pub wire_alone : forwards_to asked (lines.Wire 1 true) (vcpu 0 0) ≡ false
+pub wire_alone : forwards_to asked (lines.Wire 1 true) (vcpu_of 0 0) ≡ false
 unfolding word_of least_of packed ones select_by file_by majors_of home flight passes_of in_force_of stage_in_force_of look_saw newest
     genmsi_waits all_senders answer after
 wire_alone = refl
@@ -175,30 +175,30 @@ unfolding word_of least_of packed ones select_by file_by majors_of home flight p
     genmsi_waits all_senders answer after
 fence_allowed = refl
 
-pub at_fence : is_at_fence (home in_flight (vcpu 0 0)) ≡ true
+pub at_fence : is_at_fence (home in_flight (vcpu_of 0 0)) ≡ true
 unfolding word_of least_of packed ones select_by file_by majors_of home flight passes_of in_force_of stage_in_force_of look_saw newest
     genmsi_waits all_senders answer after
 at_fence = refl
 
-pub one_in_flight : list_any (λ s. is_vcpu (vcpu 0 0) (sent_to 0 s) && names (requested (greatest_identity_of in_flight) (s.addr % PAGE) s.value)
+pub one_in_flight : list_any (λ s. is_vcpu (vcpu_of 0 0) (sent_to 0 s) && names (requested (greatest_identity_of in_flight) (s.addr % PAGE) s.value)
     1) (flight in_flight 0) ≡ true
 unfolding word_of least_of packed ones select_by file_by majors_of home flight passes_of in_force_of stage_in_force_of look_saw newest
     genmsi_waits all_senders answer after
 one_in_flight = refl
 
-pub silent_before : (guest_file in_flight (vcpu 0 0)).pending 1 ≡ false
+pub silent_before : (guest_file in_flight (vcpu_of 0 0)).pending 1 ≡ false
 unfolding word_of least_of packed ones select_by file_by majors_of home flight passes_of in_force_of stage_in_force_of look_saw newest
     genmsi_waits all_senders answer after
 silent_before = refl
 
-pub asked_after : (guest_file (after in_flight (lines.Step 0 0)) (vcpu 0 0)).pending 1 ≡ true
+pub asked_after : (guest_file (after in_flight (lines.Step 0 0)) (vcpu_of 0 0)).pending 1 ≡ true
 unfolding word_of least_of packed ones select_by file_by majors_of home flight passes_of in_force_of stage_in_force_of look_saw newest
     genmsi_waits all_senders answer after
 asked_after = refl
 
 -- ---- notices
 
-pub sends_one : noticed parked (Accepted (lines.Msi 0 0x28000000 1)) ≡ Some (vcpu 0 0)
+pub sends_one : noticed parked (Accepted (lines.Msi 0 0x28000000 1)) ≡ Some (vcpu_of 0 0)
 unfolding word_of least_of packed ones select_by file_by majors_of home flight passes_of in_force_of stage_in_force_of look_saw newest
     genmsi_waits all_senders answer after
 sends_one = refl

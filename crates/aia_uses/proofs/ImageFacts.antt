@@ -17,7 +17,7 @@ use Rattle.aia_model.specs.Sent.{all_senders}
 use Rattle.aia_model.specs.Answer.{answer, after}
 use Rattle.aia_file.specs.InterruptFile.{InterruptFile}
 use Rattle.aia_major.specs.VsMajor.{VsMajorState}
-use Rattle.aia_vcpu.specs.Vms.{Vcpu, vcpu}
+use Rattle.aia_vcpu.specs.Vms.{Vcpu, vcpu_of}
 use Rattle.aia_vcpu.specs.declared.rest.Rest.TheVariants.{Parked}
 use Rattle.aia_vcpu.specs.Home.Home.{InMemory}
 use Rattle.aia_model.specs.declared.line.Line.TheVariants.{Save, LoadPart}
@@ -58,27 +58,27 @@ unfolding number_at n32_at flag_at csr_at line_at reading word_of least_of packe
     in_force_of stage_in_force_of look_saw newest genmsi_waits all_senders answer after
 save_allowed = refl
 
-pub last_part : part_of (state_of (history_of TOLD.now) (vcpu 0 0)) 3 ≡ parts.Word 0 2 2
+pub last_part : part_of (state_of (history_of TOLD.now) (vcpu_of 0 0)) 3 ≡ parts.Word 0 2 2
 unfolding number_at n32_at flag_at csr_at line_at reading word_of least_of packed ones select_by file_by majors_of home flight passes_of
     in_force_of stage_in_force_of look_saw newest genmsi_waits all_senders answer after
 last_part = refl
 
-pub told_n : (state_of (history_of TOLD.now) (vcpu 0 0)).file.n ≡ 63
+pub told_n : (state_of (history_of TOLD.now) (vcpu_of 0 0)).file.n ≡ 63
 unfolding number_at n32_at flag_at csr_at line_at reading word_of least_of packed ones select_by file_by majors_of home flight passes_of
     in_force_of stage_in_force_of look_saw newest genmsi_waits all_senders answer after
 told_n = refl
 
-pub last_told : 3 < parts_in (((state_of (history_of TOLD.now) (vcpu 0 0)).file.n + 1) / 64)
+pub last_told : 3 < parts_in (((state_of (history_of TOLD.now) (vcpu_of 0 0)).file.n + 1) / 64)
 unfolding number_at n32_at flag_at csr_at line_at reading word_of least_of packed ones select_by file_by majors_of home flight passes_of
     in_force_of stage_in_force_of look_saw newest genmsi_waits all_senders answer after
 last_told = omega arith
 
-pub last_there : 3 < parts_in (((state_of asked (vcpu 0 0)).file.n + 1) / 64)
+pub last_there : 3 < parts_in (((state_of asked (vcpu_of 0 0)).file.n + 1) / 64)
 unfolding word_of least_of packed ones select_by file_by majors_of
 last_there = omega arith
 
 -- a state that is the one of the script has 1 pending
-pub gives_one : {x : GuestState} → x ≡ state_of (history_of TOLD.now) (vcpu 0 0) → x.file.pending 1 ≡ true
+pub gives_one : {x : GuestState} → x ≡ state_of (history_of TOLD.now) (vcpu_of 0 0) → x.file.pending 1 ≡ true
 unfolding number_at n32_at flag_at csr_at line_at reading word_of least_of packed ones select_by file_by majors_of home flight passes_of
     in_force_of stage_in_force_of look_saw newest genmsi_waits all_senders answer after
 gives_one e = ap (λ state. state.file.pending 1) e
@@ -93,11 +93,11 @@ same_parts h other g x select file majors =
     ∙ ap (λ f. state (guest_select other x) f (majors_of h g)) file
     ∙ ap (λ m. state (guest_select other x) (guest_file other x) m) majors
 
-pub is_parked : home made (vcpu 0 1) ≡ InMemory Parked
+pub is_parked : home made (vcpu_of 0 1) ≡ InMemory Parked
 unfolding home
 is_parked = refl
 
-pub same_state : state_of asked (vcpu 0 0) ≡ state_of parked_asked (vcpu 0 0)
+pub same_state : state_of asked (vcpu_of 0 0) ≡ state_of parked_asked (vcpu_of 0 0)
 unfolding word_of least_of packed ones select_by file_by majors_of
 same_state = refl
 
@@ -105,14 +105,14 @@ pub load_allowed : refusal made (LoadPart 0 1 (parts.Word 0 2 2)) ≡ None
 unfolding word_of least_of packed ones select_by file_by majors_of home passes_of
 load_allowed = refl
 
-pub another : vcpu 0 1 ≢ vcpu 0 0
-another e = let same : 1 ≡ 0 = ap (λ (g : Vcpu). g.number) e in absurd (omega (arith, same))
+pub another : vcpu_of 0 1 ≢ vcpu_of 0 0
+another e = let same : 1 ≡ 0 = ap (λ (g : Vcpu). g.vcpu) e in absurd (omega (arith, same))
 
-pub loads_one : (part_loaded (parts.Word 0 2 2) (state_of made (vcpu 0 1))).file.pending 1 ≡ true
+pub loads_one : (part_loaded (parts.Word 0 2 2) (state_of made (vcpu_of 0 1))).file.pending 1 ≡ true
 unfolding word_of least_of packed ones select_by file_by majors_of
 loads_one = refl
 
-pub none_there : (state_of made (vcpu 0 0)).file.pending 1 ≡ false
+pub none_there : (state_of made (vcpu_of 0 0)).file.pending 1 ≡ false
 unfolding word_of least_of packed ones select_by file_by majors_of
 none_there = refl
 

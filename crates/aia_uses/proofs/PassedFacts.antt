@@ -5,7 +5,7 @@ use Rattle.aia_word.specs.Sets.{word_of, least_of}
 use Rattle.aia_word.specs.Packed.{packed, ones}
 use Rattle.aia_regs.specs.DomainRegisters.{domain_register_of}
 use Rattle.aia_regs.specs.Top.{least_pair}
-use Rattle.aia_vcpu.specs.Vms.{Vcpu, vcpu}
+use Rattle.aia_vcpu.specs.Vms.{Vcpu, vcpu_of}
 use Rattle.aia_model.specs.declared.line.Line.{Line}
 use Rattle.aia_model.specs.declared.line.Line.TheVariants.{Wire}
 use Rattle.aia_model.specs.Reading.{number_at, n32_at, flag_at, csr_at, line_at, reading}
@@ -58,13 +58,13 @@ unfolding word_of least_of packed ones number_at n32_at flag_at csr_at line_at r
     domain_register_of pending home flight addresses_of
 passed_stands = refl
 
-pub was_silent : (guest_file (history_of PASSED.now) (vcpu 0 0)).pending 5 ≡ false
+pub was_silent : (guest_file (history_of PASSED.now) (vcpu_of 0 0)).pending 5 ≡ false
 unfolding word_of least_of packed ones number_at n32_at flag_at csr_at line_at reading select_by file_by majors_of home in_force_of
     stage_in_force_of flight passes_of look_saw domain_register_of newest wire_of enabled target pending least_pair addresses_of genmsi_waits
     all_senders after
 was_silent = refl
 
-pub is_asked : (guest_file (after (history_of PASSED.now) (Wire 1 true)) (vcpu 0 0)).pending 5 ≡ true
+pub is_asked : (guest_file (after (history_of PASSED.now) (Wire 1 true)) (vcpu_of 0 0)).pending 5 ≡ true
 unfolding word_of least_of packed ones number_at n32_at flag_at csr_at line_at reading select_by file_by majors_of home in_force_of
     stage_in_force_of flight passes_of look_saw domain_register_of newest wire_of enabled target pending least_pair addresses_of genmsi_waits
     all_senders after

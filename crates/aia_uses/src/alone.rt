@@ -51,10 +51,10 @@ pub fn what_is_not_seen()
         → guest_file (Began move ∷ h) g ≡ guest_file h g }
     ensures stepped { (h : History) (x g : Vcpu)
         → guest_file (Stepped x ∷ h) g ≡ guest_file h g }
-    ensures entered { (h : History) (vm number : ℕ) (g : Vcpu)
-        → replies (Accepted (lines.Enter vm number) ∷ h) g ≡ replies h g }
-    ensures saved { (h : History) (vm number k : ℕ) (g : Vcpu)
-        → guest_file (Accepted (lines.Save vm number k) ∷ h) g ≡ guest_file h g }
+    ensures entered { (h : History) (vm vcpu : ℕ) (g : Vcpu)
+        → replies (Accepted (lines.Enter vm vcpu) ∷ h) g ≡ replies h g }
+    ensures saved { (h : History) (vm vcpu k : ℕ) (g : Vcpu)
+        → guest_file (Accepted (lines.Save vm vcpu k) ∷ h) g ≡ guest_file h g }
     ensures wired { (h : History) (source : ℕ) (level : Bool) (g : Vcpu)
         → guest_file (Accepted (lines.Wire source level) ∷ h) g ≡ guest_file h g }
     ensures others { (h : History) (vm addr value : ℕ) (g : Vcpu) → nat_eq vm g.vm ≡ false

@@ -114,33 +114,33 @@ pub fn what_a_pass_tells()
         → ((x : Vcpu) → home h x ≡ home k x) → length (flight h v) ≡ length (flight k v)
         → ((x : Vcpu) → x.vm ≡ v → state_of h x ≡ state_of k x)
         → answer h line ≡ answer k line }
-    ensures passes { (v : ℕ) (h k : History) (source vm number identity : ℕ)
+    ensures passes { (v : ℕ) (h k : History) (source vm vcpu identity : ℕ)
         → machine_of h ≡ machine_of k → vms_of h ≡ vms_of k
         → ((x : Vcpu) → home h x ≡ home k x) → length (flight h v) ≡ length (flight k v)
         → ((x : Vcpu) → x.vm ≡ v → state_of h x ≡ state_of k x)
         → is_passable (acts_of h) source ≡ is_passable (acts_of k) source
-        → refusal h (lines.Pass source vm number identity) ≡ None
-        → (refusal k (lines.Pass source vm number identity) ≡ None)
-        ⊎ ((refusal k (lines.Pass source vm number identity) ≡ Some (Refused Full))
-        ⊎ (refusal k (lines.Pass source vm number identity) ≡ Some (Refused Passed))) }
-    ensures counted { (v : ℕ) (h k : History) (source vm number identity : ℕ)
+        → refusal h (lines.Pass source vm vcpu identity) ≡ None
+        → (refusal k (lines.Pass source vm vcpu identity) ≡ None)
+        ⊎ ((refusal k (lines.Pass source vm vcpu identity) ≡ Some (Refused Full))
+        ⊎ (refusal k (lines.Pass source vm vcpu identity) ≡ Some (Refused Passed))) }
+    ensures counted { (v : ℕ) (h k : History) (source vm vcpu identity : ℕ)
         → machine_of h ≡ machine_of k → vms_of h ≡ vms_of k
         → ((x : Vcpu) → home h x ≡ home k x) → length (flight h v) ≡ length (flight k v)
         → ((x : Vcpu) → x.vm ≡ v → state_of h x ≡ state_of k x)
         → is_passable (acts_of h) source ≡ is_passable (acts_of k) source
         → length (passes_of h) ≡ length (passes_of k) → is_passed h source ≡ is_passed k source
-        → refusal h (lines.Pass source vm number identity)
-        ≡ refusal k (lines.Pass source vm number identity) }
+        → refusal h (lines.Pass source vm vcpu identity)
+        ≡ refusal k (lines.Pass source vm vcpu identity) }
 {
     a_pass_tells_a_vm_that_it_came();
 }
 
 /// A pass to any virtual hart is not seen by the next instruction of one.
 pub fn a_pass_is_not_seen_at_once()
-    ensures { (h : History) (source vm number identity : ℕ) (g : Vcpu) (csr : Csr) (op : Op)
-        → answer (Accepted (lines.Pass source vm number identity) ∷ h)
-        (lines.GuestCsr g.vm g.number csr op)
-        ≡ answer h (lines.GuestCsr g.vm g.number csr op) }
+    ensures { (h : History) (source vm vcpu identity : ℕ) (g : Vcpu) (csr : Csr) (op : Op)
+        → answer (Accepted (lines.Pass source vm vcpu identity) ∷ h)
+        (lines.GuestCsr g.vm g.vcpu csr op)
+        ≡ answer h (lines.GuestCsr g.vm g.vcpu csr op) }
 {
     a_pass_tells_a_vm_that_it_came();
 }

@@ -4,7 +4,7 @@ ghost use Rattle.std.specs.Prelude.{◌≡◌, ℕ, ◌<◌, true, List, [], ◌
 ghost use Rattle.std.specs.List.{Contains};
 ghost use Rattle.aia_regs.specs.declared.access.Csr.{Csr};
 ghost use Rattle.aia_regs.specs.declared.access.Op.{Op};
-ghost use Rattle.aia_vcpu.specs.Vms.{Vcpu, vcpu};
+ghost use Rattle.aia_vcpu.specs.Vms.{Vcpu, vcpu_of};
 ghost use Rattle.aia_model.specs.declared.answer.Answer.TheVariants as answers;
 ghost use Rattle.aia_model.specs.declared.line.Line.TheVariants.{GuestCsr, Save};
 ghost use Rattle.aia_model.specs.Event.{Event, History, has_machine, greatest_identity_of};
@@ -44,7 +44,7 @@ pub fn what_was_loaded()
         → IsState image → ((k : ℕ) → k < part_count image → Contains order k)
         → said h g ≡ map (λ k. Loaded (part_of image k)) order ++ Made image.file.n ∷ []
         → state_of h g ≡ image }
-    ensures one { said made (vcpu 0 0) ≡ Made 63 ∷ [] }
+    ensures one { said made (vcpu_of 0 0) ≡ Made 63 ∷ [] }
 {
     a_virtual_hart_is_what_was_loaded_into_it();
 }
@@ -52,13 +52,13 @@ pub fn what_was_loaded()
 /// What the parts of one save are parts of.
 pub fn what_one_save_gives()
     ensures parts { (h : History) (since : List Event) (g : Vcpu) (k : ℕ)
-        → said_after h since g ≡ [] → refusal (since ++ h) (Save g.vm g.number k) ≡ None
-        → answer (since ++ h) (Save g.vm g.number k) ≡ answers.Part (part_of (state_of h g) k) }
+        → said_after h since g ≡ [] → refusal (since ++ h) (Save g.vm g.vcpu k) ≡ None
+        → answer (since ++ h) (Save g.vm g.vcpu k) ≡ answers.Part (part_of (state_of h g) k) }
     ensures at_once { (h : History) (g : Vcpu) (k : ℕ)
-        → refusal h (Save g.vm g.number k) ≡ None
-        → answer h (Save g.vm g.number k) ≡ answers.Part (part_of (state_of h g) k) }
+        → refusal h (Save g.vm g.vcpu k) ≡ None
+        → answer h (Save g.vm g.vcpu k) ≡ answers.Part (part_of (state_of h g) k) }
     ensures silent { (h : History) (x g : Vcpu) (k : ℕ)
-        → said_by g h (Accepted (Save x.vm x.number k)) ≡ None }
+        → said_by g h (Accepted (Save x.vm x.vcpu k)) ≡ None }
 {
     the_parts_of_one_save_are_of_one_image();
 }
@@ -86,8 +86,8 @@ pub fn what_goes_on()
         → has_machine second ≡ true → has_vcpu second x ≡ true
         → serves (home second x) csr ≡ true → has_machine third ≡ true
         → has_vcpu third y ≡ true → serves (home third y) csr ≡ true
-        → answer second (GuestCsr x.vm x.number csr op)
-        ≡ answer third (GuestCsr y.vm y.number csr op) }
+        → answer second (GuestCsr x.vm x.vcpu csr op)
+        ≡ answer third (GuestCsr y.vm y.vcpu csr op) }
     ensures scripts { (script other : List ℕ) (g x : Vcpu) (order : List ℕ) (since : List Said)
         → has_machine (history_of script) ≡ true
         → ((k : ℕ) → k < part_count (state_of (history_of script) g) → Contains order k)

@@ -7,7 +7,7 @@ ghost use Rattle.aia_regs.specs.declared.access.Op.{Op};
 ghost use Rattle.aia_regs.specs.declared.access.Op.TheVariants.{Write};
 ghost use Rattle.aia_regs.specs.Operations.{is_writing};
 ghost use Rattle.aia_file.specs.InterruptFile.{InterruptFile};
-ghost use Rattle.aia_vcpu.specs.Vms.{Vcpu, vcpu};
+ghost use Rattle.aia_vcpu.specs.Vms.{Vcpu, vcpu_of};
 ghost use Rattle.aia_model.specs.declared.line.Line.TheVariants.{GuestCsr};
 ghost use Rattle.aia_model.specs.declared.answer.Answer.TheVariants.{Wide};
 ghost use Rattle.aia_model.specs.Event.{History};
@@ -23,32 +23,32 @@ use aia_laws::guests::a_claim_takes_the_least_identity;
 /// through: it answers that one, which is pending no more, and all else stays.
 pub fn what_a_claim_takes()
     ensures answered { (h : History) (g : Vcpu) (op : Op) (i : ℕ)
-        → refusal h (GuestCsr g.vm g.number Topei op) ≡ None → is_writing op ≡ true
+        → refusal h (GuestCsr g.vm g.vcpu Topei op) ≡ None → is_writing op ≡ true
         → 1 ≤ i → i ≤ (guest_file h g).n → (guest_file h g).pending i ≡ true
         → (guest_file h g).enabled i ≡ true → lets_through (guest_file h g).threshold i ≡ true
         → ((j : ℕ) → 1 ≤ j → j ≤ (guest_file h g).n → (guest_file h g).pending j ≡ true
         → (guest_file h g).enabled j ≡ true → lets_through (guest_file h g).threshold j ≡ true
         → i ≤ j)
-        → answer h (GuestCsr g.vm g.number Topei op) ≡ Wide (i * 65536 + i) }
+        → answer h (GuestCsr g.vm g.vcpu Topei op) ≡ Wide (i * 65536 + i) }
     ensures left { (h : History) (g : Vcpu) (op : Op) (i j : ℕ)
-        → refusal h (GuestCsr g.vm g.number Topei op) ≡ None → is_writing op ≡ true
+        → refusal h (GuestCsr g.vm g.vcpu Topei op) ≡ None → is_writing op ≡ true
         → IsLeastToClaim (guest_file h g) i
-        → ((guest_file (after h (GuestCsr g.vm g.number Topei op)) g).pending j
+        → ((guest_file (after h (GuestCsr g.vm g.vcpu Topei op)) g).pending j
         ≡ (if nat_eq i j then false else (guest_file h g).pending j))
-        × ((guest_file (after h (GuestCsr g.vm g.number Topei op)) g).enabled
+        × ((guest_file (after h (GuestCsr g.vm g.vcpu Topei op)) g).enabled
         ≡ (guest_file h g).enabled)
-        × ((guest_file (after h (GuestCsr g.vm g.number Topei op)) g).threshold
+        × ((guest_file (after h (GuestCsr g.vm g.vcpu Topei op)) g).threshold
         ≡ (guest_file h g).threshold)
-        × ((guest_file (after h (GuestCsr g.vm g.number Topei op)) g).delivery
+        × ((guest_file (after h (GuestCsr g.vm g.vcpu Topei op)) g).delivery
         ≡ (guest_file h g).delivery)
-        × ((guest_file (after h (GuestCsr g.vm g.number Topei op)) g).n ≡ (guest_file h g).n) }
+        × ((guest_file (after h (GuestCsr g.vm g.vcpu Topei op)) g).n ≡ (guest_file h g).n) }
     ensures none { (h : History) (g : Vcpu) (op : Op)
-        → refusal h (GuestCsr g.vm g.number Topei op) ≡ None
+        → refusal h (GuestCsr g.vm g.vcpu Topei op) ≡ None
         → ((i : ℕ) → 1 ≤ i → i ≤ (guest_file h g).n → (guest_file h g).pending i ≡ true
         → (guest_file h g).enabled i ≡ true
         → ¬ (lets_through (guest_file h g).threshold i ≡ true))
-        → (answer h (GuestCsr g.vm g.number Topei op) ≡ Wide 0)
-        × (guest_file (after h (GuestCsr g.vm g.number Topei op)) g ≡ guest_file h g) }
+        → (answer h (GuestCsr g.vm g.vcpu Topei op) ≡ Wide 0)
+        × (guest_file (after h (GuestCsr g.vm g.vcpu Topei op)) g ≡ guest_file h g) }
 {
     a_claim_takes_the_least_identity();
 }
@@ -56,7 +56,8 @@ pub fn what_a_claim_takes()
 /// A claim takes the one identity that may be claimed; and where none is, it takes nothing.
 pub fn a_claim_takes_the_first()
     ensures answered { answer asked (GuestCsr 0 0 Topei (Write 0)) ≡ Wide 0x10001 }
-    ensures cleared { (guest_file (after asked (GuestCsr 0 0 Topei (Write 0))) (vcpu 0 0)).pending 1
+    ensures cleared { (guest_file (after asked (GuestCsr 0 0 Topei (Write 0)))
+        (vcpu_of 0 0)).pending 1
         ≡ false }
     ensures nothing { answer enabled (GuestCsr 0 0 Topei (Write 0)) ≡ Wide 0 }
 {

@@ -6,7 +6,7 @@ ghost use Rattle.std.specs.Option.{option_map};
 ghost use Rattle.aia_regs.specs.BitUpdate.{settle};
 ghost use Rattle.aia_regs.specs.BitUpdate.BitUpdate.{Nothing};
 ghost use Rattle.aia_file.specs.InterruptFile.{landed};
-ghost use Rattle.aia_vcpu.specs.Vms.{Vcpu, vcpu, is_vcpu, notice_identity};
+ghost use Rattle.aia_vcpu.specs.Vms.{Vcpu, vcpu_of, is_vcpu, notice_identity};
 ghost use Rattle.aia_vcpu.specs.Aims.{host_identity};
 ghost use Rattle.aia_model.specs.declared.line.Line.TheVariants.{Wire};
 ghost use Rattle.aia_model.specs.declared.msi.Msi.{Msi};
@@ -87,14 +87,14 @@ pub fn what_a_wire_forwards()
 
 /// One forward, of the script [`PASSED`].
 pub fn one_is_forwarded()
-    ensures own { (guest_file (msi_taken forward (history_of PASSED.now)) (vcpu 0 0)).pending 5
+    ensures own { (guest_file (msi_taken forward (history_of PASSED.now)) (vcpu_of 0 0)).pending 5
         ≡ true }
-    ensures asks { (guest_file (msi_taken forward (history_of PASSED.now)) (vcpu 0 0)).pending 5
+    ensures asks { (guest_file (msi_taken forward (history_of PASSED.now)) (vcpu_of 0 0)).pending 5
         ≡ true }
     ensures hosts { (file_of (msi_taken forward (history_of PASSED.now)) (SupervisorFile 0)).pending
         5 ≡ false }
     ensures after_a_line { (guest_file (after (history_of PASSED.now) (Wire 1 true))
-        (vcpu 0 0)).pending 5 ≡ true }
+        (vcpu_of 0 0)).pending 5 ≡ true }
 {
     a_forward_asks_at_its_guest_alone();
     what_a_line_forwards_is_pending_after_it();

@@ -4,7 +4,7 @@ ghost use Rattle.std.specs.Prelude.{◌≡◌, ℕ, Bool, true, false, nat_eq, i
 ghost use Rattle.aia_regs.specs.declared.access.Csr.{Csr};
 ghost use Rattle.aia_regs.specs.declared.access.Op.{Op};
 ghost use Rattle.aia_regs.specs.declared.access.Op.TheVariants.{Read};
-ghost use Rattle.aia_vcpu.specs.Vms.{Vcpu, vcpu};
+ghost use Rattle.aia_vcpu.specs.Vms.{Vcpu, vcpu_of};
 ghost use Rattle.aia_model.specs.declared.answer.Answer.TheVariants.{Wide};
 ghost use Rattle.aia_model.specs.declared.line.Line.TheVariants as lines;
 ghost use Rattle.aia_model.specs.declared.msi.Msi.{Msi};
@@ -35,23 +35,23 @@ use aia_isolation::guests::{
 pub fn who_speaks_to_a_guest()
     ensures msi { (past : History) (vm addr value : ℕ) (g : Vcpu) (word : Said)
         → said_by g past (Accepted (lines.Msi vm addr value)) ≡ Some word → vm ≡ g.vm }
-    ensures ipi { (past : History) (vm number to value : ℕ) (g : Vcpu) (word : Said)
-        → said_by g past (Accepted (lines.Ipi vm number to value)) ≡ Some word → vm ≡ g.vm }
-    ensures access { (past : History) (vm number : ℕ) (csr : Csr) (op : Op) (g : Vcpu)
-        (word : Said) → said_by g past (Accepted (lines.GuestCsr vm number csr op)) ≡ Some word
-        → vcpu vm number ≡ g }
-    ensures inject { (past : History) (vm number bit : ℕ) (level : Bool) (g : Vcpu) (word : Said)
-        → said_by g past (Accepted (lines.Inject vm number bit level)) ≡ Some word
-        → vcpu vm number ≡ g }
-    ensures control { (past : History) (vm number value : ℕ) (g : Vcpu) (word : Said)
-        → said_by g past (Accepted (lines.Hvictl vm number value)) ≡ Some word
-        → vcpu vm number ≡ g }
-    ensures priorities { (past : History) (vm number value : ℕ) (g : Vcpu) (word : Said)
-        → said_by g past (Accepted (lines.Hviprio vm number value)) ≡ Some word
-        → vcpu vm number ≡ g }
-    ensures load { (past : History) (vm number : ℕ) (part : Part) (g : Vcpu) (word : Said)
-        → said_by g past (Accepted (lines.LoadPart vm number part)) ≡ Some word
-        → vcpu vm number ≡ g }
+    ensures ipi { (past : History) (vm vcpu to value : ℕ) (g : Vcpu) (word : Said)
+        → said_by g past (Accepted (lines.Ipi vm vcpu to value)) ≡ Some word → vm ≡ g.vm }
+    ensures access { (past : History) (vm vcpu : ℕ) (csr : Csr) (op : Op) (g : Vcpu)
+        (word : Said) → said_by g past (Accepted (lines.GuestCsr vm vcpu csr op)) ≡ Some word
+        → vcpu_of vm vcpu ≡ g }
+    ensures inject { (past : History) (vm vcpu bit : ℕ) (level : Bool) (g : Vcpu) (word : Said)
+        → said_by g past (Accepted (lines.Inject vm vcpu bit level)) ≡ Some word
+        → vcpu_of vm vcpu ≡ g }
+    ensures control { (past : History) (vm vcpu value : ℕ) (g : Vcpu) (word : Said)
+        → said_by g past (Accepted (lines.Hvictl vm vcpu value)) ≡ Some word
+        → vcpu_of vm vcpu ≡ g }
+    ensures priorities { (past : History) (vm vcpu value : ℕ) (g : Vcpu) (word : Said)
+        → said_by g past (Accepted (lines.Hviprio vm vcpu value)) ≡ Some word
+        → vcpu_of vm vcpu ≡ g }
+    ensures load { (past : History) (vm vcpu : ℕ) (part : Part) (g : Vcpu) (word : Said)
+        → said_by g past (Accepted (lines.LoadPart vm vcpu part)) ≡ Some word
+        → vcpu_of vm vcpu ≡ g }
     ensures landed { (past : History) (vm k : ℕ) (g : Vcpu) (word : Said)
         → said_by g past (Landed vm k) ≡ Some word → vm ≡ g.vm }
     ensures delivered { (past : History) (msi : Msi) (g : Vcpu) (word : Said)
@@ -98,8 +98,8 @@ pub fn what_a_guest_is_answered()
         → without_reads (said h g) ≡ without_reads (said k x)
         → has_machine h ≡ true → has_vcpu h g ≡ true → serves (home h g) csr ≡ true
         → has_machine k ≡ true → has_vcpu k x ≡ true → serves (home k x) csr ≡ true
-        → answer h (lines.GuestCsr g.vm g.number csr op)
-        ≡ answer k (lines.GuestCsr x.vm x.number csr op) }
+        → answer h (lines.GuestCsr g.vm g.vcpu csr op)
+        ≡ answer k (lines.GuestCsr x.vm x.vcpu csr op) }
 {
     a_guest_is_answered_by_what_was_said_to_it();
 }

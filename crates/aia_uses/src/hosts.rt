@@ -46,26 +46,26 @@ pub fn what_a_vm_reaches()
     ensures land { (past : History) (v k : ℕ) (f : FileName)
         → refusal past (lines.Land v k) ≡ None
         → RestsOrTells past v f (deed_at f past (Accepted (lines.Land v k))) }
-    ensures ipi { (past : History) (v number to value : ℕ) (f : FileName)
-        → refusal past (lines.Ipi v number to value) ≡ None
-        → RestsOrTells past v f (deed_at f past (Accepted (lines.Ipi v number to value))) }
-    ensures access { (past : History) (v number : ℕ) (csr : Csr) (op : Op) (f : FileName)
-        → refusal past (lines.GuestCsr v number csr op) ≡ None
-        → RestsOrTells past v f (deed_at f past (Accepted (lines.GuestCsr v number csr op))) }
+    ensures ipi { (past : History) (v vcpu to value : ℕ) (f : FileName)
+        → refusal past (lines.Ipi v vcpu to value) ≡ None
+        → RestsOrTells past v f (deed_at f past (Accepted (lines.Ipi v vcpu to value))) }
+    ensures access { (past : History) (v vcpu : ℕ) (csr : Csr) (op : Op) (f : FileName)
+        → refusal past (lines.GuestCsr v vcpu csr op) ≡ None
+        → RestsOrTells past v f (deed_at f past (Accepted (lines.GuestCsr v vcpu csr op))) }
     ensures moves { (past : History) (g : Vcpu) (f : FileName) → has_vcpu past g ≡ true
         → RestsOrTells past g.vm f (deed_at f past (Stepped g)) }
     ensures exits { (past : History) (g : Vcpu) (f : FileName) → has_vcpu past g ≡ true
-        → RestsOrTells past g.vm f (deed_at f past (Accepted (lines.Exit g.vm g.number))) }
+        → RestsOrTells past g.vm f (deed_at f past (Accepted (lines.Exit g.vm g.vcpu))) }
     ensures loads { (past : History) (g : Vcpu) (part : Part) (f : FileName)
         → has_vcpu past g ≡ true
         → RestsOrTells past g.vm f
-        (deed_at f past (Accepted (lines.LoadPart g.vm g.number part))) }
+        (deed_at f past (Accepted (lines.LoadPart g.vm g.vcpu part))) }
     ensures landings { (past : History) (v k : ℕ) (f : FileName) → IsHistory past
         → RestsOrTells past v f (deed_at f past (Landed v k)) }
     ensures own { (h : History) (g x : Vcpu) → has_vcpu h g ≡ true → has_vcpu h x ≡ true
         → notice_identity (vms_of h) g ≡ notice_identity (vms_of h) x → g ≡ x }
-    ensures aplic { (past : History) (v number : ℕ) (csr : Csr) (op : Op)
-        → acts_of (Accepted (lines.GuestCsr v number csr op) ∷ past) ≡ acts_of past }
+    ensures aplic { (past : History) (v vcpu : ℕ) (csr : Csr) (op : Op)
+        → acts_of (Accepted (lines.GuestCsr v vcpu csr op) ∷ past) ≡ acts_of past }
     ensures landed { (past : History) (v k : ℕ) → acts_of (Landed v k ∷ past) ≡ acts_of past }
 {
     a_vm_reaches_the_host_by_its_notices_alone();

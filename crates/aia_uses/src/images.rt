@@ -7,7 +7,7 @@ ghost use Rattle.aia_regs.specs.declared.access.Csr.{Csr};
 ghost use Rattle.aia_regs.specs.declared.access.Csr.TheVariants.{Topei};
 ghost use Rattle.aia_file.specs.InterruptFile.{is_greatest_identity, empty_file};
 ghost use Rattle.aia_major.specs.VsMajor.{is_major, fits_hviprio1, fits_hvictl, new_majors};
-ghost use Rattle.aia_vcpu.specs.Vms.{Vcpu, vcpu};
+ghost use Rattle.aia_vcpu.specs.Vms.{Vcpu, vcpu_of};
 ghost use Rattle.aia_model.specs.declared.answer.Answer.TheVariants as answers;
 ghost use Rattle.aia_model.specs.declared.line.Line.TheVariants.{Save, LoadPart};
 ghost use Rattle.aia_model.specs.declared.parsed.Parsed.TheVariants as parsed;
@@ -53,7 +53,8 @@ pub fn what_a_state_always_is()
         × ((state_of h g).majors.enabled j ≡ true → is_major j ≡ true)
         × (fits_hviprio1 (state_of h g).majors.hviprio1 ≡ true)
         × (fits_hvictl (state_of h g).majors.hvictl ≡ true) }
-    ensures one { is_greatest_identity (state_of (history_of TOLD.now) (vcpu 0 0)).file.n ≡ true }
+    ensures one { is_greatest_identity (state_of (history_of TOLD.now) (vcpu_of 0 0)).file.n
+        ≡ true }
 {
     every_virtual_hart_has_a_state();
 }
@@ -74,19 +75,19 @@ pub fn what_images_tell()
 
 /// One state, before a move and after it.
 pub fn what_one_image_tells()
-    ensures tell { state_of (history_of TOLD.now) (vcpu 0 0)
-        ≡ state_of (history_of TOLD.now) (vcpu 0 0) }
-    ensures told { part_of (state_of asked (vcpu 0 0)) 3
-        ≡ part_of (state_of parked_asked (vcpu 0 0)) 3 }
-    ensures read { guest_csr_value asked (vcpu 0 0) Topei
-        ≡ guest_csr_value parked_asked (vcpu 0 0) Topei }
-    ensures all { (part_loaded (part_of (state_of (history_of TOLD.now) (vcpu 0 0)) 3)
-        (part_loaded (part_of (state_of (history_of TOLD.now) (vcpu 0 0)) 2)
-        (part_loaded (part_of (state_of (history_of TOLD.now) (vcpu 0 0)) 1)
-        (part_loaded (part_of (state_of (history_of TOLD.now) (vcpu 0 0)) 0)
+    ensures tell { state_of (history_of TOLD.now) (vcpu_of 0 0)
+        ≡ state_of (history_of TOLD.now) (vcpu_of 0 0) }
+    ensures told { part_of (state_of asked (vcpu_of 0 0)) 3
+        ≡ part_of (state_of parked_asked (vcpu_of 0 0)) 3 }
+    ensures read { guest_csr_value asked (vcpu_of 0 0) Topei
+        ≡ guest_csr_value parked_asked (vcpu_of 0 0) Topei }
+    ensures all { (part_loaded (part_of (state_of (history_of TOLD.now) (vcpu_of 0 0)) 3)
+        (part_loaded (part_of (state_of (history_of TOLD.now) (vcpu_of 0 0)) 2)
+        (part_loaded (part_of (state_of (history_of TOLD.now) (vcpu_of 0 0)) 1)
+        (part_loaded (part_of (state_of (history_of TOLD.now) (vcpu_of 0 0)) 0)
         (record {
           select = 0;
-          file = empty_file (state_of (history_of TOLD.now) (vcpu 0 0)).file.n;
+          file = empty_file (state_of (history_of TOLD.now) (vcpu_of 0 0)).file.n;
           majors = new_majors;
         }))))).file.pending 1 ≡ true }
 {
@@ -116,21 +117,22 @@ pub fn what_all_parts_give()
 /// What a line makes of the virtual hart into which it loads a part, and of any other.
 pub fn what_a_line_loads()
     ensures own { (h : History) (g : Vcpu) (part : Part)
-        → refusal h (LoadPart g.vm g.number part) ≡ None
-        → guest_file (after h (LoadPart g.vm g.number part)) g ≡ file_loaded part (guest_file h g) }
+        → refusal h (LoadPart g.vm g.vcpu part) ≡ None
+        → guest_file (after h (LoadPart g.vm g.vcpu part)) g ≡ file_loaded part (guest_file h g) }
     ensures others { (h : History) (x g : Vcpu) (part : Part) → x ≢ g
-        → refusal h (LoadPart x.vm x.number part) ≡ None
-        → guest_file (after h (LoadPart x.vm x.number part)) g ≡ guest_file h g }
+        → refusal h (LoadPart x.vm x.vcpu part) ≡ None
+        → guest_file (after h (LoadPart x.vm x.vcpu part)) g ≡ guest_file h g }
 {
     a_line_loads_its_part();
 }
 
 /// One part of an image is loaded, into its virtual hart alone.
 pub fn one_part_is_loaded()
-    ensures own { (guest_file (after made (LoadPart 0 1 (parts.Word 0 2 2))) (vcpu 0 1)).pending 1
+    ensures own { (guest_file (after made (LoadPart 0 1 (parts.Word 0 2 2)))
+        (vcpu_of 0 1)).pending 1
         ≡ true }
     ensures others { (guest_file (after made (LoadPart 0 1 (parts.Word 0 2 2)))
-        (vcpu 0 0)).pending 1 ≡ false }
+        (vcpu_of 0 0)).pending 1 ≡ false }
 {
     a_line_loads_its_part();
 }
@@ -139,23 +141,24 @@ pub fn one_part_is_loaded()
 pub fn what_is_saved()
     ensures parts { (x : GuestState) (k : ℕ) → IsState x → k < parts_in ((x.file.n + 1) / 64)
         → is_loadable x.file.n (part_of x k) ≡ true }
-    ensures answered { (h : History) (g : Vcpu) (k : ℕ) → refusal h (Save g.vm g.number k) ≡ None
-        → answer h (Save g.vm g.number k) ≡ answers.Part (part_of (state_of h g) k) }
+    ensures answered { (h : History) (g : Vcpu) (k : ℕ) → refusal h (Save g.vm g.vcpu k) ≡ None
+        → answer h (Save g.vm g.vcpu k) ≡ answers.Part (part_of (state_of h g) k) }
     ensures saved { (h : History) (g : Vcpu) (k : ℕ) → IsHistory h
-        → refusal h (Save g.vm g.number k) ≡ None
+        → refusal h (Save g.vm g.vcpu k) ≡ None
         → is_loadable (greatest_identity_of h) (part_of (state_of h g) k) ≡ true }
     ensures accepted { (h other : History) (g x : Vcpu) (k : ℕ) → IsHistory h
-        → refusal h (Save g.vm g.number k) ≡ None → has_machine other ≡ true
+        → refusal h (Save g.vm g.vcpu k) ≡ None → has_machine other ≡ true
         → has_vcpu other x ≡ true → home other x ≡ InMemory Parked
         → greatest_identity_of other ≡ greatest_identity_of h
-        → refusal other (LoadPart x.vm x.number (part_of (state_of h g) k)) ≡ None }
+        → refusal other (LoadPart x.vm x.vcpu (part_of (state_of h g) k)) ≡ None }
 {
     what_is_saved_may_be_loaded();
 }
 
 /// The last part that the script [`TOLD`] saves.
 pub fn what_one_line_saves()
-    ensures parts { is_loadable 63 (part_of (state_of (history_of TOLD.now) (vcpu 0 0)) 3) ≡ true }
+    ensures parts { is_loadable 63 (part_of (state_of (history_of TOLD.now) (vcpu_of 0 0)) 3)
+        ≡ true }
     ensures answered { answer (history_of TOLD.now) (Save 0 0 3)
         ≡ answers.Part (parts.Word 0 2 2) }
     ensures saved { is_loadable 63 (parts.Word 0 2 2) ≡ true }
@@ -169,23 +172,23 @@ pub fn what_one_line_saves()
 pub fn what_is_printed_is_a_line()
     ensures text { (x : Vcpu) (part : Part)
         → join_with_byte 32
-        (codes "load" ∷ decimal_text x.vm ∷ decimal_text x.number ∷ part_text part ∷ [])
-        ≡ line_text (LoadPart x.vm x.number part) }
-    ensures reading { (x : Vcpu) (part : Part) → x.vm < 2 ^ 64 → x.number < 2 ^ 64
+        (codes "load" ∷ decimal_text x.vm ∷ decimal_text x.vcpu ∷ part_text part ∷ [])
+        ≡ line_text (LoadPart x.vm x.vcpu part) }
+    ensures reading { (x : Vcpu) (part : Part) → x.vm < 2 ^ 64 → x.vcpu < 2 ^ 64
         → AllByRecursion FitsField (part_fields part)
         → reading (join_with_byte 32
-        (codes "load" ∷ decimal_text x.vm ∷ decimal_text x.number ∷ part_text part ∷ []))
-        ≡ parsed.Line (LoadPart x.vm x.number part) }
-    ensures saved { (h : History) (vm number k : ℕ) (x : Vcpu) → IsHistory h
-        → refusal h (Save vm number k) ≡ None → x.vm < 2 ^ 64 → x.number < 2 ^ 64
-        → reading (join_with_byte 32 (codes "load" ∷ decimal_text x.vm ∷ decimal_text x.number
-        ∷ part_text (part_of (state_of h (vcpu vm number)) k) ∷ []))
-        ≡ parsed.Line (LoadPart x.vm x.number (part_of (state_of h (vcpu vm number)) k)) }
+        (codes "load" ∷ decimal_text x.vm ∷ decimal_text x.vcpu ∷ part_text part ∷ []))
+        ≡ parsed.Line (LoadPart x.vm x.vcpu part) }
+    ensures saved { (h : History) (vm vcpu k : ℕ) (x : Vcpu) → IsHistory h
+        → refusal h (Save vm vcpu k) ≡ None → x.vm < 2 ^ 64 → x.vcpu < 2 ^ 64
+        → reading (join_with_byte 32 (codes "load" ∷ decimal_text x.vm ∷ decimal_text x.vcpu
+        ∷ part_text (part_of (state_of h (vcpu_of vm vcpu)) k) ∷ []))
+        ≡ parsed.Line (LoadPart x.vm x.vcpu (part_of (state_of h (vcpu_of vm vcpu)) k)) }
     ensures one_read { reading (line_text (LoadPart 0 1 (parts.Word 0 2 2)))
         ≡ parsed.Line (LoadPart 0 1 (parts.Word 0 2 2)) }
     ensures one_saved { reading (line_text (LoadPart 0 1
-        (part_of (state_of (history_of TOLD.now) (vcpu 0 0)) 3)))
-        ≡ parsed.Line (LoadPart 0 1 (part_of (state_of (history_of TOLD.now) (vcpu 0 0)) 3)) }
+        (part_of (state_of (history_of TOLD.now) (vcpu_of 0 0)) 3)))
+        ≡ parsed.Line (LoadPart 0 1 (part_of (state_of (history_of TOLD.now) (vcpu_of 0 0)) 3)) }
 {
     what_is_printed_loads_it();
 }

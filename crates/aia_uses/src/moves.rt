@@ -8,7 +8,7 @@ ghost use Rattle.aia_regs.specs.declared.access.Csr.{Csr};
 ghost use Rattle.aia_regs.specs.declared.access.Op.{Op};
 ghost use Rattle.aia_regs.specs.Request.{requested};
 ghost use Rattle.aia_regs.specs.BitUpdate.{names};
-ghost use Rattle.aia_vcpu.specs.Vms.{Vcpu, vcpu, is_vcpu};
+ghost use Rattle.aia_vcpu.specs.Vms.{Vcpu, vcpu_of, is_vcpu};
 ghost use Rattle.aia_vcpu.specs.Routes.{is_at_fence};
 ghost use Rattle.aia_model.specs.declared.line.Line.{Line};
 ghost use Rattle.aia_model.specs.declared.line.Line.TheVariants as lines;
@@ -35,27 +35,27 @@ use aia_laws::guests::{
 /// The file of a virtual hart is as before after each line about moves, if no store in flight to it
 /// lands within it; all else that it is always stays.
 pub fn what_stays_within_a_move()
-    ensures begun { (h : History) (vm number : ℕ) (g : Vcpu)
-        → guest_file (after h (lines.Begin vm number Leave)) g ≡ guest_file h g }
-    ensures whole { (h : History) (vm number : ℕ) (g : Vcpu)
+    ensures begun { (h : History) (vm vcpu : ℕ) (g : Vcpu)
+        → guest_file (after h (lines.Begin vm vcpu Leave)) g ≡ guest_file h g }
+    ensures whole { (h : History) (vm vcpu : ℕ) (g : Vcpu)
         → list_any (λ s. is_vcpu g (sent_to vm s)) (flight h vm) ≡ false
-        → guest_file (after h (lines.Move vm number Leave)) g ≡ guest_file h g }
-    ensures step { (h : History) (vm number : ℕ) (g : Vcpu)
-        → (is_at_fence (home h (vcpu vm number))
+        → guest_file (after h (lines.Move vm vcpu Leave)) g ≡ guest_file h g }
+    ensures step { (h : History) (vm vcpu : ℕ) (g : Vcpu)
+        → (is_at_fence (home h (vcpu_of vm vcpu))
         && list_any (λ s. is_vcpu g (sent_to vm s)) (flight h vm)) ≡ false
-        → guest_file (after h (lines.Step vm number)) g ≡ guest_file h g }
+        → guest_file (after h (lines.Step vm vcpu)) g ≡ guest_file h g }
     ensures land { (h : History) (vm k : ℕ) (g : Vcpu)
         → option_map_or (λ s. is_vcpu g (sent_to vm s)) (flying h vm k) false ≡ false
         → guest_file (after h (lines.Land vm k)) g ≡ guest_file h g }
-    ensures rest { (h : History) (vm number : ℕ) (g : Vcpu)
-        → (guest_select (after h (lines.Step vm number)) g ≡ guest_select h g)
-        × (majors_of (after h (lines.Step vm number)) g ≡ majors_of h g)
-        × ((guest_file (after h (lines.Step vm number)) g).n ≡ (guest_file h g).n)
-        × ((guest_file (after h (lines.Step vm number)) g).enabled ≡ (guest_file h g).enabled)
-        × ((guest_file (after h (lines.Step vm number)) g).threshold ≡ (guest_file h g).threshold)
-        × ((guest_file (after h (lines.Step vm number)) g).delivery ≡ (guest_file h g).delivery) }
-    ensures kept { (guest_file (after moving (lines.Step 0 0)) (vcpu 0 0)).pending 1 ≡ true }
-    ensures still_enabled { (guest_file (after moving (lines.Step 0 0)) (vcpu 0 0)).enabled 1
+    ensures rest { (h : History) (vm vcpu : ℕ) (g : Vcpu)
+        → (guest_select (after h (lines.Step vm vcpu)) g ≡ guest_select h g)
+        × (majors_of (after h (lines.Step vm vcpu)) g ≡ majors_of h g)
+        × ((guest_file (after h (lines.Step vm vcpu)) g).n ≡ (guest_file h g).n)
+        × ((guest_file (after h (lines.Step vm vcpu)) g).enabled ≡ (guest_file h g).enabled)
+        × ((guest_file (after h (lines.Step vm vcpu)) g).threshold ≡ (guest_file h g).threshold)
+        × ((guest_file (after h (lines.Step vm vcpu)) g).delivery ≡ (guest_file h g).delivery) }
+    ensures kept { (guest_file (after moving (lines.Step 0 0)) (vcpu_of 0 0)).pending 1 ≡ true }
+    ensures still_enabled { (guest_file (after moving (lines.Step 0 0)) (vcpu_of 0 0)).enabled 1
         ≡ true }
 {
     no_move_changes_a_guest();
@@ -72,27 +72,27 @@ pub fn what_does_not_speak_to_a_guest()
         (msis_sent_by h (lines.Msi vm addr value)) ≡ false
         → (guest_file (after h (lines.Msi vm addr value)) g ≡ guest_file h g)
         × (guest_select (after h (lines.Msi vm addr value)) g ≡ guest_select h g) }
-    ensures ipi { (h : History) (vm number to value : ℕ) (g : Vcpu) → has_machine h ≡ true
-        → is_vcpu g (vcpu vm to) ≡ false
+    ensures ipi { (h : History) (vm vcpu to value : ℕ) (g : Vcpu) → has_machine h ≡ true
+        → is_vcpu g (vcpu_of vm to) ≡ false
         → list_any (λ (msi : Msi). option_map_or
-        (λ p. is_vcpu g (nth_pass (line_taken h (lines.Ipi vm number to value)) p).to)
-        (passed_by (line_taken h (lines.Ipi vm number to value)) msi.source) false)
-        (msis_sent_by h (lines.Ipi vm number to value)) ≡ false
-        → guest_file (after h (lines.Ipi vm number to value)) g ≡ guest_file h g }
-    ensures access { (h : History) (vm number : ℕ) (csr : Csr) (op : Op) (g : Vcpu)
-        → has_machine h ≡ true → is_vcpu g (vcpu vm number) ≡ false
+        (λ p. is_vcpu g (nth_pass (line_taken h (lines.Ipi vm vcpu to value)) p).to)
+        (passed_by (line_taken h (lines.Ipi vm vcpu to value)) msi.source) false)
+        (msis_sent_by h (lines.Ipi vm vcpu to value)) ≡ false
+        → guest_file (after h (lines.Ipi vm vcpu to value)) g ≡ guest_file h g }
+    ensures access { (h : History) (vm vcpu : ℕ) (csr : Csr) (op : Op) (g : Vcpu)
+        → has_machine h ≡ true → is_vcpu g (vcpu_of vm vcpu) ≡ false
         → list_any (λ (msi : Msi). option_map_or
-        (λ p. is_vcpu g (nth_pass (line_taken h (lines.GuestCsr vm number csr op)) p).to)
-        (passed_by (line_taken h (lines.GuestCsr vm number csr op)) msi.source) false)
-        (msis_sent_by h (lines.GuestCsr vm number csr op)) ≡ false
-        → guest_file (after h (lines.GuestCsr vm number csr op)) g ≡ guest_file h g }
-    ensures load { (h : History) (vm number : ℕ) (part : Part) (g : Vcpu)
-        → has_machine h ≡ true → is_vcpu g (vcpu vm number) ≡ false
+        (λ p. is_vcpu g (nth_pass (line_taken h (lines.GuestCsr vm vcpu csr op)) p).to)
+        (passed_by (line_taken h (lines.GuestCsr vm vcpu csr op)) msi.source) false)
+        (msis_sent_by h (lines.GuestCsr vm vcpu csr op)) ≡ false
+        → guest_file (after h (lines.GuestCsr vm vcpu csr op)) g ≡ guest_file h g }
+    ensures load { (h : History) (vm vcpu : ℕ) (part : Part) (g : Vcpu)
+        → has_machine h ≡ true → is_vcpu g (vcpu_of vm vcpu) ≡ false
         → list_any (λ (msi : Msi). option_map_or
-        (λ p. is_vcpu g (nth_pass (line_taken h (lines.LoadPart vm number part)) p).to)
-        (passed_by (line_taken h (lines.LoadPart vm number part)) msi.source) false)
-        (msis_sent_by h (lines.LoadPart vm number part)) ≡ false
-        → guest_file (after h (lines.LoadPart vm number part)) g ≡ guest_file h g }
+        (λ p. is_vcpu g (nth_pass (line_taken h (lines.LoadPart vm vcpu part)) p).to)
+        (passed_by (line_taken h (lines.LoadPart vm vcpu part)) msi.source) false)
+        (msis_sent_by h (lines.LoadPart vm vcpu part)) ≡ false
+        → guest_file (after h (lines.LoadPart vm vcpu part)) g ≡ guest_file h g }
     ensures wire { (h : History) (source : ℕ) (level : Bool) (g : Vcpu) → has_machine h ≡ true
         → list_any (λ (msi : Msi). option_map_or
         (λ p. is_vcpu g (nth_pass (line_taken h (lines.Wire source level)) p).to)
@@ -103,8 +103,8 @@ pub fn what_does_not_speak_to_a_guest()
         → option_map_or (λ vm. not (nat_eq vm g.vm)) (vm_of line) false ≡ true
         → (guest_file (after h line) g ≡ guest_file h g)
         × (guest_select (after h line) g ≡ guest_select h g) }
-    ensures wired { (guest_file (after asked (lines.Wire 1 true)) (vcpu 0 0)).pending 1 ≡ true }
-    ensures others { (guest_file (after asked (lines.Msi 1 0x28000000 2)) (vcpu 0 0)).pending 1
+    ensures wired { (guest_file (after asked (lines.Wire 1 true)) (vcpu_of 0 0)).pending 1 ≡ true }
+    ensures others { (guest_file (after asked (lines.Msi 1 0x28000000 2)) (vcpu_of 0 0)).pending 1
         ≡ true }
 {
     only_what_speaks_to_a_guest_changes_its_file();
@@ -113,37 +113,37 @@ pub fn what_does_not_speak_to_a_guest()
 /// What stores in flight ask for becomes pending within a step that is the fence, and within a
 /// whole move; nothing else does, and what is pending stays so.
 pub fn what_lands_within_a_move()
-    ensures asked_at_fence { (h : History) (vm number : ℕ) (g : Vcpu) (i : ℕ)
-        → refusal h (lines.Step vm number) ≡ None
-        → is_at_fence (home h (vcpu vm number)) ≡ true
+    ensures asked_at_fence { (h : History) (vm vcpu : ℕ) (g : Vcpu) (i : ℕ)
+        → refusal h (lines.Step vm vcpu) ≡ None
+        → is_at_fence (home h (vcpu_of vm vcpu)) ≡ true
         → list_any (λ (s : Sending). is_vcpu g (sent_to vm s)
         && names (requested (greatest_identity_of h) (s.addr % PAGE) s.value) i) (flight h vm)
         ≡ true
-        → (guest_file (after h (lines.Step vm number)) g).pending i ≡ true }
-    ensures asked_by_a_move { (h : History) (vm number : ℕ) (g : Vcpu) (i : ℕ)
-        → refusal h (lines.Move vm number Leave) ≡ None
+        → (guest_file (after h (lines.Step vm vcpu)) g).pending i ≡ true }
+    ensures asked_by_a_move { (h : History) (vm vcpu : ℕ) (g : Vcpu) (i : ℕ)
+        → refusal h (lines.Move vm vcpu Leave) ≡ None
         → list_any (λ (s : Sending). is_vcpu g (sent_to vm s)
         && names (requested (greatest_identity_of h) (s.addr % PAGE) s.value) i) (flight h vm)
         ≡ true
-        → (guest_file (after h (lines.Move vm number Leave)) g).pending i ≡ true }
-    ensures stays_in_a_step { (h : History) (vm number : ℕ) (g : Vcpu) (i : ℕ)
+        → (guest_file (after h (lines.Move vm vcpu Leave)) g).pending i ≡ true }
+    ensures stays_in_a_step { (h : History) (vm vcpu : ℕ) (g : Vcpu) (i : ℕ)
         → (guest_file h g).pending i ≡ true
-        → (guest_file (after h (lines.Step vm number)) g).pending i ≡ true }
-    ensures stays_in_a_move { (h : History) (vm number : ℕ) (g : Vcpu) (i : ℕ)
+        → (guest_file (after h (lines.Step vm vcpu)) g).pending i ≡ true }
+    ensures stays_in_a_move { (h : History) (vm vcpu : ℕ) (g : Vcpu) (i : ℕ)
         → (guest_file h g).pending i ≡ true
-        → (guest_file (after h (lines.Move vm number Leave)) g).pending i ≡ true }
-    ensures unasked_in_a_step { (h : History) (vm number : ℕ) (g : Vcpu) (i : ℕ)
+        → (guest_file (after h (lines.Move vm vcpu Leave)) g).pending i ≡ true }
+    ensures unasked_in_a_step { (h : History) (vm vcpu : ℕ) (g : Vcpu) (i : ℕ)
         → (guest_file h g).pending i ≡ false
-        → (guest_file (after h (lines.Step vm number)) g).pending i ≡ true
-        → (refusal h (lines.Step vm number) ≡ None)
-        × (is_at_fence (home h (vcpu vm number)) ≡ true)
+        → (guest_file (after h (lines.Step vm vcpu)) g).pending i ≡ true
+        → (refusal h (lines.Step vm vcpu) ≡ None)
+        × (is_at_fence (home h (vcpu_of vm vcpu)) ≡ true)
         × (list_any (λ (s : Sending). is_vcpu g (sent_to vm s)
         && names (requested (greatest_identity_of h) (s.addr % PAGE) s.value) i) (flight h vm)
         ≡ true) }
-    ensures unasked_in_a_move { (h : History) (vm number : ℕ) (g : Vcpu) (i : ℕ)
+    ensures unasked_in_a_move { (h : History) (vm vcpu : ℕ) (g : Vcpu) (i : ℕ)
         → (guest_file h g).pending i ≡ false
-        → (guest_file (after h (lines.Move vm number Leave)) g).pending i ≡ true
-        → (refusal h (lines.Move vm number Leave) ≡ None)
+        → (guest_file (after h (lines.Move vm vcpu Leave)) g).pending i ≡ true
+        → (refusal h (lines.Move vm vcpu Leave) ≡ None)
         × (list_any (λ (s : Sending). is_vcpu g (sent_to vm s)
         && names (requested (greatest_identity_of h) (s.addr % PAGE) s.value) i) (flight h vm)
         ≡ true) }
@@ -153,9 +153,9 @@ pub fn what_lands_within_a_move()
 
 /// A store in flight lands within the fence of a leave.
 pub fn one_lands_at_the_fence()
-    ensures asked { (guest_file (after in_flight (lines.Step 0 0)) (vcpu 0 0)).pending 1 ≡ true }
-    ensures stays { (guest_file (after moving (lines.Step 0 0)) (vcpu 0 0)).pending 1 ≡ true }
-    ensures unasked { is_at_fence (home in_flight (vcpu 0 0)) ≡ true }
+    ensures asked { (guest_file (after in_flight (lines.Step 0 0)) (vcpu_of 0 0)).pending 1 ≡ true }
+    ensures stays { (guest_file (after moving (lines.Step 0 0)) (vcpu_of 0 0)).pending 1 ≡ true }
+    ensures unasked { is_at_fence (home in_flight (vcpu_of 0 0)) ≡ true }
 {
     stores_in_flight_ask_within_a_move();
 }

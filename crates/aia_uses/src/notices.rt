@@ -3,7 +3,7 @@
 ghost use Rattle.std.specs.Prelude.{◌≡◌, ℕ, ◌%◌, ◌&&◌, true, Some};
 ghost use Rattle.aia_regs.specs.declared.address_map.TheConstants.{PAGE};
 ghost use Rattle.aia_regs.specs.Request.{requested};
-ghost use Rattle.aia_vcpu.specs.Vms.{Vcpu, vcpu};
+ghost use Rattle.aia_vcpu.specs.Vms.{Vcpu, vcpu_of};
 ghost use Rattle.aia_model.specs.declared.line.Line.TheVariants as lines;
 ghost use Rattle.aia_model.specs.declared.msi.Msi.{Msi};
 ghost use Rattle.aia_model.specs.declared.part.Part.{Part};
@@ -28,17 +28,17 @@ pub fn what_a_notice_tells()
         → (i : ℕ) × (named_by h vm addr ≡ g)
         × (requested (greatest_identity_of h) (addr % PAGE) value ≡ Some i)
         × ((guest_file h g).enabled i ≡ true) }
-    ensures ipi { (h : History) (vm number to value : ℕ) (g : Vcpu)
-        → noticed h (Accepted (lines.Ipi vm number to value)) ≡ Some g
-        → (i : ℕ) × (vcpu vm to ≡ g) × (requested (greatest_identity_of h) 0 value ≡ Some i)
+    ensures ipi { (h : History) (vm vcpu to value : ℕ) (g : Vcpu)
+        → noticed h (Accepted (lines.Ipi vm vcpu to value)) ≡ Some g
+        → (i : ℕ) × (vcpu_of vm to ≡ g) × (requested (greatest_identity_of h) 0 value ≡ Some i)
         × ((guest_file h g).enabled i ≡ true) }
-    ensures exit { (h : History) (vm number : ℕ) (g : Vcpu)
-        → noticed h (Accepted (lines.Exit vm number)) ≡ Some g
-        → (i : ℕ) × (vcpu vm number ≡ g)
+    ensures exit { (h : History) (vm vcpu : ℕ) (g : Vcpu)
+        → noticed h (Accepted (lines.Exit vm vcpu)) ≡ Some g
+        → (i : ℕ) × (vcpu_of vm vcpu ≡ g)
         × (((guest_file h g).pending i && (guest_file h g).enabled i) ≡ true) }
-    ensures load { (h : History) (vm number : ℕ) (part : Part) (g : Vcpu)
-        → noticed h (Accepted (lines.LoadPart vm number part)) ≡ Some g
-        → (i : ℕ) × (vcpu vm number ≡ g)
+    ensures load { (h : History) (vm vcpu : ℕ) (part : Part) (g : Vcpu)
+        → noticed h (Accepted (lines.LoadPart vm vcpu part)) ≡ Some g
+        → (i : ℕ) × (vcpu_of vm vcpu ≡ g)
         × ((file_loaded part (guest_file h g)).pending i ≡ true)
         × ((file_loaded part (guest_file h g)).enabled i ≡ true) }
     ensures stepped { (h : History) (x g : Vcpu) → noticed h (Stepped x) ≡ Some g
@@ -55,8 +55,8 @@ pub fn what_a_notice_tells()
         → ¬ (noticed h (Began move) ≡ Some g) }
     ensures delivered { (h : History) (msi : Msi) (g : Vcpu)
         → ¬ (noticed h (Delivered msi) ≡ Some g) }
-    ensures entered { (h : History) (vm number : ℕ) (g : Vcpu)
-        → ¬ (noticed h (Accepted (lines.Enter vm number)) ≡ Some g) }
+    ensures entered { (h : History) (vm vcpu : ℕ) (g : Vcpu)
+        → ¬ (noticed h (Accepted (lines.Enter vm vcpu)) ≡ Some g) }
 {
     a_notice_has_a_cause();
 }
@@ -65,13 +65,13 @@ pub fn what_a_notice_tells()
 pub fn what_is_no_cause()
     ensures began { (h : History) (move : WantedMove) (g : Vcpu) → ¬ IsCause h (Began move) g }
     ensures delivered { (h : History) (msi : Msi) (g : Vcpu) → ¬ IsCause h (Delivered msi) g }
-    ensures entered { (h : History) (vm number : ℕ) (g : Vcpu)
-        → ¬ IsCause h (Accepted (lines.Enter vm number)) g }
+    ensures entered { (h : History) (vm vcpu : ℕ) (g : Vcpu)
+        → ¬ IsCause h (Accepted (lines.Enter vm vcpu)) g }
 {}
 
 /// A notice of a store for one that is parked tells that what it asks for is enabled.
 pub fn one_notice_and_its_cause()
-    ensures { (guest_file parked (vcpu 0 0)).enabled 1 ≡ true }
+    ensures { (guest_file parked (vcpu_of 0 0)).enabled 1 ≡ true }
 {
     a_notice_has_a_cause();
 }

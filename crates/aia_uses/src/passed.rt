@@ -9,7 +9,7 @@ ghost use Rattle.aia_regs.specs.FileRegisters.{register_of, eip_said};
 ghost use Rattle.aia_regs.specs.Request.{requested};
 ghost use Rattle.aia_regs.specs.BitUpdate.{names};
 ghost use Rattle.aia_regs.specs.BitUpdate.BitUpdate.{Ask};
-ghost use Rattle.aia_vcpu.specs.Vms.{Vcpu, vcpu, is_vcpu};
+ghost use Rattle.aia_vcpu.specs.Vms.{Vcpu, vcpu_of, is_vcpu};
 ghost use Rattle.aia_vcpu.specs.Routes.{is_at_fence};
 ghost use Rattle.aia_model.specs.declared.line.Line.{Line};
 ghost use Rattle.aia_model.specs.declared.line.Line.TheVariants as lines;
@@ -41,17 +41,17 @@ pub fn what_comes_is_asked_for_or_forwarded()
         × (((named_by h vm addr ≡ g)
         × (requested (greatest_identity_of h) (addr % PAGE) value ≡ Some i))
         ⊎ IsForwarded h (lines.Msi vm addr value) g i) }
-    ensures write { (h : History) (vm number : ℕ) (op : Op) (g : Vcpu) (i : ℕ)
+    ensures write { (h : History) (vm vcpu : ℕ) (op : Op) (g : Vcpu) (i : ℕ)
         → has_machine h ≡ true → (guest_file h g).pending i ≡ false
-        → (guest_file (after h (lines.GuestCsr vm number Reg op)) g).pending i ≡ true
-        → (refusal h (lines.GuestCsr vm number Reg op) ≡ None)
-        × (((vcpu vm number ≡ g)
+        → (guest_file (after h (lines.GuestCsr vm vcpu Reg op)) g).pending i ≡ true
+        → (refusal h (lines.GuestCsr vm vcpu Reg op) ≡ None)
+        × (((vcpu_of vm vcpu ≡ g)
         × (eip_said (greatest_identity_of h) (register_of (guest_select h g)) op i ≡ Ask))
-        ⊎ IsForwarded h (lines.GuestCsr vm number Reg op) g i) }
-    ensures claim { (h : History) (vm number : ℕ) (op : Op) (g : Vcpu) (i : ℕ)
+        ⊎ IsForwarded h (lines.GuestCsr vm vcpu Reg op) g i) }
+    ensures claim { (h : History) (vm vcpu : ℕ) (op : Op) (g : Vcpu) (i : ℕ)
         → has_machine h ≡ true → (guest_file h g).pending i ≡ false
-        → (guest_file (after h (lines.GuestCsr vm number Topei op)) g).pending i ≡ true
-        → IsForwarded h (lines.GuestCsr vm number Topei op) g i }
+        → (guest_file (after h (lines.GuestCsr vm vcpu Topei op)) g).pending i ≡ true
+        → IsForwarded h (lines.GuestCsr vm vcpu Topei op) g i }
     ensures wire { (h : History) (source : ℕ) (level : Bool) (g : Vcpu) (i : ℕ)
         → has_machine h ≡ true → (guest_file h g).pending i ≡ false
         → (guest_file (after h (lines.Wire source level)) g).pending i ≡ true
@@ -72,18 +72,18 @@ pub fn what_comes_is_asked_for_or_forwarded()
 pub fn what_comes_within_a_move()
     ensures step { (h : History) (x g : Vcpu) (i : ℕ) → has_machine h ≡ true
         → (guest_file h g).pending i ≡ false
-        → (guest_file (after h (lines.Step x.vm x.number)) g).pending i ≡ true
-        → (refusal h (lines.Step x.vm x.number) ≡ None)
-        × (IsForwarded h (lines.Step x.vm x.number) g i
+        → (guest_file (after h (lines.Step x.vm x.vcpu)) g).pending i ≡ true
+        → (refusal h (lines.Step x.vm x.vcpu) ≡ None)
+        × (IsForwarded h (lines.Step x.vm x.vcpu) g i
         ⊎ ((is_at_fence (home h x) ≡ true)
         × (list_any (λ s. is_vcpu g (sent_to x.vm s)
         && names (requested (greatest_identity_of h) (s.addr % PAGE) s.value) i)
         (flight h x.vm) ≡ true))) }
     ensures leave { (h : History) (x g : Vcpu) (i : ℕ) → has_machine h ≡ true
         → (guest_file h g).pending i ≡ false
-        → (guest_file (after h (lines.Move x.vm x.number Leave)) g).pending i ≡ true
-        → (refusal h (lines.Move x.vm x.number Leave) ≡ None)
-        × (IsForwarded h (lines.Move x.vm x.number Leave) g i
+        → (guest_file (after h (lines.Move x.vm x.vcpu Leave)) g).pending i ≡ true
+        → (refusal h (lines.Move x.vm x.vcpu Leave) ≡ None)
+        × (IsForwarded h (lines.Move x.vm x.vcpu Leave) g i
         ⊎ (list_any (λ s. is_vcpu g (sent_to x.vm s)
         && names (requested (greatest_identity_of h) (s.addr % PAGE) s.value) i)
         (flight h x.vm) ≡ true)) }
@@ -110,14 +110,14 @@ pub fn one_comes_by_a_wire()
     ensures unasked { (p : ℕ) × ((nth_pass (history_of PASSED.now) p).identity ≡ 5) }
     ensures every_line { (p : ℕ) × ((nth_pass (history_of PASSED.now) p).identity ≡ 5) }
     ensures forwarded { (guest_file (after (history_of PASSED.now) (lines.Wire 1 true))
-        (vcpu 0 0)).pending 5 ≡ true }
+        (vcpu_of 0 0)).pending 5 ≡ true }
 {
     none_comes_unasked_where_sources_are_passed();
 }
 
 /// One that comes at the fence of a leave, of a store that was in flight.
 pub fn one_comes_at_a_fence()
-    ensures { is_at_fence (home in_flight (vcpu 0 0)) ≡ true }
+    ensures { is_at_fence (home in_flight (vcpu_of 0 0)) ≡ true }
 {
     none_comes_unasked_where_sources_are_passed();
 }

@@ -2,7 +2,7 @@
 
 ghost use Rattle.std.specs.Prelude.{◌≡◌, ℕ, true, Some};
 ghost use Rattle.aia_regs.specs.BitUpdate.BitUpdate.{Ask, Clear};
-ghost use Rattle.aia_vcpu.specs.Vms.{Vcpu, vcpu, notice_hart, notice_identity};
+ghost use Rattle.aia_vcpu.specs.Vms.{Vcpu, vcpu_of, notice_hart, notice_identity};
 ghost use Rattle.aia_vcpu.specs.declared.rest.Rest.TheVariants.{Parked};
 ghost use Rattle.aia_vcpu.specs.Home.Home.{InMemory};
 ghost use Rattle.aia_model.specs.Event.{History};
@@ -74,8 +74,8 @@ pub fn what_the_host_sees_then()
 
 /// One notice, of the script [`TOLD`].
 pub fn the_host_is_told_of_one()
-    ensures sent { noticed_since (history_of TOLD.now) (vcpu 0 0) 1 ≡ true }
-    ensures told { told_since (history_of TOLD.now) (SupervisorFile 0) 1 (vcpu 0 0) 1 ≡ true }
+    ensures sent { noticed_since (history_of TOLD.now) (vcpu_of 0 0) 1 ≡ true }
+    ensures told { told_since (history_of TOLD.now) (SupervisorFile 0) 1 (vcpu_of 0 0) 1 ≡ true }
     ensures newest { (file_of (history_of TOLD.now) (SupervisorFile 0)).pending 1 ≡ true }
     ensures since { (file_of (history_of TOLD.now) (SupervisorFile 0)).pending 1 ≡ true }
 {

@@ -2,7 +2,7 @@
 
 ghost use Rattle.std.specs.Prelude.{◌≡◌, ℕ, true, false, [], ◌∷◌};
 ghost use Rattle.aia_regs.specs.BitUpdate.BitUpdate.{Ask, Clear, Nothing};
-ghost use Rattle.aia_vcpu.specs.Vms.{Vcpu, vcpu};
+ghost use Rattle.aia_vcpu.specs.Vms.{Vcpu, vcpu_of};
 ghost use Rattle.aia_model.specs.Event.{Event, History};
 ghost use Rattle.aia_model.specs.Histories.{IsHistory};
 ghost use Rattle.aia_model.specs.FileAfter.{pending_said, enabled_said};
@@ -76,8 +76,8 @@ pub fn what_an_event_says_at_a_host()
 
 /// Both at one script's history, that of [`TOLD`].
 pub fn one_word_decides()
-    ensures asked { (guest_file (history_of TOLD.now) (vcpu 0 0)).pending 1 ≡ true }
-    ensures enabled { (guest_file (history_of TOLD.now) (vcpu 0 0)).enabled 1 ≡ true }
+    ensures asked { (guest_file (history_of TOLD.now) (vcpu_of 0 0)).pending 1 ≡ true }
+    ensures enabled { (guest_file (history_of TOLD.now) (vcpu_of 0 0)).enabled 1 ≡ true }
     ensures told { (file_of (history_of TOLD.now) (SupervisorFile 0)).pending 1 ≡ true }
     ensures untold { (file_of (history_of TOLD.now) (SupervisorFile 0)).enabled 1 ≡ false }
 {

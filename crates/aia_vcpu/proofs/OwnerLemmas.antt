@@ -4,7 +4,7 @@ use Rattle.std.proofs.lemmas.Bool.{lt-ltb}
 use Rattle.std.proofs.Math.Seq.{take-suc}
 use Rattle.std.proofs.lemmas.List.{take_all}
 use Rattle.aia_vcpu.specs.declared.vm.Vm.{Vm}
-use Rattle.aia_vcpu.specs.Vms.{no_vm, vm_in, vcpus_in, Vcpu, vcpu, is_vcpu_in, slot_of, notice_hart}
+use Rattle.aia_vcpu.specs.Vms.{no_vm, vm_in, vcpus_in, Vcpu, vcpu_of, is_vcpu_in, slot_of, notice_hart}
 use Rattle.aia_vcpu.proofs.VmLemmas.{same_slot, vcpus_more}
 
 pub vcpus_next : (vms : List Vm) (at : ℕ) → at < length vms → vcpus_in (take (at + 1) vms) ≡ vcpus_in (take at vms) + (vm_in vms at).vcpus
@@ -26,6 +26,6 @@ pub owner : (vms : List Vm) (at left q : ℕ) (g : Vcpu) → left + vcpus_in (ta
     → slot_of vms g ≡ q
     → (vm_in vms at).notice_hart ≡ notice_hart vms g
 owner vms at left q g split low there is =
-    let here : is_vcpu_in vms (vcpu at left) ≡ true = lt-ltb _ _ low in
-    let same = same_slot vms (vcpu at left) g here there (omega (arith, split, is)) in
+    let here : is_vcpu_in vms (vcpu_of at left) ≡ true = lt-ltb _ _ low in
+    let same = same_slot vms (vcpu_of at left) g here there (omega (arith, split, is)) in
     ap (λ (x : Vcpu). notice_hart vms x) same

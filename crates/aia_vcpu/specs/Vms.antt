@@ -22,24 +22,24 @@ vcpus_in (vm ∷ vms) = vm.vcpus + vcpus_in vms
 -- too.
 pub record Vcpu : Type 0 where
   pub vm : ℕ
-  pub number : ℕ
+  pub vcpu : ℕ
 
-abbrev pub vcpu : ℕ → ℕ → Vcpu
-vcpu vm number = record { vm = vm; number = number }
+abbrev pub vcpu_of : ℕ → ℕ → Vcpu
+vcpu_of vm vcpu = record { vm = vm; vcpu = vcpu }
 
 -- Whether two virtual harts are the same.
 abbrev pub is_vcpu : Vcpu → Vcpu → Bool
-is_vcpu a b = nat_eq a.vm b.vm && nat_eq a.number b.number
+is_vcpu a b = nat_eq a.vm b.vm && nat_eq a.vcpu b.vcpu
 
 -- Whether there is such a virtual hart.
 abbrev pub is_vcpu_in : List Vm → Vcpu → Bool
-is_vcpu_in vms g = nat_lt g.number (vm_in vms g.vm).vcpus
+is_vcpu_in vms g = nat_lt g.vcpu (vm_in vms g.vm).vcpus
 
 -- The number of a virtual hart over all VMs, in the order of their making: that of its slot of
 -- memory, for good.
 -- Profile.
 abbrev pub slot_of : List Vm → Vcpu → ℕ
-slot_of vms g = vcpus_in (take g.vm vms) + g.number
+slot_of vms g = vcpus_in (take g.vm vms) + g.vcpu
 
 -- The identity by which the host is told of a virtual hart's interrupts: that number, counted from
 -- 1. Profile.
@@ -55,8 +55,8 @@ notice_hart vms g = (vm_in vms g.vm).notice_hart
 -- So many virtual harts of a VM, from a number on; those of VMs that are numbered from a number
 -- on; those of all VMs.
 abbrev pub vcpus_from : ℕ → ℕ → ℕ → List Vcpu
-vcpus_from vm number zero = []
-vcpus_from vm number (suc count) = vcpu vm number ∷ vcpus_from vm (suc number) count
+vcpus_from vm vcpu zero = []
+vcpus_from vm vcpu (suc count) = vcpu_of vm vcpu ∷ vcpus_from vm (suc vcpu) count
 
 abbrev pub vcpus_of_vms : ℕ → List Vm → List Vcpu
 vcpus_of_vms number [] = []

@@ -3,8 +3,8 @@ use Rattle.std.specs.Prelude.{ℕ, List, [], ◌∷◌, ◌++◌, flat_map}
 use Rattle.std.specs.List.{join_by}
 
 -- A text that a constant has.
-abbrev pub Text : Type 0
-Text = record { now : List ℕ }
+abbrev pub ConstantText : Type 0
+ConstantText = record { now : List ℕ }
 
 -- A text and an LF.
 abbrev pub ended : List ℕ → List ℕ
@@ -16,13 +16,13 @@ ended_if_any [] = []
 ended_if_any text = ended text
 
 -- The script of a row: each of its lines and an LF.
-abbrev pub script_of : List (Text × Text) → List ℕ
+abbrev pub script_of : List (ConstantText × ConstantText) → List ℕ
 script_of row = flat_map (λ (line, answer). ended line.now) row
 
 -- The same, with no LF after the last line.
-abbrev pub unended_script_of : List (Text × Text) → List ℕ
+abbrev pub unended_script_of : List (ConstantText × ConstantText) → List ℕ
 unended_script_of row = join_by (λ (line, answer). line.now) (10 ∷ []) row
 
 -- The answers of a row: each of them and an LF.
-abbrev pub answers_of : List (Text × Text) → List ℕ
+abbrev pub answers_of : List (ConstantText × ConstantText) → List ℕ
 answers_of row = flat_map (λ (line, answer). ended_if_any answer.now) row

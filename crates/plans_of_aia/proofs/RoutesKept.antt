@@ -1,7 +1,7 @@
 -- A plan of our shape that keeps its rule keeps the rule on routes.
 use Rattle.std.proofs.Common.{◌≡◌, ℕ, ◌<◌, Bool, true, false, not, ◌&&◌, nat_eq, [], ◌∷◌, refl, sym, ap}
 use Rattle.std.proofs.lemmas.Bool.{false≢true}
-use Rattle.aia_plan.specs.Plan.{Plan, is_step}
+use Rattle.aia_plan.specs.Plan.{WrittenPlan, is_step}
 use Rattle.aia_plan.specs.Rule.{stands, comes_before, own_record, is_record}
 use Rattle.aia_plan.specs.declared.step.Kind.{Kind}
 use Rattle.aia_plan.specs.declared.step.Kind.TheVariants as kinds
@@ -16,13 +16,13 @@ use Rattle.plans_of_aia.specs.Translated.{access_of, onto, translated, shape_set
 use Rattle.plans_of_aia.proofs.Onward.{turned_on, fenced_on, emptied_on, emptied_now}
 
 -- What is known of a word: it is taken still, or is empty; and both fences come before its take.
-pub record Late (words w : ℕ) (rest : Plan) (done : Done) : Type 0 where
+pub record Late (words w : ℕ) (rest : WrittenPlan) (done : Done) : Type 0 where
   pub emptied : stands (TakeP w) rest ≡ false → old_holds (shape_setting words) Pending w done ≡ false
   pub fence : comes_before Fence (TakeP w) rest ≡ true
   pub gfence : comes_before GFence (TakeP w) rest ≡ true
 
 -- What is still to come of the routes, or was done.
-pub record Led (kind : Kind) (words : ℕ) (rest : Plan) (done : Done) : Type 0 where
+pub record Led (kind : Kind) (words : ℕ) (rest : WrittenPlan) (done : Done) : Type 0 where
   pub entry : stands Word0 rest ≡ false → is_turned 0 done ≡ true
   pub fence : stands Fence rest ≡ false → is_fenced 0 done ≡ true
   pub map : stands (own_record kind) rest ≡ false → is_turned 1 done ≡ true
@@ -41,7 +41,7 @@ no_record kinds.Shift Remap e = absurd (false≢true (sym e))
 no_record kinds.Shift x e = refl
 
 -- the second of two steps stands here, so the first does not later
-none_later : (first second : OurStep) (x : OurStep) (later : Plan) → comes_before first second (x ∷ later) ≡ true → is_step second x ≡ true
+none_later : (first second : OurStep) (x : OurStep) (later : WrittenPlan) → comes_before first second (x ∷ later) ≡ true → is_step second x ≡ true
     → stands first later ≡ false
 none_later first second x later e here = by_and (is_step second x) (stands first later) here (and_left _ (comes_before first second later) e)
   where
@@ -49,11 +49,11 @@ none_later first second x later e here = by_and (is_step second x) (stands first
     by_and true b p q = not_true b q
     by_and false b p q = absurd (false≢true p)
 
-later_order : (first second x : OurStep) (later : Plan) → comes_before first second (x ∷ later) ≡ true → comes_before first second later ≡ true
+later_order : (first second x : OurStep) (later : WrittenPlan) → comes_before first second (x ∷ later) ≡ true → comes_before first second later ≡ true
 later_order first second x later e = and_right _ (comes_before first second later) e
 
 -- of a word, after a step that is not its take
-late_on : (words w : ℕ) (x : OurStep) (later : Plan) (done : Done) → is_step (TakeP w) x ≡ false → Late words w (x ∷ later) done
+late_on : (words w : ℕ) (x : OurStep) (later : WrittenPlan) (done : Done) → is_step (TakeP w) x ≡ false → Late words w (x ∷ later) done
     → Late words w later (onto (access_of x) done)
 late_on words w x later done other late = record {
   emptied = λ none. emptied_on (shape_setting words) Pending w (access_of x) done
@@ -63,7 +63,7 @@ late_on words w x later done other late = record {
 }
 
 -- a step that is about no route
-led_on : (kind : Kind) (words : ℕ) (x : OurStep) (later : Plan) (done : Done) → is_step Word0 x ≡ false → is_step Fence x ≡ false
+led_on : (kind : Kind) (words : ℕ) (x : OurStep) (later : WrittenPlan) (done : Done) → is_step Word0 x ≡ false → is_step Fence x ≡ false
     → is_record x ≡ false → is_step GFence x ≡ false
     → ((w : ℕ) → w < words → Late words w later (onto (access_of x) done)) → Led kind words (x ∷ later) done
     → Led kind words later (onto (access_of x) done)
@@ -78,12 +78,12 @@ led_on kind words x later done no_entry no_fence no_map no_gfence late led = rec
   late = late;
 }
 
-all_late_on : (kind : Kind) (words : ℕ) (x : OurStep) (later : Plan) (done : Done) → ((w : ℕ) → is_step (TakeP w) x ≡ false)
+all_late_on : (kind : Kind) (words : ℕ) (x : OurStep) (later : WrittenPlan) (done : Done) → ((w : ℕ) → is_step (TakeP w) x ≡ false)
     → Led kind words (x ∷ later) done → (w : ℕ) → w < words → Late words w later (onto (access_of x) done)
 all_late_on kind words x later done other led = λ w low. late_on words w x later done (other w) (led.late w low)
 
 -- the record is written
-map_led : (kind : Kind) (words : ℕ) (x : OurStep) (later : Plan) (done : Done) → is_step Word0 x ≡ false → is_step Fence x ≡ false
+map_led : (kind : Kind) (words : ℕ) (x : OurStep) (later : WrittenPlan) (done : Done) → is_step Word0 x ≡ false → is_step Fence x ≡ false
     → is_step GFence x ≡ false → is_turned 1 (onto (access_of x) done) ≡ true
     → ((w : ℕ) → is_step (TakeP w) x ≡ false) → Led kind words (x ∷ later) done → Led kind words later (onto (access_of x) done)
 map_led kind words x later done no_entry no_fence no_gfence turned other led = record {
@@ -101,7 +101,7 @@ both_led : (words : ℕ) (done : Done) → is_fenced 0 done ≡ true → is_fenc
 both_led words done e f = rw (e, f) refl
 
 -- a pending word is taken
-take_led : (kind : Kind) (words v : ℕ) (later : Plan) (done : Done) → Led kind words (TakeP v ∷ later) done → (w : ℕ) → w < words
+take_led : (kind : Kind) (words v : ℕ) (later : WrittenPlan) (done : Done) → Led kind words (TakeP v ∷ later) done → (w : ℕ) → w < words
     → Late words w later (steps.Take Pending v ∷ done)
 take_led kind words v later done led w low =
     let late = led.late w low in
@@ -116,7 +116,7 @@ take_led kind words v later done led w low =
     })
     (λ other. late_on words w (TakeP v) later done other late)
 
-pub routes_kept : (kind : Kind) (words : ℕ) (rest : Plan) (done : Done) → Led kind words rest done
+pub routes_kept : (kind : Kind) (words : ℕ) (rest : WrittenPlan) (done : Done) → Led kind words rest done
     → lets_rest Routes (shape_setting words) done (translated rest) ≡ true
 routes_kept kind words [] done led =
     and_of (all_led (shape_setting words) done) _ (both_led words done (led.fence refl) (led.gfence refl))

@@ -2,7 +2,7 @@
 use Rattle.std.proofs.Common.{◌≡◌, ℕ, true, false, not, ◌||◌, [], ◌∷◌, None, inl, refl, ap}
 use Rattle.std.specs.List.{All, list_any}
 use Rattle.std.proofs.lemmas.Bool.{false≢true, and_parts}
-use Rattle.aia_plan.specs.Plan.{Plan, IsInside}
+use Rattle.aia_plan.specs.Plan.{WrittenPlan, IsInside}
 use Rattle.aia_plan.specs.Rule.{stands, is_once, all_below, are_paired, takes_enables, puts_enables, own_record, failing}
 use Rattle.aia_plan.specs.declared.step.Kind.{Kind}
 use Rattle.aia_plan.specs.declared.step.Step.{Step as OurStep}
@@ -24,10 +24,10 @@ use Rattle.plans_of_aia.proofs.RoutesKept.{Led, routes_kept}
 use Rattle.plans_of_aia.proofs.WordsKept.{Held, words_kept}
 
 -- what stands is not said to stand nowhere
-stood : {A : Type 0} (step : OurStep) (plan : Plan) → is_once step plan ≡ true → stands step plan ≡ false → A
+stood : {A : Type 0} (step : OurStep) (plan : WrittenPlan) → is_once step plan ≡ true → stands step plan ≡ false → A
 stood step plan once none = clash (stands step plan) (once_stands step plan once) none
 
-blank_kept : (words : ℕ) (rest : Plan) (done : Done) → lets_rest Blank (shape_setting words) done (translated rest) ≡ true
+blank_kept : (words : ℕ) (rest : WrittenPlan) (done : Done) → lets_rest Blank (shape_setting words) done (translated rest) ≡ true
 blank_kept words [] done = refl
 blank_kept words (PutP v ∷ later) done =
     and_of (not (hand_holds (shape_setting words) Pending v done) || is_blank (shape_setting words) Pending v done) _
@@ -36,7 +36,7 @@ blank_kept words (PutP v ∷ later) done =
 blank_kept words (x ∷ later) done = blank_kept words later (onto (access_of x) done)
 
 -- nothing is given back
-freeing_kept : (words : ℕ) (rest : Plan) (done : Done) → list_any frees done ≡ false
+freeing_kept : (words : ℕ) (rest : WrittenPlan) (done : Done) → list_any frees done ≡ false
     → lets_rest Freeing (shape_setting words) done (translated rest) ≡ true
 freeing_kept words [] done kept = refl
 freeing_kept words (TakeP v ∷ later) done kept =
@@ -46,13 +46,13 @@ freeing_kept words (TakeE v ∷ later) done kept =
 freeing_kept words (x ∷ later) done kept = freeing_kept words later (onto (access_of x) done) kept
 
 -- no number is touched
-numbers_kept : (words : ℕ) (rest : Plan) (done : Done) → has_number (shape_setting words) Threshold InOld done ≡ true
+numbers_kept : (words : ℕ) (rest : WrittenPlan) (done : Done) → has_number (shape_setting words) Threshold InOld done ≡ true
     → has_number (shape_setting words) Delivery InOld done ≡ true → lets_rest Numbers (shape_setting words) done (translated rest) ≡ true
 numbers_kept words [] done threshold delivery = and_of (has_number (shape_setting words) Threshold InOld done) _ threshold delivery
 numbers_kept words (Post ∷ later) done threshold delivery = numbers_kept words later (steps.Post ∷ done) threshold delivery
 numbers_kept words (x ∷ later) done threshold delivery = numbers_kept words later (onto (access_of x) done) threshold delivery
 
-led_at_start : (kind : Kind) (words : ℕ) (plan : Plan) → failing kind words plan ≡ None → Led kind words plan []
+led_at_start : (kind : Kind) (words : ℕ) (plan : WrittenPlan) → failing kind words plan ≡ None → Led kind words plan []
 led_at_start kind words plan e =
     let keeps = keeps_all kind words plan e in
     let turns = all_turns kind plan keeps.turns in
@@ -68,7 +68,7 @@ led_at_start kind words plan e =
           record { emptied = stood (TakeP w) plan late.once; fence = late.fence; gfence = late.gfence };
     }
 
-held_at_start : (kind : Kind) (words : ℕ) (plan : Plan) → failing kind words plan ≡ None → Held words None None plan []
+held_at_start : (kind : Kind) (words : ℕ) (plan : WrittenPlan) → failing kind words plan ≡ None → Held words None None plan []
 held_at_start kind words plan e =
     let enables = and_parts (all_below (λ w. is_once (TakeE w) plan) words) (are_paired takes_enables puts_enables None plan)
     (keeps_all kind words plan e).enables in
@@ -80,7 +80,7 @@ held_at_start kind words plan e =
       once = λ w low. inl (below_passes (λ w. is_once (TakeE w) plan) words w enables.0 low);
     }
 
-pub kept_there : (kind : Kind) (words : ℕ) (plan : Plan) → All (IsInside words) plan → failing kind words plan ≡ None
+pub kept_there : (kind : Kind) (words : ℕ) (plan : WrittenPlan) → All (IsInside words) plan → failing kind words plan ≡ None
     → moves (shape_setting words) (translated plan) ≡ true
 kept_there kind words plan inside e =
     let keeps = keeps_all kind words plan e in
@@ -94,6 +94,6 @@ kept_there kind words plan inside e =
     (and_of (lets_rest Numbers d [] (translated plan)) (lets_rest Freeing d [] (translated plan)) (numbers_kept words plan [] refl refl)
     (freeing_kept words plan [] refl))))
 
-pub safe_there : (kind : Kind) (words : ℕ) (plan : Plan) → All (IsInside words) plan → failing kind words plan ≡ None
+pub safe_there : (kind : Kind) (words : ℕ) (plan : WrittenPlan) → All (IsInside words) plan → failing kind words plan ≡ None
     → IsSafe (shape_setting words) (translated plan)
 safe_there kind words plan inside e = rules_are_safe (shape_setting words) (translated plan) (kept_there kind words plan inside e)

@@ -7,7 +7,7 @@ use Rattle.aia_vcpu.specs.declared.end.End.TheVariants.{File, Memory}
 use Rattle.aia_vcpu.specs.declared.access.Access.{Access}
 use Rattle.aia_vcpu.specs.declared.access.Access.TheVariants as accesses
 use Rattle.aia_vcpu.specs.Plans as home
-use Rattle.aia_plan.specs.Plan.{Plan, each_word, all_words, first_steps, last_steps, core_plan}
+use Rattle.aia_plan.specs.Plan.{WrittenPlan, each_word, all_words, first_steps, last_steps, core_plan}
 use Rattle.aia_plan.specs.declared.step.Kind.{Kind}
 use Rattle.aia_plan.specs.declared.step.Kind.TheVariants as kinds
 use Rattle.aia_plan.specs.declared.step.Step.TheVariants as ours
@@ -106,7 +106,7 @@ module _ (kind : Kind) where
 
 pub core_is_shaped : (kind : Kind) (words : ℕ) → core_plan kind words ≡ shaped_plan kind words
 core_is_shaped kinds.Leave words =
-    let looks : Plan = each_word (λ w. ours.Look w ∷ []) 0 words in
+    let looks : WrittenPlan = each_word (λ w. ours.Look w ∷ []) 0 words in
     let last : List Access = home.last_part File Memory 0 in
     ap (λ later. first_steps kinds.Leave ++ later)
     (append_assoc (all_words words) looks (last_steps kinds.Leave)

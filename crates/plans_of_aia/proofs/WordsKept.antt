@@ -3,7 +3,7 @@ use Rattle.std.proofs.Common.{◌≡◌, ℕ, ◌<◌, Bool, true, false, not, �
 use Rattle.std.specs.Prelude.{◌⊎◌}
 use Rattle.std.specs.List.{AllByRecursion}
 use Rattle.std.proofs.lemmas.Bool.{false≢true}
-use Rattle.aia_plan.specs.Plan.{Plan, IsInside}
+use Rattle.aia_plan.specs.Plan.{WrittenPlan, IsInside}
 use Rattle.aia_plan.specs.Rule.{stands, is_never, is_once, is_same, are_paired, takes_pending, puts_pending, takes_enables, puts_enables}
 use Rattle.aia_plan.specs.declared.step.Step.{Step as OurStep}
 use Rattle.aia_plan.specs.declared.step.Step.TheVariants.{TakeP, PutP, TakeE, PutE}
@@ -17,7 +17,7 @@ use Rattle.plans_of_aia.proofs.Onward.{same_number, numbers_are_one, no_number, 
 
 -- What is in the hand is the word that was taken just now. A word of the enables that has come to the
 -- new place is taken no more; each is taken once, or was taken and is empty.
-pub record Held (words : ℕ) (pending enables : Option ℕ) (rest : Plan) (done : Done) : Type 0 where
+pub record Held (words : ℕ) (pending enables : Option ℕ) (rest : WrittenPlan) (done : Done) : Type 0 where
   pub pending_held : (w : ℕ) → hand_holds (shape_setting words) Pending w done ≡ true → pending ≡ Some w
   pub enables_held : (w : ℕ) → hand_holds (shape_setting words) Enabled w done ≡ true → enables ≡ Some w
   pub filled : (w : ℕ) → is_filled (shape_setting words) Enabled w done ≡ true → (is_never (TakeE w) rest ≡ true) × (enables ≡ Some w → ⊥)
@@ -52,10 +52,10 @@ once_later : (here : Bool) (never once : Bool) → here ≡ false → (if here t
 once_later true never once e f = absurd (false≢true (sym e))
 once_later false never once e f = f
 
-never_here : (w : ℕ) (x : OurStep) (later : Plan) → is_never (TakeE w) (x ∷ later) ≡ true → is_never (TakeE w) later ≡ true
+never_here : (w : ℕ) (x : OurStep) (later : WrittenPlan) → is_never (TakeE w) (x ∷ later) ≡ true → is_never (TakeE w) later ≡ true
 never_here w x later e = ap not (or_false_right _ (stands (TakeE w) later) (not_true _ e))
 
-not_here : (v w : ℕ) (later : Plan) → is_never (TakeE w) (TakeE v ∷ later) ≡ true → nat_eq v w ≡ false
+not_here : (v w : ℕ) (later : WrittenPlan) → is_never (TakeE w) (TakeE v ∷ later) ≡ true → nat_eq v w ≡ false
 not_here v w later e = or_false_left (nat_eq v w) (stands (TakeE w) later) (not_true _ e)
 
 -- the end
@@ -71,7 +71,7 @@ words_end words pending enables done p e held =
     (and_of (not (old_holds d Enabled w done)) (not (hand_holds d Enabled w done)) (ap not emptied) (ap not no_enables)))
 
 -- a pending word is taken
-pending_taken : (words v : ℕ) (pending enables : Option ℕ) (later : Plan) (done : Done) → pending ≡ None → enables ≡ None
+pending_taken : (words v : ℕ) (pending enables : Option ℕ) (later : WrittenPlan) (done : Done) → pending ≡ None → enables ≡ None
     → Held words pending enables (TakeP v ∷ later) done → Held words (Some v) None later (steps.Take Pending v ∷ done)
 pending_taken words v pending enables later done p e held = record {
   pending_held = λ w h. by_case (nat_eq v w) (λ same. ap Some (numbers_are_one v w same))
@@ -82,7 +82,7 @@ pending_taken words v pending enables later done p e held = record {
   once = held.once;
 }
 
-pending_joined : (words v : ℕ) (pending enables : Option ℕ) (later : Plan) (done : Done) → pending ≡ Some v → enables ≡ None
+pending_joined : (words v : ℕ) (pending enables : Option ℕ) (later : WrittenPlan) (done : Done) → pending ≡ Some v → enables ≡ None
     → Held words pending enables (PutP v ∷ later) done → Held words None None later (steps.Join Pending v ∷ done)
 pending_joined words v pending enables later done p e held = record {
   pending_held = λ w h.
@@ -94,7 +94,7 @@ pending_joined words v pending enables later done p e held = record {
   once = held.once;
 }
 
-enables_taken : (words v : ℕ) (pending enables : Option ℕ) (later : Plan) (done : Done) → v < words → pending ≡ None → enables ≡ None
+enables_taken : (words v : ℕ) (pending enables : Option ℕ) (later : WrittenPlan) (done : Done) → v < words → pending ≡ None → enables ≡ None
     → Held words pending enables (TakeE v ∷ later) done
     → Held words None (Some v) later (steps.Take Enabled v ∷ done)
 enables_taken words v pending enables later done inside p e held =
@@ -120,7 +120,7 @@ enables_taken words v pending enables later done inside p e held =
           ]);
     }
 
-enables_put : (words v : ℕ) (pending enables : Option ℕ) (later : Plan) (done : Done) → pending ≡ None → enables ≡ Some v
+enables_put : (words v : ℕ) (pending enables : Option ℕ) (later : WrittenPlan) (done : Done) → pending ≡ None → enables ≡ Some v
     → Held words pending enables (PutE v ∷ later) done → Held words None None later (steps.Put Enabled v ∷ done)
 enables_put words v pending enables later done p e held =
     let d = shape_setting words in
@@ -139,11 +139,11 @@ enables_put words v pending enables later done p e held =
       once = held.once;
     }
 
-not_filled : (words v : ℕ) (pending enables : Option ℕ) (rest : Plan) (done : Done) → enables ≡ Some v → Held words pending enables rest done
+not_filled : (words v : ℕ) (pending enables : Option ℕ) (rest : WrittenPlan) (done : Done) → enables ≡ Some v → Held words pending enables rest done
     → is_filled (shape_setting words) Enabled v done ≡ false
 not_filled words v pending enables rest done e held = false_of (is_filled (shape_setting words) Enabled v done) (λ h. (held.filled v h).1 e)
 
-pub words_kept : (words : ℕ) (rest : Plan) (pending enables : Option ℕ) (done : Done) → AllByRecursion (IsInside words) rest
+pub words_kept : (words : ℕ) (rest : WrittenPlan) (pending enables : Option ℕ) (done : Done) → AllByRecursion (IsInside words) rest
     → are_paired takes_pending puts_pending pending rest ≡ true
     → are_paired takes_enables puts_enables enables rest ≡ true → Held words pending enables rest done
     → lets_rest Words (shape_setting words) done (translated rest) ≡ true

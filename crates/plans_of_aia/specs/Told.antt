@@ -11,7 +11,7 @@ use Rattle.aia_plan.specs.declared.step.Kind.{Kind}
 use Rattle.aia_plan.specs.declared.step.Kind.TheVariants as kinds
 use Rattle.aia_plan.specs.declared.step.Step.{Step as OurStep}
 use Rattle.aia_plan.specs.declared.step.Step.TheVariants as ours
-use Rattle.aia_plan.specs.Plan.{Plan}
+use Rattle.aia_plan.specs.Plan.{WrittenPlan}
 use Rattle.aia_plan.specs.Rule.{own_record}
 use Rattle.plans_rules.specs.declared.step.WhichSet.TheVariants.{Pending, Enabled}
 use Rattle.plans_rules.specs.declared.step.Number.TheVariants.{Threshold, Delivery}
@@ -109,5 +109,5 @@ shaped kind accesses.PutThreshold = ours.PutT
 shaped kind accesses.Post = ours.Post
 
 -- The plan of a move of a kind, of files of so many words.
-abbrev pub shaped_plan : Kind → ℕ → Plan
+abbrev pub shaped_plan : Kind → ℕ → WrittenPlan
 shaped_plan kind words = map (shaped kind) (plan (old_end_of kind) (new_end_of kind) words)

@@ -1,6 +1,6 @@
 -- A plan of the shape of ours as anybody's plan. Profile.
 use Rattle.std.specs.Prelude.{ℕ, true, false, List, [], ◌∷◌, Option, Some, None}
-use Rattle.aia_plan.specs.Plan.{Plan}
+use Rattle.aia_plan.specs.Plan.{WrittenPlan}
 use Rattle.aia_plan.specs.declared.step.Step.{Step as OurStep}
 use Rattle.aia_plan.specs.declared.step.Step.TheVariants as ours
 use Rattle.plans_rules.specs.declared.step.WhichSet.TheVariants.{Pending, Enabled}
@@ -40,7 +40,7 @@ onto None steps = steps
 onto (Some step) steps = step ∷ steps
 
 -- A plan of our shape, as those accesses in their order; none gives the old place back.
-abbrev pub translated : Plan → List AnyStep
+abbrev pub translated : WrittenPlan → List AnyStep
 translated [] = []
 translated (x ∷ later) = onto (access_of x) (translated later)
 

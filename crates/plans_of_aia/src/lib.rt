@@ -7,7 +7,7 @@ ghost use Rattle.std.specs.Prelude.{◌≡◌, ℕ, true, None, IfSome};
 ghost use Rattle.std.specs.List.{All};
 ghost use Rattle.aia_vcpu.specs.declared.end.End.TheVariants.{File, Memory};
 ghost use Rattle.aia_vcpu.specs.declared.access.Access.{Access};
-ghost use Rattle.aia_plan.specs.Plan.{Plan, IsInside, core_plan};
+ghost use Rattle.aia_plan.specs.Plan.{WrittenPlan, IsInside, core_plan};
 ghost use Rattle.aia_plan.specs.Rule.{failing};
 ghost use Rattle.plans_rules.specs.Rows.{AreAccepted, widths};
 ghost use Rattle.plans_rules.specs.Rules.{moves};
@@ -21,9 +21,9 @@ use aia_plan::Kind;
 /// told in those words; so it is safe on that machine too, whatever both producers do.
 #[tactic(auto, using(crate::proofs::TieLemmas::kept_there, crate::proofs::TieLemmas::safe_there))]
 pub fn accepted_plans_of_ours_are_accepted_there()
-    ensures moves { (kind : Kind) (words : ℕ) (plan : Plan) → All (IsInside words) plan
+    ensures moves { (kind : Kind) (words : ℕ) (plan : WrittenPlan) → All (IsInside words) plan
         → failing kind words plan ≡ None → moves (shape_setting words) (translated plan) ≡ true }
-    ensures safe { (kind : Kind) (words : ℕ) (plan : Plan) → All (IsInside words) plan
+    ensures safe { (kind : Kind) (words : ℕ) (plan : WrittenPlan) → All (IsInside words) plan
         → failing kind words plan ≡ None → IsSafe (shape_setting words) (translated plan) }
 {}
 

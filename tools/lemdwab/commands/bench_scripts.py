@@ -3,7 +3,7 @@
     scripts FOLDER [NAME..]     makes all in a folder, or those named
     scripts --names             tells their names, in the order in which bench/run takes them
 
-docs/PERFORMANCE.md says what each is, and lemdwab.benches of tools/ what it has. All of them have
+bench/README.md says what each is, and lemdwab.benches of tools/ what it has. All of them have
 500 MB, and take two minutes. Ends with status 2 where the words are wrong, or a script can't be
 written. Needs Python 3.10 or later.
 """

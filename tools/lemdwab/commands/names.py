@@ -3,12 +3,12 @@
     names [try]
 
 Reads the code and the definitions of all crates, and takes from src/ each struct, enum, trait and
-type that is `pub`, and from specs/ each record and data that is `pub`. docs/make/names.txt names
-what is kept in several crates, with its reason. Prints each other name that stands in more than one
+type that is `pub`, and from specs/ each record, data and abbreviation of a type that is `pub`.
+docs/make/names.txt names what is kept in several crates, with its reason. Prints each other name that stands in more than one
 crate, with its places, and each line of that table that does not hold, and ends with status 1 where
 there is any; else prints how many names there are, and how many are kept. With `try` it first
 sees that it finds what is planted, and nothing else. What is `pub(crate)` does not count, nor does
-a name that abbreviates a type, or that a definition has which is no type. It needs Python 3.10 or
+a name that a definition has which is no type. It needs Python 3.10 or
 later, ends within ten seconds and prints at most 200 lines; a table that is wrong ends it with
 status 2.
 """
@@ -30,7 +30,8 @@ LONGEST_RUN = 10
 MOST_LINES = 200
 COMMENT = re.compile(r"(?m)//.*$")
 RUST_TYPE = re.compile(r"(?m)^[ \t]*pub (?:unsafe )?(struct|enum|trait|type) (\w+)")
-ANTT_TYPE = re.compile(r"(?m)^(?:inductive )?pub (?:inductive )?(record|data) ([^\s:(){}]+)")
+ANTT_TYPE = re.compile(r"(?m)^(?:inductive )?pub (?:inductive )?(record|data) ([^\s:(){}]+)"
+                       r"|^(abbrev|unfoldable) pub ([^\s:(){}]+) : Type 0$")
 LINE = re.compile(r"(\S+): (\S+(?: \S+)+)$")
 
 
@@ -40,7 +41,8 @@ def types(crates: Path) -> defaultdict[str, list[tuple[str, str]]]:
     for folder, end, pattern in (("src", "rt", RUST_TYPE), ("specs", "antt", ANTT_TYPE)):
         for path in sorted(crates.glob(f"*/{folder}/**/*.{end}")):
             text = path.read_text(encoding="utf-8")
-            for kind, name in pattern.findall(COMMENT.sub("", text) if end == "rt" else text):
+            for match in pattern.finditer(COMMENT.sub("", text) if end == "rt" else text):
+                kind, name = filter(None, match.groups())
                 found[name].append((str(path.relative_to(crates)), kind))
     return found
 
@@ -101,7 +103,11 @@ PLANTED = [
     ("a/src/lib.rt", "pub struct Place;", "a/specs/A.antt", "pub data Place : Type 0 where", []),
     ("a/src/lib.rt", "pub struct Place;", "b/proofs/B.antt", "pub data Place : Type 0 where", []),
     ("a/specs/A.antt", "pub record Side : Type 0 where", "b/specs/B.antt",
-     "record Side : Type 0 where\nabbrev pub Side : Type 0", []),
+     "record Side : Type 0 where\nabbrev Side : Type 0", []),
+    ("a/specs/A.antt", "pub record Side : Type 0 where", "b/specs/B.antt",
+     "abbrev pub Side : Type 0", ["Side"]),
+    ("a/specs/A.antt", "pub record Side : Type 0 where", "b/specs/B.antt",
+     "abbrev pub Side : ℕ → Type 0", []),
 ]
 
 

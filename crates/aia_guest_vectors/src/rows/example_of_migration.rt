@@ -49,7 +49,7 @@ pub const MIGRATION_OUT_EXAMPLE: [(&str, &str); 37] = [
          former, with the",
         "",
     ),
-    ("# priority number 7.", ""),
+    ("# priority vcpu 7.", ""),
     ("g 0 0 csrrw sie 0x202", "0x0000000000000000"),
     ("hviprio 0 0 0x700", "ok"),
     ("inject 0 0 1 1", "ok"),
@@ -67,7 +67,7 @@ pub const MIGRATION_OUT_EXAMPLE: [(&str, &str); 37] = [
         "",
     ),
     (
-        "# number; its majors, those that are injected and those that are enabled; hviprio1 and \
+        "# vcpu; its majors, those that are injected and those that are enabled; hviprio1 and \
          hvictl; and a",
         "",
     ),
@@ -126,8 +126,8 @@ pub const MIGRATION_IN_EXAMPLE: [(&str, &str); 27] = [
     ("# Its device is here too by now, and asks for 5.", ""),
     ("msi 0 0x28008000 5", "ok"),
     (
-        "# It runs on: its select number, its enables, and what comes first. 4 is before 7, the \
-         priority number",
+        "# It runs on: its select vcpu, its enables, and what comes first. 4 is before 7, the \
+         priority vcpu",
         "",
     ),
     ("# of its software interrupt.", ""),

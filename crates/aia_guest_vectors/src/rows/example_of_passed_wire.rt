@@ -80,7 +80,7 @@ pub const PASSED_WIRE_EXAMPLE: [(&str, &str); 141] = [
     ("st 0x0c001bc8 0x28000", "ok"),
     ("st 0x0c001bcc 0x500000", "ok"),
     (
-        "# The source is enabled, by its number, and passed to the virtual hart as identity 5.",
+        "# The source is enabled, by its vcpu, and passed to the virtual hart as identity 5.",
         "",
     ),
     ("st 0x0c009edc 1", "ok"),

@@ -32,7 +32,7 @@ pub const VIRTUAL_MACHINES_EXAMPLE: [(&str, &str); 87] = [
         "",
     ),
     (
-        "# mode. Mode 3 is basic: an MSI goes to the page whose number is in bits 53:10, here \
+        "# mode. Mode 3 is basic: an MSI goes to the page whose vcpu is in bits 53:10, here \
          0x28001, the",
         "",
     ),
@@ -55,7 +55,7 @@ pub const VIRTUAL_MACHINES_EXAMPLE: [(&str, &str); 87] = [
         "",
     ),
     (
-        "# notice goes: to the page whose number is in bits 53:10, here 0x28000, with the identity \
+        "# notice goes: to the page whose vcpu is in bits 53:10, here 0x28000, with the identity \
          in bits",
         "",
     ),
@@ -109,7 +109,7 @@ pub const VIRTUAL_MACHINES_EXAMPLE: [(&str, &str); 87] = [
          ones at the",
         "",
     ),
-    ("# bits 0, 3 and 5 of a page's number.", ""),
+    ("# bits 0, 3 and 5 of a page's vcpu.", ""),
     ("vm 5 0x29 0", "ok"),
     ("", ""),
     (
@@ -118,7 +118,7 @@ pub const VIRTUAL_MACHINES_EXAMPLE: [(&str, &str); 87] = [
         "",
     ),
     (
-        "# the mask. Its bits at the ones, packed, the lowest first, are the number of the file.",
+        "# the mask. Its bits at the ones, packed, the lowest first, are the vcpu of the file.",
         "",
     ),
     (
@@ -245,7 +245,7 @@ pub const MOVED_GUEST_EXAMPLE: [(&str, &str); 80] = [
     ("", ""),
     ("# ---- a VM", ""),
     (
-        "# It has two virtual harts, whose files bit 3 of a page's number tells apart: 0x28000000 \
+        "# It has two virtual harts, whose files bit 3 of a page's vcpu tells apart: 0x28000000 \
          and",
         "",
     ),
@@ -415,7 +415,7 @@ pub const INJECTED_PRIORITY_EXAMPLE: [(&str, &str); 71] = [
     ("", ""),
     ("# ---- priorities are shown", ""),
     (
-        "# IPRIOM, bit 8 of hvictl, lets stopi show the priority number: of the external interrupt \
+        "# IPRIOM, bit 8 of hvictl, lets stopi show the priority vcpu: of the external interrupt \
          it is the",
         "",
     ),
@@ -455,7 +455,7 @@ pub const INJECTED_PRIORITY_EXAMPLE: [(&str, &str); 71] = [
     ("g 0 0 csrrw sie 0", "virtual"),
     ("g 0 0 csrrw stopi 0", "illegal"),
     (
-        "# At 9 it comes after the external interrupt. At 5 both have one number: DPR, bit 9, says \
+        "# At 9 it comes after the external interrupt. At 5 both have one vcpu: DPR, bit 9, says \
          which is",
         "",
     ),

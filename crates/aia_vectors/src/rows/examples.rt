@@ -93,7 +93,7 @@ pub const REFUSALS_EXAMPLE: [(&str, &str); 57] = [
     ("h 0 csrr stopei", "nomachine"),
     ("", ""),
     (
-        "# bad: the text spells no line. Fields are all there, keywords are lower case, a number \
+        "# bad: the text spells no line. Fields are all there, keywords are lower case, a vcpu \
          has no",
         "",
     ),
@@ -150,7 +150,7 @@ pub const REFUSALS_EXAMPLE: [(&str, &str); 57] = [
     ("h 1 csrrw siselect 0x30", "0x0000000000000081"),
     ("h 1 csrrw sireg 1", "illegal"),
     (
-        "# A reserved number is no fault: it reads 0, and a write to it is ignored.",
+        "# A reserved vcpu is no fault: it reads 0, and a write to it is ignored.",
         "",
     ),
     ("h 1 csrrw siselect 0x71", "0x0000000000000030"),
@@ -168,7 +168,7 @@ pub const REFUSALS_EXAMPLE: [(&str, &str); 57] = [
     ("st 0 1", "fault"),
     ("", ""),
     (
-        "# These are accepted and do nothing: another offset of the page, and a number that is no \
+        "# These are accepted and do nothing: another offset of the page, and a vcpu that is no \
          identity",
         "",
     ),
@@ -325,7 +325,7 @@ pub const FILES_AND_BYTE_ORDERS_EXAMPLE: [(&str, &str); 121] = [
     ("m 1 csrrs mireg 0x200", "0x0000000000000000"),
     ("m 1 csrr mtopei", "0x0000000000090009"),
     (
-        "# A threshold of 9 holds 9 back. csrrs makes 0x72, eithreshold, of the select number \
+        "# A threshold of 9 holds 9 back. csrrs makes 0x72, eithreshold, of the select vcpu \
          0x70,",
         "",
     ),
@@ -465,7 +465,7 @@ pub const WIRES_MODES_AND_DELEGATION_EXAMPLE: [(&str, &str); 139] = [
     ("ld 0x0c003004", "0x00000001"),
     ("st 0x0c003004 0x40005", "ok"),
     (
-        "# setienum enables a source by its number. setie shows the enable bits, bit i for source \
+        "# setienum enables a source by its vcpu. setie shows the enable bits, bit i for source \
          i.",
         "",
     ),
@@ -487,7 +487,7 @@ pub const WIRES_MODES_AND_DELEGATION_EXAMPLE: [(&str, &str); 139] = [
     ("ld 0x0c001c00", "0x00000002"),
     ("ld 0x0c001d00", "0x00000002"),
     (
-        "# so clearing it, by a one in in_clrip or by its number in clripnum, has no effect while \
+        "# so clearing it, by a one in in_clrip or by its vcpu in clripnum, has no effect while \
          the wire is",
         "",
     ),
@@ -496,7 +496,7 @@ pub const WIRES_MODES_AND_DELEGATION_EXAMPLE: [(&str, &str); 139] = [
     ("st 0x0c001ddc 1", "ok"),
     ("ld 0x0c001c00", "0x00000002"),
     (
-        "# and setting it, by a one in setip or by its number in setipnum, has none while the wire \
+        "# and setting it, by a one in setip or by its vcpu in setipnum, has none while the wire \
          is low.",
         "",
     ),
@@ -537,7 +537,7 @@ pub const WIRES_MODES_AND_DELEGATION_EXAMPLE: [(&str, &str); 139] = [
     ("ld 0x0c001d00", "0x00000004"),
     ("ld 0x0c001c00", "0x00000000"),
     (
-        "# Software can ask for an edge source by a store: here the number is taken big-endian, by",
+        "# Software can ask for an edge source by a store: here the vcpu is taken big-endian, by",
         "",
     ),
     ("# setipnum_be.", ""),
@@ -660,7 +660,7 @@ pub const DIRECT_DELIVERY_EXAMPLE: [(&str, &str); 46] = [
     ("", ""),
     (
         "# Source 1 is level high with priority 2, source 2 a rising edge with priority 1. A lower \
-         number is",
+         vcpu is",
         "",
     ),
     ("# a higher priority.", ""),
@@ -668,7 +668,7 @@ pub const DIRECT_DELIVERY_EXAMPLE: [(&str, &str); 46] = [
     ("st 0x0c000008 4", "ok"),
     ("st 0x0c003004 2", "ok"),
     ("st 0x0c003008 1", "ok"),
-    ("# Both are enabled: by a word of bits, and by number.", ""),
+    ("# Both are enabled: by a word of bits, and by vcpu.", ""),
     ("st 0x0c001e00 0x2", "ok"),
     ("st 0x0c001edc 2", "ok"),
     ("", ""),
@@ -690,7 +690,7 @@ pub const DIRECT_DELIVERY_EXAMPLE: [(&str, &str); 46] = [
     ("wire 2 0", "ok"),
     ("pins 0", "pins 1 0 0 0"),
     (
-        "# topi shows the number in the upper half and the priority in the lower: source 2 is on \
+        "# topi shows the vcpu in the upper half and the priority in the lower: source 2 is on \
          top.",
         "",
     ),

@@ -6,5 +6,5 @@ use Rattle.aia_generate.proofs.head.guest_line.Goals as goal
 pub returns : goal.returns
 returns c =
     let past : 0 < c.args.place = omega arith in
-    past_arrival c.args.vm c.args.number c.args.place past
-    ∙ c.ready_access-csr.ensures (GuestCsr c.args.vm c.args.number)
+    past_arrival c.args.vm c.args.vcpu c.args.place past
+    ∙ c.ready_access-csr.ensures (GuestCsr c.args.vm c.args.vcpu)

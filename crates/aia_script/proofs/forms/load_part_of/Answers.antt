@@ -11,4 +11,4 @@ pub returns : goal.returns
 returns c =
     let words = left c.args.words.now in
     let found : read part_shape part words ≡ Some c.in_ok-part.part = search rules in
-    sym (loaded_part c.args.vm c.args.number words ∙ ap (λ o. o >>= λ x. Some (lines.LoadPart c.args.vm c.args.number x)) found)
+    sym (loaded_part c.args.vm c.args.vcpu words ∙ ap (λ o. o >>= λ x. Some (lines.LoadPart c.args.vm c.args.vcpu x)) found)

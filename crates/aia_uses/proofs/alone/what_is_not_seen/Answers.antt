@@ -24,13 +24,13 @@ returns-clause-stepped c = λ h x g.
     ap (λ state. state.file) (c.moves_and_others_are_not_seen.ensures.guest (Stepped x ∷ h) h g (step_unseen g.vm h x))
 
 pub returns-clause-entered : goal.returns-clause-entered
-returns-clause-entered c = λ h vm number g.
-    c.moves_and_others_are_not_seen.ensures.replies (Accepted (lines.Enter vm number) ∷ h) h g (enter_unseen g.vm h vm number)
+returns-clause-entered c = λ h vm vcpu g.
+    c.moves_and_others_are_not_seen.ensures.replies (Accepted (lines.Enter vm vcpu) ∷ h) h g (enter_unseen g.vm h vm vcpu)
 
 pub returns-clause-saved : goal.returns-clause-saved
-returns-clause-saved c = λ h vm number k g.
+returns-clause-saved c = λ h vm vcpu k g.
     ap (λ state. state.file)
-    (c.moves_and_others_are_not_seen.ensures.guest (Accepted (lines.Save vm number k) ∷ h) h g (save_unseen g.vm h vm number k))
+    (c.moves_and_others_are_not_seen.ensures.guest (Accepted (lines.Save vm vcpu k) ∷ h) h g (save_unseen g.vm h vm vcpu k))
 
 pub returns-clause-wired : goal.returns-clause-wired
 returns-clause-wired c = λ h source level g.

@@ -9,12 +9,12 @@ returns-clause-lines c = λ v line h k its machine vms homes flights guests.
     (record { machine = machine; vms = vms; homes = homes; flights = flights; guests = guests })
 
 pub returns-clause-passes : goal.returns-clause-passes
-returns-clause-passes c = λ v h k source vm number identity machine vms homes flights guests ready none.
-    then_told (refusal h (lines.Pass source vm number identity)) (refusal k (lines.Pass source vm number identity))
-    (c.a_pass_tells_a_vm_that_it_came.ensures.passes v h k source vm number identity
+returns-clause-passes c = λ v h k source vm vcpu identity machine vms homes flights guests ready none.
+    then_told (refusal h (lines.Pass source vm vcpu identity)) (refusal k (lines.Pass source vm vcpu identity))
+    (c.a_pass_tells_a_vm_that_it_came.ensures.passes v h k source vm vcpu identity
     (record { machine = machine; vms = vms; homes = homes; flights = flights; guests = guests }) ready) none
 
 pub returns-clause-counted : goal.returns-clause-counted
-returns-clause-counted c = λ v h k source vm number identity machine vms homes flights guests ready count passed.
-    c.a_pass_tells_a_vm_that_it_came.ensures.counted v h k source vm number identity
+returns-clause-counted c = λ v h k source vm vcpu identity machine vms homes flights guests ready count passed.
+    c.a_pass_tells_a_vm_that_it_came.ensures.counted v h k source vm vcpu identity
     (record { machine = machine; vms = vms; homes = homes; flights = flights; guests = guests }) ready count passed

@@ -1,5 +1,5 @@
 use Rattle.std.proofs.Common.{ap}
-use Rattle.aia_vcpu.specs.Vms.{vcpu}
+use Rattle.aia_vcpu.specs.Vms.{vcpu_of}
 use Rattle.aia_uses.specs.Worked.{made}
 use Rattle.aia_uses.proofs.CarryingFacts.{made_happens, made_stands, none_heard}
 use Rattle.aia_uses.proofs.carrying.what_was_loaded.Goals as goal
@@ -20,4 +20,4 @@ returns-clause-loaded c = λ image order h g state all e.
     c.a_virtual_hart_is_what_was_loaded_into_it.ensures.loaded image h g state (record { order = order; all = all; are = e })
 
 pub returns-clause-one : goal.returns-clause-one
-returns-clause-one c = c.a_virtual_hart_is_what_was_loaded_into_it.ensures.unheard made (vcpu 0 0) made_happens made_stands none_heard
+returns-clause-one c = c.a_virtual_hart_is_what_was_loaded_into_it.ensures.unheard made (vcpu_of 0 0) made_happens made_stands none_heard

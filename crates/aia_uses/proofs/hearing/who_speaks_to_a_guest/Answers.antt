@@ -9,28 +9,28 @@ returns-clause-msi c = λ past vm addr value g word e.
     c.only_its_vm_and_its_hypervisor_speak_to_a_guest.ensures past (Accepted (lines.Msi vm addr value)) g word e
 
 pub returns-clause-ipi : goal.returns-clause-ipi
-returns-clause-ipi c = λ past vm number to value g word e.
-    c.only_its_vm_and_its_hypervisor_speak_to_a_guest.ensures past (Accepted (lines.Ipi vm number to value)) g word e
+returns-clause-ipi c = λ past vm vcpu to value g word e.
+    c.only_its_vm_and_its_hypervisor_speak_to_a_guest.ensures past (Accepted (lines.Ipi vm vcpu to value)) g word e
 
 pub returns-clause-access : goal.returns-clause-access
-returns-clause-access c = λ past vm number csr op g word e.
-    c.only_its_vm_and_its_hypervisor_speak_to_a_guest.ensures past (Accepted (lines.GuestCsr vm number csr op)) g word e
+returns-clause-access c = λ past vm vcpu csr op g word e.
+    c.only_its_vm_and_its_hypervisor_speak_to_a_guest.ensures past (Accepted (lines.GuestCsr vm vcpu csr op)) g word e
 
 pub returns-clause-inject : goal.returns-clause-inject
-returns-clause-inject c = λ past vm number bit level g word e.
-    c.only_its_vm_and_its_hypervisor_speak_to_a_guest.ensures past (Accepted (lines.Inject vm number bit level)) g word e
+returns-clause-inject c = λ past vm vcpu bit level g word e.
+    c.only_its_vm_and_its_hypervisor_speak_to_a_guest.ensures past (Accepted (lines.Inject vm vcpu bit level)) g word e
 
 pub returns-clause-control : goal.returns-clause-control
-returns-clause-control c = λ past vm number value g word e.
-    c.only_its_vm_and_its_hypervisor_speak_to_a_guest.ensures past (Accepted (lines.Hvictl vm number value)) g word e
+returns-clause-control c = λ past vm vcpu value g word e.
+    c.only_its_vm_and_its_hypervisor_speak_to_a_guest.ensures past (Accepted (lines.Hvictl vm vcpu value)) g word e
 
 pub returns-clause-priorities : goal.returns-clause-priorities
-returns-clause-priorities c = λ past vm number value g word e.
-    c.only_its_vm_and_its_hypervisor_speak_to_a_guest.ensures past (Accepted (lines.Hviprio vm number value)) g word e
+returns-clause-priorities c = λ past vm vcpu value g word e.
+    c.only_its_vm_and_its_hypervisor_speak_to_a_guest.ensures past (Accepted (lines.Hviprio vm vcpu value)) g word e
 
 pub returns-clause-load : goal.returns-clause-load
-returns-clause-load c = λ past vm number part g word e.
-    c.only_its_vm_and_its_hypervisor_speak_to_a_guest.ensures past (Accepted (lines.LoadPart vm number part)) g word e
+returns-clause-load c = λ past vm vcpu part g word e.
+    c.only_its_vm_and_its_hypervisor_speak_to_a_guest.ensures past (Accepted (lines.LoadPart vm vcpu part)) g word e
 
 pub returns-clause-landed : goal.returns-clause-landed
 returns-clause-landed c = λ past vm k g word e. c.only_its_vm_and_its_hypervisor_speak_to_a_guest.ensures past (Landed vm k) g word e

@@ -20,14 +20,14 @@ returns-clause-land c = λ past v k f ok.
     (c.a_vm_reaches_the_host_by_its_notices_alone.ensures.files past (lines.Land v k) v f ok (itself v))
 
 pub returns-clause-ipi : goal.returns-clause-ipi
-returns-clause-ipi c = λ past v number to value f ok.
-    spelled past v f (deed_at f past (Accepted (lines.Ipi v number to value)))
-    (c.a_vm_reaches_the_host_by_its_notices_alone.ensures.files past (lines.Ipi v number to value) v f ok (itself v))
+returns-clause-ipi c = λ past v vcpu to value f ok.
+    spelled past v f (deed_at f past (Accepted (lines.Ipi v vcpu to value)))
+    (c.a_vm_reaches_the_host_by_its_notices_alone.ensures.files past (lines.Ipi v vcpu to value) v f ok (itself v))
 
 pub returns-clause-access : goal.returns-clause-access
-returns-clause-access c = λ past v number csr op f ok.
-    spelled past v f (deed_at f past (Accepted (lines.GuestCsr v number csr op)))
-    (c.a_vm_reaches_the_host_by_its_notices_alone.ensures.files past (lines.GuestCsr v number csr op) v f ok (itself v))
+returns-clause-access c = λ past v vcpu csr op f ok.
+    spelled past v f (deed_at f past (Accepted (lines.GuestCsr v vcpu csr op)))
+    (c.a_vm_reaches_the_host_by_its_notices_alone.ensures.files past (lines.GuestCsr v vcpu csr op) v f ok (itself v))
 
 pub returns-clause-moves : goal.returns-clause-moves
 returns-clause-moves c = λ past g f there.
@@ -35,12 +35,12 @@ returns-clause-moves c = λ past g f there.
 
 pub returns-clause-exits : goal.returns-clause-exits
 returns-clause-exits c = λ past g f there.
-    spelled past g.vm f (deed_at f past (Accepted (lines.Exit g.vm g.number)))
+    spelled past g.vm f (deed_at f past (Accepted (lines.Exit g.vm g.vcpu)))
     (c.a_vm_reaches_the_host_by_its_notices_alone.ensures.exits past g f there)
 
 pub returns-clause-loads : goal.returns-clause-loads
 returns-clause-loads c = λ past g part f there.
-    spelled past g.vm f (deed_at f past (Accepted (lines.LoadPart g.vm g.number part)))
+    spelled past g.vm f (deed_at f past (Accepted (lines.LoadPart g.vm g.vcpu part)))
     (c.a_vm_reaches_the_host_by_its_notices_alone.ensures.loads past g part f there)
 
 pub returns-clause-landings : goal.returns-clause-landings
@@ -51,8 +51,8 @@ pub returns-clause-own : goal.returns-clause-own
 returns-clause-own c = λ h g x there other same. c.a_vm_reaches_the_host_by_its_notices_alone.ensures.own h g x there other same
 
 pub returns-clause-aplic : goal.returns-clause-aplic
-returns-clause-aplic c = λ past v number csr op.
-    c.a_vm_reaches_the_host_by_its_notices_alone.ensures.aplic past (lines.GuestCsr v number csr op) v (itself v)
+returns-clause-aplic c = λ past v vcpu csr op.
+    c.a_vm_reaches_the_host_by_its_notices_alone.ensures.aplic past (lines.GuestCsr v vcpu csr op) v (itself v)
 
 pub returns-clause-landed : goal.returns-clause-landed
 returns-clause-landed c = λ past v k. c.a_vm_reaches_the_host_by_its_notices_alone.ensures.landed past v k

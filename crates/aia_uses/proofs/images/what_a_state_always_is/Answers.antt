@@ -1,4 +1,4 @@
-use Rattle.aia_vcpu.specs.Vms.{vcpu}
+use Rattle.aia_vcpu.specs.Vms.{vcpu_of}
 use Rattle.aia_model.specs.Script.{history_of}
 use Rattle.aia_model.proofs.HistoryLemmas.{script_happens}
 use Rattle.aia_uses.specs.declared.told.TheConstants.{TOLD}
@@ -21,4 +21,4 @@ returns-clause-majors c = λ h g j good stands.
     (state.injected_majors j, state.enabled_majors j, state.hviprio1, state.hvictl)
 
 pub returns-clause-one : goal.returns-clause-one
-returns-clause-one c = (c.every_virtual_hart_has_a_state.ensures (history_of TOLD.now) (vcpu 0 0) (script_happens TOLD.now) told_stands).greatest
+returns-clause-one c = (c.every_virtual_hart_has_a_state.ensures (history_of TOLD.now) (vcpu_of 0 0) (script_happens TOLD.now) told_stands).greatest

@@ -1,5 +1,5 @@
 use Rattle.std.proofs.Common.{sym, ap, arith, ◌∙◌}
-use Rattle.aia_vcpu.specs.Vms.{vcpu}
+use Rattle.aia_vcpu.specs.Vms.{vcpu_of}
 use Rattle.aia_model.specs.declared.part.Part.TheVariants as parts
 use Rattle.aia_model.specs.Image.{part_of}
 use Rattle.aia_model.specs.StateOf.{state_of}
@@ -17,17 +17,17 @@ pub returns-clause-reading : goal.returns-clause-reading
 returns-clause-reading c = λ x part low small fit. c.what_is_printed_loads_it.ensures.reading x part low small fit
 
 pub returns-clause-saved : goal.returns-clause-saved
-returns-clause-saved c = λ h vm number k x good ok low small. c.what_is_printed_loads_it.ensures.saved h vm number k x good ok low small
+returns-clause-saved c = λ h vm vcpu k x good ok low small. c.what_is_printed_loads_it.ensures.saved h vm vcpu k x good ok low small
 
 pub returns-clause-one_read : goal.returns-clause-one_read
 returns-clause-one_read c =
     let part = parts.Word 0 2 2 in
-    sym (ap reading (c.what_is_printed_loads_it.ensures.text (vcpu 0 1) part))
-    ∙ c.what_is_printed_loads_it.ensures.reading (vcpu 0 1) part (omega arith) (omega arith) word_fits
+    sym (ap reading (c.what_is_printed_loads_it.ensures.text (vcpu_of 0 1) part))
+    ∙ c.what_is_printed_loads_it.ensures.reading (vcpu_of 0 1) part (omega arith) (omega arith) word_fits
 
 pub returns-clause-one_saved : goal.returns-clause-one_saved
 returns-clause-one_saved c =
-    let part = part_of (state_of (history_of TOLD.now) (vcpu 0 0)) 3 in
-    sym (ap reading (c.what_is_printed_loads_it.ensures.text (vcpu 0 1) part))
-    ∙ c.what_is_printed_loads_it.ensures.saved (history_of TOLD.now) 0 0 3 (vcpu 0 1) (script_happens TOLD.now) save_allowed (omega arith)
+    let part = part_of (state_of (history_of TOLD.now) (vcpu_of 0 0)) 3 in
+    sym (ap reading (c.what_is_printed_loads_it.ensures.text (vcpu_of 0 1) part))
+    ∙ c.what_is_printed_loads_it.ensures.saved (history_of TOLD.now) 0 0 3 (vcpu_of 0 1) (script_happens TOLD.now) save_allowed (omega arith)
     (omega arith)

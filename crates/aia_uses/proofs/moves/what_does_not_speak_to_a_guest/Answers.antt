@@ -1,5 +1,5 @@
 use Rattle.std.proofs.Common.{true, refl, ap, ◌∙◌}
-use Rattle.aia_vcpu.specs.Vms.{vcpu}
+use Rattle.aia_vcpu.specs.Vms.{vcpu_of}
 use Rattle.aia_model.specs.declared.line.Line.TheVariants as lines
 use Rattle.aia_uses.specs.Worked.{asked}
 use Rattle.aia_uses.proofs.Facts.{is_asked, wire_alone}
@@ -10,16 +10,16 @@ returns-clause-msi c = λ h vm addr value g stands other still.
     c.only_what_speaks_to_a_guest_changes_its_file.ensures.silent h (lines.Msi vm addr value) g stands other still
 
 pub returns-clause-ipi : goal.returns-clause-ipi
-returns-clause-ipi c = λ h vm number to value g stands other still.
-    (c.only_what_speaks_to_a_guest_changes_its_file.ensures.silent h (lines.Ipi vm number to value) g stands other still).0
+returns-clause-ipi c = λ h vm vcpu to value g stands other still.
+    (c.only_what_speaks_to_a_guest_changes_its_file.ensures.silent h (lines.Ipi vm vcpu to value) g stands other still).0
 
 pub returns-clause-access : goal.returns-clause-access
-returns-clause-access c = λ h vm number csr op g stands other still.
-    (c.only_what_speaks_to_a_guest_changes_its_file.ensures.silent h (lines.GuestCsr vm number csr op) g stands other still).0
+returns-clause-access c = λ h vm vcpu csr op g stands other still.
+    (c.only_what_speaks_to_a_guest_changes_its_file.ensures.silent h (lines.GuestCsr vm vcpu csr op) g stands other still).0
 
 pub returns-clause-load : goal.returns-clause-load
-returns-clause-load c = λ h vm number part g stands other still.
-    (c.only_what_speaks_to_a_guest_changes_its_file.ensures.silent h (lines.LoadPart vm number part) g stands other still).0
+returns-clause-load c = λ h vm vcpu part g stands other still.
+    (c.only_what_speaks_to_a_guest_changes_its_file.ensures.silent h (lines.LoadPart vm vcpu part) g stands other still).0
 
 pub returns-clause-wire : goal.returns-clause-wire
 returns-clause-wire c = λ h source level g stands still.
@@ -30,8 +30,8 @@ returns-clause-other_vms c = λ h line g stands other. c.only_what_speaks_to_a_g
 
 pub returns-clause-wired : goal.returns-clause-wired
 returns-clause-wired c = ap (λ file. file.pending 1)
-    (c.only_what_speaks_to_a_guest_changes_its_file.ensures.silent asked (lines.Wire 1 true) (vcpu 0 0) refl refl wire_alone).0 ∙ is_asked
+    (c.only_what_speaks_to_a_guest_changes_its_file.ensures.silent asked (lines.Wire 1 true) (vcpu_of 0 0) refl refl wire_alone).0 ∙ is_asked
 
 pub returns-clause-others : goal.returns-clause-others
 returns-clause-others c = ap (λ file. file.pending 1)
-    (c.only_what_speaks_to_a_guest_changes_its_file.ensures.other_vms asked (lines.Msi 1 0x28000000 2) (vcpu 0 0) refl refl).0 ∙ is_asked
+    (c.only_what_speaks_to_a_guest_changes_its_file.ensures.other_vms asked (lines.Msi 1 0x28000000 2) (vcpu_of 0 0) refl refl).0 ∙ is_asked

@@ -8,18 +8,18 @@ returns-clause-msi c = λ h vm addr value g e.
     (cause.identity, cause.asks.0, cause.asks.1, cause.enabled)
 
 pub returns-clause-ipi : goal.returns-clause-ipi
-returns-clause-ipi c = λ h vm number to value g e.
-    let cause = c.a_notice_has_a_cause.ensures h (Accepted (lines.Ipi vm number to value)) g e in
+returns-clause-ipi c = λ h vm vcpu to value g e.
+    let cause = c.a_notice_has_a_cause.ensures h (Accepted (lines.Ipi vm vcpu to value)) g e in
     (cause.identity, cause.asks.0, cause.asks.1, cause.enabled)
 
 pub returns-clause-exit : goal.returns-clause-exit
-returns-clause-exit c = λ h vm number g e.
-    let cause = c.a_notice_has_a_cause.ensures h (Accepted (lines.Exit vm number)) g e in
+returns-clause-exit c = λ h vm vcpu g e.
+    let cause = c.a_notice_has_a_cause.ensures h (Accepted (lines.Exit vm vcpu)) g e in
     (cause.identity, cause.same, cause.deliverable)
 
 pub returns-clause-load : goal.returns-clause-load
-returns-clause-load c = λ h vm number part g e.
-    let cause = c.a_notice_has_a_cause.ensures h (Accepted (lines.LoadPart vm number part)) g e in
+returns-clause-load c = λ h vm vcpu part g e.
+    let cause = c.a_notice_has_a_cause.ensures h (Accepted (lines.LoadPart vm vcpu part)) g e in
     (cause.identity, cause.same, cause.pending, cause.enabled)
 
 pub returns-clause-stepped : goal.returns-clause-stepped
@@ -44,4 +44,4 @@ pub returns-clause-delivered : goal.returns-clause-delivered
 returns-clause-delivered c = λ h msi g e. c.a_notice_has_a_cause.ensures h (Delivered msi) g e
 
 pub returns-clause-entered : goal.returns-clause-entered
-returns-clause-entered c = λ h vm number g e. (c.a_notice_has_a_cause.ensures h (Accepted (lines.Enter vm number)) g e).asks
+returns-clause-entered c = λ h vm vcpu g e. (c.a_notice_has_a_cause.ensures h (Accepted (lines.Enter vm vcpu)) g e).asks

@@ -7,4 +7,4 @@ pub returns-clause-delivered : goal.returns-clause-delivered
 returns-clause-delivered c = λ h msi g cause. cause
 
 pub returns-clause-entered : goal.returns-clause-entered
-returns-clause-entered c = λ h vm number g cause. cause.asks
+returns-clause-entered c = λ h vm vcpu g cause. cause.asks

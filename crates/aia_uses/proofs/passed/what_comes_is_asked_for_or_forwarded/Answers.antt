@@ -10,14 +10,14 @@ returns-clause-msi c = λ h vm addr value g i stands was is.
     (comes.0, asked_or_told h (lines.Msi vm addr value) g i comes.1)
 
 pub returns-clause-write : goal.returns-clause-write
-returns-clause-write c = λ h vm number op g i stands was is.
-    let comes = c.none_comes_unasked_where_sources_are_passed.ensures.unasked h (lines.GuestCsr vm number Reg op) g i stands refl was is in
-    (comes.0, asked_or_told h (lines.GuestCsr vm number Reg op) g i comes.1)
+returns-clause-write c = λ h vm vcpu op g i stands was is.
+    let comes = c.none_comes_unasked_where_sources_are_passed.ensures.unasked h (lines.GuestCsr vm vcpu Reg op) g i stands refl was is in
+    (comes.0, asked_or_told h (lines.GuestCsr vm vcpu Reg op) g i comes.1)
 
 pub returns-clause-claim : goal.returns-clause-claim
-returns-clause-claim c = λ h vm number op g i stands was is.
-    let comes = c.none_comes_unasked_where_sources_are_passed.ensures.unasked h (lines.GuestCsr vm number Topei op) g i stands refl was is in
-    only_told h (lines.GuestCsr vm number Topei op) g i comes.1
+returns-clause-claim c = λ h vm vcpu op g i stands was is.
+    let comes = c.none_comes_unasked_where_sources_are_passed.ensures.unasked h (lines.GuestCsr vm vcpu Topei op) g i stands refl was is in
+    only_told h (lines.GuestCsr vm vcpu Topei op) g i comes.1
 
 pub returns-clause-wire : goal.returns-clause-wire
 returns-clause-wire c = λ h source level g i stands was is.

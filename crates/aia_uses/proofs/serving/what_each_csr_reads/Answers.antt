@@ -2,7 +2,7 @@ use Rattle.aia_regs.specs.declared.access.Csr.TheVariants.{Select, Reg, Topei, T
 use Rattle.aia_regs.specs.declared.access.Op.TheVariants.{Read}
 use Rattle.std.proofs.Common.{ap, ◌∙◌}
 use Rattle.aia_word.specs.Top.{top_value}
-use Rattle.aia_vcpu.specs.Vms.{vcpu}
+use Rattle.aia_vcpu.specs.Vms.{vcpu_of}
 use Rattle.aia_model.specs.declared.answer.Answer.TheVariants.{Wide}
 use Rattle.aia_uses.specs.Worked.{asked}
 use Rattle.aia_uses.proofs.Facts.{read_allowed, top_asked}
@@ -27,4 +27,4 @@ pub returns-clause-sie : goal.returns-clause-sie
 returns-clause-sie c = λ h g op ok. c.a_guest_reads_what_is_its_own.ensures h g Sie op ok
 
 pub returns-clause-one : goal.returns-clause-one
-returns-clause-one c = c.a_guest_reads_what_is_its_own.ensures asked (vcpu 0 0) Topei Read read_allowed ∙ ap (λ top. Wide (top_value top)) top_asked
+returns-clause-one c = c.a_guest_reads_what_is_its_own.ensures asked (vcpu_of 0 0) Topei Read read_allowed ∙ ap (λ top. Wide (top_value top)) top_asked

@@ -12,7 +12,7 @@ use Rattle.aia_model.specs.Act.{newest}
 use Rattle.aia_model.specs.SourceOf.{genmsi_waits}
 use Rattle.aia_model.specs.Sent.{all_senders}
 use Rattle.aia_model.specs.Answer.{answer, after}
-use Rattle.aia_vcpu.specs.Vms.{vcpu}
+use Rattle.aia_vcpu.specs.Vms.{vcpu_of}
 use Rattle.aia_model.specs.FileOf.{SupervisorFile}
 use Rattle.aia_model.specs.Script.{history_of}
 use Rattle.aia_model.proofs.HistoryLemmas.{script_happens}
@@ -23,12 +23,12 @@ use Rattle.aia_uses.proofs.words.one_word_decides.Goals as goal
 pub returns-clause-asked : goal.returns-clause-asked
 unfolding number_at n32_at flag_at csr_at line_at reading word_of least_of packed ones select_by file_by majors_of home flight passes_of
     in_force_of stage_in_force_of look_saw newest genmsi_waits all_senders answer after newest_word
-returns-clause-asked c = c.the_newest_word_decides_at_a_guest.ensures.pending (history_of TOLD.now) (vcpu 0 0) 1 (script_happens TOLD.now)
+returns-clause-asked c = c.the_newest_word_decides_at_a_guest.ensures.pending (history_of TOLD.now) (vcpu_of 0 0) 1 (script_happens TOLD.now)
 
 pub returns-clause-enabled : goal.returns-clause-enabled
 unfolding number_at n32_at flag_at csr_at line_at reading word_of least_of packed ones select_by file_by majors_of home flight passes_of
     in_force_of stage_in_force_of look_saw newest genmsi_waits all_senders answer after newest_word
-returns-clause-enabled c = c.the_newest_word_decides_at_a_guest.ensures.enabled (history_of TOLD.now) (vcpu 0 0) 1 (script_happens TOLD.now)
+returns-clause-enabled c = c.the_newest_word_decides_at_a_guest.ensures.enabled (history_of TOLD.now) (vcpu_of 0 0) 1 (script_happens TOLD.now)
 
 pub returns-clause-told : goal.returns-clause-told
 unfolding number_at n32_at flag_at csr_at line_at reading word_of least_of packed ones select_by file_by majors_of home flight passes_of

@@ -7,12 +7,12 @@ use Rattle.aia_hyp_values.proofs.GuestAccesses.{guest_away}
 use Rattle.aia_hyp.proofs.hypervisor_core.Core.away_access.Goals as goal
 
 pub returns-in_default : goal.returns-in_default
-returns-in_default c = guest_away c.args.self.now c.args.found.vm c.args.found.number c.args.csr c.args.op c.requires.found.there c.requires.away
+returns-in_default c = guest_away c.args.self.now c.args.found.vm c.args.found.vcpu c.args.csr c.args.op c.requires.found.there c.requires.away
     (ap (λ (o : Option KeptNumbers). is_some o && is_file_csr c.args.csr)
     (sym (c.entered.ensures ∙ ap (λ (r : VcpuRecord). entered_at r.stay) c.record_of.ensures) ∙ c.in-Some.is) ∙ sym c.is_file_csr.ensures
     ∙ c.if-is_file_csr.false)
 
 pub returns-in_default-2 : goal.returns-in_default-2
-returns-in_default-2 c = guest_away c.args.self.now c.args.found.vm c.args.found.number c.args.csr c.args.op c.requires.found.there c.requires.away
+returns-in_default-2 c = guest_away c.args.self.now c.args.found.vm c.args.found.vcpu c.args.csr c.args.op c.requires.found.there c.requires.away
     (ap (λ (o : Option KeptNumbers). is_some o && is_file_csr c.args.csr)
     (sym (c.entered.ensures ∙ ap (λ (r : VcpuRecord). entered_at r.stay) c.record_of.ensures) ∙ c.in_default.is))

@@ -9,13 +9,13 @@ use Rattle.aia_hyp_values.proofs.MoveLines.{begin_taken}
 use Rattle.aia_hyp.proofs.hypervisor_core.Core.begin.Goals as goal
 
 pub returns-in_default : goal.returns-in_default
-returns-in_default c = rw (← c.self.view_is) (begin_taken _ _ c.args.vm c.args.number c.args.want (answers.Refused words.Range)
-    (no_move _ c.args.vm c.args.number c.args.want c.in_default.ensures.none))
+returns-in_default c = rw (← c.self.view_is) (begin_taken _ _ c.args.vm c.args.vcpu c.args.want (answers.Refused words.Range)
+    (no_move _ c.args.vm c.args.vcpu c.args.want c.in_default.ensures.none))
 
 pub returns : goal.returns
 returns c =
     let named = c.in-Some.ensures.named in
     let given = answer_by (λ _. Okay) c.begin_of.result in
-    subst (λ vm. CoreTakes c.args.self.now c.begin_of.new.self (lines.Begin vm c.args.number c.args.want) given) named.0
-    (subst (λ number. CoreTakes c.args.self.now c.begin_of.new.self (lines.Begin c.in-Some.found.vm number c.args.want) given) named.1
-    (begin_taken c.args.self.now c.begin_of.new.self c.in-Some.found.vm c.in-Some.found.number c.args.want given c.begin_of.ensures.begins))
+    subst (λ vm. CoreTakes c.args.self.now c.begin_of.new.self (lines.Begin vm c.args.vcpu c.args.want) given) named.0
+    (subst (λ vcpu. CoreTakes c.args.self.now c.begin_of.new.self (lines.Begin c.in-Some.found.vm vcpu c.args.want) given) named.1
+    (begin_taken c.args.self.now c.begin_of.new.self c.in-Some.found.vm c.in-Some.found.vcpu c.args.want given c.begin_of.ensures.begins))

@@ -25,7 +25,7 @@ begins : (c : After-swap_stay) → MoveBegins (record {
       vcpus = c.swap_stay.new.vcpus.items;
       selects = c.self.inside.selects;
       passes = c.self.inside.passes;
-    }) c.args.found.vm c.args.found.number c.args.want (answer_by (λ _. Okay) c.begun-new.result.1)
+    }) c.args.found.vm c.args.found.vcpu c.args.want (answer_by (λ _. Okay) c.begun-new.result.1)
 begins c = begin_call _ _ c.args.want c.args.found c.who_of-who.result c.swap_stay-old.result c.begun-new.result.0 _ c.who_of-who.ensures.named
     c.who_of-who.ensures.passes refl (record {
       is_who = subst (λ (x : CoreState). IsFound x.world c.args.found) (sym c.self.view_is) c.requires;
@@ -65,7 +65,7 @@ swap_stay-requires c =
 
 pub invariant_of-self : goal.invariant_of-self
 invariant_of-self c = (
-  begins_still _ _ c.args.found.vm c.args.found.number c.args.want _ (begins c) c.self.invariant.0,
+  begins_still _ _ c.args.found.vm c.args.found.vcpu c.args.want _ (begins c) c.self.invariant.0,
   (let first = c.swap_stay-old.ensures.room in let second = c.swap_stay.ensures.room in let room = c.self.invariant.1 in
       omega (arith, first, second, room)),
 )

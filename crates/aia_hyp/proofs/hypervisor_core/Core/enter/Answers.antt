@@ -12,7 +12,7 @@ use Rattle.aia_hyp.proofs.hypervisor_core.Core.enter.Goals.{After-enter_in}
 use Rattle.aia_hyp.proofs.hypervisor_core.Core.enter.Goals as goal
 
 pub returns-in_default : goal.returns-in_default
-returns-in_default c = rw (← c.self.view_is) (no_vcpu_to_enter _ c.args.vm c.args.number c.in_default.ensures.none)
+returns-in_default c = rw (← c.self.view_is) (no_vcpu_to_enter _ c.args.vm c.args.vcpu c.in_default.ensures.none)
 
 pub enter_in-requires : goal.enter_in-requires
 enter_in-requires c = who_low (record {
@@ -38,7 +38,7 @@ taken : (c : After-enter_in) → CoreTakes (record {
   selects =
       c.self.inside.selects;
   passes = c.self.inside.passes;
-}) (Enter c.args.vm c.args.number) (answer_by (λ _. Okay) c.enter_in.result)
+}) (Enter c.args.vm c.args.vcpu) (answer_by (λ _. Okay) c.enter_in.result)
 taken c =
     let x : CoreState = record {
       world = c.self.inside.fabric;
@@ -60,8 +60,8 @@ taken c =
     let found = c.in-Some.found in
     let is = c.in-Some.ensures.there in
     let named = c.in-Some.ensures.named in
-    subst (λ vm. CoreTakes x y (Enter vm c.args.number) given) named.0 (subst (λ number. CoreTakes x y (Enter found.vm number) given) named.1
-    (enters x y found.vm found.number _ given (record { there = is.there; world = refl; leases = refl; selects = refl; passes = refl }) refl
+    subst (λ vm. CoreTakes x y (Enter vm c.args.vcpu) given) named.0 (subst (λ vcpu. CoreTakes x y (Enter found.vm vcpu) given) named.1
+    (enters x y found.vm found.vcpu _ given (record { there = is.there; world = refl; leases = refl; selects = refl; passes = refl }) refl
     (subst (λ q. EntersFrom (parked_at (slice_index_or x.vcpus q no_record).stay) x.vcpus y.vcpus q given) is.slot c.enter_in.ensures.enters)))
 
 pub invariant_of-self : goal.invariant_of-self

@@ -1,6 +1,6 @@
 use Rattle.std.proofs.Common.{◌≡◌, true, get_or, sym, ap, ◌∙◌, subst, arith, refl}
 use Rattle.std.proofs.Math.ListN.{set}
-use Rattle.aia_vcpu.specs.Vms.{vcpu}
+use Rattle.aia_vcpu.specs.Vms.{vcpu_of}
 use Rattle.aia_vcpu.specs.Home.{is_moving}
 use Rattle.aia_move_values.specs.declared.turn.Next.TheVariants.{Finished}
 use Rattle.aia_move_values.specs.PlanState.{moving_of}
@@ -31,7 +31,7 @@ finish-outcome-requires-clause-fits c =
 pub finish-outcome-requires-clause-last : goal.finish-outcome-requires-clause-last
 finish-outcome-requires-clause-last c =
     let found = (subst (λ (x : CoreState). IsFound x.world c.args.found) (sym c.self.view_is) c.requires.found) in
-    let last = subst (λ (x : CoreState). IsAtItsLast x (vcpu c.args.found.vm c.args.found.number)) (sym c.self.view_is) c.requires.last in
+    let last = subst (λ (x : CoreState). IsAtItsLast x (vcpu_of c.args.found.vm c.args.found.vcpu)) (sym c.self.view_is) c.requires.last in
     last c.in-Moving.plan (sym (sym c.in-Moving.is ∙ c.swap_stay.ensures.before
     ∙ ap (λ q. (get_or c.self.inside.vcpus.items q no_record).stay) found.slot))
 
@@ -40,7 +40,7 @@ ends : (c : After-finish-outcome) → StepsTo (next_aim (moving_of c.in-Moving.p
     c.finish-outcome.new.fabric (Finished c.finish-outcome.result)
 ends c =
     let found = (subst (λ (x : CoreState). IsFound x.world c.args.found) (sym c.self.view_is) c.requires.found) in
-    let last = subst (λ (x : CoreState). IsAtItsLast x (vcpu c.args.found.vm c.args.found.number)) (sym c.self.view_is) c.requires.last in
+    let last = subst (λ (x : CoreState). IsAtItsLast x (vcpu_of c.args.found.vm c.args.found.vcpu)) (sym c.self.view_is) c.requires.last in
     finishes c.self.inside.fabric c.finish-outcome.new.fabric (moving_of c.in-Moving.plan) c.finish-outcome.result
     (last c.in-Moving.plan (sym (sym c.in-Moving.is ∙ c.swap_stay.ensures.before
     ∙ ap (λ q. (get_or c.self.inside.vcpus.items q no_record).stay) found.slot))) c.finish-outcome.ensures.ends
@@ -109,14 +109,14 @@ goes : (c : After-swap_stay-2) → MoveGoes (record {
       c.swap_stay-2.new.vcpus.items;
   selects = c.self.inside.selects;
   passes = c.self.inside.passes;
-}) (vcpu c.args.found.vm c.args.found.number) true
+}) (vcpu_of c.args.found.vm c.args.found.vcpu) true
 goes c = step_called _ _ c.args.found c.in-Moving.plan (Finished c.finish-outcome.result) (calls c)
 
 pub invariant_of-self : goal.invariant_of-self
 invariant_of-self c = (
   goes_still _ _ c.args.found _ (goes c) c.self.invariant.0
       (subst (λ (x : CoreState). IsFound x.world c.args.found) (sym c.self.view_is) c.requires.found)
-      (subst (λ (x : CoreState). is_moving (home_in (record_of x (vcpu c.args.found.vm c.args.found.number)).stay) ≡ true) (sym c.self.view_is)
+      (subst (λ (x : CoreState). is_moving (home_in (record_of x (vcpu_of c.args.found.vm c.args.found.vcpu)).stay) ≡ true) (sym c.self.view_is)
       c.requires.moving),
   (let first = c.swap_stay.ensures.room in let second = c.swap_stay-2.ensures.room in let room = c.self.invariant.1 in
       omega (arith, first, second, room)),
@@ -130,4 +130,4 @@ returns-clause-found c = who_still _ _ c.args.found _ (goes c) c.self.invariant.
     (subst (λ (x : CoreState). IsFound x.world c.args.found) (sym c.self.view_is) c.requires.found)
 
 pub returns-clause-harts : goal.returns-clause-harts
-returns-clause-harts c = rw (← c.self.view_is) (harts_still _ _ (vcpu c.args.found.vm c.args.found.number) _ (goes c) c.self.invariant.0)
+returns-clause-harts c = rw (← c.self.view_is) (harts_still _ _ (vcpu_of c.args.found.vm c.args.found.vcpu) _ (goes c) c.self.invariant.0)

@@ -9,7 +9,7 @@ use Rattle.aia_file.specs.FileState.{FileState, shown}
 use Rattle.aia_file.specs.declared.spot.Spot.{Spot}
 use Rattle.aia_file.specs.Imsic.{IsThere, file_at, with_file}
 use Rattle.aia_vcpu.specs.declared.place.GuestPlace.{GuestPlace}
-use Rattle.aia_vcpu.specs.Vms.{Vcpu, vcpu, is_vcpu_in}
+use Rattle.aia_vcpu.specs.Vms.{Vcpu, vcpu_of, is_vcpu_in}
 use Rattle.aia_fabric_values.specs.Whole.{IsWhole}
 use Rattle.aia_fabric_values.specs.Changes.{spot_of}
 use Rattle.aia_model.specs.declared.answer.Answer.TheVariants.{Wide}
@@ -55,7 +55,7 @@ select_taken : (c : After-access_select_in) → CoreTakes
       selects = c.self.inside.selects;
       passes = c.self.inside.passes;
     })
-    (GuestCsr c.args.found.vm c.args.found.number c.args.csr c.args.op) (Wide c.access_select_in.result)
+    (GuestCsr c.args.found.vm c.args.found.vcpu c.args.csr c.args.op) (Wide c.access_select_in.result)
 select_taken c =
     let x : CoreState = record {
       world = c.self.inside.fabric;
@@ -73,7 +73,7 @@ select_taken c =
           c.self.inside.selects;
       passes = c.self.inside.passes;
     } in
-    let g = vcpu c.args.found.vm c.args.found.number in
+    let g = vcpu_of c.args.found.vm c.args.found.vcpu in
     let a = asked x c.args.self.now g c.args.place c.self.view_is
     (record { there = c.requires.found.there; whole = c.requires.whole; at = c.requires.resident }) in
     let table = reached x c.args.self.now g reaches.Select c.guest_reached.result c.args.csr c.args.op c.self.view_is c.in-Select.is
@@ -81,7 +81,7 @@ select_taken c =
     let slot = slot_is x c.args.self.now c.args.found c.self.view_is c.requires.found in
     let low = slot_low x c.args.self.now c.args.found c.self.view_is c.self.invariant.0 c.requires.found in
     let named = names x g reaches.Select c.args.csr c.args.op table in
-    guest_accessed x y c.args.found.vm c.args.found.number c.args.csr csrs.Select c.args.op c.args.place reaches.Select c.access_select_in.result
+    guest_accessed x y c.args.found.vm c.args.found.vcpu c.args.csr csrs.Select c.args.op c.args.place reaches.Select c.access_select_in.result
     a.whole a.there a.at table refl refl named
     (c.access_select_in.ensures.value ∙ ap (λ q. (get_or x.vcpus q no_record).select) slot)
     (guest_select_done x y g c.args.place c.args.op refl refl refl refl low
@@ -102,7 +102,7 @@ file_taken : (c : After-reg) → CoreTakes (record {
   selects =
       c.self.inside.selects;
   passes = c.self.inside.passes;
-}) (GuestCsr c.args.found.vm c.args.found.number c.args.csr c.args.op) (Wide c.reg.result)
+}) (GuestCsr c.args.found.vm c.args.found.vcpu c.args.csr c.args.op) (Wide c.reg.result)
 file_taken c =
     let spot = c.file_spot-spot.ensures in
     let x : CoreState = record {
@@ -121,14 +121,14 @@ file_taken c =
           c.self.inside.selects;
       passes = c.self.inside.passes;
     } in
-    let g = vcpu c.args.found.vm c.args.found.number in
+    let g = vcpu_of c.args.found.vm c.args.found.vcpu in
     let a = asked x c.args.self.now g c.args.place c.self.view_is
     (record { there = c.requires.found.there; whole = c.requires.whole; at = c.requires.resident }) in
     let table = reached x c.args.self.now g (reaches.File c.in-File.reg) c.guest_reached.result c.args.csr c.args.op c.self.view_is c.in-File.is
     c.guest_reached.ensures.table in
     let named = names x g (reaches.File c.in-File.reg) c.args.csr c.args.op table in
     let there = file_there x g c.args.place c.self.invariant.0 a.there a.at in
-    guest_accessed x y c.args.found.vm c.args.found.number c.args.csr csrs.Reg c.args.op c.args.place (reaches.File c.in-File.reg) c.reg.result
+    guest_accessed x y c.args.found.vm c.args.found.vcpu c.args.csr csrs.Reg c.args.op c.args.place (reaches.File c.in-File.reg) c.reg.result
     a.whole a.there a.at table refl refl named.0
     (subst (λ (s : Spot). c.reg.result ≡ register_value (shown (file_at x.world.imsic s)) c.in-File.reg) spot c.reg.ensures.value
     ∙ ap (register_value (shown (file_at x.world.imsic (spot_of c.args.place)))) (sym named.1))
@@ -153,7 +153,7 @@ top_taken : (c : After-claim_or_read) → CoreTakes
       vcpus = c.self.inside.vcpus.items;
       selects = c.self.inside.selects;
       passes = c.self.inside.passes;
-    }) (GuestCsr c.args.found.vm c.args.found.number c.args.csr c.args.op)
+    }) (GuestCsr c.args.found.vm c.args.found.vcpu c.args.csr c.args.op)
     (Wide c.claim_or_read.result)
 top_taken c =
     let spot = c.file_spot-spot.ensures in
@@ -173,14 +173,14 @@ top_taken c =
           c.self.inside.selects;
       passes = c.self.inside.passes;
     } in
-    let g = vcpu c.args.found.vm c.args.found.number in
+    let g = vcpu_of c.args.found.vm c.args.found.vcpu in
     let a = asked x c.args.self.now g c.args.place c.self.view_is
     (record { there = c.requires.found.there; whole = c.requires.whole; at = c.requires.resident }) in
     let table = reached x c.args.self.now g reaches.Top c.guest_reached.result c.args.csr c.args.op c.self.view_is c.in-Top.is
     c.guest_reached.ensures.table in
     let named = names x g reaches.Top c.args.csr c.args.op table in
     let there = file_there x g c.args.place c.self.invariant.0 a.there a.at in
-    guest_accessed x y c.args.found.vm c.args.found.number c.args.csr csrs.Topei c.args.op c.args.place reaches.Top c.claim_or_read.result a.whole
+    guest_accessed x y c.args.found.vm c.args.found.vcpu c.args.csr csrs.Topei c.args.op c.args.place reaches.Top c.claim_or_read.result a.whole
     a.there a.at table refl refl named
     (subst (λ (s : Spot). c.claim_or_read.result ≡ top_value (top_of (shown (file_at x.world.imsic s)))) spot c.claim_or_read.ensures.value)
     (guest_file_done x y g c.args.place (Accesses csrs.Topei c.args.op) there
@@ -202,7 +202,7 @@ sip_taken : (c : After-access_sip_in) → CoreTakes
       vcpus = c.access_sip_in.new.vcpus.items;
       selects = c.self.inside.selects;
       passes = c.self.inside.passes;
-    }) (GuestCsr c.args.found.vm c.args.found.number c.args.csr c.args.op)
+    }) (GuestCsr c.args.found.vm c.args.found.vcpu c.args.csr c.args.op)
     (Wide c.access_sip_in.result)
 sip_taken c =
     let x : CoreState = record {
@@ -221,7 +221,7 @@ sip_taken c =
           c.self.inside.selects;
       passes = c.self.inside.passes;
     } in
-    let g = vcpu c.args.found.vm c.args.found.number in
+    let g = vcpu_of c.args.found.vm c.args.found.vcpu in
     let a = asked x c.args.self.now g c.args.place c.self.view_is
     (record { there = c.requires.found.there; whole = c.requires.whole; at = c.requires.resident }) in
     let table = reached x c.args.self.now g reaches.Sip c.guest_reached.result c.args.csr c.args.op c.self.view_is c.in-Sip.is
@@ -232,10 +232,10 @@ sip_taken c =
     let signal : c.signal-signal.result ≡ signals (shown (file_at x.world.imsic (spot_of c.args.place))) =
     c.signal-signal.ensures ∙ ap (λ (f : FileState). signals (shown f)) c.file-in-Sip.ensures
     ∙ ap (λ (s : Spot). signals (shown (file_at x.world.imsic s))) c.file_spot-spot.ensures in
-    majors_accessed x y c.args.found.vm c.args.found.number c.args.csr c.args.op c.args.place reaches.Sip c.access_sip_in.result
+    majors_accessed x y c.args.found.vm c.args.found.vcpu c.args.csr c.args.op c.args.place reaches.Sip c.access_sip_in.result
     (with_sip c.args.op) a.there a.at table refl refl
-    (λ h. subst (λ (k : Csr). IsOfMajors h (Accepted (GuestCsr c.args.found.vm c.args.found.number k c.args.op)) g (with_sip c.args.op))
-    (sym named) (accesses_sip h c.args.found.vm c.args.found.number c.args.op))
+    (λ h. subst (λ (k : Csr). IsOfMajors h (Accepted (GuestCsr c.args.found.vm c.args.found.vcpu k c.args.op)) g (with_sip c.args.op))
+    (sym named) (accesses_sip h c.args.found.vm c.args.found.vcpu c.args.op))
     (λ h stands there. c.access_sip_in.ensures.value ∙ (λ k. sip_value (majors_shown (get_or x.vcpus (slot k) no_record).majors) (signal k))
     ∙ sip_read x g c.args.place a.whole a.at h stands there ∙ ap (guest_csr_value h g) (sym named))
     (record {
@@ -261,7 +261,7 @@ sie_taken : (c : After-access_sie_in) → CoreTakes
       vcpus = c.access_sie_in.new.vcpus.items;
       selects = c.self.inside.selects;
       passes = c.self.inside.passes;
-    }) (GuestCsr c.args.found.vm c.args.found.number c.args.csr c.args.op)
+    }) (GuestCsr c.args.found.vm c.args.found.vcpu c.args.csr c.args.op)
     (Wide c.access_sie_in.result)
 sie_taken c =
     let x : CoreState = record {
@@ -280,7 +280,7 @@ sie_taken c =
           c.self.inside.selects;
       passes = c.self.inside.passes;
     } in
-    let g = vcpu c.args.found.vm c.args.found.number in
+    let g = vcpu_of c.args.found.vm c.args.found.vcpu in
     let a = asked x c.args.self.now g c.args.place c.self.view_is
     (record { there = c.requires.found.there; whole = c.requires.whole; at = c.requires.resident }) in
     let table = reached x c.args.self.now g reaches.Sie c.guest_reached.result c.args.csr c.args.op c.self.view_is c.in-Sie.is
@@ -288,10 +288,10 @@ sie_taken c =
     let named : c.args.csr ≡ csrs.Sie = names x g reaches.Sie c.args.csr c.args.op table in
     let slot = slot_is x c.args.self.now c.args.found c.self.view_is c.requires.found in
     let low = slot_low x c.args.self.now c.args.found c.self.view_is c.self.invariant.0 c.requires.found in
-    majors_accessed x y c.args.found.vm c.args.found.number c.args.csr c.args.op c.args.place reaches.Sie c.access_sie_in.result
+    majors_accessed x y c.args.found.vm c.args.found.vcpu c.args.csr c.args.op c.args.place reaches.Sie c.access_sie_in.result
     (with_sie c.args.op) a.there a.at table refl refl
-    (λ h. subst (λ (k : Csr). IsOfMajors h (Accepted (GuestCsr c.args.found.vm c.args.found.number k c.args.op)) g (with_sie c.args.op))
-    (sym named) (accesses_sie h c.args.found.vm c.args.found.number c.args.op))
+    (λ h. subst (λ (k : Csr). IsOfMajors h (Accepted (GuestCsr c.args.found.vm c.args.found.vcpu k c.args.op)) g (with_sie c.args.op))
+    (sym named) (accesses_sie h c.args.found.vm c.args.found.vcpu c.args.op))
     (λ h stands there. c.access_sie_in.ensures.value ∙ (λ k. sie_value (majors_shown (get_or x.vcpus (slot k) no_record).majors))
     ∙ sie_read x g c.args.place a.whole a.at h stands there ∙ ap (guest_csr_value h g) (sym named))
     (record {
@@ -318,7 +318,7 @@ topi_taken : (c : After-stopi_in) → CoreTakes (record {
   selects =
       c.self.inside.selects;
   passes = c.self.inside.passes;
-}) (GuestCsr c.args.found.vm c.args.found.number c.args.csr c.args.op)
+}) (GuestCsr c.args.found.vm c.args.found.vcpu c.args.csr c.args.op)
     (Wide c.stopi_in.result)
 topi_taken c =
     let x : CoreState = record {
@@ -329,7 +329,7 @@ topi_taken c =
           c.self.inside.selects;
       passes = c.self.inside.passes;
     } in
-    let g = vcpu c.args.found.vm c.args.found.number in
+    let g = vcpu_of c.args.found.vm c.args.found.vcpu in
     let a = asked x c.args.self.now g c.args.place c.self.view_is
     (record { there = c.requires.found.there; whole = c.requires.whole; at = c.requires.resident }) in
     let table = reached x c.args.self.now g reaches.Topi c.guest_reached.result c.args.csr c.args.op c.self.view_is c.in-Topi.is
@@ -339,10 +339,10 @@ topi_taken c =
     let low = slot_low x c.args.self.now c.args.found c.self.view_is c.self.invariant.0 c.requires.found in
     let file : shown c.file.result.now ≡ shown (file_at x.world.imsic (spot_of c.args.place)) = ap shown c.file.ensures
     ∙ ap (λ (s : Spot). shown (file_at x.world.imsic s)) c.file_spot-spot.ensures in
-    majors_accessed x x c.args.found.vm c.args.found.number c.args.csr c.args.op c.args.place reaches.Topi c.stopi_in.result (λ m. m) a.there a.at
+    majors_accessed x x c.args.found.vm c.args.found.vcpu c.args.csr c.args.op c.args.place reaches.Topi c.stopi_in.result (λ m. m) a.there a.at
     table refl refl
-    (λ h. subst (λ (k : Csr). IsOfMajors h (Accepted (GuestCsr c.args.found.vm c.args.found.number k c.args.op)) g (λ m. m)) (sym named.0)
-    (accesses_topi h c.args.found.vm c.args.found.number c.args.op))
+    (λ h. subst (λ (k : Csr). IsOfMajors h (Accepted (GuestCsr c.args.found.vm c.args.found.vcpu k c.args.op)) g (λ m. m)) (sym named.0)
+    (accesses_topi h c.args.found.vm c.args.found.vcpu c.args.op))
     (λ h stands there. c.stopi_in.ensures ∙ (λ k. stopi_value (majors_shown (get_or (c.deref.ensures.value k) (slot k) no_record).majors)
     (top_value (top_of (file k))) (signals (file k))) ∙ stopi_read x g c.args.place a.whole a.at h stands there
     ∙ ap (guest_csr_value h g) (sym named.0))
@@ -354,11 +354,11 @@ file_is_there x y g p spot e some a at = let b = asked x y g p e a in
     subst (λ (s : Spot). IsThere x.world.imsic s) (sym at) (file_there x g p some b.there b.at)
 
 pub file-requires : goal.file-requires
-file-requires c = file_is_there _ c.args.self.now (vcpu c.args.found.vm c.args.found.number) c.args.place _ c.self.view_is c.self.invariant.0
+file-requires c = file_is_there _ c.args.self.now (vcpu_of c.args.found.vm c.args.found.vcpu) c.args.place _ c.self.view_is c.self.invariant.0
     (record { there = c.requires.found.there; whole = c.requires.whole; at = c.requires.resident }) c.file_spot-spot.ensures
 
 pub file-requires-in-Sip : goal.file-requires-in-Sip
-file-requires-in-Sip c = file_is_there _ c.args.self.now (vcpu c.args.found.vm c.args.found.number) c.args.place _ c.self.view_is
+file-requires-in-Sip c = file_is_there _ c.args.self.now (vcpu_of c.args.found.vm c.args.found.vcpu) c.args.place _ c.self.view_is
     c.self.invariant.0 (record { there = c.requires.found.there; whole = c.requires.whole; at = c.requires.resident }) c.file_spot-spot.ensures
 
 pub invariant_of-self-in-Sip : goal.invariant_of-self-in-Sip
@@ -383,7 +383,7 @@ pub returns-in-Sie : goal.returns-in-Sie
 returns-in-Sie c = rw (← c.self.view_is) (sie_taken c)
 
 pub returns-in-Illegal : goal.returns-in-Illegal
-returns-in-Illegal c = guest_illegal c.args.self.now c.args.found.vm c.args.found.number c.args.csr c.args.op c.args.place c.requires.found.there
+returns-in-Illegal c = guest_illegal c.args.self.now c.args.found.vm c.args.found.vcpu c.args.csr c.args.op c.args.place c.requires.found.there
     c.requires.resident (sym c.in-Illegal.is ∙ c.guest_reached.ensures.table)
 
 pub invariant_of-self : goal.invariant_of-self
@@ -402,10 +402,10 @@ reg-requires-clause-there c =
           c.self.inside.selects;
       passes = c.self.inside.passes;
     } in
-    let a = asked x c.args.self.now (vcpu c.args.found.vm c.args.found.number) c.args.place c.self.view_is
+    let a = asked x c.args.self.now (vcpu_of c.args.found.vm c.args.found.vcpu) c.args.place c.self.view_is
     (record { there = c.requires.found.there; whole = c.requires.whole; at = c.requires.resident }) in
     subst (λ (s : Spot). IsThere x.world.imsic s) (sym c.file_spot-spot.ensures)
-    (file_there x (vcpu c.args.found.vm c.args.found.number) c.args.place c.self.invariant.0 a.there a.at)
+    (file_there x (vcpu_of c.args.found.vm c.args.found.vcpu) c.args.place c.self.invariant.0 a.there a.at)
 
 pub invariant_of-self-in-File : goal.invariant_of-self-in-File
 invariant_of-self-in-File c = (still _ _ _ _ (file_taken c) c.self.invariant.0, c.self.invariant.1)
@@ -420,10 +420,10 @@ claim_or_read-requires c =
           c.self.inside.selects;
       passes = c.self.inside.passes;
     } in
-    let a = asked x c.args.self.now (vcpu c.args.found.vm c.args.found.number) c.args.place c.self.view_is
+    let a = asked x c.args.self.now (vcpu_of c.args.found.vm c.args.found.vcpu) c.args.place c.self.view_is
     (record { there = c.requires.found.there; whole = c.requires.whole; at = c.requires.resident }) in
     subst (λ (s : Spot). IsThere x.world.imsic s) (sym c.file_spot-spot.ensures)
-    (file_there x (vcpu c.args.found.vm c.args.found.number) c.args.place c.self.invariant.0 a.there a.at)
+    (file_there x (vcpu_of c.args.found.vm c.args.found.vcpu) c.args.place c.self.invariant.0 a.there a.at)
 
 pub invariant_of-self-in-Top : goal.invariant_of-self-in-Top
 invariant_of-self-in-Top c = (still _ _ _ _ (top_taken c) c.self.invariant.0, c.self.invariant.1)
@@ -438,5 +438,5 @@ pub returns-in-Top : goal.returns-in-Top
 returns-in-Top c = rw (← c.self.view_is) (top_taken c)
 
 pub returns-in-Virtual : goal.returns-in-Virtual
-returns-in-Virtual c = guest_virtual c.args.self.now c.args.found.vm c.args.found.number c.args.csr c.args.op c.args.place c.requires.found.there
+returns-in-Virtual c = guest_virtual c.args.self.now c.args.found.vm c.args.found.vcpu c.args.csr c.args.op c.args.place c.requires.found.there
     c.requires.resident (sym c.in-Virtual.is ∙ c.guest_reached.ensures.table)

@@ -1,7 +1,7 @@
 use Rattle.std.proofs.Common.{◌≡◌, ◌<◌, true, false, length, refl, subst, arith}
 use Rattle.std.specs.Prelude.{OnOk}
 use Rattle.aia_major.specs.VsMajor.{is_hvictl, with_hvictl}
-use Rattle.aia_vcpu.specs.Vms.{Vcpu, vcpu, is_vcpu_in, slot_of}
+use Rattle.aia_vcpu.specs.Vms.{Vcpu, vcpu_of, is_vcpu_in, slot_of}
 use Rattle.aia_model.specs.declared.answer.Answer.TheVariants.{Okay}
 use Rattle.aia_model.specs.declared.line.Line.TheVariants.{Hvictl}
 use Rattle.aia_hyp_values.specs.Core.{CoreState, MajorsDone}
@@ -34,7 +34,7 @@ taken : (c : After-set_hvictl_in) → CoreTakes (record {
   vcpus = c.set_hvictl_in.new.vcpus.items;
   selects = c.self.inside.selects;
   passes = c.self.inside.passes;
-}) (Hvictl c.args.vm c.args.number c.args.value)
+}) (Hvictl c.args.vm c.args.vcpu c.args.value)
     (answer_by (λ _. Okay) c.set_hvictl_in.result)
 taken c =
     let x : CoreState = record {
@@ -47,12 +47,12 @@ taken c =
     } in
     let is = c.in-Some.ensures.there in
     let named = c.in-Some.ensures.named in
-    let same : vcpu c.in-Some.found.vm c.in-Some.found.number ≡ vcpu c.args.vm c.args.number = λ k. vcpu (named.0 k) (named.1 k) in
-    let there : is_vcpu_in x.world.vms (vcpu c.args.vm c.args.number) ≡ true = subst (λ (g : Vcpu). is_vcpu_in x.world.vms g ≡ true) same is.there in
-    let slot : c.in-Some.found.slot ≡ slot_of x.world.vms (vcpu c.args.vm c.args.number) =
+    let same : vcpu_of c.in-Some.found.vm c.in-Some.found.vcpu ≡ vcpu_of c.args.vm c.args.vcpu = λ k. vcpu_of (named.0 k) (named.1 k) in
+    let there : is_vcpu_in x.world.vms (vcpu_of c.args.vm c.args.vcpu) ≡ true = subst (λ (g : Vcpu). is_vcpu_in x.world.vms g ≡ true) same is.there in
+    let slot : c.in-Some.found.slot ≡ slot_of x.world.vms (vcpu_of c.args.vm c.args.vcpu) =
     subst (λ (g : Vcpu). c.in-Some.found.slot ≡ slot_of x.world.vms g) same is.slot in
     let below = who_low x c.in-Some.found c.self.invariant.0 is in
-    let low : slot_of x.world.vms (vcpu c.args.vm c.args.number) < length x.vcpus = omega (arith, below, slot) in
+    let low : slot_of x.world.vms (vcpu_of c.args.vm c.args.vcpu) < length x.vcpus = omega (arith, below, slot) in
     majors_answered (record {
       world = c.self.inside.fabric;
       leases = c.self.inside.pool;
@@ -68,16 +68,16 @@ taken c =
       selects =
           c.self.inside.selects;
       passes = c.self.inside.passes;
-    }) (Hvictl c.args.vm c.args.number c.args.value) c.args.vm c.args.number
-    (is_hvictl c.args.value) (with_hvictl c.args.value) (hvictl_line c.args.vm c.args.number c.args.value) c.set_hvictl_in.result
+    }) (Hvictl c.args.vm c.args.vcpu c.args.value) c.args.vm c.args.vcpu
+    (is_hvictl c.args.value) (with_hvictl c.args.value) (hvictl_line c.args.vm c.args.vcpu c.args.value) c.set_hvictl_in.result
     c.set_hvictl_in.ensures.range
     (subst (λ q. OnOk c.set_hvictl_in.result (MajorsDone c.self.inside.vcpus.items c.set_hvictl_in.new.vcpus.items q (with_hvictl c.args.value)))
     slot c.set_hvictl_in.ensures.ok) c.set_hvictl_in.ensures.err there low refl refl refl refl
 
 pub returns-in_default : goal.returns-in_default
-returns-in_default c = no_such c.args.self.now c.args.self.now (Hvictl c.args.vm c.args.number c.args.value) c.args.vm c.args.number
-    (is_hvictl c.args.value) (with_hvictl c.args.value) (hvictl_line c.args.vm c.args.number c.args.value)
-    (subst (λ (z : CoreState). is_vcpu_in z.world.vms (vcpu c.args.vm c.args.number) ≡ false) c.self.view_is c.in_default.ensures.none)
+returns-in_default c = no_such c.args.self.now c.args.self.now (Hvictl c.args.vm c.args.vcpu c.args.value) c.args.vm c.args.vcpu
+    (is_hvictl c.args.value) (with_hvictl c.args.value) (hvictl_line c.args.vm c.args.vcpu c.args.value)
+    (subst (λ (z : CoreState). is_vcpu_in z.world.vms (vcpu_of c.args.vm c.args.vcpu) ≡ false) c.self.view_is c.in_default.ensures.none)
 
 pub invariant_of-self : goal.invariant_of-self
 invariant_of-self c = (

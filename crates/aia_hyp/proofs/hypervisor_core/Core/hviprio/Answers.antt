@@ -1,6 +1,6 @@
 use Rattle.std.proofs.Common.{◌≡◌, ◌<◌, true, false, length, refl, subst, arith}
 use Rattle.aia_major.specs.VsMajor.{with_hviprio1}
-use Rattle.aia_vcpu.specs.Vms.{Vcpu, vcpu, is_vcpu_in, slot_of}
+use Rattle.aia_vcpu.specs.Vms.{Vcpu, vcpu_of, is_vcpu_in, slot_of}
 use Rattle.aia_model.specs.declared.answer.Answer.TheVariants.{Okay}
 use Rattle.aia_model.specs.declared.line.Line.TheVariants.{Hviprio}
 use Rattle.aia_hyp_values.specs.Core.{CoreState, MajorsDone}
@@ -35,7 +35,7 @@ taken : (c : After-set_hviprio_in) → CoreTakes
       selects = c.self.inside.selects;
       passes = c.self.inside.passes;
     })
-    (Hviprio c.args.vm c.args.number c.args.value) Okay
+    (Hviprio c.args.vm c.args.vcpu c.args.value) Okay
 taken c =
     let x : CoreState = record {
       world = c.self.inside.fabric;
@@ -47,12 +47,12 @@ taken c =
     } in
     let is = c.in-Some.ensures.there in
     let named = c.in-Some.ensures.named in
-    let same : vcpu c.in-Some.found.vm c.in-Some.found.number ≡ vcpu c.args.vm c.args.number = λ k. vcpu (named.0 k) (named.1 k) in
-    let there : is_vcpu_in x.world.vms (vcpu c.args.vm c.args.number) ≡ true = subst (λ (g : Vcpu). is_vcpu_in x.world.vms g ≡ true) same is.there in
-    let slot : c.in-Some.found.slot ≡ slot_of x.world.vms (vcpu c.args.vm c.args.number) =
+    let same : vcpu_of c.in-Some.found.vm c.in-Some.found.vcpu ≡ vcpu_of c.args.vm c.args.vcpu = λ k. vcpu_of (named.0 k) (named.1 k) in
+    let there : is_vcpu_in x.world.vms (vcpu_of c.args.vm c.args.vcpu) ≡ true = subst (λ (g : Vcpu). is_vcpu_in x.world.vms g ≡ true) same is.there in
+    let slot : c.in-Some.found.slot ≡ slot_of x.world.vms (vcpu_of c.args.vm c.args.vcpu) =
     subst (λ (g : Vcpu). c.in-Some.found.slot ≡ slot_of x.world.vms g) same is.slot in
     let below = who_low x c.in-Some.found c.self.invariant.0 is in
-    let low : slot_of x.world.vms (vcpu c.args.vm c.args.number) < length x.vcpus = omega (arith, below, slot) in
+    let low : slot_of x.world.vms (vcpu_of c.args.vm c.args.vcpu) < length x.vcpus = omega (arith, below, slot) in
     majors_taken (record {
       world = c.self.inside.fabric;
       leases = c.self.inside.pool;
@@ -68,8 +68,8 @@ taken c =
       selects =
           c.self.inside.selects;
       passes = c.self.inside.passes;
-    }) (Hviprio c.args.vm c.args.number c.args.value) c.args.vm c.args.number (true)
-    (with_hviprio1 c.args.value) (hviprio_line c.args.vm c.args.number c.args.value) refl there
+    }) (Hviprio c.args.vm c.args.vcpu c.args.value) c.args.vm c.args.vcpu (true)
+    (with_hviprio1 c.args.value) (hviprio_line c.args.vm c.args.vcpu c.args.value) refl there
     (record {
       world = refl;
       leases = refl;
@@ -82,9 +82,9 @@ taken c =
     })
 
 pub returns-in_default : goal.returns-in_default
-returns-in_default c = no_such c.args.self.now c.args.self.now (Hviprio c.args.vm c.args.number c.args.value) c.args.vm c.args.number (true)
-    (with_hviprio1 c.args.value) (hviprio_line c.args.vm c.args.number c.args.value)
-    (subst (λ (z : CoreState). is_vcpu_in z.world.vms (vcpu c.args.vm c.args.number) ≡ false) c.self.view_is c.in_default.ensures.none)
+returns-in_default c = no_such c.args.self.now c.args.self.now (Hviprio c.args.vm c.args.vcpu c.args.value) c.args.vm c.args.vcpu (true)
+    (with_hviprio1 c.args.value) (hviprio_line c.args.vm c.args.vcpu c.args.value)
+    (subst (λ (z : CoreState). is_vcpu_in z.world.vms (vcpu_of c.args.vm c.args.vcpu) ≡ false) c.self.view_is c.in_default.ensures.none)
 
 pub invariant_of-self : goal.invariant_of-self
 invariant_of-self c = (

@@ -3,7 +3,7 @@ use Rattle.aia_regs.specs.Fields.{bit_number}
 use Rattle.aia_regs.specs.FileRegisters.{select_written}
 use Rattle.aia_regs.specs.declared.access.Op.TheVariants as ops
 use Rattle.aia_file.specs.declared.spot.Spot.TheVariants as spots
-use Rattle.aia_vcpu.specs.Vms.{vcpu, is_vcpu_in, vcpus_in, slot_of, notice_hart}
+use Rattle.aia_vcpu.specs.Vms.{vcpu_of, is_vcpu_in, vcpus_in, slot_of, notice_hart}
 use Rattle.aia_fabric_values.specs.World.{World}
 use Rattle.aia_fabric_values.specs.Stores.{Posts}
 use Rattle.aia_fabric_values.specs.SlotAccess.{DoneInSlot}
@@ -32,17 +32,17 @@ use Rattle.aia_hyp.proofs.hypervisor_core.Core.load_into.Goals as goal
 
 -- what is known before the load
 module _ (x z : CoreState) (found : Found) (kept : KeptNumbers) (part : Part) (view : x ≡ z) (is_found : IsFound z.world found)
-    (is_whole : IsWhole z.world) (parked : (record_of z (vcpu found.vm found.number)).stay ≡ stays.InMemory Parked kept)
+    (is_whole : IsWhole z.world) (parked : (record_of z (vcpu_of found.vm found.vcpu)).stay ≡ stays.InMemory Parked kept)
     (loadable : is_loadable z.world.n part ≡ true) where
   is_of : IsFound x.world found
   is_of = subst (λ (s : CoreState). IsFound s.world found) (sym view) is_found
 
   load_of : (y : CoreState) (made : Part) → part ≡ made → y.leases ≡ x.leases → y.selects ≡ x.selects → y.passes ≡ x.passes
-      → IsLoad x y found.vm found.number kept made
+      → IsLoad x y found.vm found.vcpu kept made
   load_of y made is leases selects passes = record {
     inside = is_of.there;
     whole = subst (λ (s : CoreState). IsWhole s.world) (sym view) is_whole;
-    at = subst (λ (s : CoreState). (record_of s (vcpu found.vm found.number)).stay ≡ stays.InMemory Parked kept) (sym view) parked;
+    at = subst (λ (s : CoreState). (record_of s (vcpu_of found.vm found.vcpu)).stay ≡ stays.InMemory Parked kept) (sym view) parked;
     good = subst (λ (p : Part). is_loadable x.world.n p ≡ true) is (subst (λ (s : CoreState). is_loadable s.world.n part ≡ true) (sym view) loadable);
     leases = leases;
     selects = selects;
@@ -64,7 +64,7 @@ numbers : (c : After-load_numbers_in) → CoreTakes
       selects = c.self.inside.selects;
       passes = c.self.inside.passes;
     })
-    (LoadPart c.args.found.vm c.args.found.number c.args.part) Okay
+    (LoadPart c.args.found.vm c.args.found.vcpu c.args.part) Okay
 numbers c =
     let x : CoreState = record {
       world = c.self.inside.fabric;
@@ -88,8 +88,8 @@ numbers c =
     let now : KeptNumbers = record { delivery = c.from.result; threshold = c.from-in-Image.result } in
     let is = is_of x c.args.self.now found c.args.kept c.args.part c.self.view_is r.found r.whole r.parked r.loadable in
     let low = who_low x found c.self.invariant.0 is in
-    subst (λ (p : Part). CoreTakes x y (LoadPart found.vm found.number p) Okay) (sym i.is)
-    (numbers_are_loaded x y found.vm found.number c.args.kept now i.version i.n i.threshold i.select i.delivery (record {
+    subst (λ (p : Part). CoreTakes x y (LoadPart found.vm found.vcpu p) Okay) (sym i.is)
+    (numbers_are_loaded x y found.vm found.vcpu c.args.kept now i.version i.n i.threshold i.select i.delivery (record {
       load = load_of x c.args.self.now found c.args.kept c.args.part c.self.view_is r.found r.whole r.parked r.loadable y _ i.is refl refl refl;
       world = refl;
       low = subst (λ q. q < length x.vcpus) is.slot low;
@@ -122,7 +122,7 @@ majors : (c : After-load_majors_in) → CoreTakes
       selects = c.self.inside.selects;
       passes = c.self.inside.passes;
     })
-    (LoadPart c.args.found.vm c.args.found.number c.args.part) Okay
+    (LoadPart c.args.found.vm c.args.found.vcpu c.args.part) Okay
 majors c =
     let x : CoreState = record {
       world = c.self.inside.fabric;
@@ -145,8 +145,8 @@ majors c =
     let r = c.requires in
     let is = is_of x c.args.self.now found c.args.kept c.args.part c.self.view_is r.found r.whole r.parked r.loadable in
     let low = who_low x found c.self.invariant.0 is in
-    subst (λ (p : Part). CoreTakes x y (LoadPart found.vm found.number p) Okay) (sym i.is)
-    (majors_are_loaded x y found.vm found.number i.injected i.enabled c.args.kept
+    subst (λ (p : Part). CoreTakes x y (LoadPart found.vm found.vcpu p) Okay) (sym i.is)
+    (majors_are_loaded x y found.vm found.vcpu i.injected i.enabled c.args.kept
     (load_of x c.args.self.now found c.args.kept c.args.part c.self.view_is r.found r.whole r.parked r.loadable y _ i.is refl refl refl) (record {
       world = refl;
       leases = refl;
@@ -171,7 +171,7 @@ registers : (c : After-load_registers_in) → CoreTakes
       selects = c.self.inside.selects;
       passes = c.self.inside.passes;
     })
-    (LoadPart c.args.found.vm c.args.found.number c.args.part) Okay
+    (LoadPart c.args.found.vm c.args.found.vcpu c.args.part) Okay
 registers c =
     let x : CoreState = record {
       world = c.self.inside.fabric;
@@ -194,8 +194,8 @@ registers c =
     let r = c.requires in
     let is = is_of x c.args.self.now found c.args.kept c.args.part c.self.view_is r.found r.whole r.parked r.loadable in
     let low = who_low x found c.self.invariant.0 is in
-    subst (λ (p : Part). CoreTakes x y (LoadPart found.vm found.number p) Okay) (sym i.is)
-    (registers_are_loaded x y found.vm found.number i.hviprio i.hvictl c.args.kept
+    subst (λ (p : Part). CoreTakes x y (LoadPart found.vm found.vcpu p) Okay) (sym i.is)
+    (registers_are_loaded x y found.vm found.vcpu i.hviprio i.hvictl c.args.kept
     (load_of x c.args.self.now found c.args.kept c.args.part c.self.view_is r.found r.whole r.parked r.loadable y _ i.is refl refl refl) (record {
       world = refl;
       leases = refl;
@@ -219,7 +219,7 @@ told : (c : After-notice) → CoreTakes (record {
       selects = c.self.inside.selects;
       passes =
           c.self.inside.passes;
-    }) (LoadPart c.args.found.vm c.args.found.number c.args.part) Okay
+    }) (LoadPart c.args.found.vm c.args.found.vcpu c.args.part) Okay
 told c =
     let x : CoreState = record {
       world = c.self.inside.fabric;
@@ -239,7 +239,7 @@ told c =
     } in
     let m : World = c.load_word.new.fabric in
     let found = c.args.found in
-    let g = vcpu found.vm found.number in
+    let g = vcpu_of found.vm found.vcpu in
     let i = c.in-Word in
     let r = c.requires in
     let is = is_of x c.args.self.now found c.args.kept c.args.part c.self.view_is r.found r.whole r.parked r.loadable in
@@ -249,8 +249,8 @@ told c =
     let there : is_vcpu_in m.vms g ≡ true = ap (λ vms. is_vcpu_in vms g) same ∙ is.there in
     let slot : slot_of m.vms g ≡ found.slot = ap (λ vms. slot_of vms g) same ∙ sym is.slot in
     let posts = c.notice.ensures.posts g there slot in
-    subst (λ (p : Part). CoreTakes x y (LoadPart found.vm found.number p) Okay) (sym i.is)
-    (word_told x y m found.vm found.number c.args.kept i.w i.pending i.enable (record {
+    subst (λ (p : Part). CoreTakes x y (LoadPart found.vm found.vcpu p) Okay) (sym i.is)
+    (word_told x y m found.vm found.vcpu c.args.kept i.w i.pending i.enable (record {
       load = load_of x c.args.self.now found c.args.kept c.args.part c.self.view_is r.found r.whole r.parked r.loadable y _ i.is refl refl refl;
       vcpus = refl;
       done = done;
@@ -274,7 +274,7 @@ untold : (c : Else-is_live) → CoreTakes (record {
   selects =
       c.self.inside.selects;
   passes = c.self.inside.passes;
-}) (LoadPart c.args.found.vm c.args.found.number c.args.part) Okay
+}) (LoadPart c.args.found.vm c.args.found.vcpu c.args.part) Okay
 untold c =
     let x : CoreState = record {
       world = c.self.inside.fabric;
@@ -297,8 +297,8 @@ untold c =
     let i = c.in-Word in
     let r = c.requires in
     let is = is_of x c.args.self.now found c.args.kept c.args.part c.self.view_is r.found r.whole r.parked r.loadable in
-    subst (λ (p : Part). CoreTakes x y (LoadPart found.vm found.number p) Okay) (sym i.is)
-    (word_untold x y m found.vm found.number c.args.kept i.w i.pending i.enable (record {
+    subst (λ (p : Part). CoreTakes x y (LoadPart found.vm found.vcpu p) Okay) (sym i.is)
+    (word_untold x y m found.vm found.vcpu c.args.kept i.w i.pending i.enable (record {
       load = load_of x c.args.self.now found c.args.kept c.args.part c.self.view_is r.found r.whole r.parked r.loadable y _ i.is refl refl refl;
       vcpus = refl;
       done = subst (λ q. DoneInSlot x.world m q 0 (sets_loaded i.w i.pending i.enable)) is.slot c.load_word.ensures;

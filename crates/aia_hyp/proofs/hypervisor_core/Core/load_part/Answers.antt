@@ -11,14 +11,14 @@ use Rattle.aia_hyp_values.proofs.ImageLines.{no_vcpu_to_load, not_loadable, not_
 use Rattle.aia_hyp.proofs.hypervisor_core.Core.load_part.Goals as goal
 
 pub returns-in_default : goal.returns-in_default
-returns-in_default c = rw (← c.self.view_is) (no_vcpu_to_load _ c.args.vm c.args.number c.args.part.now c.in_default.ensures.none)
+returns-in_default c = rw (← c.self.view_is) (no_vcpu_to_load _ c.args.vm c.args.vcpu c.args.part.now c.in_default.ensures.none)
 
 pub returns-then-not-is_loadable : goal.returns-then-not-is_loadable
 returns-then-not-is_loadable c =
     let n : 64 * c.words.result - 1 ≡ c.self.inside.fabric.n = omega (arith, c.words.ensures.all) in
     let bad : is_loadable c.self.inside.fabric.n c.args.part.now ≡ false = ap (λ n. is_loadable n c.args.part.now) (sym n)
     ∙ sym c.is_loadable.ensures ∙ c.if-not-is_loadable.true in
-    rw (← c.self.view_is) (not_loadable _ c.args.vm c.args.number c.args.part.now bad)
+    rw (← c.self.view_is) (not_loadable _ c.args.vm c.args.vcpu c.args.part.now bad)
 
 pub parked-requires : goal.parked-requires
 parked-requires c =
@@ -40,6 +40,6 @@ returns-in_err-kept c =
     let good = subst (λ (z : CoreState). is_loadable z.world.n part ≡ true) c.self.view_is fits in
     let stay = found_stay x found is c.parked.result parked_at c.parked.ensures in
     rw same
-    (subst (λ vm. CoreTakes x x (LoadPart vm c.args.number part) (Refused word)) named.0
-    (subst (λ number. CoreTakes x x (LoadPart found.vm number part) (Refused word)) named.1
-    (not_parked_to_load x found.vm found.number part word is.there good (sym stay ∙ c.in_err-kept.was))))
+    (subst (λ vm. CoreTakes x x (LoadPart vm c.args.vcpu part) (Refused word)) named.0
+    (subst (λ vcpu. CoreTakes x x (LoadPart found.vm vcpu part) (Refused word)) named.1
+    (not_parked_to_load x found.vm found.vcpu part word is.there good (sym stay ∙ c.in_err-kept.was))))

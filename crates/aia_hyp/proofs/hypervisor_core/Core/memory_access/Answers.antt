@@ -6,7 +6,7 @@ use Rattle.aia_regs.specs.FileRegisters.{select_written}
 use Rattle.aia_regs.specs.Operations.{is_writing}
 use Rattle.aia_csr.specs.declared.csr_access.CsrAccess.TheVariants as reaches
 use Rattle.aia_file.specs.InterruptFile.{SameFile, register_value, top_of, accessed, claimed}
-use Rattle.aia_vcpu.specs.Vms.{Vcpu, vcpu, is_vcpu_in, slot_of}
+use Rattle.aia_vcpu.specs.Vms.{Vcpu, vcpu_of, is_vcpu_in, slot_of}
 use Rattle.aia_fabric_values.specs.SlotAccess.{file_of_slot, DoneInSlot}
 use Rattle.aia_fabric_values.specs.Whole.{IsWhole}
 use Rattle.aia_move_values.specs.declared.who.KeptNumbers.{KeptNumbers}
@@ -48,7 +48,7 @@ select_taken : (c : After-access_select_in) → CoreTakes
       selects = c.self.inside.selects;
       passes = c.self.inside.passes;
     })
-    (GuestCsr c.args.found.vm c.args.found.number c.args.csr c.args.op) (Wide c.access_select_in.result)
+    (GuestCsr c.args.found.vm c.args.found.vcpu c.args.csr c.args.op) (Wide c.access_select_in.result)
 select_taken c =
     let x : CoreState = record {
       world = c.self.inside.fabric;
@@ -66,7 +66,7 @@ select_taken c =
           c.self.inside.selects;
       passes = c.self.inside.passes;
     } in
-    let g = vcpu c.args.found.vm c.args.found.number in
+    let g = vcpu_of c.args.found.vm c.args.found.vcpu in
     let a = asked x c.args.self.now g c.args.kept c.self.view_is
     (record { there = c.requires.found.there; whole = c.requires.whole; at = c.requires.entered }) in
     let table = reached x c.args.self.now g reaches.Select c.guest_reached.result c.args.csr c.args.op c.self.view_is c.in-Select.is
@@ -75,7 +75,7 @@ select_taken c =
     let slot = slot_is x c.args.self.now c.args.found c.self.view_is c.requires.found in
     let low = slot_low x c.args.self.now c.args.found c.self.view_is c.self.invariant.0 c.requires.found in
     let after = record (record_of x g) { select = select_written c.args.op (record_of x g).select } in
-    memory_accessed x y c.args.found.vm c.args.found.number c.args.csr csrs.Select c.args.op c.args.kept c.args.kept reaches.Select
+    memory_accessed x y c.args.found.vm c.args.found.vcpu c.args.csr csrs.Select c.args.op c.args.kept c.args.kept reaches.Select
     c.access_select_in.result a.whole a.there a.at table refl refl named
     (c.access_select_in.ensures.value ∙ ap (λ q. (get_or x.vcpus q no_record).select) slot)
     (memory_record_done x y g c.args.kept c.args.kept (Accesses csrs.Select c.args.op) refl refl refl refl low after
@@ -98,7 +98,7 @@ number_taken : (c : After-access_kept_in) → CoreTakes
       selects = c.self.inside.selects;
       passes = c.self.inside.passes;
     })
-    (GuestCsr c.args.found.vm c.args.found.number c.args.csr c.args.op) (Wide c.access_kept_in.result)
+    (GuestCsr c.args.found.vm c.args.found.vcpu c.args.csr c.args.op) (Wide c.access_kept_in.result)
 number_taken c =
     let x : CoreState = record {
       world = c.self.inside.fabric;
@@ -116,7 +116,7 @@ number_taken c =
           c.self.inside.selects;
       passes = c.self.inside.passes;
     } in
-    let g = vcpu c.args.found.vm c.args.found.number in
+    let g = vcpu_of c.args.found.vm c.args.found.vcpu in
     let reg = c.in-File.reg in
     let op = c.args.op in
     let kept = c.args.kept in
@@ -132,7 +132,7 @@ number_taken c =
     let all : modulus ≡ x.world.n + 1 = ap (λ m. 64 * m) c.from-modulus.ensures ∙ c.words.ensures.all in
     let number = sym c.is_outside_sets.ensures ∙ c.if-is_outside_sets.true in
     let after = record (record_of x g) { stay = stays.InMemory Entered now } in
-    memory_accessed x y c.args.found.vm c.args.found.number c.args.csr csrs.Reg op kept now (reaches.File reg) c.access_kept_in.result a.whole
+    memory_accessed x y c.args.found.vm c.args.found.vcpu c.args.csr csrs.Reg op kept now (reaches.File reg) c.access_kept_in.result a.whole
     a.there a.at table refl refl named.0
     (c.access_kept_in.ensures.value ∙ number_value x.world (slot_of x.world.vms g) kept reg number
     ∙ ap (register_value (file_in_memory x.world (slot_of x.world.vms g) kept)) (sym named.1))
@@ -157,7 +157,7 @@ sets_taken : (c : After-slot_reg) → CoreTakes (record {
   selects =
       c.self.inside.selects;
   passes = c.self.inside.passes;
-}) (GuestCsr c.args.found.vm c.args.found.number c.args.csr c.args.op)
+}) (GuestCsr c.args.found.vm c.args.found.vcpu c.args.csr c.args.op)
     (Wide c.slot_reg.result)
 sets_taken c =
     let x : CoreState = record {
@@ -176,7 +176,7 @@ sets_taken c =
           c.self.inside.selects;
       passes = c.self.inside.passes;
     } in
-    let g = vcpu c.args.found.vm c.args.found.number in
+    let g = vcpu_of c.args.found.vm c.args.found.vcpu in
     let reg = c.in-File.reg in
     let op = c.args.op in
     let kept = c.args.kept in
@@ -190,7 +190,7 @@ sets_taken c =
     let done : DoneInSlot x.world y.world q 0 (accessed reg op) =
     subst (λ q. DoneInSlot x.world y.world q 0 (accessed reg op)) (slot_is x c.args.self.now c.args.found c.self.view_is c.requires.found)
     c.slot_reg.ensures.done in
-    memory_accessed x y c.args.found.vm c.args.found.number c.args.csr csrs.Reg op kept kept (reaches.File reg) c.slot_reg.result a.whole a.there
+    memory_accessed x y c.args.found.vm c.args.found.vcpu c.args.csr csrs.Reg op kept kept (reaches.File reg) c.slot_reg.result a.whole a.there
     a.at table refl refl named.0
     (c.slot_reg.ensures.value ∙ ap (λ q. register_value (file_of_slot x.world q 0) reg)
     (slot_is x c.args.self.now c.args.found c.self.view_is c.requires.found) ∙ sets_value x.world q kept reg sets
@@ -213,7 +213,7 @@ top_taken : (c : After-top_in) → CoreTakes (record {
   selects =
       c.self.inside.selects;
   passes = c.self.inside.passes;
-}) (GuestCsr c.args.found.vm c.args.found.number c.args.csr c.args.op) (Wide c.top_in.result)
+}) (GuestCsr c.args.found.vm c.args.found.vcpu c.args.csr c.args.op) (Wide c.top_in.result)
 top_taken c =
     let x : CoreState = record {
       world = c.self.inside.fabric;
@@ -231,7 +231,7 @@ top_taken c =
           c.self.inside.selects;
       passes = c.self.inside.passes;
     } in
-    let g = vcpu c.args.found.vm c.args.found.number in
+    let g = vcpu_of c.args.found.vm c.args.found.vcpu in
     let op = c.args.op in
     let kept = c.args.kept in
     let q = slot_of x.world.vms g in
@@ -243,7 +243,7 @@ top_taken c =
     let done : DoneInSlot x.world y.world q kept.threshold (λ file. cond (is_writing op) (claimed file) file) =
     subst (λ q. DoneInSlot x.world y.world q kept.threshold (λ file. cond (is_writing op) (claimed file) file))
     (slot_is x c.args.self.now c.args.found c.self.view_is c.requires.found) c.top_in.ensures.done in
-    memory_accessed x y c.args.found.vm c.args.found.number c.args.csr csrs.Topei op kept kept reaches.Top c.top_in.result a.whole a.there a.at
+    memory_accessed x y c.args.found.vm c.args.found.vcpu c.args.csr csrs.Topei op kept kept reaches.Top c.top_in.result a.whole a.there a.at
     table refl refl named
     (c.top_in.ensures.value ∙ ap (λ q. top_value (top_of (file_of_slot x.world q kept.threshold)))
     (slot_is x c.args.self.now c.args.found c.self.view_is c.requires.found))
@@ -282,5 +282,5 @@ pub returns-in-Top : goal.returns-in-Top
 returns-in-Top c = rw (← c.self.view_is) (top_taken c)
 
 pub returns-in-Virtual : goal.returns-in-Virtual
-returns-in-Virtual c = memory_virtual c.args.self.now c.args.found.vm c.args.found.number c.args.csr c.args.op c.args.kept c.requires.found.there
+returns-in-Virtual c = memory_virtual c.args.self.now c.args.found.vm c.args.found.vcpu c.args.csr c.args.op c.args.kept c.requires.found.there
     c.requires.entered c.requires.listed (sym c.in-Virtual.is ∙ c.guest_reached.ensures.table)

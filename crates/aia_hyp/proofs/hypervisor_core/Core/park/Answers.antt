@@ -1,6 +1,6 @@
 use Rattle.std.proofs.Common.{◌≡◌, ◌+◌, true, refl, sym, subst, ◌∙◌, arith}
 use Rattle.aia_file.specs.declared.spot.Spot.TheVariants as spots
-use Rattle.aia_vcpu.specs.Vms.{Vcpu, vcpu, is_vcpu_in, slot_of, notice_hart, notice_identity}
+use Rattle.aia_vcpu.specs.Vms.{Vcpu, vcpu_of, is_vcpu_in, slot_of, notice_hart, notice_identity}
 use Rattle.aia_fabric_values.specs.World.{World}
 use Rattle.aia_fabric_values.specs.Stores.{Posts}
 use Rattle.aia_model.specs.declared.answer.Answer.TheVariants.{Okay}
@@ -29,7 +29,7 @@ told : (c : After-notice) → CoreTakes (record {
       vcpus = c.put_stay.new.vcpus.items;
       selects = c.self.inside.selects;
       passes = c.self.inside.passes;
-    }) (Exit c.args.found.vm c.args.found.number) Okay
+    }) (Exit c.args.found.vm c.args.found.vcpu) Okay
 told c =
     let x : CoreState = record {
       world = c.self.inside.fabric;
@@ -48,7 +48,7 @@ told c =
       passes = c.self.inside.passes;
     } in
     let found = c.args.found in
-    let g = vcpu found.vm found.number in
+    let g = vcpu_of found.vm found.vcpu in
     let is = subst (λ (z : CoreState). IsFound z.world found) (sym c.self.view_is) c.requires.found in
     let was = subst (λ (z : CoreState). (record_of z g).stay ≡ stays.InMemory Entered c.args.kept) (sym c.self.view_is) c.requires.entered in
     let whole = c.recall.ensures.whole in
@@ -58,7 +58,7 @@ told c =
     λ w same by. subst (λ s. Posts x.world y.world (spots.SupervisorFile (notice_hart x.world.vms g)) (s + 1)) is.slot
     (subst (λ (w : World). (g : Vcpu) → is_vcpu_in w.vms g ≡ true → slot_of w.vms g ≡ found.slot
     → Posts w y.world (spots.SupervisorFile (notice_hart w.vms g)) (found.slot + 1)) same by g is.there (sym is.slot)) in
-    exits x y found.vm found.number c.args.kept (record {
+    exits x y found.vm found.vcpu c.args.kept (record {
       whole = whole;
       there = is.there;
       was = was;
@@ -66,7 +66,7 @@ told c =
       leases = refl;
       selects = refl;
       passes = refl;
-      notifies = λ h stands. exit_is_loud x y h found.vm found.number stands whole is.there refl
+      notifies = λ h stands. exit_is_loud x y h found.vm found.vcpu stands whole is.there refl
           (live_top x h g c.args.kept found.slot stands whole is.there was is.slot ∙ sym c.slot_is_live.ensures.value ∙ c.if-slot_is_live.true)
           (told c.slot_is_live.new.fabric c.slot_is_live.ensures.same c.notice.ensures.posts);
     })
@@ -84,7 +84,7 @@ untold : (c : Else-slot_is_live) → CoreTakes (record {
   vcpus = c.put_stay.new.vcpus.items;
   selects = c.self.inside.selects;
   passes = c.self.inside.passes;
-}) (Exit c.args.found.vm c.args.found.number) Okay
+}) (Exit c.args.found.vm c.args.found.vcpu) Okay
 untold c =
     let x : CoreState = record {
       world = c.self.inside.fabric;
@@ -103,11 +103,11 @@ untold c =
       passes = c.self.inside.passes;
     } in
     let found = c.args.found in
-    let g = vcpu found.vm found.number in
+    let g = vcpu_of found.vm found.vcpu in
     let is = subst (λ (z : CoreState). IsFound z.world found) (sym c.self.view_is) c.requires.found in
     let was = subst (λ (z : CoreState). (record_of z g).stay ≡ stays.InMemory Entered c.args.kept) (sym c.self.view_is) c.requires.entered in
     let whole = c.recall.ensures.whole in
-    exits x y found.vm found.number c.args.kept (record {
+    exits x y found.vm found.vcpu c.args.kept (record {
       whole = whole;
       there = is.there;
       was = was;
@@ -115,7 +115,7 @@ untold c =
       leases = refl;
       selects = refl;
       passes = refl;
-      notifies = λ h stands. exit_is_quiet x y h found.vm found.number c.slot_is_live.ensures.same refl
+      notifies = λ h stands. exit_is_quiet x y h found.vm found.vcpu c.slot_is_live.ensures.same refl
           (live_top x h g c.args.kept found.slot stands whole is.there was is.slot ∙ sym c.slot_is_live.ensures.value ∙ c.if-slot_is_live.false);
     })
 

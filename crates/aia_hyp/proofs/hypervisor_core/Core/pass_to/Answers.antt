@@ -1,5 +1,5 @@
 use Rattle.std.proofs.Common.{◌≡◌, ◌<◌, true, List, [], ◌∷◌, ◌++◌, slice_index_or, length, sym, ap, subst, ◌∙◌, arith}
-use Rattle.aia_vcpu.specs.Vms.{vcpu}
+use Rattle.aia_vcpu.specs.Vms.{vcpu_of}
 use Rattle.aia_file.specs.InterruptFile.{is_greatest_identity}
 use Rattle.aia_fabric_values.specs.Whole.{IsWhole}
 use Rattle.aia_fabric_values.proofs.WholeLemmas.{notice_hart_there}
@@ -15,7 +15,7 @@ use Rattle.aia_hyp.proofs.hypervisor_core.Core.pass_to.Goals as goal
 
 pub index-requires : goal.index-requires
 index-requires g c =
-    let low = record_low c.args.self.now c.requires.may.past (vcpu c.args.found.vm c.args.found.number) c.args.found.slot c.requires.may.stands
+    let low = record_low c.args.self.now c.requires.may.past (vcpu_of c.args.found.vm c.args.found.vcpu) c.args.found.slot c.requires.may.stands
     c.requires.found.there c.requires.found.slot in
     let kept : c.args.found.slot < length c.self.inside.vcpus.items =
     subst (λ (z : CoreState). c.args.found.slot < length z.vcpus) (sym c.self.view_is) low in
@@ -23,14 +23,14 @@ index-requires g c =
 
 pub aim_first-requires-clause-harts : goal.aim_first-requires-clause-harts
 aim_first-requires-clause-harts g c =
-    let hart = notice_hart_there c.args.self.now.world (vcpu c.args.found.vm c.args.found.number)
+    let hart = notice_hart_there c.args.self.now.world (vcpu_of c.args.found.vm c.args.found.vcpu)
     (subst (λ (z : CoreState). IsWhole z.world) c.self.view_is c.recall.ensures.whole) c.requires.found.there in
     omega (arith, hart, c.requires.found.notice, c.requires.harts)
 
 pub aim_first-requires-clause-identity : goal.aim_first-requires-clause-identity
 aim_first-requires-clause-identity g c =
     let m = c.requires.may in
-    let free = free_so c.args.self.now (g.T.Targets.map c.args.targets.now) c.args.source c.args.found.vm c.args.found.number c.args.identity
+    let free = free_so c.args.self.now (g.T.Targets.map c.args.targets.now) c.args.source c.args.found.vm c.args.found.vcpu c.args.identity
     m.past m.stands m.tells (c.requires.free m.past m.stands m.tells) in
     few_identities c.args.self.now.world.n c.args.identity
     (subst (λ (z : CoreState). is_greatest_identity z.world.n ≡ true) c.self.view_is c.recall.ensures.whole.greatest) free.implemented
@@ -38,7 +38,7 @@ aim_first-requires-clause-identity g c =
 pub aim_first-requires-clause-place : goal.aim_first-requires-clause-place
 aim_first-requires-clause-place g c = λ p e.
     let x = c.args.self.now in
-    let to = vcpu c.args.found.vm c.args.found.number in
+    let to = vcpu_of c.args.found.vm c.args.found.vcpu in
     let read = record_read x c.requires.may.past to c.args.found.slot c.index.result.now c.requires.may.stands c.requires.found.there
     c.requires.found.slot (c.index.ensures ∙ ap (λ (z : CoreState). slice_index_or z.vcpus c.args.found.slot c.index.result.now)
     c.self.view_is) in
@@ -50,11 +50,11 @@ aim_first-requires-clause-place g c = λ p e.
 pub invariant_of-self : goal.invariant_of-self
 invariant_of-self g c =
     let m = c.requires.may in
-    let free = free_so c.args.self.now (g.T.Targets.map c.args.targets.now) c.args.source c.args.found.vm c.args.found.number c.args.identity
+    let free = free_so c.args.self.now (g.T.Targets.map c.args.targets.now) c.args.source c.args.found.vm c.args.found.vcpu c.args.identity
     m.past m.stands m.tells (c.requires.free m.past m.stands m.tells) in
-    let some = pass_stands_for_some c.args.self.now (g.T.Targets.map c.args.targets.now) c.args.source c.args.found.vm c.args.found.number
+    let some = pass_stands_for_some c.args.self.now (g.T.Targets.map c.args.targets.now) c.args.source c.args.found.vm c.args.found.vcpu
     c.args.identity m c.requires.free free in
-    let pass : PassedSource = record { source = c.args.source; to = vcpu c.args.found.vm c.args.found.number; identity = c.args.identity } in (
+    let pass : PassedSource = record { source = c.args.source; to = vcpu_of c.args.found.vm c.args.found.vcpu; identity = c.args.identity } in (
       subst StandsForSome (ap (λ (z : CoreState). record z { passes = z.passes ++ pass ∷ [] }) (sym c.self.view_is)
           ∙ ap (λ (ps : List PassedSource). record {
             world = c.self.inside.fabric;
@@ -68,10 +68,10 @@ invariant_of-self g c =
 
 pub returns-clause-passes : goal.returns-clause-passes
 returns-clause-passes g c = λ h stands tells.
-    let free = free_so c.args.self.now (g.T.Targets.map c.args.targets.now) c.args.source c.args.found.vm c.args.found.number c.args.identity h
+    let free = free_so c.args.self.now (g.T.Targets.map c.args.targets.now) c.args.source c.args.found.vm c.args.found.vcpu c.args.identity h
     stands tells (c.requires.free h stands tells) in
-    let pass : PassedSource = record { source = c.args.source; to = vcpu c.args.found.vm c.args.found.number; identity = c.args.identity } in
-    subst (λ (z : CoreState). CoreStands z (Accepted (lines.Pass c.args.source c.args.found.vm c.args.found.number c.args.identity) ∷ h))
+    let pass : PassedSource = record { source = c.args.source; to = vcpu_of c.args.found.vm c.args.found.vcpu; identity = c.args.identity } in
+    subst (λ (z : CoreState). CoreStands z (Accepted (lines.Pass c.args.source c.args.found.vm c.args.found.vcpu c.args.identity) ∷ h))
     (ap (λ (z : CoreState). record z { passes = z.passes ++ pass ∷ [] }) (sym c.self.view_is)
     ∙ ap (λ (ps : List PassedSource). record {
       world = c.self.inside.fabric;
@@ -80,18 +80,18 @@ returns-clause-passes g c = λ h stands tells.
       selects = c.self.inside.selects;
       passes = ps;
     }) (sym c.push.ensures))
-    (pass_stands c.args.self.now h c.args.source c.args.found.vm c.args.found.number c.args.identity stands free)
+    (pass_stands c.args.self.now h c.args.source c.args.found.vm c.args.found.vcpu c.args.identity stands free)
 
 pub returns-clause-aims : goal.returns-clause-aims
 returns-clause-aims g c = λ h stands.
     let m = c.requires.may in
     let x = c.args.self.now in
-    let to = vcpu c.args.found.vm c.args.found.number in
-    let free = free_so x (g.T.Targets.map c.args.targets.now) c.args.source c.args.found.vm c.args.found.number c.args.identity m.past m.stands
+    let to = vcpu_of c.args.found.vm c.args.found.vcpu in
+    let free = free_so x (g.T.Targets.map c.args.targets.now) c.args.source c.args.found.vm c.args.found.vcpu c.args.identity m.past m.stands
     m.tells (c.requires.free m.past m.stands m.tells) in
     let read = record_read x m.past to c.args.found.slot c.index.result.now m.stands c.requires.found.there c.requires.found.slot
     (c.index.ensures ∙ ap (λ (z : CoreState). slice_index_or z.vcpus c.args.found.slot c.index.result.now) c.self.view_is) in
-    pass_aims x h c.args.source c.args.found.vm c.args.found.number c.args.identity stands free g.T.Targets.aimed c.args.targets.now
+    pass_aims x h c.args.source c.args.found.vm c.args.found.vcpu c.args.identity stands free g.T.Targets.aimed c.args.targets.now
     c.aim_first.new.targets c.args.found.notice c.count-number.result c.requires.found.notice
     (c.count-number.ensures.value ∙ ap (λ (z : CoreState). length z.passes) c.self.view_is)
     (subst (λ (r : VcpuRecord). g.T.Targets.aimed c.args.targets.now c.args.source

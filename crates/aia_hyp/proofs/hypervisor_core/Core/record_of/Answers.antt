@@ -1,5 +1,5 @@
 use Rattle.std.proofs.Common.{sym, ap, subst, ◌∙◌, arith}
-use Rattle.aia_vcpu.specs.Vms.{vcpu}
+use Rattle.aia_vcpu.specs.Vms.{vcpu_of}
 use Rattle.aia_fabric_values.specs.Found.{IsFound}
 use Rattle.aia_hyp_values.specs.Core.{CoreState, record_of}
 use Rattle.aia_hyp_values.proofs.MoveCalls.{who_low}
@@ -29,7 +29,7 @@ returns c =
           c.self.inside.selects;
       passes = c.self.inside.passes;
     } in
-    let g = vcpu c.args.found.vm c.args.found.number in
+    let g = vcpu_of c.args.found.vm c.args.found.vcpu in
     let is = subst (λ (z : CoreState). IsFound z.world c.args.found) (sym c.self.view_is) c.requires in
     let some = c.self.invariant.0 in
     record_read x some.past g c.args.found.slot c.index.result.now some.stands is.there is.slot c.index.ensures

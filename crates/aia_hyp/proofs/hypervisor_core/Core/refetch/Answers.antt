@@ -8,7 +8,7 @@ use Rattle.aia_hyp.proofs.hypervisor_core.Core.refetch.Goals.{After-refetch}
 use Rattle.aia_hyp.proofs.hypervisor_core.Core.refetch.Goals as goal
 
 pub returns-in_default : goal.returns-in_default
-returns-in_default c = rw (← c.self.view_is) (no_entry_to_read _ c.args.vm c.args.number c.in_default.ensures.none)
+returns-in_default c = rw (← c.self.view_is) (no_entry_to_read _ c.args.vm c.args.vcpu c.in_default.ensures.none)
 
 taken : (c : After-refetch) → CoreTakes (record {
   world = c.self.inside.fabric;
@@ -24,7 +24,7 @@ taken : (c : After-refetch) → CoreTakes (record {
   selects =
       c.self.inside.selects;
   passes = c.self.inside.passes;
-}) (Refetch c.args.vm c.args.number) Okay
+}) (Refetch c.args.vm c.args.vcpu) Okay
 taken c =
     let found = c.in-Some.found in
     let named = c.in-Some.ensures.named in
@@ -42,8 +42,8 @@ taken c =
       vcpus = c.self.inside.vcpus.items;
       selects = c.self.inside.selects;
       passes = c.self.inside.passes;
-    }) (Refetch vm c.args.number) Okay) named.0
-    (subst (λ number. CoreTakes (record {
+    }) (Refetch vm c.args.vcpu) Okay) named.0
+    (subst (λ vcpu. CoreTakes (record {
       world = c.self.inside.fabric;
       leases = c.self.inside.pool;
       vcpus = c.self.inside.vcpus.items;
@@ -56,7 +56,7 @@ taken c =
       vcpus = c.self.inside.vcpus.items;
       selects = c.self.inside.selects;
       passes = c.self.inside.passes;
-    }) (Refetch found.vm number) Okay) named.1
+    }) (Refetch found.vm vcpu) Okay) named.1
     (refetch_taken (record {
       world = c.self.inside.fabric;
       leases = c.self.inside.pool;
@@ -71,7 +71,7 @@ taken c =
       vcpus = c.self.inside.vcpus.items;
       selects = c.self.inside.selects;
       passes = c.self.inside.passes;
-    }) found.vm found.number (record {
+    }) found.vm found.vcpu (record {
       whole = c.find.ensures.whole;
       there = c.in-Some.ensures.there.there;
       world = c.refetch.ensures;

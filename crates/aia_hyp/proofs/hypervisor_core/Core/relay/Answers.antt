@@ -1,5 +1,5 @@
 use Rattle.std.proofs.Common.{refl, sym, ap, subst, ◌∙◌}
-use Rattle.aia_vcpu.specs.Vms.{vcpu, is_vcpu_in}
+use Rattle.aia_vcpu.specs.Vms.{vcpu_of, is_vcpu_in}
 use Rattle.aia_model.specs.Passes.{PassedSource}
 use Rattle.aia_model.specs.Event.Event.{Relayed}
 use Rattle.aia_hyp_values.specs.Core.{CoreState}
@@ -35,7 +35,7 @@ goes c =
     let few = c.recall_count.ensures in
     let so = may_relay (old c) c.args.number (may c) few in
     calls_go (old c) (new c) c.args.number (record
-    { source = c.at-pass.result.source; to = vcpu c.at-pass.result.vm c.at-pass.result.number; identity = c.at-pass.result.identity })
+    { source = c.at-pass.result.source; to = vcpu_of c.at-pass.result.vm c.at-pass.result.vcpu; identity = c.at-pass.result.identity })
     c.reg.new.self c.notice_hart-notice.result c.slot_of-slot.result (record {
       whole = c.recall.ensures.whole;
       few = so.0;

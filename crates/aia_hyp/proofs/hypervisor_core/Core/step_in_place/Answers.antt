@@ -1,5 +1,5 @@
 use Rattle.std.proofs.Common.{◌≡◌, true, get_or, sym, ap, ◌∙◌, subst, arith, refl, List}
-use Rattle.aia_vcpu.specs.Vms.{vcpu, is_vcpu_in}
+use Rattle.aia_vcpu.specs.Vms.{vcpu_of, is_vcpu_in}
 use Rattle.aia_vcpu.specs.Home.{is_moving}
 use Rattle.aia_vcpu.specs.declared.vm.Vm.{Vm}
 use Rattle.aia_file.specs.InterruptFile.{is_greatest_identity}
@@ -45,8 +45,8 @@ pub carry_on-made-requires-clause-passes : goal.carry_on-made-requires-clause-pa
 carry_on-made-requires-clause-passes g c = λ plan is.
     let some = c.self.invariant.0 in
     let found = (subst (λ (x : CoreState). IsFound x.world c.args.found) (sym c.self.view_is) c.requires.found) in
-    let there : has_vcpu some.past (vcpu c.args.found.vm c.args.found.number) ≡ true =
-    subst (λ (vs : List Vm). is_vcpu_in vs (vcpu c.args.found.vm c.args.found.number) ≡ true) some.stands.vms found.there in
+    let there : has_vcpu some.past (vcpu_of c.args.found.vm c.args.found.vcpu) ≡ true =
+    subst (λ (vs : List Vm). is_vcpu_in vs (vcpu_of c.args.found.vm c.args.found.vcpu) ≡ true) some.stands.vms found.there in
     let greatest : is_greatest_identity (greatest_identity_of some.past) ≡ true =
     subst (λ n. is_greatest_identity n ≡ true) some.stands.greatest c.recall.ensures.whole.greatest in
     are_passes (record {
@@ -56,7 +56,7 @@ carry_on-made-requires-clause-passes g c = λ plan is.
       selects =
           c.self.inside.selects;
       passes = c.self.inside.passes;
-    }) some.past (vcpu c.args.found.vm c.args.found.number) plan some.stands there
+    }) some.past (vcpu_of c.args.found.vm c.args.found.vcpu) plan some.stands there
     (ap (λ q. (get_or c.self.inside.vcpus.items q no_record).stay) (sym found.slot) ∙ is)
     (few_identities (greatest_identity_of some.past) greatest)
     (let few = c.recall_count.ensures in omega (arith, few))
@@ -77,11 +77,11 @@ makes : (g : Over) (c : After-recall-2 g)
       selects =
           c.self.inside.selects;
       passes = c.self.inside.passes;
-    }) (vcpu c.args.found.vm c.args.found.number) c.carry_on-made.result
+    }) (vcpu_of c.args.found.vm c.args.found.vcpu) c.carry_on-made.result
 makes g c = made_in_place _ _ c.args.found (get_or c.carry_on-made.new.vcpus.items c.args.found.slot no_record).stay c.carry_on-made.result (record {
   is_who = subst (λ (x : CoreState). IsFound x.world c.args.found) (sym c.self.view_is) c.requires.found;
   some = c.self.invariant.0;
-  moving = subst (λ (x : CoreState). is_moving (home_in (record_of x (vcpu c.args.found.vm c.args.found.number)).stay) ≡ true)
+  moving = subst (λ (x : CoreState). is_moving (home_in (record_of x (vcpu_of c.args.found.vm c.args.found.vcpu)).stay) ≡ true)
       (sym c.self.view_is) c.requires.moving;
   back = c.carry_on-made.ensures.rest;
   leases = refl;
@@ -100,7 +100,7 @@ its_plan g c =
     let found = (subst (λ (x : CoreState). IsFound x.world c.args.found) (sym c.self.view_is) c.requires.found) in
     let own = plan_of (get_or c.self.inside.vcpus.items c.args.found.slot no_record).stay
     (ap (λ q. is_moving (home_in (get_or c.self.inside.vcpus.items q no_record).stay)) found.slot
-    ∙ (subst (λ (x : CoreState). is_moving (home_in (record_of x (vcpu c.args.found.vm c.args.found.number)).stay) ≡ true)
+    ∙ (subst (λ (x : CoreState). is_moving (home_in (record_of x (vcpu_of c.args.found.vm c.args.found.vcpu)).stay) ≡ true)
     (sym c.self.view_is) c.requires.moving)) in
     (own.0, sym own.1)
 
@@ -108,7 +108,7 @@ pub invariant_of-self : goal.invariant_of-self
 invariant_of-self g c = (
   in_place_stands _ _ c.args.found c.carry_on-made.result (makes g c) c.self.invariant.0
       (subst (λ (x : CoreState). IsFound x.world c.args.found) (sym c.self.view_is) c.requires.found)
-      (subst (λ (x : CoreState). is_moving (home_in (record_of x (vcpu c.args.found.vm c.args.found.number)).stay) ≡ true) (sym c.self.view_is)
+      (subst (λ (x : CoreState). is_moving (home_in (record_of x (vcpu_of c.args.found.vm c.args.found.vcpu)).stay) ≡ true) (sym c.self.view_is)
       c.requires.moving),
   (let room = c.carry_on-made.ensures.room in let before = c.self.invariant.1 in omega (arith, room, before)),
 )
@@ -120,8 +120,8 @@ pub returns-clause-aims : goal.returns-clause-aims
 returns-clause-aims g c = rw (← c.self.view_is) (λ h stands.
     let found = (subst (λ (x : CoreState). IsFound x.world c.args.found) (sym c.self.view_is) c.requires.found) in
     let plan = its_plan g c in
-    let there : has_vcpu h (vcpu c.args.found.vm c.args.found.number) ≡ true =
-    subst (λ (vs : List Vm). is_vcpu_in vs (vcpu c.args.found.vm c.args.found.number) ≡ true) stands.vms found.there in
+    let there : has_vcpu h (vcpu_of c.args.found.vm c.args.found.vcpu) ≡ true =
+    subst (λ (vs : List Vm). is_vcpu_in vs (vcpu_of c.args.found.vm c.args.found.vcpu) ≡ true) stands.vms found.there in
     aims_so (record {
       world = c.self.inside.fabric;
       leases = c.self.inside.pool;
@@ -129,7 +129,7 @@ returns-clause-aims g c = rw (← c.self.view_is) (λ h stands.
       selects =
           c.self.inside.selects;
       passes = c.self.inside.passes;
-    }) h (vcpu c.args.found.vm c.args.found.number) plan.0 stands there
+    }) h (vcpu_of c.args.found.vm c.args.found.vcpu) plan.0 stands there
     (ap (λ q. (get_or c.self.inside.vcpus.items q no_record).stay) (sym found.slot) ∙ plan.1)
     g.T.Targets.aimed c.args.targets.now c.carry_on-made.new.targets (c.carry_on-made.ensures.aims plan.0 plan.1))
 
@@ -140,7 +140,7 @@ returns-clause-found g c = in_place_who _ _ c.args.found c.carry_on-made.result 
 pub returns-clause-harts : goal.returns-clause-harts
 returns-clause-harts g c =
     let plan = its_plan g c in
-    in_place_harts _ _ (vcpu c.args.found.vm c.args.found.number) c.carry_on-made.result (makes g c) c.self.invariant.0
+    in_place_harts _ _ (vcpu_of c.args.found.vm c.args.found.vcpu) c.carry_on-made.result (makes g c) c.self.invariant.0
     ∙ subst (λ (x : CoreState). x.world.imsic.harts ≡ (g.T.Targets.map c.args.targets.now).harts) (sym c.self.view_is) c.requires.harts
     ∙ sym (told_harts g.T.Targets.aimed g.T.Targets.map g.met.T.Targets.aims_one (next_aim (moving_of plan.0)) c.args.targets.now
     c.carry_on-made.new.targets (c.carry_on-made.ensures.aims plan.0 plan.1))

@@ -1,4 +1,4 @@
-use Rattle.aia_vcpu.specs.Vms.{vcpu}
+use Rattle.aia_vcpu.specs.Vms.{vcpu_of}
 use Rattle.std.specs.Prelude.{◌≡◌}
 use Rattle.aia_hyp_values.specs.Moves.{left_in}
 use Rattle.aia_hyp_values.proofs.MoveWhole.{SoFar}
@@ -9,4 +9,4 @@ invariant-loop-found g l = SoFar g.T.Targets.aimed l.fn.self l.self l.fn.targets
     × (l.self.world.imsic.harts ≡ (g.T.Targets.map l.targets).harts)
 
 abbrev pub decreases-loop-found : goal.decreases-loop-found
-decreases-loop-found g l = left_in l.self (vcpu l.found.vm l.found.number)
+decreases-loop-found g l = left_in l.self (vcpu_of l.found.vm l.found.vcpu)

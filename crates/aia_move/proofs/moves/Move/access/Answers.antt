@@ -10,7 +10,7 @@ make-requires-clause-word g c =
     let l = c.self.inside in
     let w = c.args.fabric.now in
     let s = c.args.self.now in
-    let way = g.K.Direction.way l.kind in
+    let way = g.D.Direction.way l.direction in
     let access = c.access_at-access.result in
     let at : Progress = record { steps = l.done; aims = l.aims } in
     let here = ap (λ (x : Moving). x.home) c.self.view_is in
@@ -24,7 +24,7 @@ returns g c =
     let l = c.self.inside in
     let w = c.args.fabric.now in
     let s = c.args.self.now in
-    let way = g.K.Direction.way l.kind in
+    let way = g.D.Direction.way l.direction in
     let access = c.access_at-access.result in
     let at : Progress = record { steps = l.done; aims = l.aims } in
     let here = ap (λ (x : Moving). x.home) c.self.view_is in

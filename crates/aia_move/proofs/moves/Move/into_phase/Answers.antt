@@ -10,6 +10,6 @@ pub returns-clause-after : goal.returns-clause-after
 returns-clause-after g c words some begun =
     let l = c.self.inside in
     let at : Progress = record { steps = l.done; aims = l.aims } in
-    subst (λ x. IsIn g.K.Direction.after words x) (sym c.self.view_is)
-    (is_after g.K.Direction.after words c.args.self (ap (λ (x : Moving). is_moving x.home) (sym c.self.view_is))
-    (g.met.K.Direction.follows l.kind at ∙ ap (λ (x : Moving). after_shared x.home) c.self.view_is) some begun)
+    subst (λ x. IsIn g.D.Direction.after words x) (sym c.self.view_is)
+    (is_after g.D.Direction.after words c.args.self (ap (λ (x : Moving). is_moving x.home) (sym c.self.view_is))
+    (g.met.D.Direction.follows l.direction at ∙ ap (λ (x : Moving). after_shared x.home) c.self.view_is) some begun)

@@ -4,7 +4,7 @@ use Rattle.aia_replay.proofs.MachineLemmas.{no_pass_of}
 use Rattle.aia_replay.proofs.machine.Machine.pass.Goals as goal
 
 pub returns-then-not-has_source : goal.returns-then-not-has_source
-returns-then-not-has_source c = no_pass_of c.args.self.now c.args.source c.args.vm c.args.number c.args.identity
+returns-then-not-has_source c = no_pass_of c.args.self.now c.args.source c.args.vm c.args.vcpu c.args.identity
     (λ past stands. sym (c.has_source.ensures.there past stands) ∙ c.if-not-has_source.true)
 
 pub pass-requires-clause-harts : goal.pass-requires-clause-harts
@@ -17,6 +17,6 @@ pass-requires-clause-may c = may_pass c.args.self.now c.args.source
 pub returns : goal.returns
 returns c =
     rw c.okay.ensures
-    (pass_taken_by c.args.self.now _ c.args.source c.args.vm c.args.number c.args.identity _
+    (pass_taken_by c.args.self.now _ c.args.source c.args.vm c.args.vcpu c.args.identity _
     (λ h stands. tells_of c.args.self.now h c.args.source
     (λ past there. sym (c.has_source.ensures.there past there) ∙ c.if-not-has_source.false) stands) c.pass.ensures.takes c.pass.ensures.aims)

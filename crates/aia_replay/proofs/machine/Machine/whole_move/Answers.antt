@@ -5,4 +5,4 @@ pub whole-requires : goal.whole-requires
 whole-requires c = same_harts_there c.args.self.now c.requires
 
 pub returns : goal.returns
-returns c = rw c.okay.ensures (whole_taken_by c.args.self.now _ c.args.vm c.args.number c.args.want _ c.whole.ensures.takes c.whole.ensures.aims)
+returns c = rw c.okay.ensures (whole_taken_by c.args.self.now _ c.args.vm c.args.vcpu c.args.want _ c.whole.ensures.takes c.whole.ensures.aims)

@@ -162,8 +162,8 @@ impl Plan {
         ensures fits { (w : World) → IsWho w who → IsThere w.imsic (spot_of file)
             → MoveFits w (moving_of result) }
     {
-        let kind = ToMemory { file };
-        Plan::begin(Course::Leave(Move::new(kind, who, Hand::default())))
+        let direction = ToMemory { file };
+        Plan::begin(Course::Leave(Move::new(direction, who, Hand::default())))
     }
 
     /// Begins to move a virtual hart from memory to a guest file, with the numbers that were kept.
@@ -185,8 +185,8 @@ impl Plan {
         ensures fits { (w : World) → IsWho w who → IsThere w.imsic (spot_of old)
             → IsThere w.imsic (spot_of new) → MoveFits w (moving_of result) }
     {
-        let kind = ToOtherFile { from: old, to: new };
-        Plan::begin(Course::Shift(Move::new(kind, who, Hand::default())))
+        let direction = ToOtherFile { from: old, to: new };
+        Plan::begin(Course::Shift(Move::new(direction, who, Hand::default())))
     }
 }
 

@@ -4,7 +4,7 @@ use Rattle.aia_vcpu.specs.Phases.{Phase}
 use Rattle.aia_vcpu.specs.Phases.Phase.{FirstPhase, ClosingPhase, DrainPhase, EnablePhase, LookPhase, LastPhase}
 use Rattle.aia_move_values.specs.Move.{Moving}
 use Rattle.aia_move.specs.declared.phase.PlanPhase.{PlanPhase}
-use Rattle.aia_move.specs.declared.phase.PlanPhase.TheVariants as stages
+use Rattle.aia_move.specs.declared.phase.PlanPhase.TheVariants as phases
 use Rattle.aia_move.specs.declared.plan.Course.{Course}
 use Rattle.aia_move.specs.declared.plan.Course.TheVariants as courses
 use Rattle.aia_move.specs.declared.plan.State.{State}
@@ -19,13 +19,13 @@ move_of (courses.Shift m) = m
 
 -- The phase, of those whose steps are accesses.
 abbrev pub phase_at : PlanPhase → Option Phase
-phase_at stages.First = Some FirstPhase
-phase_at stages.Closing = Some ClosingPhase
-phase_at stages.Aim = None
-phase_at stages.Drain = Some DrainPhase
-phase_at stages.Enable = Some EnablePhase
-phase_at stages.Look = Some LookPhase
-phase_at stages.Last = Some LastPhase
+phase_at phases.First = Some FirstPhase
+phase_at phases.Closing = Some ClosingPhase
+phase_at phases.Aim = None
+phase_at phases.Drain = Some DrainPhase
+phase_at phases.Enable = Some EnablePhase
+phase_at phases.Look = Some LookPhase
+phase_at phases.Last = Some LastPhase
 
 -- The plan that a state is of.
 abbrev pub plan_of : State → PlanState

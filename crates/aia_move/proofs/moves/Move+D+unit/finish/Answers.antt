@@ -5,7 +5,7 @@ use Rattle.aia_move_values.specs.Move.{Moving, width}
 use Rattle.aia_move_values.specs.Turns.{GivesBack}
 use Rattle.aia_move_values.proofs.StepLemmas.{executed_last}
 use Rattle.aia_move_values.proofs.PhaseLemmas.{last_step}
-use Rattle.aia_move.proofs.moves.Move+K+unit.finish.Goals as goal
+use Rattle.aia_move.proofs.moves.Move+D+unit.finish.Goals as goal
 
 pub access-requires-clause-more : goal.access-requires-clause-more
 access-requires-clause-more g c = omega (arith, last_step (width c.args.fabric.now) c.args.self.home c.requires.last)
