@@ -3,7 +3,7 @@ what is looked at after the move."""
 
 from __future__ import annotations
 
-from typing import NamedTuple
+from typing import Any, NamedTuple
 
 from lemdwab.apart import moves
 
@@ -69,7 +69,7 @@ class Setting(NamedTuple):
         return 64 * self.words - 1
 
     def second(self, two: int | str | tuple[str, str, str, str],
-               one: int | str | tuple[()]) -> int | str | tuple[()]:
+               one: Any) -> Any:
         """Gives what differs by whether a file has a second word."""
         return two if self.words == 2 else one
 

@@ -12,7 +12,7 @@ import os
 import sys
 import time
 from collections.abc import Callable, Iterator
-from concurrent.futures import wait
+from concurrent.futures import Future, wait
 from pathlib import Path
 from typing import TYPE_CHECKING, Any, NamedTuple
 
@@ -50,7 +50,7 @@ class Found(NamedTuple):
     wanted: bytes
     ran: running.Ran
 
-    def way(self) -> tuple[str, int, str]:
+    def way(self) -> tuple[str, int | None, str]:
         """Gives what is the same of a difference that comes again. How far a command gets until it
         is stopped is not."""
         return self.kind, None if self.ran.stopped else self.at, self.mine
@@ -60,7 +60,7 @@ class Seen(NamedTuple):
     """What came of running a script again: a difference, if one came, how often one did, in how
     many runs, and in which ways."""
 
-    found: Found
+    found: Found | None
     seen: int
     runs: int
     ways: frozenset[tuple[str, int | None, str]]
@@ -79,10 +79,10 @@ class Hunt:
     """Two commands, and how they are held against each other."""
 
     def __init__(self, command: list[str], model: list[str], each: int, known: Known,
-                 begin: tuple[()], pace: Pace | None = None) -> None:
+                 begin: tuple[bytes, ...], pace: Pace | None = None) -> None:
         self.command, self.model, self.each, self.known = command, model, each, known
         self.begin, self.pace = begin, pace or running.Pace()
-        self.last = None, None
+        self.last: tuple[bytes | None, bytes] = (None, b"")
 
     def wanted(self, script: bytes) -> bytes:
         """Gives what the model answers, which is the same each time."""
@@ -149,7 +149,7 @@ class Hunt:
         if found.ran.fault():
             yield answers.printable(found.ran.fault())
 
-    def uneven(self, script: bytes, found: Found) -> list[Any]:
+    def uneven(self, script: bytes, found: Found) -> list[str]:
         """Says how many answers to a whole script are missing or spare, if any are."""
         if not found or found.kind == "answer":
             return []
@@ -282,7 +282,8 @@ def searched(tool: str, words: list[str], each: int, unit: tuple[int, int]) -> R
     return running.run(command, b"", 60 + count * 2 * (each + 5), 1 << 16)
 
 
-def result_of(one: Any, waiting: list[Any], tried: list[int], pace: Pace) -> Ran:
+def result_of(one: Future[Ran], waiting: list[Future[Ran]], tried: list[int],
+              pace: Pace) -> Ran:
     """Waits for a range to be looked through, and says meanwhile how far all are."""
     while not one.done():
         wait([one], min(pace.left(), 60) + 0.1)
@@ -313,7 +314,7 @@ def search_by(jobs: int, tool: str, words: list[str], each: int, first: int, cou
     return None
 
 
-def end(waiting: list[Any]) -> None:
+def end(waiting: list[Future[Ran]]) -> None:
     """Ends those that are still at work; the others do not begin."""
     for one in waiting:
         one.cancel()

@@ -8,7 +8,8 @@ import re
 import shutil
 from collections.abc import Callable
 from pathlib import Path
-from typing import Any
+
+from lemdwab.running import Ran
 
 # What is put into the root, with all on which these depend. The first are what every Debian has.
 BASE = ("bash", "dash", "coreutils", "findutils", "grep", "sed", "mawk", "diffutils", "libc-bin")
@@ -28,7 +29,7 @@ class Missing(Exception):
 class Root:
     """A root folder, made in a folder, in which commands are run as in a machine of its own."""
 
-    def __init__(self, run: Callable[..., Any], folder: Path) -> None:
+    def __init__(self, run: Callable[..., Ran], folder: Path) -> None:
         self.run, self.folder = run, folder
         for command in ("dpkg", "dpkg-query", "tar", "chroot"):
             if not shutil.which(command):
@@ -79,11 +80,11 @@ class Root:
             raise Missing(f"{command[0]} could not do it: {ran.fault()}")
         return ran.output
 
-    def dpkg(self, *words: str | Path) -> Any:
+    def dpkg(self, *words: str | Path) -> Ran:
         """Runs dpkg on the root."""
         return self.run(*self.before, "env", "LC_ALL=C", "dpkg", f"--root={self.folder}", *words)
 
-    def call(self, *command: str | Path, text: bytes = b"", seconds: int = 100) -> Any:
+    def call(self, *command: str | Path, text: bytes = b"", seconds: int = 100) -> Ran:
         """Runs a command in the root, where no other variable than these is set."""
         return self.run(*self.before, "chroot", self.folder, "/usr/bin/env", "-i", "LC_ALL=C.UTF-8",
                         "PATH=/usr/bin:/bin", *command, text=text, seconds=seconds)
@@ -105,7 +106,7 @@ def is_wanted(path: str) -> bool:
             and (os.path.islink(path) or os.access(path, os.R_OK)))
 
 
-def packages(run: Callable[..., Any], names: list[str]) -> list[str]:
+def packages(run: Callable[..., Ran], names: list[str]) -> list[str]:
     """Lists packages that are installed here, with all on which they depend; without those that are
     not installed."""
     said = run("dpkg-query", "-W", "-f",

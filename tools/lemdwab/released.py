@@ -8,9 +8,8 @@ import shutil
 import tarfile
 from collections.abc import Callable, Iterator
 from pathlib import Path
-from typing import Any
 
-from lemdwab.running import TOP
+from lemdwab.running import TOP, Ran
 
 PACKAGE = "lemdwab"
 # The names that the library has for others: those of the header, each with the library's version.
@@ -35,7 +34,7 @@ def differing(one: Path, other: Path) -> Iterator[str]:
             yield f"{name} differs between two releases of one commit"
 
 
-def sums(run: Callable[..., Any], folder: Path) -> Iterator[str]:
+def sums(run: Callable[..., Ran], folder: Path) -> Iterator[str]:
     """Sees that SHA256SUMS of a folder has each file that is there, with its sum."""
     ran = run("env", "-C", folder, "sha256sum", "--quiet", "--strict", "-c", "SHA256SUMS")
     if ran.fault():
@@ -61,7 +60,7 @@ def members(archive: Path, seconds: int) -> Iterator[str]:
             yield f"{archive.name} has mode {each.mode:o} of {each.name}"
 
 
-def library(run: Callable[..., Any], tree: Path) -> Iterator[str]:
+def library(run: Callable[..., Ran], tree: Path) -> Iterator[str]:
     """Sees which names the shared library has for others, and what it is called itself."""
     shared = tree / "lib" / SONAME
     declared = set(DECLARED.findall((tree / "include/aia.h").read_text(encoding="utf-8")))
@@ -76,7 +75,7 @@ def library(run: Callable[..., Any], tree: Path) -> Iterator[str]:
         yield f"libaia.so is no link to {SONAME}"
 
 
-def manuals(run: Callable[..., Any], tree: Path) -> Iterator[str]:
+def manuals(run: Callable[..., Ran], tree: Path) -> Iterator[str]:
     """Sees that there is a page for each program and each call, and that each is set without a
     warning."""
     calls = DECLARED.findall((tree / "include/aia.h").read_text(encoding="utf-8"))
@@ -103,7 +102,7 @@ def claims() -> bytes:
     return re.search(r"(?m)^claims='([^']*)'$", text).group(1).encode() + b"\n"
 
 
-def builds(run: Callable[..., Any], tree: Path, folder: Path) -> Iterator[str]:
+def builds(run: Callable[..., Ran], tree: Path, folder: Path) -> Iterator[str]:
     """Builds examples/library.c as pkg-config says, with either library, and runs it."""
     source = tree / "share/lemdwab/examples/library.c"
     asked = f"PKG_CONFIG_LIBDIR={tree}/lib/pkgconfig"

@@ -19,7 +19,8 @@ import time
 from collections.abc import Callable
 from concurrent.futures import ThreadPoolExecutor
 from pathlib import Path
-from typing import Any, NamedTuple, NoReturn
+from types import FrameType
+from typing import NamedTuple, NoReturn
 
 if sys.version_info < (3, 10):
     print(f"{Path(sys.argv[0]).name}: Python 3.10 or later is wanted", file=sys.stderr)
@@ -190,7 +191,7 @@ def contents(path: Path | str) -> bytes:
         fail(f"{path} can't be read: {wrong.strerror}")
 
 
-def tell(process: subprocess.Popen[bytes], signal_number: Any) -> None:
+def tell(process: subprocess.Popen[bytes], signal_number: int) -> None:
     """Sends a signal to a command and to all that it has started in its group."""
     try:
         os.killpg(process.pid, signal_number)
@@ -212,7 +213,7 @@ def kill(processes: list[subprocess.Popen[bytes]] | set[subprocess.Popen[bytes]]
         tell(process, signal.SIGKILL)
 
 
-def stop(signal_number: int, _frame: Any) -> NoReturn:
+def stop(signal_number: int, _frame: FrameType | None) -> NoReturn:
     """Ends all that runs, and the tool with the status that the signal has in a shell."""
     for each in STOPPING:
         signal.signal(each, signal.SIG_IGN)
@@ -228,7 +229,7 @@ def end_running() -> None:
         kill(State.running)
 
 
-def main(tool: Callable[..., Any]) -> None:
+def main(tool: Callable[[], int]) -> None:
     """Runs a tool, a function that gives its exit status, and ends with that. The head comment of
     its module is its help."""
     State.manual = (sys.modules[tool.__module__].__doc__ or "").strip()
@@ -253,7 +254,7 @@ def main(tool: Callable[..., Any]) -> None:
 class Workers(ThreadPoolExecutor):
     """Threads that run commands, so many at a time; what has not begun by its end is left out."""
 
-    def __exit__(self, *_: Any | type[Any] | None) -> bool:
+    def __exit__(self, *_: object) -> bool:
         self.shutdown(wait=True, cancel_futures=True)
         return False
 

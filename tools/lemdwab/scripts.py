@@ -3,7 +3,7 @@ with what is not wanted left out."""
 
 from __future__ import annotations
 
-from typing import TYPE_CHECKING, Any, NamedTuple
+from typing import TYPE_CHECKING, NamedTuple
 
 from lemdwab import answers, running
 from lemdwab.apart import model, random_scripts
@@ -103,7 +103,7 @@ def script_of(seed: int, count: int, draw: Draw) -> bytes:
                                     filter_=Filter(draw) if is_filtered else None).script()
 
 
-def unmet(draw: Draw, known: Known, seeds: range, count: int) -> tuple[list[Any], int]:
+def unmet(draw: Draw, known: Known, seeds: range, count: int) -> tuple[list[tuple[str, str]], int]:
     """Lists the forms and patterns of a draw, and those of what is known, that no line fits of the
     first of these scripts, with what each is of; and gives how many scripts these are."""
     left = [*(("only", form) for form in sorted((draw.only or set()) - {"machine"})),

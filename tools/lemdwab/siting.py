@@ -9,7 +9,7 @@ import re
 from collections.abc import Iterator
 from html import unescape
 from pathlib import Path
-from typing import TYPE_CHECKING, Any
+from typing import TYPE_CHECKING
 from urllib.parse import unquote
 
 from lemdwab import answers, running
@@ -89,7 +89,7 @@ class Pages:
 
 # ---- links
 
-def dead_links(site: Pages) -> Iterator[Any]:
+def dead_links(site: Pages) -> Iterator[str]:
     """Says which links lead to no file or no anchor, and which want a network."""
     for page in site.pages.values():
         for tag, place, anchor in page.links:
@@ -102,7 +102,7 @@ def dead_links(site: Pages) -> Iterator[Any]:
                 yield f"{page.place} loads {link}"
 
 
-def out_of_reach(site: Pages) -> Iterator[Any]:
+def out_of_reach(site: Pages) -> Iterator[str]:
     """Says which pages no links lead to from the start page."""
     for place in sorted(set(site.pages) - site.seen):
         yield f"no links lead from the start page to {place}"
@@ -110,7 +110,7 @@ def out_of_reach(site: Pages) -> Iterator[Any]:
 
 # ---- laws
 
-def laws(site: Pages) -> Iterator[Any]:
+def laws(site: Pages) -> Iterator[str]:
     """Says which sentence of README has no law, and which law is not reached from the start
     page."""
     claims, rows = site_documents.claims(), site_documents.proved()
@@ -131,7 +131,7 @@ def laws(site: Pages) -> Iterator[Any]:
             yield from stands(site, site_laws.place_of(one), f"the law {one.name} of {one.crate}")
 
 
-def stands(site: Pages, place: str, what: str) -> Iterator[Any]:
+def stands(site: Pages, place: str, what: str) -> Iterator[str]:
     """Says where a place is not there, or no links lead to its page."""
     page, _, anchor = place.partition("#")
     if page not in site.pages or anchor and anchor not in site.pages[page].anchors:
@@ -140,7 +140,7 @@ def stands(site: Pages, place: str, what: str) -> Iterator[Any]:
         yield f"{what} is not reached from the start page"
 
 
-def linked_sentences(site: Pages) -> Iterator[Any]:
+def linked_sentences(site: Pages) -> Iterator[str]:
     """Says which sentence of README has no link to what carries it on the start page."""
     marks = "".join(re.findall(r'(?s)<sup class="laws">.*?</sup>', site.pages[FIRST].text))
     there = {(place, anchor) for _, place, anchor in Page(FIRST, marks).links}
@@ -160,7 +160,7 @@ def shown_lines(page: Page) -> list[str]:
     return [unescape(re.sub(r"<[^>]*>", "", block)) for block in blocks]
 
 
-def whole_modules(site: Pages) -> Iterator[Any]:
+def whole_modules(site: Pages) -> Iterator[str]:
     """Says which module's page lacks a line of its definitions."""
     for crate, module in all_modules():
         page = site.pages.get(spec_page(crate, module))
@@ -170,7 +170,7 @@ def whole_modules(site: Pages) -> Iterator[Any]:
                 yield f"{spec_page(crate, module)} does not show the line {line}"
 
 
-def whole_contracts(site: Pages) -> Iterator[Any]:
+def whole_contracts(site: Pages) -> Iterator[str]:
     """Says which law or public call does not stand in the site as in its source."""
     shown = {}
     for one in site_laws.all_functions():
@@ -214,7 +214,7 @@ def definitions_of(text: str) -> list[str]:
     return re.findall(r'<summary><a href="([^"]+)">', text)
 
 
-def trees(site: Pages) -> Iterator[Any]:
+def trees(site: Pages) -> Iterator[str]:
     """Says which law has no tree, or one that does not end or lacks what its lines name."""
     for page in site.pages.values():
         is_row = re.fullmatch(r"laws/aia_\w+\.html", page.place)
@@ -231,7 +231,7 @@ def trees(site: Pages) -> Iterator[Any]:
         yield from () if is_row else left_out(site, page, text)
 
 
-def left_out(site: Pages, page: Page, text: str) -> Iterator[Any]:
+def left_out(site: Pages, page: Page, text: str) -> Iterator[str]:
     """Says what a tree leaves out that the lines of its law, or of a definition in it, name."""
     folder = posixpath.dirname(page.place)
     rows = [posixpath.normpath(posixpath.join(folder, unescape(link)))
@@ -275,7 +275,7 @@ def data_of(page: Page) -> list[list[int | str]] | None:
     return json.loads(found[1]) if found else None
 
 
-def sliders(site: Pages, workers: Workers) -> Iterator[Any]:
+def sliders(site: Pages, workers: Workers) -> Iterator[str]:
     """Says which slider does not show what answers the program gives to the example."""
     command, _ = site_scripts.answering()
     for path in site_scripts.examples():
@@ -298,7 +298,7 @@ def sliders(site: Pages, workers: Workers) -> Iterator[Any]:
 
 # ---- all of it
 
-def faults(site: Pages, workers: Workers) -> dict[str, list[Any]]:
+def faults(site: Pages, workers: Workers) -> dict[str, list[str]]:
     """Gives all that is wrong with a site, by its kind."""
     return {"links": list(dead_links(site)), "reach": list(out_of_reach(site)),
             "laws": [*laws(site), *linked_sentences(site)],
@@ -306,7 +306,7 @@ def faults(site: Pages, workers: Workers) -> dict[str, list[Any]]:
             "sliders": list(sliders(site, workers))}
 
 
-def tell(found: dict[str, list[Any]]) -> int:
+def tell(found: dict[str, list[str]]) -> int:
     """Prints what is wrong, the first few of each kind; gives how many there are."""
     for lines in found.values():
         for line in lines[:MOST]:

@@ -6,7 +6,6 @@ A set of sources is an int whose bit s is source s; bit 0 is never set in one th
 from __future__ import annotations
 
 from collections.abc import Iterator
-from typing import Any
 
 from lemdwab.apart.interrupt_file import swapped
 
@@ -80,7 +79,7 @@ def members(sources: int) -> Iterator[int]:
 class Domain:
     """One domain, with what it keeps of each source and of each hart."""
 
-    def __init__(self, aplic: Any | Aplic) -> None:
+    def __init__(self, aplic: Aplic) -> None:
         self.aplic = aplic
         self.sourcecfg = [0] * 1024
         self.targets = [0] * 1024
@@ -284,7 +283,7 @@ class Aplic:
         for domain, was in before:
             domain.input_changed(source, was)
 
-    def store(self, domain: Any | Domain, register: str, index: int, value: int) -> None:
+    def store(self, domain: Domain, register: str, index: int, value: int) -> None:
         if register == "sourcecfg":
             self.write_sourcecfg(domain, index, value)
         elif register in ADDRESS_REGISTERS:
@@ -293,7 +292,7 @@ class Aplic:
         else:
             domain.write(register, index, value)
 
-    def load(self, domain: Any | Domain, register: str, index: int) -> int:
+    def load(self, domain: Domain, register: str, index: int) -> int:
         if register in ADDRESS_REGISTERS:
             return self.addresses[register] if domain is self.root else 0
         return domain.read(register, index)
@@ -331,7 +330,7 @@ class Aplic:
         """Whether MSIs to guests may be made of a source."""
         return bool(self.child.active >> source & 1 and self.child.by_msi and self.reaches_guests())
 
-    def msi_address(self, domain: Any | Domain, target: int) -> int:
+    def msi_address(self, domain: Domain, target: int) -> int:
         """The address of an MSI for the hart, and of the child's the guest index, of a target."""
         low, high = ADDRESS_REGISTERS[:2] if domain is self.root else ADDRESS_REGISTERS[2:]
         shape, base, own = (self.addresses[name] for name in ("mmsiaddrcfgh", low, high))

@@ -10,7 +10,7 @@ wrong.
 from __future__ import annotations
 
 import sys
-from typing import TYPE_CHECKING, Any
+from typing import TYPE_CHECKING
 
 from lemdwab.apart import reading
 from lemdwab.apart.aplic import Aplic, field, register_at
@@ -145,12 +145,12 @@ class Machine:
         self.deliver_msis()
         return "ok"
 
-    def domain_at(self, address: int) -> Any | Domain | None:
+    def domain_at(self, address: int) -> Domain | None:
         if ROOT_DOMAIN <= address < CHILD_DOMAIN:
             return self.aplic.root
         return self.aplic.child if CHILD_DOMAIN <= address < DOMAINS_END else None
 
-    def place_at(self, address: int) -> tuple[Any | Domain | None, Any | InterruptFile | None]:
+    def place_at(self, address: int) -> tuple[Domain | None, InterruptFile | None]:
         """The domain or the file that the host reaches at an address."""
         unless(address % 4 == 0, "fault")
         domain = self.domain_at(address)
@@ -162,7 +162,7 @@ class Machine:
             return domain, None
         return None, (self.machine_files if kind == "machine" else self.supervisor_files)[hart]
 
-    def redirects(self, domain: Any | Domain, register: str, index: int, value: int) -> bool:
+    def redirects(self, domain: Domain, register: str, index: int, value: int) -> bool:
         """Whether a store might change where MSIs of passed sources go, or whether."""
         if not self.passes:
             return False

@@ -39,8 +39,8 @@ class Guess:
         self.home = "parked"
         self.steps = 0  # that its move has still to go
         self.passes = 0
-        self.sources: list[Any] = []  # that seem to be passed to it
-        self.holds: list[Any] = []  # the harts of the guest files that it seems to have
+        self.sources: list[int] = []  # that seem to be passed to it
+        self.holds: list[int] = []  # the harts of the guest files that it seems to have
 
 
 class Generator:
@@ -68,7 +68,7 @@ class Generator:
         self.groups = False  # whether MSIs are meant for groups of harts
         self.flight: dict[int, int] = {}  # how many stores of a VM seem to be in flight
         self.twin = model.Script() if self.mood == "images" or filter_ else None
-        self.saved: list[Any] = []  # parts of images, as they were printed
+        self.saved: list[str] = []  # parts of images, as they were printed
         # How often in a row an action said nothing that the filter keeps.
         self.fruitless: dict[Callable[..., Any], int] = {}
 
@@ -77,9 +77,7 @@ class Generator:
     def chance(self, probability: float) -> bool:
         return self.random.random() < probability
 
-    def pick(self,
-             *choices: Callable[..., Any] | int | str | tuple[int, ...]
-            ) -> Callable[..., Any] | int | str | tuple[int, ...]:
+    def pick(self, *choices: Any) -> Any:
         return self.random.choice(choices)
 
     def below(self, limit: int) -> int:

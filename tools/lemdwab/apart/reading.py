@@ -8,6 +8,7 @@ operation and operand.
 from __future__ import annotations
 
 import re
+from typing import Any
 
 LINE_BYTES = 128
 BAD = ("bad", ())
@@ -77,30 +78,30 @@ def instruction(csrs: dict[bytes, str], words: list[bytes]) -> list[int | str] |
 
 
 def joined(name: str, front: list[int] | None,
-           rest: list[int | str] | None) -> tuple[str, list[int | str] | tuple[()]]:
+           rest: list[int | str] | None) -> tuple[str, Any]:
     """A line of two parts, BAD where one of them spells nothing."""
     return BAD if front is None or rest is None else (name, front + rest)
 
 
-def read_machine_csr(words: list[bytes]) -> tuple[str, list[int | str] | tuple[()]]:
+def read_machine_csr(words: list[bytes]) -> tuple[str, Any]:
     return joined("m", fields("n", words[1:2]), instruction(MACHINE_CSRS, words[2:]))
 
 
-def read_host(words: list[bytes]) -> tuple[str, list[int | str] | tuple[()]]:
+def read_host(words: list[bytes]) -> tuple[str, Any]:
     front = fields("n", words[1:2])
     if words[2:] == [b"hgeip"]:
         return joined("hgeip", front, [])
     return joined("h", front, instruction(FILE_CSRS, words[2:]))
 
 
-def read_guest(words: list[bytes]) -> tuple[str, list[int | str] | tuple[()]]:
+def read_guest(words: list[bytes]) -> tuple[str, Any]:
     front = fields("nn", words[1:3])
     if words[3:4] == [b"ipi"]:
         return joined("ipi", front, fields("nw", words[4:]))
     return joined("g", front, instruction(GUEST_CSRS, words[3:]))
 
 
-def read_load(words: list[bytes]) -> tuple[str, list[int] | tuple[()]]:
+def read_load(words: list[bytes]) -> tuple[str, Any]:
     part = words[3] if len(words) > 3 else b""
     rest = fields(PARTS[part], words[4:]) if part in PARTS else None
     return joined("load_" + part.decode("latin-1"), fields("nn", words[1:3]), rest)
@@ -114,7 +115,7 @@ def is_skipped(text: bytes) -> bool:
     return not text or text[0] == 35 and len(text) <= LINE_BYTES
 
 
-def read(text: bytes) -> tuple[str, list[int | str] | tuple[()]] | None:
+def read(text: bytes) -> tuple[str, Any] | None:
     """What a text is: None where it is skipped, else a form and its fields."""
     if is_skipped(text):
         return None

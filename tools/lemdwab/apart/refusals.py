@@ -2,11 +2,6 @@
 
 from __future__ import annotations
 
-from typing import TYPE_CHECKING, Any
-
-if TYPE_CHECKING:
-    from lemdwab.apart.aplic import Domain
-
 
 class Refused(Exception):
     """Raised before anything is changed."""
@@ -16,7 +11,7 @@ class Refused(Exception):
         self.word = word
 
 
-def unless(condition: Any | Domain | bool, word: str) -> None:
+def unless(condition: object, word: str) -> None:
     """A line is refused with the word unless the condition holds."""
     if not condition:
         raise Refused(word)

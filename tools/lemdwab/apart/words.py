@@ -8,7 +8,7 @@ import subprocess
 import sys
 from collections.abc import Callable
 from pathlib import Path
-from typing import Any, NoReturn
+from typing import NoReturn
 
 
 def fail(message: object) -> None:
@@ -17,7 +17,7 @@ def fail(message: object) -> None:
     sys.exit(2)
 
 
-def given(doc: str, fits: Callable[..., Any]) -> list[str]:
+def given(doc: str, fits: Callable[[list[str]], object]) -> list[str]:
     """Gives the words where they fit. Else it ends: with status 0 and the head comment where that
     is asked for; where the words are wrong with 2, the head comment, and last these words."""
     words = sys.argv[1:]
@@ -41,7 +41,7 @@ def parser(doc: str) -> argparse.ArgumentParser:
                                    formatter_class=argparse.RawDescriptionHelpFormatter)
 
 
-def main(tool: Callable[..., Any]) -> NoReturn:
+def main(tool: Callable[[], int | None]) -> NoReturn:
     """Runs a program, a function that gives its exit status, and ends with that; with 2 where a
     command can't be run, or a file not be read or written."""
     try:

@@ -23,8 +23,8 @@ Runs all of these, or those named, NUMBER at a time, else 2, and prints a line a
 status, and how long it took. Of one that does not end with 0 it also prints what that printed, its
 last 100 lines. The programs are those of the variables PROGRAM and PLANS, and the library is in the
 folder of the variable LIBRARY, which ./library made; else they are those of this repository, which
-are built first where they have to be. All of it takes some seven minutes on two processors. Each
-may take ten minutes, and is ended then.
+are built first where they have to be. All of it takes some seven minutes on two processors that do
+nothing else. Each may take half an hour, and is ended then.
 
 Ends with the first status that is not 0, in the order above, or with 2 where one was ended, words
 are wrong, or a program can't be built. Needs Python 3.10 or later.
@@ -44,7 +44,7 @@ from lemdwab.running import TOP
 
 SUITE = str(TOP / "suite")
 # How long each may take, in seconds, how many bytes it may print, and how many lines are shown.
-LONGEST, MOST, SHOWN = 600, 1 << 24, 100
+LONGEST, MOST, SHOWN = 1800, 1 << 24, 100
 # The parts of suite/tools, the longest first. `hunts` takes as long as all of them.
 TOOLS = ("hunt", "edges", "stops", "launchers", "compare", "lint", "lint-try", "site", "random",
          "classes", "wider", "weaken", "words", "documents", "release", "examples", "draw", "code")
@@ -70,6 +70,8 @@ CHECKS: dict[str, list[list[str]]] = {
     "tools": [[f"{SUITE}/tools", part] for part in TOOLS],
 }
 OF_THE_LIBRARY = "c-library"
+# Those that run no program.
+OF_FILES = {"documents", "repeats", "chain", "names", "step-numbers", "linters", "units"}
 
 
 class Ended(NamedTuple):
@@ -92,7 +94,9 @@ def looked(command: list[str]) -> Ended:
 
 
 def built(workers: running.Workers, names: Sequence[str], folder: Path) -> str:
-    """Builds the programs where they are not given; gives the folder of the library."""
+    """Builds the programs where they are wanted and not given; gives the folder of the library."""
+    if set(names) <= OF_FILES:
+        return ""
     os.environ["PROGRAM"] = os.path.abspath(running.model_command(workers)[0])
     if not os.environ.get("PLANS"):
         text = running.contents(TOP / "examples/hypervisors/core-leave.plan")

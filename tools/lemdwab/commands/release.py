@@ -24,9 +24,9 @@ import os
 import shutil
 import sys
 import tempfile
-from collections.abc import Iterator
+from collections.abc import Iterable, Iterator
 from pathlib import Path
-from typing import TYPE_CHECKING, Any
+from typing import TYPE_CHECKING
 
 from lemdwab import installed, released, running
 from lemdwab.running import TOP
@@ -78,7 +78,7 @@ class Looks:
         words = [str(word) for word in command]
         return self.workers.submit(running.run, words, text, seconds, MOST).result()
 
-    def tell(self, what: str, faults: Iterator[Any]) -> None:
+    def tell(self, what: str, faults: Iterable[str]) -> None:
         """Says whether something is right, and else each way in which it is not."""
         found = list(faults)
         print(f"{what}: {'WRONG' if found else 'right'}", flush=True)

@@ -82,7 +82,7 @@ def law_crates() -> list[str]:
             or any(using.uses_of(clause) for clause in weakening.clauses(name))]
 
 
-def read_words(words: list[Any]) -> dict[Any, Any]:
+def read_words(words: list[str]) -> dict[Any, Any]:
     """Reads of which crates, and of which laws and definitions of each, plants are asked for."""
     asked, crate = {}, None
     for word in words:
@@ -98,7 +98,7 @@ def read_words(words: list[Any]) -> dict[Any, Any]:
     return asked
 
 
-def chosen(words: list[Any], kinds: tuple[str, str, str, str]) -> list[tuple[str, list[Plant]]]:
+def chosen(words: list[str], kinds: tuple[str, str, str, str]) -> list[tuple[str, list[Plant]]]:
     """Lists the plants that are asked for, by crate."""
     asked = read_words(words) or {name: set() for name in law_crates()}
     return [(crate, [plant for plant in weakening.plants(crate, kinds)

@@ -80,7 +80,7 @@ def layers() -> list[str]:
     return [match.group(1) for line in lines if (match := re.match(r"(\w+)[^#]*:", line))]
 
 
-def read_words(words: list[Any], every: dict[str, list[Edit]]) -> dict[Any, Any]:
+def read_words(words: list[str], every: dict[str, list[Edit]]) -> dict[Any, Any]:
     """Reads which edits are asked for: of each crate the names behind it, all if there are none."""
     asked, crate = {}, None
     for word in words:
@@ -99,7 +99,7 @@ def read_words(words: list[Any], every: dict[str, list[Edit]]) -> dict[Any, Any]
     return asked
 
 
-def chosen(words: list[Any]) -> list[tuple[str, list[Edit]]]:
+def chosen(words: list[str]) -> list[tuple[str, list[Edit]]]:
     """Lists the edits that words ask for, or all where there are none, by crate."""
     every = {}
     for edit in strength.edits(strength.WIDER):
@@ -150,7 +150,7 @@ def why_untold(ran: running.Ran) -> str:
         f": {said[-1].strip()}" if said else "")
 
 
-def call(workers: running.Workers, copy: Path, crate: str, edits: list[Any], plan: Plan,
+def call(workers: running.Workers, copy: Path, crate: str, edits: list[Edit], plan: Plan,
          how_far: str) -> tuple[dict[str, Verdict], float]:
     """Has rt try some edits of a crate in the copy; gives the verdict on each, by its name."""
     place = copy / "crates" / crate / strength.TRIED
@@ -172,7 +172,7 @@ def tell(edit: Edit, verdict: Verdict) -> None:
     print(f"{edit.crate}/{edit.name}: {verdict.shortened()}", flush=True)
 
 
-def sorted_out(copy: Path, edits: list[Any], kept: Kept) -> tuple[dict[Any, Verdict], list[Any]]:
+def sorted_out(copy: Path, edits: list[Edit], kept: Kept) -> tuple[dict[Edit, Verdict], list[Edit]]:
     """Divides the edits of a crate: the verdicts that are known, as kept or since they can't be
     made, and those to be tried, with their sums."""
     known, left = [], []

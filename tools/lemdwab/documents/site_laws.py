@@ -99,7 +99,7 @@ def keys_in(one: Function, names: tuple[str, ...] = ()) -> tuple[str, ...]:
     return keys_of(found)
 
 
-def contract(page: str, one: Function, names: tuple[()] = ()) -> str:
+def contract(page: str, one: Function, names: tuple[str, ...] = ()) -> str:
     """Gives the words and the contract of a function with links, and an anchor for each clause; of
     clauses only those of these names, if there are any."""
     begins = {clause.first: clause for clause in one.clauses()}
