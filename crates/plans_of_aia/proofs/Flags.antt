@@ -7,8 +7,7 @@ use Rattle.plans_rules.specs.Setting.{Setting}
 use Rattle.plans_rules.specs.Rules.{Done, empties, lifts, fills, blanks, is_reached, is_still, brought, may_stand, only_hand, only_new, any_old}
 use Rattle.plans_rules.proofs.BoolLaws.{false_of, true_of, clash, not_true, and_of, or_left, or_right, or_cases}
 use Rattle.plans_rules.proofs.Reached.{still_more, reached_more}
-use Rattle.plans_rules.proofs.Brought.{two_find, old_after, hand_after, new_after, came, stored_cases, reached_none}
-use Rattle.plans_rules.proofs.Safety.{hand_cases, not_left}
+use Rattle.plans_rules.proofs.Brought.{two_find, old_after, hand_after, new_after, came, stored_cases, reached_none, not_left}
 
 -- A word may hold something in the old place.
 abbrev pub old_holds : Setting → WhichSet → ℕ → Done → Bool

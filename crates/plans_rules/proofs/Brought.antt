@@ -173,3 +173,34 @@ pub zero_somewhere : (m : Bool) (stands : Places) → (m ≡ true → stands fal
     → nowhere (brought false false false m stands) ≡ false
 zero_somewhere true stands alone none = or_false (stands false false true) _ (alone refl) none
 zero_somewhere false stands alone none = none
+
+-- ---- the bits at a step
+
+pub not_left : (z b : Bool) → (not z && b) ≡ true → (z ≡ false) × (b ≡ true)
+not_left true b e = absurd (false≢true e)
+not_left false b e = (refl, e)
+
+pub blank_before : (z c : Bool) → z ≡ false → (z || c) ≡ true → c ≡ true
+blank_before true c e f = absurd (false≢true (sym e))
+blank_before false c e f = f
+
+pub hand_more : (l f o h a k : Bool) → (o ≡ true → a ≡ true) → (h ≡ true → k ≡ true) → hand_after l f o h ≡ true → hand_after l f a k ≡ true
+hand_more true f o h a k old hand e = or_left _ _ (old (elim (or_cases o false e) [ inl is ↦ is | inr none ↦ absurd (false≢true none) ]))
+hand_more false true o h a k old hand e = absurd (false≢true e)
+hand_more false false o h a k old hand e = hand e
+
+pub new_more : (f z h n k b : Bool) → (h ≡ true → k ≡ true) → (n ≡ true → b ≡ true) → new_after f z h n ≡ true → new_after f z k b ≡ true
+new_more true z h n k b hand new e = elim (or_cases h _ e) [
+  | inl is ↦ or_left k _ (hand is)
+  | inr is ↦ (let both = not_left z n is in or_right k _ (and_of (not z) b (ap not both.0) (new both.1)))
+]
+new_more false z h n k b hand new e = let both = not_left z n e in and_of (not z) b (ap not both.0) (new both.1)
+
+pub old_more : (e o a : Bool) → (o ≡ true → a ≡ true) → old_after e o ≡ true → old_after e a ≡ true
+old_more e o a old is = let both = not_left e o is in and_of (not e) a (ap not both.0) (old both.1)
+
+-- where one is in the hand after it, it was in the old place, or in the hand
+pub hand_cases : (l f a k : Bool) → hand_after l f a k ≡ true → ((l ≡ true) × (a ≡ true)) ⊎ ((l ≡ false) × (f ≡ false) × (k ≡ true))
+hand_cases true f a k e = elim (or_cases a false e) [ inl is ↦ inl (refl, is) | inr none ↦ absurd (false≢true none) ]
+hand_cases false true a k e = absurd (false≢true e)
+hand_cases false false a k e = inr (refl, refl, e)

@@ -25,7 +25,7 @@ use Rattle.plans_rules.specs.Safe.{IsProducer, IsRouted, CanHappen, IsRun, IsSta
 use Rattle.plans_rules.specs.Rules.{empties, lifts, fills, blanks, shuts, switches, frees, Done, is_turned, is_fenced, is_led_as, is_led, all_led, is_reached, any_of_two, brought, may_stand, only_old, only_hand, only_new, any_old, is_blank, was_shut, is_shut, has_number, lets, lets_end, lets_rest}
 use Rattle.plans_rules.proofs.BoolLaws.{false_of, true_of, clash, not_true, and_left, and_right, and_of, or_left, or_right, or_false, or_cases, added_cases, all_at, any_at}
 use Rattle.plans_rules.proofs.Reached.{all_led_more}
-use Rattle.plans_rules.proofs.Brought.{Places, two_at, two_find, old_after, hand_after, new_after, brought_at, busy_old, reached_new, take_somewhere, copy_somewhere, join_somewhere, put_somewhere, wipe_somewhere, zero_somewhere}
+use Rattle.plans_rules.proofs.Brought.{Places, two_at, two_find, old_after, hand_after, new_after, brought_at, busy_old, reached_new, take_somewhere, copy_somewhere, join_somewhere, put_somewhere, wipe_somewhere, zero_somewhere, not_left, blank_before, hand_more, new_more, old_more, hand_cases}
 
 -- ---- the invariant
 
@@ -390,35 +390,6 @@ somewhere_step d s w (ZeroNumber New n) done guard none = or_false _ _ none refl
 somewhere_step d s w x done guard none = or_false _ _ none refl
 
 -- the bits at a step
-pub not_left : (z b : Bool) → (not z && b) ≡ true → (z ≡ false) × (b ≡ true)
-not_left true b e = absurd (false≢true e)
-not_left false b e = (refl, e)
-
-blank_before : (z c : Bool) → z ≡ false → (z || c) ≡ true → c ≡ true
-blank_before true c e f = absurd (false≢true (sym e))
-blank_before false c e f = f
-
-hand_more : (l f o h a k : Bool) → (o ≡ true → a ≡ true) → (h ≡ true → k ≡ true) → hand_after l f o h ≡ true → hand_after l f a k ≡ true
-hand_more true f o h a k old hand e = or_left _ _ (old (elim (or_cases o false e) [ inl is ↦ is | inr none ↦ absurd (false≢true none) ]))
-hand_more false true o h a k old hand e = absurd (false≢true e)
-hand_more false false o h a k old hand e = hand e
-
-new_more : (f z h n k b : Bool) → (h ≡ true → k ≡ true) → (n ≡ true → b ≡ true) → new_after f z h n ≡ true → new_after f z k b ≡ true
-new_more true z h n k b hand new e = elim (or_cases h _ e) [
-  | inl is ↦ or_left k _ (hand is)
-  | inr is ↦ (let both = not_left z n is in or_right k _ (and_of (not z) b (ap not both.0) (new both.1)))
-]
-new_more false z h n k b hand new e = let both = not_left z n e in and_of (not z) b (ap not both.0) (new both.1)
-
-old_more : (e o a : Bool) → (o ≡ true → a ≡ true) → old_after e o ≡ true → old_after e a ≡ true
-old_more e o a old is = let both = not_left e o is in and_of (not e) a (ap not both.0) (old both.1)
-
--- where one is in the hand after it, it was in the old place, or in the hand
-pub hand_cases : (l f a k : Bool) → hand_after l f a k ≡ true → ((l ≡ true) × (a ≡ true)) ⊎ ((l ≡ false) × (f ≡ false) × (k ≡ true))
-hand_cases true f a k e = elim (or_cases a false e) [ inl is ↦ inl (refl, is) | inr none ↦ absurd (false≢true none) ]
-hand_cases false true a k e = absurd (false≢true e)
-hand_cases false false a k e = inr (refl, refl, e)
-
 kept_step : (e l f z : Bool) (stands now : Places) (c q a b k : Bool)
     → ((o h n : Bool) → brought e l f z stands o h n ≡ true → now o h n ≡ true) → Kept stands c q a b k
     → Kept now (z || c) q (old_after e a) (new_after f z k b) (hand_after l f a k)

@@ -21,8 +21,8 @@ use Rattle.plans_rules.specs.Safe.{CanHappen, IsStartOfAny, IsTold}
 use Rattle.plans_rules.specs.Rules.{empties, lifts, fills, blanks, looks, posts, tells, Done, is_still, brought, may_stand, only_new, any_old, any_hand, is_moved, has_number, heeds_there, is_noticed, is_settled, is_looked, is_reported, writes_notice, lets, lets_end, lets_rest}
 use Rattle.plans_rules.proofs.BoolLaws.{false_of, true_of, clash, not_true, and_left, and_right, and_of, or_left, or_right, or_cases, added_cases, all_at, any_at}
 use Rattle.plans_rules.proofs.Reached.{still_more}
-use Rattle.plans_rules.proofs.Brought.{two_at, two_find, old_after, hand_after, new_after, brought_at, came, stored_cases, busy_old}
-use Rattle.plans_rules.proofs.Safety.{IsBetween, Invariant, does, between, begins, named, hand_cases}
+use Rattle.plans_rules.proofs.Brought.{two_at, two_find, old_after, hand_after, new_after, brought_at, came, stored_cases, busy_old, hand_cases}
+use Rattle.plans_rules.proofs.Safety.{IsBetween, Invariant, does, between, begins, named}
 
 -- ---- what is moved for good stays so
 
