@@ -94,16 +94,14 @@ impl Fabric {
     {
         let imsic = Imsic::new(alloc, harts, guests, n)?;
         let ram = Ram::new(alloc, 8 * MEMORY_WORDS)?;
-        let vms = Vms::new(alloc)?;
         let iommu = Iommu::new(alloc)?;
-        let flights = Flights::new(alloc)?;
         Ok(Fabric {
             n,
             imsic,
             ram,
-            vms,
+            vms: Vms::new(),
             iommu,
-            flights,
+            flights: Flights::new(),
             stages: [Stage::new(); VCPUS as usize],
             notices: 0,
         })

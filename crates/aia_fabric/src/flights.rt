@@ -1,14 +1,16 @@
-ghost use Rattle.std.specs.Prelude.{◌≡◌, ◌<◌, ◌≤◌, Some, [], ◌∷◌, ◌++◌, length, remove, slice_get, slice_index_or, slice_set, IfOk};
+ghost use Rattle.std.specs.Prelude.{◌≡◌, ◌<◌, ◌≤◌, Some, [], ◌∷◌, ◌++◌, length, remove, slice_get, slice_index_or, slice_set};
 ghost use Rattle.aia_regs.specs.declared.limits.TheConstants.{VMS, STORES_IN_FLIGHT};
 
 use aia_fabric_values::Flying;
 use aia_regs::limits::{STORES_IN_FLIGHT, VMS};
 use arrayvec::ArrayVec;
-use std::alloc::{AllocError, Global};
 use std::marker::Model;
 
+/// As many lists as VMs stand at most.
+const LISTS: usize = VMS as usize;
+
 /// The stores in flight of the devices of a VM, the oldest first.
-#[derive(Drop)]
+#[derive(Default, Drop)]
 struct Flight {
     stores: ArrayVec<Flying, STORES_IN_FLIGHT>,
 }
@@ -68,29 +70,26 @@ impl Flight {
 /// The stores in flight of the devices of each VM.
 #[derive(Drop)]
 pub struct Flights {
-    kept: Vec<Flight>,
+    kept: ArrayVec<Flight, LISTS>,
 }
 
 impl Model for Flights {
-    ghost use Rattle.std.specs.Prelude.{◌≡◌, List};
-    ghost use Rattle.std.specs.Vec.{vec_capacity};
-    ghost use Rattle.aia_regs.specs.declared.limits.TheConstants.{VMS};
+    ghost use Rattle.std.specs.Prelude.{List};
     ghost use Rattle.aia_fabric_values.specs.declared.flying.Flying.{Flying};
 
     ghost Value = { List (List Flying) };
 
     ghost view = { λ f. f.kept.items };
-
-    ghost invariant = { λ f. vec_capacity f.kept ≡ VMS };
 }
 
 impl Flights {
-    /// Makes the room for those of all VMs; no VM stands. `Err`: there is no memory for it.
-    pub fn new(alloc: Global) -> Result<Flights, AllocError>
-        ensures { IfOk result (λ f. f ≡ []) }
+    /// Makes the room for those of all VMs; no VM stands.
+    pub fn new() -> Flights
+        ensures { result ≡ [] }
     {
-        let kept = Vec::with_capacity(alloc, VMS as usize)?;
-        Ok(Flights { kept })
+        Flights {
+            kept: ArrayVec::new(),
+        }
     }
 
     /// Makes the list of the next VM, while fewer than `VMS` stand: none is in flight.
@@ -98,7 +97,7 @@ impl Flights {
         requires { length self.old < VMS }
         ensures { self.new ≡ self.old ++ [] ∷ [] }
     {
-        self.kept.push_reserved(Flight::new());
+        self.kept.push(Flight::new());
     }
 
     /// Tells how many there are of a VM that stands, 0 to `STORES_IN_FLIGHT`.

@@ -1,38 +1,38 @@
-ghost use Rattle.std.specs.Prelude.{◌≡◌, ℕ, ◌<◌, ◌≤◌, true, [], ◌∷◌, ◌++◌, length, take, IfOk};
+ghost use Rattle.std.specs.Prelude.{◌≡◌, ℕ, ◌<◌, ◌≤◌, true, [], ◌∷◌, ◌++◌, length, take};
 ghost use Rattle.aia_regs.specs.declared.limits.TheConstants.{VMS, VCPUS};
 ghost use Rattle.aia_vcpu.specs.Vms.{Vcpu, vcpu_of, vcpus_in, is_vcpu_in, slot_of, notice_hart, vm_in};
 
 use aia_regs::limits::VMS;
 use aia_vcpu::{Vm, notice_hart_of, vcpus_in};
-use std::alloc::{AllocError, Global};
+use arrayvec::ArrayVec;
 use std::marker::Model;
+
+/// As many places as VMs stand at most.
+const PLACES: usize = VMS as usize;
 
 /// All VMs of a machine, numbered from 0 as they are made.
 #[derive(Drop)]
 pub struct Vms {
-    kept: Vec<Vm>,
+    kept: ArrayVec<Vm, PLACES>,
 }
 
 impl Model for Vms {
-    ghost use Rattle.std.specs.Prelude.{◌≡◌, List};
-    ghost use Rattle.std.specs.Vec.{vec_capacity};
-    ghost use Rattle.aia_regs.specs.declared.limits.TheConstants.{VMS};
+    ghost use Rattle.std.specs.Prelude.{List};
     ghost use Rattle.aia_vcpu.specs.declared.vm.Vm.{Vm};
 
     ghost Value = { List Vm };
 
     ghost view = { λ v. v.kept.items };
-
-    ghost invariant = { λ v. vec_capacity v.kept ≡ VMS };
 }
 
 impl Vms {
-    /// Makes the room for all VMs; no VM stands. `Err`: there is no memory for it.
-    pub fn new(alloc: Global) -> Result<Vms, AllocError>
-        ensures { IfOk result (λ v. v ≡ []) }
+    /// Makes the room for all VMs; no VM stands.
+    pub fn new() -> Vms
+        ensures { result ≡ [] }
     {
-        let kept = Vec::with_capacity(alloc, VMS as usize)?;
-        Ok(Vms { kept })
+        Vms {
+            kept: ArrayVec::new(),
+        }
     }
 
     /// Makes the next VM, while fewer than `VMS` stand.
@@ -40,7 +40,7 @@ impl Vms {
         requires { length self.old < VMS }
         ensures { self.new ≡ self.old ++ vm ∷ [] }
     {
-        self.kept.push_reserved(vm);
+        self.kept.push(vm);
     }
 
     /// Tells how many there are.

@@ -20,7 +20,7 @@ pub fn lcg(x: u64) -> u64
         .wrapping_add(1442695040888963407)
 }
 
-/// Gives the line of a form, 0 to 9: of virtual hart `number`, 0 or 1, of a VM, of a hart, with an
+/// Gives the line of a form, 0 to 9: of virtual hart `vcpu`, 0 or 1, of a VM, of a hart, with an
 /// identity.
 fn line_of_form(form: u64, vm: u64, vcpu: u64, hart: u64, identity: u32) -> Line
     requires { vcpu < 2 }

@@ -1,5 +1,4 @@
 ghost use Rattle.std.specs.Prelude.{◌≡◌, ◌<◌, ◌≤◌, true, false, length, slice_index_or, slice_set, Some};
-ghost use Rattle.std.specs.Vec.{vec_capacity};
 ghost use Rattle.aia_regs.specs.FileRegisters.{select_written};
 ghost use Rattle.aia_csr.specs.CsrAccess.{ReachesUsable, csr_access};
 ghost use Rattle.aia_major.specs.VsMajor.{vti_of};
@@ -13,14 +12,12 @@ ghost use Rattle.aia_fabric_values.specs.Whole.{IsWhole};
 ghost use Rattle.aia_hyp_values.specs.Core.{no_record, record_of, resident_at, runs_in};
 ghost use Rattle.aia_hyp_values.specs.Stands.{CoreTakes, answer_by};
 
-use crate::hypervisor_core::{Core, claim_or_read, select_after};
+use crate::hypervisor_core::{Core, Records, claim_or_read, select_after};
 use crate::majors::{access_sie_in, access_sip_in, stopi_in};
 use aia_csr::{CsrAccess, decide};
 use aia_fabric::Found;
 use aia_file::Spot;
-use aia_hyp_values::VcpuRecord;
 use aia_model::Refusal;
-use aia_move::Plan;
 use aia_regs::{Csr, Level, Op};
 use aia_vcpu::GuestPlace;
 
@@ -99,14 +96,13 @@ fn file_spot(place: GuestPlace) -> Spot
 }
 
 /// Accesses the select CSR of the virtual hart of a slot, and gives the old select number.
-pub(crate) fn access_select_in(vcpus: &mut Vec<VcpuRecord<Plan>>, slot: u32, op: Op) -> u64
+pub(crate) fn access_select_in(vcpus: &mut Records, slot: u32, op: Op) -> u64
     requires { slot < length vcpus.old.items }
     ensures value { result ≡ (slice_index_or vcpus.old.items slot no_record).select }
     ensures after { vcpus.new.items ≡ slice_set vcpus.old.items slot
         (record (slice_index_or vcpus.old.items slot no_record) {
           select = select_written op (slice_index_or vcpus.old.items slot no_record).select;
         }) }
-    ensures room { vec_capacity vcpus.new ≡ vec_capacity vcpus.old }
 {
     let record = &mut vcpus[slot as usize];
     let before = record.select;

@@ -1,7 +1,6 @@
 ghost use Rattle.std.specs.Prelude.{◌≡◌, ◌≢◌, ◌+◌, ◌-◌, ◌^◌, min, ◌<◌, ◌≤◌, ◌%◌, ◌&&◌, ◌++◌, length, replicate, slice_index, nat_lt, true, false, None, Ok, Err, IsTrue, IfOk, OnOk};
 ghost use Rattle.std.specs.Int.{is_in_range};
 ghost use Rattle.std.specs.Result.{result_err};
-ghost use Rattle.std.specs.Vec.{vec_capacity};
 ghost use Rattle.aia_regs.specs.FileRegisters.{select_written};
 ghost use Rattle.aia_regs.specs.AddressMap.{is_in_memory};
 ghost use Rattle.aia_csr.specs.CsrAccess.{IsInTable, ReachesUsable, csr_access};
@@ -38,11 +37,18 @@ use aia_pool::Pool;
 use aia_regs::address_map::{PAGE, is_in_memory};
 use aia_regs::limits::{GUEST_FILES, HARTS, SELECT_NUMBERS, VCPUS, VM_VCPUS, VMS};
 use aia_regs::{Csr, FileReg, Level, Op};
+use arrayvec::ArrayVec;
 use std::alloc::{AllocError, Global};
 use std::marker::Model;
 
 /// Two select numbers for each hart.
 const SELECTS: usize = 2 * HARTS as usize;
+
+/// As many records as there are virtual harts at most.
+const RECORDS: usize = VCPUS as usize;
+
+/// The records of all virtual harts, by their numbers over all VMs.
+pub(crate) type Records = ArrayVec<VcpuRecord<Plan>, RECORDS>;
 
 /// The hypervisor's core: all that stores reach, with the VMs that stand; which guest files are
 /// handed out; a record of each virtual hart, by its number over all VMs; the select numbers of the
@@ -51,14 +57,13 @@ const SELECTS: usize = 2 * HARTS as usize;
 pub struct Core {
     pub(crate) fabric: Fabric,
     pub(crate) pool: Pool,
-    pub(crate) vcpus: Vec<VcpuRecord<Plan>>,
+    pub(crate) vcpus: Records,
     selects: [u64; SELECTS],
     pub(crate) passes: Passes,
 }
 
 impl Model for Core {
     ghost use Rattle.std.specs.Prelude.{◌≡◌};
-    ghost use Rattle.std.specs.Vec.{vec_capacity};
     ghost use Rattle.aia_regs.specs.declared.limits.TheConstants.{VCPUS};
     ghost use Rattle.aia_hyp_values.specs.Core.{CoreState};
     ghost use Rattle.aia_hyp_values.specs.Stands.{StandsForSome};
@@ -79,7 +84,7 @@ impl Model for Core {
       vcpus = h.vcpus.items;
       selects = h.selects;
       passes = h.passes;
-    }) × (vec_capacity h.vcpus ≡ VCPUS) };
+    }) };
 }
 
 impl Core {
@@ -94,13 +99,12 @@ impl Core {
         requires width { IsTrue (is_greatest_identity n) }
         ensures { IfOk result (λ core. CoreBegins core harts guests n) }
     {
-        let vcpus = Vec::with_capacity(alloc, VCPUS as usize)?;
         let pool = Pool::new(alloc, harts, guests)?;
         let fabric = Fabric::new(alloc, harts, guests, n)?;
         Ok(Core {
             fabric,
             pool,
-            vcpus,
+            vcpus: ArrayVec::new(),
             selects: [0; SELECTS],
             passes: Passes::new(),
         })
@@ -308,13 +312,12 @@ impl Core {
 }
 
 /// Adds the records of so many virtual harts that were never moved.
-fn add_records(vcpus: &mut Vec<VcpuRecord<Plan>>, count: u32)
-    requires { length vcpus.old.items + count ≤ vec_capacity vcpus.old }
+fn add_records(vcpus: &mut Records, count: u32)
+    requires { length vcpus.old.items + count ≤ VCPUS }
     ensures after { vcpus.new.items ≡ vcpus.old.items ++ replicate count no_record }
-    ensures room { vec_capacity vcpus.new ≡ vec_capacity vcpus.old }
 {
     for _ in 0..count {
-        vcpus.push_reserved(VcpuRecord::new());
+        vcpus.push(VcpuRecord::new());
     }
 }
 

@@ -1,7 +1,6 @@
 //! Images of virtual harts that are parked: their parts are saved, and loaded.
 
 ghost use Rattle.std.specs.Prelude.{◌≡◌, ◌+◌, ◌-◌, ◌*◌, ◌/◌, ◌^◌, ◌<◌, ◌≤◌, true, length, slice_index_or, slice_set};
-ghost use Rattle.std.specs.Vec.{vec_capacity};
 ghost use Rattle.aia_regs.specs.declared.limits.TheConstants.{VCPUS};
 ghost use Rattle.aia_regs.specs.declared.access.Op.TheVariants as ops;
 ghost use Rattle.aia_regs.specs.FileRegisters.{select_written};
@@ -18,13 +17,13 @@ ghost use Rattle.aia_hyp_values.specs.Images.{state_in};
 ghost use Rattle.aia_fabric_values.specs.Found.{IsFound};
 ghost use Rattle.aia_hyp_values.specs.Stands.{CoreTakes, answer_by};
 
-use crate::hypervisor_core::{Core, select_after};
+use crate::hypervisor_core::{Core, Records, select_after};
 use crate::loadable::{IMAGE_VERSION, is_loadable};
 use crate::slot_words::{is_live, load_word, save_word};
 use aia_fabric::Found;
-use aia_hyp_values::{Stay, VcpuRecord};
+use aia_hyp_values::Stay;
 use aia_model::{Part, Refusal};
-use aia_move::{KeptNumbers, Plan};
+use aia_move::KeptNumbers;
 use aia_regs::Op;
 use aia_vcpu::Rest;
 
@@ -151,7 +150,7 @@ impl Core {
 
 /// Writes the numbers of the interrupt file of the virtual hart of a slot that is parked, and its
 /// select number.
-fn load_numbers_in(vcpus: &mut Vec<VcpuRecord<Plan>>, slot: u32, kept: KeptNumbers, select: u64)
+fn load_numbers_in(vcpus: &mut Records, slot: u32, kept: KeptNumbers, select: u64)
     requires { slot < length vcpus.old.items }
     ensures after { vcpus.new.items ≡ slice_set vcpus.old.items slot
         (record (slice_index_or vcpus.old.items slot no_record) {
@@ -159,7 +158,6 @@ fn load_numbers_in(vcpus: &mut Vec<VcpuRecord<Plan>>, slot: u32, kept: KeptNumbe
           select = select_written (ops.Write select)
               (slice_index_or vcpus.old.items slot no_record).select;
         }) }
-    ensures room { vec_capacity vcpus.new ≡ vec_capacity vcpus.old }
 {
     let record = &mut vcpus[slot as usize];
     record.select = select_after(Op::Write(select), record.select);
@@ -167,11 +165,10 @@ fn load_numbers_in(vcpus: &mut Vec<VcpuRecord<Plan>>, slot: u32, kept: KeptNumbe
 }
 
 /// Writes `hvip` and `sie` of the virtual hart of a slot.
-fn load_majors_in(vcpus: &mut Vec<VcpuRecord<Plan>>, slot: u32, injected: u64, enabled: u64)
+fn load_majors_in(vcpus: &mut Records, slot: u32, injected: u64, enabled: u64)
     requires { slot < length vcpus.old.items }
     ensures done { MajorsDone vcpus.old.items vcpus.new.items slot
         (majors_loaded (parts.Majors injected enabled)) }
-    ensures room { vec_capacity vcpus.new ≡ vec_capacity vcpus.old }
 {
     let mut majors = vcpus[slot as usize].majors;
     majors.set_hvip(injected);
@@ -180,12 +177,11 @@ fn load_majors_in(vcpus: &mut Vec<VcpuRecord<Plan>>, slot: u32, injected: u64, e
 }
 
 /// Writes `hviprio1` and `hvictl` of the virtual hart of a slot.
-fn load_registers_in(vcpus: &mut Vec<VcpuRecord<Plan>>, slot: u32, hviprio: u64, hvictl: u64)
+fn load_registers_in(vcpus: &mut Records, slot: u32, hviprio: u64, hvictl: u64)
     requires slot { slot < length vcpus.old.items }
     requires legal { is_hvictl hvictl ≡ true }
     ensures done { MajorsDone vcpus.old.items vcpus.new.items slot
         (majors_loaded (parts.Prio hviprio hvictl)) }
-    ensures room { vec_capacity vcpus.new ≡ vec_capacity vcpus.old }
 {
     let mut majors = vcpus[slot as usize].majors;
     majors.set_hviprio(hviprio);

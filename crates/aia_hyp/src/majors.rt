@@ -2,7 +2,6 @@
 
 ghost use Rattle.std.specs.Prelude.{◌≡◌, ◌<◌, ◌&&◌, not, true, false, length, slice_index_or, if◌then◌else◌, Some, None, is_some, OnOk, OnErr, IfSome};
 ghost use Rattle.std.specs.Result.{result_err};
-ghost use Rattle.std.specs.Vec.{vec_capacity};
 ghost use Rattle.aia_word.specs.Top.{top_value};
 ghost use Rattle.aia_file.specs.InterruptFile.{top_of, signals};
 ghost use Rattle.aia_file.specs.FileState.{shown};
@@ -14,7 +13,7 @@ ghost use Rattle.aia_model.specs.declared.answer.Answer.TheVariants.{Okay};
 ghost use Rattle.aia_hyp_values.specs.Core.{no_record, MajorsDone};
 ghost use Rattle.aia_hyp_values.specs.Stands.{CoreTakes, answer_by};
 
-use crate::hypervisor_core::Core;
+use crate::hypervisor_core::{Core, Records};
 use aia_file::File;
 use aia_hyp_values::VcpuRecord;
 use aia_model::Refusal;
@@ -70,18 +69,12 @@ impl Core {
 }
 
 /// Injects a level at a major interrupt of the virtual hart of a slot.
-fn inject_in(
-    vcpus: &mut Vec<VcpuRecord<Plan>>,
-    slot: u32,
-    bit: u64,
-    level: bool,
-) -> Result<(), Refusal>
+fn inject_in(vcpus: &mut Records, slot: u32, bit: u64, level: bool) -> Result<(), Refusal>
     requires { slot < length vcpus.old.items }
     ensures range { result_err result ≡ (if is_major bit then None else Some Refusal.Range) }
     ensures ok { OnOk result (MajorsDone vcpus.old.items vcpus.new.items slot
         (with_injection bit level)) }
     ensures err { OnErr result (vcpus.new.items ≡ vcpus.old.items) }
-    ensures room { vec_capacity vcpus.new ≡ vec_capacity vcpus.old }
 {
     let bit = u32::try_from(bit).map_err(|_| Refusal::Range)?;
     let mut majors = vcpus[slot as usize].majors;
@@ -91,13 +84,12 @@ fn inject_in(
 }
 
 /// Writes `hvictl` of the virtual hart of a slot.
-fn set_hvictl_in(vcpus: &mut Vec<VcpuRecord<Plan>>, slot: u32, value: u64) -> Result<(), Refusal>
+fn set_hvictl_in(vcpus: &mut Records, slot: u32, value: u64) -> Result<(), Refusal>
     requires { slot < length vcpus.old.items }
     ensures range { result_err result ≡ (if is_hvictl value then None else Some Refusal.Range) }
     ensures ok { OnOk result (MajorsDone vcpus.old.items vcpus.new.items slot
         (with_hvictl value)) }
     ensures err { OnErr result (vcpus.new.items ≡ vcpus.old.items) }
-    ensures room { vec_capacity vcpus.new ≡ vec_capacity vcpus.old }
 {
     let mut majors = vcpus[slot as usize].majors;
     majors.set_hvictl(value).map_err(|_| Refusal::Range)?;
@@ -106,10 +98,9 @@ fn set_hvictl_in(vcpus: &mut Vec<VcpuRecord<Plan>>, slot: u32, value: u64) -> Re
 }
 
 /// Writes `hviprio1` of the virtual hart of a slot.
-fn set_hviprio_in(vcpus: &mut Vec<VcpuRecord<Plan>>, slot: u32, value: u64)
+fn set_hviprio_in(vcpus: &mut Records, slot: u32, value: u64)
     requires { slot < length vcpus.old.items }
     ensures done { MajorsDone vcpus.old.items vcpus.new.items slot (with_hviprio1 value) }
-    ensures room { vec_capacity vcpus.new ≡ vec_capacity vcpus.old }
 {
     vcpus[slot as usize].majors.set_hviprio(value);
 }
@@ -126,28 +117,21 @@ pub(crate) fn stopi_in(vcpus: &[VcpuRecord<Plan>], slot: u32, file: &File) -> u6
 
 /// Accesses `sip` of the virtual hart of a slot, given whether its interrupt file signals, and
 /// gives what it read.
-pub(crate) fn access_sip_in(
-    vcpus: &mut Vec<VcpuRecord<Plan>>,
-    slot: u32,
-    op: Op,
-    signal: bool,
-) -> u64
+pub(crate) fn access_sip_in(vcpus: &mut Records, slot: u32, op: Op, signal: bool) -> u64
     requires { slot < length vcpus.old.items }
     ensures value { result ≡ sip_value
         (majors_shown (slice_index_or vcpus.old.items slot no_record).majors) signal }
     ensures done { MajorsDone vcpus.old.items vcpus.new.items slot (with_sip op) }
-    ensures room { vec_capacity vcpus.new ≡ vec_capacity vcpus.old }
 {
     vcpus[slot as usize].majors.access_sip(op, signal)
 }
 
 /// Accesses `sie` of the virtual hart of a slot, and gives what it read.
-pub(crate) fn access_sie_in(vcpus: &mut Vec<VcpuRecord<Plan>>, slot: u32, op: Op) -> u64
+pub(crate) fn access_sie_in(vcpus: &mut Records, slot: u32, op: Op) -> u64
     requires { slot < length vcpus.old.items }
     ensures value { result ≡ sie_value
         (majors_shown (slice_index_or vcpus.old.items slot no_record).majors) }
     ensures done { MajorsDone vcpus.old.items vcpus.new.items slot (with_sie op) }
-    ensures room { vec_capacity vcpus.new ≡ vec_capacity vcpus.old }
 {
     vcpus[slot as usize].majors.access_sie(op)
 }

@@ -2,7 +2,6 @@
 //! answers for their interrupt files.
 
 ghost use Rattle.std.specs.Prelude.{◌≡◌, ◌%◌, ◌<◌, true, is_some, None, length, slice_index_or, slice_set};
-ghost use Rattle.std.specs.Vec.{vec_capacity};
 ghost use Rattle.aia_word.specs.Top.{top_value};
 ghost use Rattle.aia_regs.specs.declared.limits.TheConstants.{VCPUS};
 ghost use Rattle.aia_regs.specs.FileRegisters.{number_after};
@@ -19,10 +18,10 @@ ghost use Rattle.aia_fabric_values.specs.Found.{IsFound};
 ghost use Rattle.aia_hyp_values.specs.Stands.{CoreTakes, answer_by};
 
 use crate::guest::access_select_in;
-use crate::hypervisor_core::Core;
+use crate::hypervisor_core::{Core, Records};
 use aia_csr::CsrAccess;
 use aia_fabric::{Fabric, Found};
-use aia_hyp_values::{Stay, VcpuRecord};
+use aia_hyp_values::Stay;
 use aia_model::Refusal;
 use aia_move::{KeptNumbers, Plan};
 use aia_regs::{Csr, FileReg, Op};
@@ -152,10 +151,9 @@ fn is_outside_sets(reg: FileReg) -> bool
 }
 
 /// Has the virtual hart of a slot run from memory where it is parked; `Err` as of [`Core::enter`].
-fn enter_in(vcpus: &mut Vec<VcpuRecord<Plan>>, slot: u32) -> Result<(), Refusal>
+fn enter_in(vcpus: &mut Records, slot: u32) -> Result<(), Refusal>
     requires { slot < length vcpus.old.items }
     ensures enters { Enters vcpus.old.items vcpus.new.items slot (answer_by (λ _. Okay) result) }
-    ensures room { vec_capacity vcpus.new ≡ vec_capacity vcpus.old }
 {
     let stay = &mut vcpus[slot as usize].stay;
     let kept = stay.parked()?;
@@ -164,11 +162,10 @@ fn enter_in(vcpus: &mut Vec<VcpuRecord<Plan>>, slot: u32) -> Result<(), Refusal>
 }
 
 /// Puts a virtual hart elsewhere, in the record of its slot.
-fn put_stay(vcpus: &mut Vec<VcpuRecord<Plan>>, slot: u32, stay: Stay<Plan>)
+fn put_stay(vcpus: &mut Records, slot: u32, stay: Stay<Plan>)
     requires { slot < length vcpus.old.items }
     ensures after { vcpus.new.items ≡ slice_set vcpus.old.items slot
         (record (slice_index_or vcpus.old.items slot no_record) { stay = stay }) }
-    ensures room { vec_capacity vcpus.new ≡ vec_capacity vcpus.old }
 {
     vcpus[slot as usize].stay = stay;
 }
@@ -177,7 +174,7 @@ fn put_stay(vcpus: &mut Vec<VcpuRecord<Plan>>, slot: u32, stay: Stay<Plan>)
 /// none of its sets', given the numbers that are kept of it, and gives what it read; eithreshold is
 /// kept below `modulus`.
 fn access_kept_in(
-    vcpus: &mut Vec<VcpuRecord<Plan>>,
+    vcpus: &mut Records,
     slot: u32,
     kept: KeptNumbers,
     reg: FileReg,
@@ -192,7 +189,6 @@ fn access_kept_in(
         (record (slice_index_or vcpus.old.items slot no_record) {
           stay = Stay.InMemory Rest.Entered (kept_after modulus reg op kept);
         }) }
-    ensures room { vec_capacity vcpus.new ≡ vec_capacity vcpus.old }
 {
     let mut now = kept;
     let before = match reg {

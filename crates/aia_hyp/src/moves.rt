@@ -1,5 +1,4 @@
 ghost use Rattle.std.specs.Prelude.{◌≡◌, ◌<◌, ◌≤◌, true, false, length, slice_index_or, slice_set, Option, Some, None, IfSome, IfNone, OnOk};
-ghost use Rattle.std.specs.Vec.{vec_capacity};
 ghost use Rattle.aia_vcpu.specs.Vms.{vcpu_of, is_vcpu_in};
 ghost use Rattle.aia_vcpu.specs.Home.{is_moving};
 ghost use Rattle.aia_pool.specs.Leases.{Leases};
@@ -22,10 +21,10 @@ ghost use Rattle.aia_model.specs.Histories.{IsHistory};
 ghost use Rattle.aia_fabric_values.specs.Found.{IsFound};
 ghost use Rattle.aia_hyp_values.specs.Moves.{UnlessRefused, WholeAims, step_answer, MakesOne, WantBegins, LeaveBegins, ArriveBegins, ShiftBegins, MoveBegins, MoveGoes, StaysInPlace, MoveInPlace, IsAtItsLast, stay_after, back_of, with_back, IsOutThere};
 
-use crate::hypervisor_core::Core;
+use crate::hypervisor_core::{Core, Records};
 use crate::passes::Passes;
 use aia_fabric::{Fabric, Found};
-use aia_hyp_values::{Stay, VcpuRecord};
+use aia_hyp_values::Stay;
 use aia_model::{Refusal, Want};
 use aia_move::{KeptNumbers, Outcome, Plan, Targets, Who};
 use aia_pool::Pool;
@@ -222,12 +221,11 @@ fn nowhere() -> Stay<Plan>
 }
 
 /// Puts a virtual hart elsewhere, in its record, and gives where it was.
-fn swap_stay(vcpus: &mut Vec<VcpuRecord<Plan>>, slot: u32, stay: Stay<Plan>) -> Stay<Plan>
+fn swap_stay(vcpus: &mut Records, slot: u32, stay: Stay<Plan>) -> Stay<Plan>
     requires { slot < length vcpus.old.items }
     ensures before { result ≡ (slice_index_or vcpus.old.items slot no_record).stay }
     ensures after { vcpus.new.items ≡ slice_set vcpus.old.items slot
         (record (slice_index_or vcpus.old.items slot no_record) { stay = stay }) }
-    ensures room { vec_capacity vcpus.new ≡ vec_capacity vcpus.old }
 {
     std::mem::replace(&mut vcpus[slot as usize].stay, stay)
 }
@@ -235,7 +233,7 @@ fn swap_stay(vcpus: &mut Vec<VcpuRecord<Plan>>, slot: u32, stay: Stay<Plan>) -> 
 /// Makes the next step of the move of a virtual hart in its record, where it is not the last one,
 /// and tells whether it made one.
 fn carry_on<T: Targets>(
-    vcpus: &mut Vec<VcpuRecord<Plan>>,
+    vcpus: &mut Records,
     slot: u32,
     fabric: &mut Fabric,
     targets: &mut T,
@@ -258,7 +256,6 @@ fn carry_on<T: Targets>(
         (record (slice_index_or vcpus.old.items slot no_record) {
           stay = (slice_index_or vcpus.new.items slot no_record).stay;
         }) }
-    ensures room { vec_capacity vcpus.new ≡ vec_capacity vcpus.old }
 {
     match &mut vcpus[slot as usize].stay {
         Stay::Moving(plan) => plan.step_in_place(fabric, targets),

@@ -6,7 +6,7 @@ use crate::hypervisor_core::Core;
 use aia_model::Refusal;
 
 impl Core {
-    /// Takes a store of `value` by virtual hart `number` of a VM at the place, in its own address
+    /// Takes a store of `value` by virtual hart `vcpu` of a VM at the place, in its own address
     /// space, of the interrupt file of virtual hart `to` of its VM, which may be itself: it asks
     /// there for the identity that the value names, and where the G-stage record in force leads to
     /// the slot of `to`, a notice is sent if that one is enabled in the slot. `Err` is `Range`

@@ -99,11 +99,6 @@ aim_sees_none passes words (OnWay way at) live some e =
     sees false c b e = refl
 aim_sees_none passes words there live some e = absurd (cc)
 
--- the next pass is aimed where the move leads
-pub aim_leads : (passes : ℕ) (there : Home) → is_aiming passes there ≡ true → pass_reaches (aims_done there) (aimed there) ≡ new_file there
-aim_leads passes (OnWay way at) e = ap (λ b. cond b (led_to way) (left way)) (lt-ltb at.aims (at.aims + 1) (omega arith))
-aim_leads passes there e = absurd (cc)
-
 -- ---- the step
 
 -- the plan of a virtual hart has aimed its next pass, and the virtual hart has a new record

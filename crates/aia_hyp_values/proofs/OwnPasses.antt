@@ -25,7 +25,7 @@ use Rattle.aia_hyp_values.specs.declared.vcpu.Stay.TheVariants as stays
 use Rattle.aia_hyp_values.specs.Core.{CoreState, record_of, home_in}
 use Rattle.aia_hyp_values.specs.Passes.{own_passes, HasItsPasses, IsToOne, AimsBy}
 use Rattle.aia_hyp_values.specs.Stands.{PlanStands, CoreStands}
-use Rattle.aia_hyp_values.proofs.AimLines.{aim_leads}
+use Rattle.aia_move_values.proofs.WayTargets.{next_reach}
 
 -- ---- among all passes
 
@@ -150,7 +150,7 @@ module _ (x : CoreState) (h : History) (g : Vcpu) (plan : PlanState) (stands : C
       → Aimed (targets.aim_of (moving_of plan)).source (targets.aim_of (moving_of plan)).target ≡ aim_of h g its
   aim_is aiming = λ k. Aimed (next_is aiming k).source
       (target_to (same_notice k) (next_is aiming k).number (next_is aiming k).identity
-      ((ap new_file same_home ∙ sym (aim_leads (passes_for h g) (home h g) aiming)) k))
+      ((ap new_file same_home ∙ sym (next_reach (passes_for h g) (home h g) aiming)) k))
 
   pub aims_so : {T : Type 0} (aim : T → ℕ → ℕ → T → Type 0) (old new : T) → AimsAs aim (next_aim (moving_of plan)) old new
       → AimsBy aim (aimed_by h (Stepped g)) old new

@@ -4,7 +4,7 @@ use Rattle.std.proofs.Common.{◌≡◌, ℕ, ◌<◌, Bool, true, false, nat_eq
 use Rattle.std.proofs.lemmas.Bool.{cases_Bool, cases_lt, eq-eqb, eqb-true, ltb-true, and_parts, false≢true}
 use Rattle.std.proofs.lemmas.List.{get_or_append_left, length-append}
 use Rattle.std.proofs.Math.Seq.{get_or-append_seam}
-use Rattle.aia_vcpu.specs.Vms.{vcpu_of}
+use Rattle.aia_vcpu.specs.Vms.{Vcpu, vcpu_of}
 use Rattle.aia_vcpu.specs.Aims.{is_aiming, aims_done, pass_reaches}
 use Rattle.aia_move_values.specs.Targets.{TargetMap, AimsOne}
 use Rattle.aia_model.specs.declared.line.Line.TheVariants.{Machine}
@@ -103,21 +103,27 @@ aimed_then (Delivered msi) h p may good quiet low = stood (Delivered msi) h p ma
 aimed_then (Landed vm k) h p may good quiet low = stood (Landed vm k) h p may good low
 aimed_then (Relayed q) h p may good quiet low = stood (Relayed q) h p may good low
 
+-- a step aims the source of a pass
+aims_own : (h : History) (g : Vcpu) (s v : ℕ) → aimed_by h (Stepped g) ≡ Some (Aimed s v)
+    → (p : ℕ) × (p < length (passes_of h)) × ((nth_pass h p).source ≡ s)
+aims_own h g s v = by_aim (is_aiming (passes_for h g) (home h g)) refl
+  where
+    by_aim : (b : Bool) → is_aiming (passes_for h g) (home h g) ≡ b
+        → (if b then Some (aim_of h g (own_pass h g (aims_done (home h g)))) else None) ≡ Some (Aimed s v)
+        → (p : ℕ) × (p < length (passes_of h)) × ((nth_pass h p).source ≡ s)
+    by_aim true aiming e =
+        let few = ltb-true _ _ (and_parts _ (nat_lt (aims_done (home h g)) (passes_for h g)) aiming).1 in
+        let same : (nth_pass h (own_pass h g (aims_done (home h g)))).source ≡ s = cc in
+        (own_pass h g (aims_done (home h g)), (own_is h g (aims_done (home h g)) few).low, same)
+    by_aim false other e = absurd (cc)
+
 -- MSIs to guests may be made of a source that is aimed
 aimed_passable : (event : Event) (h : History) (s v : ℕ) → MayHappen h event → IsHistory h → aimed_by h event ≡ Some (Aimed s v)
     → is_passable (acts_of h) s ≡ true
 aimed_passable (Accepted (lines.Pass source vm vcpu identity)) h s v may good aims =
     let same : source ≡ s = cc in ap (is_passable (acts_of h)) (sym same) ∙ (pass_allowed h source vm vcpu identity may).ready
-aimed_passable (Stepped g) h s v may good aims = by_aim (is_aiming (passes_for h g) (home h g)) refl aims
-  where
-    by_aim : (b : Bool) → is_aiming (passes_for h g) (home h g) ≡ b
-        → (if b then Some (aim_of h g (own_pass h g (aims_done (home h g)))) else None) ≡ Some (Aimed s v) → is_passable (acts_of h) s ≡ true
-    by_aim true aiming e =
-        let few = ltb-true _ _ (and_parts _ (nat_lt (aims_done (home h g)) (passes_for h g)) aiming).1 in
-        let q = own_is h g (aims_done (home h g)) few in
-        let same : (nth_pass h (own_pass h g (aims_done (home h g)))).source ≡ s = cc in
-        ap (is_passable (acts_of h)) (sym same) ∙ ((passes_stand h good).pass (own_pass h g (aims_done (home h g))) q.low).passable
-    by_aim false other e = absurd (cc)
+aimed_passable (Stepped g) h s v may good aims =
+    let own = aims_own h g s v aims in ap (is_passable (acts_of h)) (sym own.2) ∙ ((passes_stand h good).pass own.0 own.1).passable
 aimed_passable (Accepted line) h s v may good aims = absurd (cc)
 aimed_passable (Began move) h s v may good aims = absurd (cc)
 aimed_passable (Delivered msi) h s v may good aims = absurd (cc)
@@ -127,29 +133,16 @@ aimed_passable (Relayed q) h s v may good aims = absurd (cc)
 -- and it is ready
 aim_ready : (event : Event) (h : History) (map : TargetMap) (s v : ℕ) → MayHappen h event → IsHistory h → TellsReady map event → TargetsStand map h
     → aimed_by h event ≡ Some (Aimed s v) → (is_passable (acts_of h) s ≡ true) × (map.ready s ≡ true)
-aim_ready (Accepted (lines.Pass source vm vcpu identity)) h map s v may good tells stands aims =
-    let same : source ≡ s = cc in (
-      ap (is_passable (acts_of h)) (sym same) ∙ (pass_allowed h source vm vcpu identity may).ready,
-      ap map.ready (sym same) ∙ tells,
-    )
-aim_ready (Stepped g) h map s v may good tells stands aims = by_aim (is_aiming (passes_for h g) (home h g)) refl aims
+aim_ready event h map s v may good tells stands aims = (aimed_passable event h s v may good aims, is_ready event tells aims)
   where
-    by_aim : (b : Bool) → is_aiming (passes_for h g) (home h g) ≡ b
-        → (if b then Some (aim_of h g (own_pass h g (aims_done (home h g)))) else None) ≡ Some (Aimed s v)
-        → (is_passable (acts_of h) s ≡ true) × (map.ready s ≡ true)
-    by_aim true aiming e =
-        let few = ltb-true _ _ (and_parts _ (nat_lt (aims_done (home h g)) (passes_for h g)) aiming).1 in
-        let q = own_is h g (aims_done (home h g)) few in
-        let same : (nth_pass h (own_pass h g (aims_done (home h g)))).source ≡ s = cc in (
-          ap (is_passable (acts_of h)) (sym same) ∙ ((passes_stand h good).pass (own_pass h g (aims_done (home h g))) q.low).passable,
-          ap map.ready (sym same) ∙ stands.ready (own_pass h g (aims_done (home h g))) q.low,
-        )
-    by_aim false other e = absurd (cc)
-aim_ready (Accepted line) h map s v may good tells stands aims = absurd (cc)
-aim_ready (Began move) h map s v may good tells stands aims = absurd (cc)
-aim_ready (Delivered msi) h map s v may good tells stands aims = absurd (cc)
-aim_ready (Landed vm k) h map s v may good tells stands aims = absurd (cc)
-aim_ready (Relayed q) h map s v may good tells stands aims = absurd (cc)
+    is_ready : (event : Event) → TellsReady map event → aimed_by h event ≡ Some (Aimed s v) → map.ready s ≡ true
+    is_ready (Accepted (lines.Pass source vm vcpu identity)) tells aims = let same : source ≡ s = cc in ap map.ready (sym same) ∙ tells
+    is_ready (Stepped g) tells aims = let own = aims_own h g s v aims in ap map.ready (sym own.2) ∙ stands.ready own.0 own.1
+    is_ready (Accepted line) tells aims = absurd (cc)
+    is_ready (Began move) tells aims = absurd (cc)
+    is_ready (Delivered msi) tells aims = absurd (cc)
+    is_ready (Landed vm k) tells aims = absurd (cc)
+    is_ready (Relayed q) tells aims = absurd (cc)
 
 -- nothing but aims is an event's own act
 abbrev is_aim : Act → Bool

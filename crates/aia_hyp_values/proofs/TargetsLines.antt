@@ -62,7 +62,7 @@ first_targets map g h s = by_fence (is_at_fence (home h g))
     by_fence false = s
 
 -- before them there was a history whose events may happen
-oldest_was : (count vm : ℕ) (h : History) → IsHistory (oldest_landed count vm h) → IsHistory h
+pub oldest_was : (count vm : ℕ) (h : History) → IsHistory (oldest_landed count vm h) → IsHistory h
 oldest_was zero vm h good = good
 oldest_was (suc count) vm h good = (oldest_was count vm (Landed vm 0 ∷ h) good).1
 

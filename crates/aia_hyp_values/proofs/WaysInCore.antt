@@ -56,9 +56,7 @@ use Rattle.aia_hyp_values.specs.Targets.{TargetsStand}
 use Rattle.aia_hyp_values.proofs.GuestStores.{devices_held, flying_held, peers_held}
 use Rattle.aia_hyp_values.proofs.MoveLines.{knows}
 use Rattle.aia_hyp_values.proofs.OwnPasses.{own_nth, own_length, are_passes}
-
-greatest_small : (n : ℕ) → is_greatest_identity n ≡ true → n ≤ IDENTITIES
-greatest_small n greatest = grind (arith, nat_tests)
+use Rattle.aia_file.proofs.SizeLemmas.{few_identities}
 
 module _ (x : CoreState) (h : History) (g : Vcpu) (plan : PlanState) (stands : CoreStands x h) (whole : IsWhole x.world)
     (there : has_vcpu h g ≡ true) (was : (record_of x g).stay ≡ stays.Moving plan) where
@@ -263,7 +261,7 @@ module _ (x : CoreState) (h : History) (g : Vcpu) (plan : PlanState) (stands : C
     }
       where
         most : greatest_identity_of h ≤ IDENTITIES
-        most = let small : x.world.n ≤ IDENTITIES = greatest_small x.world.n whole.greatest in omega (arith, small, stands.greatest)
+        most = let small : x.world.n ≤ IDENTITIES = few_identities x.world.n whole.greatest in omega (arith, small, stands.greatest)
 
         few_passes : length x.passes ≤ PASSES
         few_passes = let small = (passes_stand h good).few in omega (arith, small, ap (λ (xs : List PassedSource). length xs) stands.passes.same)

@@ -83,6 +83,17 @@ pub struct VcpuRecord<P> {
     pub majors: VsMajor,
 }
 
+impl<P> Default for VcpuRecord<P> {
+    ghost use Rattle.std.specs.Prelude.{◌≡◌};
+    ghost use Rattle.aia_hyp_values.specs.Core.{no_record};
+
+    ghost is_default = { λ r. r ≡ no_record };
+
+    fn default() -> VcpuRecord<P> {
+        VcpuRecord::new()
+    }
+}
+
 impl<P> VcpuRecord<P> {
     /// Makes the record of a virtual hart that was never moved: it is parked, all its numbers are
     /// 0, and no major interrupt of it is injected or enabled.

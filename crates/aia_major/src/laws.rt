@@ -5,6 +5,7 @@ ghost use Rattle.std.specs.Prelude.{◌≡◌, ℕ, ◌<◌, ◌≤◌, ◌⊎�
 ghost use Rattle.std.specs.Int.{is_in_range};
 ghost use Rattle.std.specs.List.{Contains};
 ghost use Rattle.aia_word.specs.Top.{top_value};
+ghost use Rattle.aia_regs.specs.declared.limits.TheConstants.{IDENTITIES};
 ghost use Rattle.aia_regs.specs.Fields.{field};
 ghost use Rattle.aia_word.specs.Sets.{has_bit};
 ghost use Rattle.aia_regs.specs.Operations.{written, FitsOp};
@@ -47,11 +48,11 @@ pub fn vti_says_which_candidates_there_are()
 {}
 
 /// The priority number of the external interrupt is the identity on top of the guest's interrupt
-/// file, 1 to 2047, as `stopei` shows it, and 256 where there is none.
+/// file, 1 to `IDENTITIES`, as `stopei` shows it, and 256 where there is none.
 ///
 /// AIA 1.0, Interrupts for Virtual Machines (VS Level). Profile: 256.
 pub fn the_identity_on_top_is_the_external_priority()
-    ensures some { (m : VsMajorState) (i : ℕ) (signal : Bool) → 1 ≤ i → i < 2048
+    ensures some { (m : VsMajorState) (i : ℕ) (signal : Bool) → 1 ≤ i → i ≤ IDENTITIES
         → external m (top_value (Some i)) signal
         ≡ one_if (is_live m signal 9) (record { major = 9; number = i; rank = 1 }) }
     ensures none { (m : VsMajorState) (signal : Bool) → external m (top_value None) signal

@@ -13,6 +13,7 @@ use Rattle.aia_vcpu.specs.Routes.{origin}
 use Rattle.aia_vcpu.specs.Aims.{aims_done, is_aiming, aimed, further, pass_reaches, AreAimed}
 use Rattle.aia_vcpu.proofs.HomeLemmas.{not_the_last, origin_is_held, new_is_held}
 use Rattle.aia_model.specs.HomeOf.{guest_place}
+use Rattle.aia_vcpu.proofs.PassLemmas.{one_more_passes}
 
 none_below : (r : ℕ) → nat_lt r 0 ≡ false
 none_below r = grind (arith, nat_tests)
@@ -42,10 +43,6 @@ shifts_passes r hart None there = refl
 shifts_passes r hart (Some f) there = shifting_passes r (guest_place hart f) there
 
 -- ---- a step that aims none
-
-one_more_passes : (r : ℕ) (there : Home) → pass_reaches r (one_more there) ≡ pass_reaches r there
-one_more_passes r (OnWay way at) = refl
-one_more_passes r there = refl
 
 -- at the last step all are aimed
 rests_reached : (r : ℕ) (to : Option GuestPlace) → pass_reaches r (at_rest to) ≡ to

@@ -148,7 +148,8 @@ pub fn another_move_keeps_what_a_plan_knows()
 
 /// The steps of a plan keep what it knows. An access: of the move with that step, once what lands
 /// before it has landed. An aim: that source is aimed at the new place. The last one: nothing leads
-/// to the place that the move left, and all is known of the virtual hart at rest.
+/// to the place that the move left, and the ways and the targets of the virtual hart at rest are
+/// known.
 pub fn its_own_steps_keep_what_a_plan_knows()
     ensures goes { (w : World) (map : TargetMap) (plan : PlanState) (reach : Option GuestPlace)
         (file : InterruptFile) (saw : Bool) → IsWhole w → AreApart (moving_of plan).home
@@ -196,8 +197,8 @@ pub fn a_move_begins_with_what_is_known()
 
 /// Once a plan is past its aims, in its phase of the pending set and after, nothing leads to the
 /// old place of its move: no route, in force or written, whosever it is, no store in flight, and no
-/// target of a source that is passed to its virtual hart. What is passed to another one leads to no
-/// place of the move at any time.
+/// target of a source that is passed to its virtual hart. What is passed to another virtual hart
+/// leads to no place of the move if that one's targets are known and it holds no file of the move.
 pub fn nothing_leads_to_the_old_place()
     ensures shut { (w : World) (map : TargetMap) (plan : PlanState) (reach : Option GuestPlace)
         (file : InterruptFile) (saw : Bool) → IsWhole w → AreApart (moving_of plan).home

@@ -14,6 +14,7 @@ use Rattle.aia_move_values.specs.declared.who.Who.{Who}
 use Rattle.aia_move_values.specs.Move.{Moving}
 use Rattle.aia_move_values.specs.Targets.{TargetMap, AimsOne, pass_count, pass_in, aims, aim_of, one_aimed}
 use Rattle.aia_move_values.specs.Ways.{KnowsTargets}
+use Rattle.aia_vcpu.proofs.PassLemmas.{one_more_passes}
 
 -- ---- another source is aimed
 
@@ -33,7 +34,7 @@ abbrev target_by : Moving → ℕ → Option GuestPlace → ℕ
 target_by m r place = target_to m.who.found.notice (pass_in m.who r).number (pass_in m.who r).identity place
 
 -- where the passes lead with one more aimed: the next one to the new place, the others as before
-next_reach : (passes : ℕ) (there : Home) → is_aiming passes there ≡ true → pass_reaches (aims_done there) (aimed there) ≡ new_file there
+pub next_reach : (passes : ℕ) (there : Home) → is_aiming passes there ≡ true → pass_reaches (aims_done there) (aimed there) ≡ new_file there
 next_reach passes (OnWay way at) e = let past : nat_lt at.aims (at.aims + 1) ≡ true = grind (arith, nat_tests) in rw past refl
 next_reach passes there e = absurd (cc)
 
@@ -73,11 +74,6 @@ own_aimed old new m aiming one knows = record {
 
 -- ---- its move goes on
 
-same_reach : (r : ℕ) (there : Home) → pass_reaches r (one_more there) ≡ pass_reaches r there
-same_reach r (OnWay way at) = refl
-same_reach r (InMemory rest) = refl
-same_reach r (Resident p) = refl
-
 gone_on : (map : TargetMap) (m : Moving) (words : ℕ) → aims m ≡ false → is_at_last words m.home ≡ false → KnowsTargets map m
     → KnowsTargets map (record m { home = one_more m.home })
 gone_on map m words none more knows = record {
@@ -86,7 +82,7 @@ gone_on map m words none more knows = record {
       (further_aimed (pass_count m.who) words m.home knows.come);
   once = knows.once;
   ready = knows.ready;
-  aimed = λ r low. knows.aimed r low ∙ ap (target_by m r) (sym (same_reach r m.home));
+  aimed = λ r low. knows.aimed r low ∙ ap (target_by m r) (sym (one_more_passes r m.home));
 }
   where
     on : (if is_at_last words m.home then ended m.home else one_more m.home) ≡ one_more m.home

@@ -7,6 +7,7 @@ use Rattle.std.proofs.lemmas.Bool.{cond-true, cond-false, cases_eq, and_parts, f
 use Rattle.std.proofs.lemmas.Bool.Decides.{nat_tests}
 use Rattle.std.proofs.lemmas.Nat.{div-mul-add, mod-mul-add, div-add-mod'}
 use Rattle.std.proofs.Math.Nat.{add-mul-mod_self_left, mul-le-mul_left}
+use Rattle.aia_regs.specs.declared.limits.TheConstants.{LAST_CONTROL}
 use Rattle.aia_regs.specs.declared.domain_registers.DomainReg.{DomainReg}
 use Rattle.aia_regs.specs.declared.domain_registers.DomainReg.TheVariants.{DomainCfg, SourceCfg, MMsiAddrCfg, MMsiAddrCfgH, SMsiAddrCfg, SMsiAddrCfgH, SetIp, SetIpNum, InClrIp, ClrIpNum, SetIe, SetIeNum, ClrIe, ClrIeNum, SetIpNumLe, SetIpNumBe, GenMsi, Target, IDelivery, IForce, IThreshold, TopI, ClaimI, Nothing}
 use Rattle.aia_regs.specs.DomainRegisters.{Row, table, index_at, has_offset, register_by, domain_register_of, offset_of_index, domain_offset_of}
@@ -248,10 +249,10 @@ table_has_offsets = (
                                   (
                                     inside 0x3000 4 1 1023,
                                     (
-                                      inside 0x4000 32 0 511,
+                                      inside 0x4000 32 0 LAST_CONTROL,
                                       (
-                                        inside 0x4004 32 0 511,
-                                        (inside 0x4008 32 0 511, (inside 0x4018 32 0 511, (inside 0x401c 32 0 511, tt))),
+                                        inside 0x4004 32 0 LAST_CONTROL,
+                                        (inside 0x4008 32 0 LAST_CONTROL, (inside 0x4018 32 0 LAST_CONTROL, (inside 0x401c 32 0 LAST_CONTROL, tt))),
                                       ),
                                     ),
                                   ),
@@ -353,8 +354,8 @@ no_control hart place small h = nothing_by_rows (is_elsewhere place) table (0x40
 
 -- ---- a hart's delivery control
 
-pub control : (first hart offset : ℕ) → hart < 512 → offset ≡ first + 32 * hart → offset_of_index first 32 0 511 hart ≡ Some offset
-control first hart offset few e = inside first 32 0 511 hart (omega arith) (omega arith) ∙ ap (λ (x : ℕ). Some x) (sym e)
+pub control : (first hart offset : ℕ) → hart ≤ LAST_CONTROL → offset ≡ first + 32 * hart → offset_of_index first 32 0 LAST_CONTROL hart ≡ Some offset
+control first hart offset few e = inside first 32 0 LAST_CONTROL hart (omega arith) (omega arith) ∙ ap (λ (x : ℕ). Some x) (sym e)
 
 -- the reserved places
 pub reserved_control : (hart place : ℕ) → place % 4 ≡ 0 → place < 32 → place ≢ 0x00 → place ≢ 0x04 → place ≢ 0x08 → place ≢ 0x18 → place ≢ 0x1c

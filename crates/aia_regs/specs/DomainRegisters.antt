@@ -3,6 +3,7 @@
 -- are vocabulary.
 use Rattle.std.specs.Prelude.{ℕ, ◌+◌, ◌-◌, ◌*◌, ◌/◌, ◌%◌, Bool, ◌&&◌, nat_eq, nat_le, if◌then◌else◌, List, [], ◌∷◌, Option, Some, None}
 use Rattle.std.specs.Int.{is_in_range}
+use Rattle.aia_regs.specs.declared.limits.TheConstants.{LAST_CONTROL}
 use Rattle.aia_regs.specs.declared.domain_registers.DomainReg.{DomainReg}
 use Rattle.aia_regs.specs.declared.domain_registers.DomainReg.TheVariants.{DomainCfg, SourceCfg, MMsiAddrCfg, MMsiAddrCfgH, SMsiAddrCfg, SMsiAddrCfgH, SetIp, SetIpNum, InClrIp, ClrIpNum, SetIe, SetIeNum, ClrIe, ClrIeNum, SetIpNumLe, SetIpNumBe, GenMsi, Target, IDelivery, IForce, IThreshold, TopI, ClaimI, Nothing}
 
@@ -31,8 +32,8 @@ indexed base stride first last register = record {
 abbrev pub single : ℕ → DomainReg → Row
 single base register = indexed base 4 0 0 (λ i. register)
 
--- The control region's registers, by offset; at its end the interrupt delivery controls of 512
--- harts, 32 bytes each. Profile: a region of 32 KiB, which has room for 512 harts.
+-- The control region's registers, by offset; at its end the interrupt delivery controls of
+-- harts 0 to `LAST_CONTROL`, 32 bytes each. Profile: a region of 32 KiB.
 abbrev pub table : List Row
 table =
     single 0x0000 DomainCfg
@@ -53,11 +54,11 @@ table =
     ∷ single 0x2004 SetIpNumBe
     ∷ single 0x3000 GenMsi
     ∷ indexed 0x3000 4 1 1023 Target
-    ∷ indexed 0x4000 32 0 511 IDelivery
-    ∷ indexed 0x4004 32 0 511 IForce
-    ∷ indexed 0x4008 32 0 511 IThreshold
-    ∷ indexed 0x4018 32 0 511 TopI
-    ∷ indexed 0x401c 32 0 511 ClaimI
+    ∷ indexed 0x4000 32 0 LAST_CONTROL IDelivery
+    ∷ indexed 0x4004 32 0 LAST_CONTROL IForce
+    ∷ indexed 0x4008 32 0 LAST_CONTROL IThreshold
+    ∷ indexed 0x4018 32 0 LAST_CONTROL TopI
+    ∷ indexed 0x401c 32 0 LAST_CONTROL ClaimI
     ∷ []
 
 -- ---- from an offset to its register
@@ -112,9 +113,9 @@ domain_offset_of SetIpNumLe = Some 0x2000
 domain_offset_of SetIpNumBe = Some 0x2004
 domain_offset_of GenMsi = Some 0x3000
 domain_offset_of (Target i) = offset_of_index 0x3000 4 1 1023 i
-domain_offset_of (IDelivery h) = offset_of_index 0x4000 32 0 511 h
-domain_offset_of (IForce h) = offset_of_index 0x4004 32 0 511 h
-domain_offset_of (IThreshold h) = offset_of_index 0x4008 32 0 511 h
-domain_offset_of (TopI h) = offset_of_index 0x4018 32 0 511 h
-domain_offset_of (ClaimI h) = offset_of_index 0x401c 32 0 511 h
+domain_offset_of (IDelivery h) = offset_of_index 0x4000 32 0 LAST_CONTROL h
+domain_offset_of (IForce h) = offset_of_index 0x4004 32 0 LAST_CONTROL h
+domain_offset_of (IThreshold h) = offset_of_index 0x4008 32 0 LAST_CONTROL h
+domain_offset_of (TopI h) = offset_of_index 0x4018 32 0 LAST_CONTROL h
+domain_offset_of (ClaimI h) = offset_of_index 0x401c 32 0 LAST_CONTROL h
 domain_offset_of Nothing = None

@@ -1,4 +1,5 @@
 ghost use Rattle.std.specs.Prelude.{◌≡◌, ◌+◌, ◌*◌, ◌%◌, ◌<◌, ◌≤◌};
+ghost use Rattle.aia_regs.specs.declared.limits.TheConstants.{LAST_CONTROL};
 ghost use Rattle.aia_regs.specs.DomainRegisters.{domain_register_of};
 
 /// A register of an APLIC interrupt domain, as an offset of the domain's control region names it.
@@ -48,16 +49,16 @@ pub enum DomainReg {
     /// `target` of this source, 1 to 1023: the hart that it goes to, and its priority or identity
     /// there.
     Target(u32),
-    /// `idelivery` of the hart with this index, 0 to 511: whether interrupts are delivered to it.
+    /// `idelivery` of the hart with this index, 0 to `LAST_CONTROL`: whether interrupts are delivered to it.
     IDelivery(u32),
-    /// `iforce` of the hart with this index, 0 to 511: forces an interrupt.
+    /// `iforce` of the hart with this index, 0 to `LAST_CONTROL`: forces an interrupt.
     IForce(u32),
-    /// `ithreshold` of the hart with this index, 0 to 511: the priority from which interrupts are
+    /// `ithreshold` of the hart with this index, 0 to `LAST_CONTROL`: the priority from which interrupts are
     /// held back; 0 holds none back.
     IThreshold(u32),
-    /// `topi` of the hart with this index, 0 to 511: the interrupt on top.
+    /// `topi` of the hart with this index, 0 to `LAST_CONTROL`: the interrupt on top.
     TopI(u32),
-    /// `claimi` of the hart with this index, 0 to 511: the interrupt on top, which a read claims.
+    /// `claimi` of the hart with this index, 0 to `LAST_CONTROL`: the interrupt on top, which a read claims.
     ClaimI(u32),
     /// No register: the offset is reserved, no multiple of 4, or beyond the region, which ends at
     /// 0x8000.
@@ -102,7 +103,7 @@ pub fn domain_reg(offset: u32) -> DomainReg
 fn control_reg(hart: u32, place: u32) -> DomainReg
     requires aligned { place % 4 ≡ 0 }
     requires inside { place < 32 }
-    requires few { hart < 512 }
+    requires few { hart ≤ LAST_CONTROL }
     ensures { result ≡ domain_register_of (0x4000 + 32 * hart + place) }
 {
     match place {

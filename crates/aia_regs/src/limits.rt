@@ -24,6 +24,9 @@ pub const SOURCES: u32 = 1023;
 /// The words of 64 that have a bit for each source, bit 0 of the first one for none.
 pub const SOURCE_WORDS: usize = (SOURCES as usize + 1) / 64;
 
+/// The last hart whose interrupt delivery control a domain's region of 32 KiB has room for.
+pub const LAST_CONTROL: u32 = 511;
+
 /// The most VMs of a machine.
 pub const VMS: u32 = 8;
 

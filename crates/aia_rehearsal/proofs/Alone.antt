@@ -47,6 +47,7 @@ use Rattle.aia_rehearsal.proofs.Carried.{side_same}
 use Rattle.aia_rehearsal.proofs.StoreSeen.{at_spot, at_slot}
 use Rattle.aia_rehearsal.proofs.Landings.{entry_seen, named_spot_there}
 use Rattle.aia_rehearsal.proofs.SameMachine.{step_same, event_same}
+use Rattle.aia_move_values.proofs.WayFences.{apart_vcpus}
 
 -- ---- what stays of the routes of others
 
@@ -109,12 +110,6 @@ all_landed_kept (suc count) w u p vm (mid, before, whole, l) g = lands_kept mid 
 
 -- ---- the steps of the rehearsal
 
-elsewhere : (g h : Vcpu) → g ≢ h → (g.vm ≢ h.vm) ⊎ (g.vcpu ≢ h.vcpu)
-elsewhere g h other = elim (cases_eq g.vm h.vm) [
-  | inl same ↦ inr (λ too. other (λ k. vcpu_of (same k) (too k)))
-  | inr ne ↦ inl ne
-]
-
 module _ (w : World) (p : Passage) (whole : IsWhole w) (of : IsOf w p) where
   words_apart : (g : Vcpu) (which : ℕ) → which ≤ 1 → is_vcpu_in w.vms g ≡ true → g ≢ mover_of p → (x : ℕ) → x ≤ 1
       → entry_word_place g.vm g.vcpu + x ≢ entry_word_place p.who.found.vm p.who.found.vcpu + which
@@ -149,9 +144,9 @@ module _ (w : World) (p : Passage) (whole : IsWhole w) (of : IsOf w p) where
 
   fence_kept : OthersKept w (with_fence w p.who.found.vm p.who.found.vcpu) p
   fence_kept = record {
-    in_force = λ g other. fenced_elsewhere w.tables p.who.found.vm p.who.found.vcpu w.memory g.vm g.vcpu (elsewhere g (mover_of p) other);
+    in_force = λ g other. fenced_elsewhere w.tables p.who.found.vm p.who.found.vcpu w.memory g.vm g.vcpu (apart_vcpus g (mover_of p) other);
     routes = λ g there other. let e = fenced_elsewhere w.tables p.who.found.vm p.who.found.vcpu w.memory g.vm g.vcpu
-        (elsewhere g (mover_of p) other) in λ k. record (routes_of w g) { in_force = e k };
+        (apart_vcpus g (mover_of p) other) in λ k. record (routes_of w g) { in_force = e k };
   }
 
   low : p.who.found.slot < VCPUS
@@ -186,9 +181,9 @@ step_kept steps.Fence w u r whole of f =
     let landed = all_landed_kept (length (flight_of w r.passage.who.found.vm)) w f.landed r.passage r.passage.who.found.vm f.lands in
     kept_by w u _ r.passage f.fenced (record {
       in_force = λ g other. fenced_elsewhere f.landed.tables r.passage.who.found.vm r.passage.who.found.vcpu f.landed.memory g.vm g.vcpu
-          (elsewhere g (mover_of r.passage) other) ∙ ap (λ (x : RoutesSeen). x.in_force) (landed g);
+          (apart_vcpus g (mover_of r.passage) other) ∙ ap (λ (x : RoutesSeen). x.in_force) (landed g);
       routes = λ g there other. let e = fenced_elsewhere f.landed.tables r.passage.who.found.vm r.passage.who.found.vcpu f.landed.memory g.vm
-          g.vcpu (elsewhere g (mover_of r.passage) other) in
+          g.vcpu (apart_vcpus g (mover_of r.passage) other) in
           let fenced : routes_of (with_fence f.landed r.passage.who.found.vm r.passage.who.found.vcpu) g ≡ routes_of f.landed g =
           λ k. record (routes_of f.landed g) { in_force = e k } in fenced ∙ landed g;
     })

@@ -26,6 +26,7 @@ use Rattle.aia_rehearsal.proofs.StepStands.{rehearsed}
 use Rattle.aia_rehearsal.proofs.RouteSteps.{refetched}
 use Rattle.aia_rehearsal.proofs.FlightSteps.{place_among, landed_state, own_store_landed, other_store_landed}
 use Rattle.aia_rehearsal.proofs.Between.{LeadsElsewhere, own_route, own_store, other_store, own_peer, other_peer, own_send, other_send, other_refetched}
+use Rattle.aia_move_values.proofs.WayFences.{no_vcpu}
 
 -- what is for another virtual hart does not come to the places
 abbrev KeepsAway : RehearsedEvent → World → Passage → Type 0
@@ -40,10 +41,6 @@ one_or_none w r z is x own other = elim (cases_Bool is) [
   | inl mine ↦ subst (λ l. StandsFor w r (all_happened l z)) (sym (cond-true _ _ _ mine)) (own mine)
   | inr not ↦ subst (λ l. StandsFor w r (all_happened l z)) (sym (cond-false _ _ _ not)) (other not)
 ]
-
-other_vcpu : (a b : Vcpu) → is_vcpu a b ≡ false → a ≢ b
-other_vcpu a b none e = let itself : is_vcpu b b ≡ true = grind (arith, nat_tests) in let no : true ≡ false = sym itself
-    ∙ ap (λ (x : Vcpu). is_vcpu x b) (sym e) ∙ none in absurd (cc)
 
 module _ (w u : World) (r : Rehearsed) (z : Transit) (whole : IsWhole w) (s : StandsFor w r z) where
   abbrev p : Passage
@@ -89,7 +86,7 @@ module _ (w u : World) (r : Rehearsed) (z : Transit) (whole : IsWhole w) (s : St
       (one_or_none u r z (is_vcpu (vcpu_of vm to) (mover_of p)) (happenings.PeerStores (identity_asked 0 value))
       (λ mine. own_peer w r z whole s u value (subst (λ (g : Vcpu). ReachesByRecord (stage_of w g).in_force w u g value)
       (same_vcpu (vcpu_of vm to) (mover_of p) mine) relays))
-      (λ not. other_peer w r z whole s u value (vcpu_of vm to) (stage_of w (vcpu_of vm to)).in_force there (other_vcpu (vcpu_of vm to) (mover_of p) not)
+      (λ not. other_peer w r z whole s u value (vcpu_of vm to) (stage_of w (vcpu_of vm to)).in_force there (no_vcpu (vcpu_of vm to) (mover_of p) not)
       (away not) relays))
   between (DeviceSends vm addr value) t (low, sends, e) away =
       subst (λ (x : Rehearsed). StandsFor u x (all_happened (seen (DeviceSends vm addr value) w p) z)) (sym e)
@@ -127,7 +124,7 @@ keeps_away : (event : RehearsedEvent) (w u : World) (r t : Rehearsed) → IsAlon
 keeps_away (Steps step) w u r t alone happens = tt
 keeps_away (DeviceStores vm addr value) w u r t alone happens = route_elsewhere w r.passage vm addr alone
 keeps_away (PeerStores vm to value) w u r t alone happens =
-    λ not. alone.records (vcpu_of vm to) happens.0 (other_vcpu (vcpu_of vm to) (mover_of r.passage) not)
+    λ not. alone.records (vcpu_of vm to) happens.0 (no_vcpu (vcpu_of vm to) (mover_of r.passage) not)
 keeps_away (DeviceSends vm addr value) w u r t alone happens = route_elsewhere w r.passage vm addr alone
 keeps_away (StoreLands vm k) w u r t alone happens = tt
 keeps_away (EntryRead vm file) w u r t alone happens = tt

@@ -26,7 +26,7 @@ use Rattle.aia_rehearsal.specs.Rehearsed.{Passage, Rehearsed, mover_of, AreTwo}
 use Rattle.aia_rehearsal.specs.Stands.{routes_of, is_file_at, leads, side_of, identity_asked, RoutesStand, StandsFor}
 use Rattle.aia_rehearsal.proofs.Carried.{stand_on}
 use Rattle.aia_rehearsal.proofs.StoreSeen.{Seen, file_hit, slot_hit, seen_none, at_spot, at_slot}
-use Rattle.aia_rehearsal.proofs.SameMachine.{stored_same}
+use Rattle.aia_move_values.proofs.WayFrames.{stored_machine}
 
 -- ---- on which side
 
@@ -39,7 +39,7 @@ landed_on None x z = z
 landed_on (Some side) x z = landed side x z
 
 only_stores_same : (w u : World) → OnlyStores w u → SameMachine w u × (u.flights ≡ w.flights)
-only_stores_same w u rest = (stored_same w u rest, ap (λ (x : World). x.flights) rest)
+only_stores_same w u rest = (stored_machine w u rest, ap (λ (x : World). x.flights) rest)
 
 module _ (w u : World) (r : Rehearsed) (z : Transit) (hits : ends.Place → Bool) (offset value : ℕ) (s : StandsFor w r z)
     (seen : Seen w u r.passage hits offset value) where

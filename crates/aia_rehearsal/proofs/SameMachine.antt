@@ -28,6 +28,7 @@ use Rattle.aia_rehearsal.specs.Rehearsed.{Rehearsed, at, IsOf}
 use Rattle.aia_rehearsal.specs.Steps.{Puts, Makes, after}
 use Rattle.aia_rehearsal.proofs.Carried.{of_same, same_machine}
 use Rattle.aia_move_values.proofs.StepLemmas.{post_kept}
+use Rattle.aia_move_values.proofs.WayFrames.{stored_machine}
 
 same_by : (w u x : World) → u ≡ x → SameMachine w x → SameMachine w u
 same_by w u x e same = subst (λ (y : World). SameMachine w y) (sym e) same
@@ -45,9 +46,6 @@ word_same w (ats.Slot q) k v = (
 put_same : (w u : World) (place : ends.Place) (reg : FileReg) (v : ℕ) → Puts w u place reg v → SameMachine w u
 put_same w u (File a) reg v puts = same_by w u _ puts.others (record { n = refl; vms = refl; harts = refl; guests = refl })
 put_same w u Slot reg v e = same_by w u w e (same_machine w)
-
-pub stored_same : (w u : World) → OnlyStores w u → SameMachine w u
-stored_same w u rest = same_by w u _ rest (record { n = refl; vms = refl; harts = refl; guests = refl })
 
 pub step_same : (step : Step) (w u : World) (r : Rehearsed) → Makes step r w u → SameMachine w u
 step_same steps.Quiet w u r makes = put_same w u r.passage.old Delivery 0 makes
@@ -70,16 +68,6 @@ step_same step w u r e = same_by w u _ e (record { n = refl; vms = refl; harts =
 pub step_of : (step : Step) (w u : World) (r t : Rehearsed) → IsOf w r.passage → Makes step r w u → t ≡ after step r w → IsOf u t.passage
 step_of step w u r t of makes e = subst (λ (x : Rehearsed). IsOf u x.passage) (sym e) (of_same w u r.passage (step_same step w u r makes) of)
 
--- one after the other
-pub same_again : (w u x : World) → SameMachine w u → SameMachine u x → SameMachine w x
-same_again w u x first second = record {
-  n = second.n ∙ first.n;
-  vms = second.vms ∙ first.vms;
-  harts = second.harts
-      ∙ first.harts;
-  guests = second.guests ∙ first.guests;
-}
-
 -- ---- so does all that happens
 
 sends_same : (route : Route) (w u : World) (vm offset value : ℕ) → Sends route w u vm offset value → SameMachine w u
@@ -90,11 +78,11 @@ sends_same (Fault entry) w u vm offset value e = same_by w u w e (same_machine w
 pub event_same : (event : RehearsedEvent) (w : World) (r : Rehearsed) (u : World) (t : Rehearsed) → Happens event w r u t → SameMachine w u
 event_same (Steps step) w r u t (inside, makes, e) = step_same step w u r makes
 event_same (DeviceStores vm addr value) w r u t (low, reaches, e) =
-    stored_same w u (reaches_rest (route_of (table_of w.tables vm) addr) w u (addr % PAGE) value reaches)
+    stored_machine w u (reaches_rest (route_of (table_of w.tables vm) addr) w u (addr % PAGE) value reaches)
 event_same (PeerStores vm to value) w r u t (there, relays, e) =
-    stored_same w u (record_rest (stage_of w (vcpu_of vm to)).in_force w u (vcpu_of vm to) value relays)
+    stored_machine w u (record_rest (stage_of w (vcpu_of vm to)).in_force w u (vcpu_of vm to) value relays)
 event_same (DeviceSends vm addr value) w r u t (low, sends, e) = sends_same (route_of (table_of w.tables vm) addr) w u vm (addr % PAGE) value sends
 event_same (StoreLands vm k) w r u t (low, l, e) =
-    let same = stored_same w l.stored (entry_rest l.store.entry w l.stored l.store.offset l.store.value l.reaches) in
+    let same = stored_machine w l.stored (entry_rest l.store.entry w l.stored l.store.offset l.store.value l.reaches) in
     same_by w u _ l.taken (record { n = same.n; vms = same.vms; harts = same.harts; guests = same.guests })
 event_same (EntryRead vm file) w r u t (there, is, e) = same_by w u _ is (record { n = refl; vms = refl; harts = refl; guests = refl })

@@ -50,6 +50,7 @@ use Rattle.aia_aplic_values.proofs.SizeLemmas.{same_sources, same_harts}
 use Rattle.aia_model.specs.Passable.{is_passable}
 use Rattle.aia_source.specs.Registers.{is_by_msi, domaincfg_kept, same_bool}
 use Rattle.aia_model.specs.declared.domain_name.DomainName.TheVariants.{Child}
+use Rattle.aia_hyp_values.proofs.TargetsLines.{oldest_was}
 
 -- ---- passed sources are there
 
@@ -131,15 +132,11 @@ acts_step g h = by_fence (is_at_fence (home h g)) refl
         ∙ sym (ap (λ o. with_act o (acts_of h)) (no_aim h g e))
     by_fence false e = ap (λ b. acts_of (Stepped g ∷ cond b (oldest_landed (length (flight h g.vm)) g.vm h) h)) e
 
-before_landings : (count vm : ℕ) (h : History) → IsHistory (oldest_landed count vm h) → IsHistory h
-before_landings zero vm h good = good
-before_landings (suc count) vm h good = (before_landings count vm (Landed vm 0 ∷ h) good).1
-
 before_step : (g : Vcpu) (h : History) → IsHistory (step_taken g h) → IsHistory h
 before_step g h good = by_fence (is_at_fence (home h g)) good.1
   where
     by_fence : (b : Bool) → IsHistory (cond b (oldest_landed (length (flight h g.vm)) g.vm h) h) → IsHistory h
-    by_fence true good = before_landings (length (flight h g.vm)) g.vm h good
+    by_fence true good = oldest_was (length (flight h g.vm)) g.vm h good
     by_fence false good = good
 
 steps_aim : (count : ℕ) (g : Vcpu) (h : History) (old new : Wires) → IsHistory (steps_taken count g h) → AplicStands old.aplic (acts_of h)

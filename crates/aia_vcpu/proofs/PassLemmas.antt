@@ -168,3 +168,8 @@ pub pass_drained : (passes words w r : ℕ) (there : Home) → nat_lt r passes �
 pass_drained passes words w r (OnWay way at) below a moves drained = let all = a.all (grind (arith, nat_tests)) in
     let e : nat_lt r at.aims ≡ true = grind (arith, nat_tests) in ap (λ b. if b then led_to way else left way) e
 pass_drained passes words w r there below a moves drained = absurd (cc)
+
+-- a step that aims none leaves where each pass leads
+pub one_more_passes : (r : ℕ) (there : Home) → pass_reaches r (one_more there) ≡ pass_reaches r there
+one_more_passes r (OnWay way at) = refl
+one_more_passes r there = refl

@@ -2,7 +2,7 @@ ghost use Rattle.std.specs.Prelude.{◌≡◌, ◌^◌, ◌<◌, true};
 ghost use Rattle.aia_vcpu.specs.Vms.{Vcpu, vcpus_in, is_vcpu_in, slot_of, notice_hart};
 
 /// A VM: what is said of it as it is made.
-#[derive(Clone, Copy, Debug, PartialEq, Eq)]
+#[derive(Clone, Copy, Debug, Default, PartialEq, Eq)]
 pub struct Vm {
     /// How many virtual harts it has, at least 1.
     pub vcpus: u32,

@@ -24,7 +24,7 @@ invariant_of-result c = record {
 
 pub returns : goal.returns
 returns c = record {
-  world = rw (c.in_ok-ram.ensures, c.in_ok-vms.ensures, c.in_ok-iommu.ensures, c.in_ok-flights.ensures, c.new-6.ensures) refl;
+  world = rw (c.in_ok-ram.ensures, c.new-4.ensures, c.in_ok-iommu.ensures, c.new-5.ensures, c.new-6.ensures) refl;
   hart_count = search rules;
   guest_count = search rules;
   files = c.in_ok-imsic.ensures.empty;

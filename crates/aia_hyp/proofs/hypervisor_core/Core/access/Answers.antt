@@ -154,13 +154,13 @@ top_taken c =
     refl refl refl refl c.claim_or_read.ensures.done refl)
 
 pub invariant_of-self : goal.invariant_of-self
-invariant_of-self c = (still _ _ _ _ (select_taken c) c.self.invariant.0, c.self.invariant.1)
+invariant_of-self c = still _ _ _ _ (select_taken c) c.self.invariant
 
 pub invariant_of-self-in-File : goal.invariant_of-self-in-File
-invariant_of-self-in-File c = (still _ _ _ _ (file_taken c) c.self.invariant.0, c.self.invariant.1)
+invariant_of-self-in-File c = still _ _ _ _ (file_taken c) c.self.invariant
 
 pub invariant_of-self-in-Top : goal.invariant_of-self-in-Top
-invariant_of-self-in-Top c = (still _ _ _ _ (top_taken c) c.self.invariant.0, c.self.invariant.1)
+invariant_of-self-in-Top c = still _ _ _ _ (top_taken c) c.self.invariant
 
 pub returns-in-Select : goal.returns-in-Select
 returns-in-Select c = rw (← c.self.view_is) (select_taken c)

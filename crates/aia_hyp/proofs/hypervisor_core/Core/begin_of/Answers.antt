@@ -29,7 +29,7 @@ begins : (c : After-swap_stay) → MoveBegins (record {
 begins c = begin_call _ _ c.args.want c.args.found c.who_of-who.result c.swap_stay-old.result c.begun-new.result.0 _ c.who_of-who.ensures.named
     c.who_of-who.ensures.passes refl (record {
       is_who = subst (λ (x : CoreState). IsFound x.world c.args.found) (sym c.self.view_is) c.requires;
-      some = c.self.invariant.0;
+      some = c.self.invariant;
       between = c.swap_stay-old.new.vcpus.items;
       other = c.nowhere.result;
       before = c.swap_stay-old.ensures.before;
@@ -46,7 +46,7 @@ swap_stay-old-requires c = who_low (record {
   vcpus = c.self.inside.vcpus.items;
   selects = c.self.inside.selects;
   passes = c.self.inside.passes;
-}) c.args.found c.self.invariant.0
+}) c.args.found c.self.invariant
     (subst (λ (x : CoreState). IsFound x.world c.args.found) (sym c.self.view_is) c.requires)
 
 pub swap_stay-requires : goal.swap_stay-requires
@@ -58,17 +58,13 @@ swap_stay-requires c =
       selects =
           c.self.inside.selects;
       passes = c.self.inside.passes;
-    }) c.args.found c.self.invariant.0
+    }) c.args.found c.self.invariant
     (subst (λ (x : CoreState). IsFound x.world c.args.found) (sym c.self.view_is) c.requires) in
     let same = ap (λ (xs : List VcpuRecord). length xs) c.swap_stay-old.ensures.after ∙ length-set c.self.inside.vcpus.items c.args.found.slot _ in
     omega (arith, room, same)
 
 pub invariant_of-self : goal.invariant_of-self
-invariant_of-self c = (
-  begins_still _ _ c.args.found.vm c.args.found.vcpu c.args.want _ (begins c) c.self.invariant.0,
-  (let first = c.swap_stay-old.ensures.room in let second = c.swap_stay.ensures.room in let room = c.self.invariant.1 in
-      omega (arith, first, second, room)),
-)
+invariant_of-self c = begins_still _ _ c.args.found.vm c.args.found.vcpu c.args.want _ (begins c) c.self.invariant
 
 pub returns-clause-begins : goal.returns-clause-begins
 returns-clause-begins c = rw (← c.self.view_is) (begins c)

@@ -22,7 +22,7 @@ enter_in-requires c = who_low (record {
   selects =
       c.self.inside.selects;
   passes = c.self.inside.passes;
-}) c.in-Some.found c.self.invariant.0 c.in-Some.ensures.there
+}) c.in-Some.found c.self.invariant c.in-Some.ensures.there
 
 taken : (c : After-enter_in) → CoreTakes (record {
   world = c.self.inside.fabric;
@@ -65,10 +65,7 @@ taken c =
     (subst (λ q. EntersFrom (parked_at (slice_index_or x.vcpus q no_record).stay) x.vcpus y.vcpus q given) is.slot c.enter_in.ensures.enters)))
 
 pub invariant_of-self : goal.invariant_of-self
-invariant_of-self c = (
-  still _ _ _ _ (taken c) c.self.invariant.0,
-  (let room = c.enter_in.ensures.room in let before = c.self.invariant.1 in omega (arith, room, before)),
-)
+invariant_of-self c = still _ _ _ _ (taken c) c.self.invariant
 
 pub returns : goal.returns
 returns c = rw (← c.self.view_is) (taken c)

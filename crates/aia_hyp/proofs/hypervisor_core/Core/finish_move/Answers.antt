@@ -24,7 +24,7 @@ finish-outcome-requires-clause-fits c =
       selects =
           c.self.inside.selects;
       passes = c.self.inside.passes;
-    }) c.args.found c.in-Moving.plan c.self.invariant.0
+    }) c.args.found c.in-Moving.plan c.self.invariant
     (subst (λ (x : CoreState). IsFound x.world c.args.found) (sym c.self.view_is) c.requires.found)
     (sym c.in-Moving.is ∙ c.swap_stay.ensures.before)).0
 
@@ -55,7 +55,7 @@ stay_at_end-new-requires c =
           c.self.inside.selects;
       passes = c.self.inside.passes;
     }) c.finish-outcome.new.fabric c.args.found c.in-Moving.plan
-    (Finished c.finish-outcome.result) c.self.invariant.0
+    (Finished c.finish-outcome.result) c.self.invariant
     (subst (λ (x : CoreState). IsFound x.world c.args.found) (sym c.self.view_is) c.requires.found)
     (sym c.in-Moving.is ∙ c.swap_stay.ensures.before) (ends c.before.before.before)
 
@@ -77,7 +77,7 @@ calls : (c : After-swap_stay-2) → StepCalls (record {
     (Finished c.finish-outcome.result)
 calls c = record {
   is_who = subst (λ (x : CoreState). IsFound x.world c.args.found) (sym c.self.view_is) c.requires.found;
-  some = c.self.invariant.0;
+  some = c.self.invariant;
   was = sym c.in-Moving.is ∙ c.swap_stay.ensures.before;
   between = c.swap_stay.new.vcpus.items;
   other = c.nowhere.result;
@@ -113,21 +113,14 @@ goes : (c : After-swap_stay-2) → MoveGoes (record {
 goes c = step_called _ _ c.args.found c.in-Moving.plan (Finished c.finish-outcome.result) (calls c)
 
 pub invariant_of-self : goal.invariant_of-self
-invariant_of-self c = (
-  goes_still _ _ c.args.found _ (goes c) c.self.invariant.0
-      (subst (λ (x : CoreState). IsFound x.world c.args.found) (sym c.self.view_is) c.requires.found)
-      (subst (λ (x : CoreState). is_moving (home_in (record_of x (vcpu_of c.args.found.vm c.args.found.vcpu)).stay) ≡ true) (sym c.self.view_is)
-      c.requires.moving),
-  (let first = c.swap_stay.ensures.room in let second = c.swap_stay-2.ensures.room in let room = c.self.invariant.1 in
-      omega (arith, first, second, room)),
-)
+invariant_of-self c = goes_still _ _ c.args.found _ (goes c) c.self.invariant (subst (λ (x : CoreState). IsFound x.world c.args.found) (sym c.self.view_is) c.requires.found) (subst (λ (x : CoreState). is_moving (home_in (record_of x (vcpu_of c.args.found.vm c.args.found.vcpu)).stay) ≡ true) (sym c.self.view_is) c.requires.moving)
 
 pub returns-clause-goes : goal.returns-clause-goes
 returns-clause-goes c = rw (← c.self.view_is) (goes c)
 
 pub returns-clause-found : goal.returns-clause-found
-returns-clause-found c = who_still _ _ c.args.found _ (goes c) c.self.invariant.0
+returns-clause-found c = who_still _ _ c.args.found _ (goes c) c.self.invariant
     (subst (λ (x : CoreState). IsFound x.world c.args.found) (sym c.self.view_is) c.requires.found)
 
 pub returns-clause-harts : goal.returns-clause-harts
-returns-clause-harts c = rw (← c.self.view_is) (harts_still _ _ (vcpu_of c.args.found.vm c.args.found.vcpu) _ (goes c) c.self.invariant.0)
+returns-clause-harts c = rw (← c.self.view_is) (harts_still _ _ (vcpu_of c.args.found.vm c.args.found.vcpu) _ (goes c) c.self.invariant)

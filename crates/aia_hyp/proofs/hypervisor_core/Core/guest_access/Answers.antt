@@ -79,7 +79,7 @@ select_taken c =
     let table = reached x c.args.self.now g reaches.Select c.guest_reached.result c.args.csr c.args.op c.self.view_is c.in-Select.is
     c.guest_reached.ensures.table in
     let slot = slot_is x c.args.self.now c.args.found c.self.view_is c.requires.found in
-    let low = slot_low x c.args.self.now c.args.found c.self.view_is c.self.invariant.0 c.requires.found in
+    let low = slot_low x c.args.self.now c.args.found c.self.view_is c.self.invariant c.requires.found in
     let named = names x g reaches.Select c.args.csr c.args.op table in
     guest_accessed x y c.args.found.vm c.args.found.vcpu c.args.csr csrs.Select c.args.op c.args.place reaches.Select c.access_select_in.result
     a.whole a.there a.at table refl refl named
@@ -127,7 +127,7 @@ file_taken c =
     let table = reached x c.args.self.now g (reaches.File c.in-File.reg) c.guest_reached.result c.args.csr c.args.op c.self.view_is c.in-File.is
     c.guest_reached.ensures.table in
     let named = names x g (reaches.File c.in-File.reg) c.args.csr c.args.op table in
-    let there = file_there x g c.args.place c.self.invariant.0 a.there a.at in
+    let there = file_there x g c.args.place c.self.invariant a.there a.at in
     guest_accessed x y c.args.found.vm c.args.found.vcpu c.args.csr csrs.Reg c.args.op c.args.place (reaches.File c.in-File.reg) c.reg.result
     a.whole a.there a.at table refl refl named.0
     (subst (λ (s : Spot). c.reg.result ≡ register_value (shown (file_at x.world.imsic s)) c.in-File.reg) spot c.reg.ensures.value
@@ -179,7 +179,7 @@ top_taken c =
     let table = reached x c.args.self.now g reaches.Top c.guest_reached.result c.args.csr c.args.op c.self.view_is c.in-Top.is
     c.guest_reached.ensures.table in
     let named = names x g reaches.Top c.args.csr c.args.op table in
-    let there = file_there x g c.args.place c.self.invariant.0 a.there a.at in
+    let there = file_there x g c.args.place c.self.invariant a.there a.at in
     guest_accessed x y c.args.found.vm c.args.found.vcpu c.args.csr csrs.Topei c.args.op c.args.place reaches.Top c.claim_or_read.result a.whole
     a.there a.at table refl refl named
     (subst (λ (s : Spot). c.claim_or_read.result ≡ top_value (top_of (shown (file_at x.world.imsic s)))) spot c.claim_or_read.ensures.value)
@@ -228,7 +228,7 @@ sip_taken c =
     c.guest_reached.ensures.table in
     let named : c.args.csr ≡ csrs.Sip = names x g reaches.Sip c.args.csr c.args.op table in
     let slot = slot_is x c.args.self.now c.args.found c.self.view_is c.requires.found in
-    let low = slot_low x c.args.self.now c.args.found c.self.view_is c.self.invariant.0 c.requires.found in
+    let low = slot_low x c.args.self.now c.args.found c.self.view_is c.self.invariant c.requires.found in
     let signal : c.signal-signal.result ≡ signals (shown (file_at x.world.imsic (spot_of c.args.place))) =
     c.signal-signal.ensures ∙ ap (λ (f : FileState). signals (shown f)) c.file-in-Sip.ensures
     ∙ ap (λ (s : Spot). signals (shown (file_at x.world.imsic s))) c.file_spot-spot.ensures in
@@ -287,7 +287,7 @@ sie_taken c =
     c.guest_reached.ensures.table in
     let named : c.args.csr ≡ csrs.Sie = names x g reaches.Sie c.args.csr c.args.op table in
     let slot = slot_is x c.args.self.now c.args.found c.self.view_is c.requires.found in
-    let low = slot_low x c.args.self.now c.args.found c.self.view_is c.self.invariant.0 c.requires.found in
+    let low = slot_low x c.args.self.now c.args.found c.self.view_is c.self.invariant c.requires.found in
     majors_accessed x y c.args.found.vm c.args.found.vcpu c.args.csr c.args.op c.args.place reaches.Sie c.access_sie_in.result
     (with_sie c.args.op) a.there a.at table refl refl
     (λ h. subst (λ (k : Csr). IsOfMajors h (Accepted (GuestCsr c.args.found.vm c.args.found.vcpu k c.args.op)) g (with_sie c.args.op))
@@ -336,14 +336,14 @@ topi_taken c =
     c.guest_reached.ensures.table in
     let named : (c.args.csr ≡ csrs.Topi) × (is_writing c.args.op ≡ false) = names x g reaches.Topi c.args.csr c.args.op table in
     let slot = slot_is x c.args.self.now c.args.found c.self.view_is c.requires.found in
-    let low = slot_low x c.args.self.now c.args.found c.self.view_is c.self.invariant.0 c.requires.found in
+    let low = slot_low x c.args.self.now c.args.found c.self.view_is c.self.invariant c.requires.found in
     let file : shown c.file.result.now ≡ shown (file_at x.world.imsic (spot_of c.args.place)) = ap shown c.file.ensures
     ∙ ap (λ (s : Spot). shown (file_at x.world.imsic s)) c.file_spot-spot.ensures in
     majors_accessed x x c.args.found.vm c.args.found.vcpu c.args.csr c.args.op c.args.place reaches.Topi c.stopi_in.result (λ m. m) a.there a.at
     table refl refl
     (λ h. subst (λ (k : Csr). IsOfMajors h (Accepted (GuestCsr c.args.found.vm c.args.found.vcpu k c.args.op)) g (λ m. m)) (sym named.0)
     (accesses_topi h c.args.found.vm c.args.found.vcpu c.args.op))
-    (λ h stands there. c.stopi_in.ensures ∙ (λ k. stopi_value (majors_shown (get_or (c.deref.ensures.value k) (slot k) no_record).majors)
+    (λ h stands there. c.stopi_in.ensures ∙ (λ k. stopi_value (majors_shown (get_or (c.deref.ensures.0 k) (slot k) no_record).majors)
     (top_value (top_of (file k))) (signals (file k))) ∙ stopi_read x g c.args.place a.whole a.at h stands there
     ∙ ap (guest_csr_value h g) (sym named.0))
     (majors_stay x g low)
@@ -354,24 +354,18 @@ file_is_there x y g p spot e some a at = let b = asked x y g p e a in
     subst (λ (s : Spot). IsThere x.world.imsic s) (sym at) (file_there x g p some b.there b.at)
 
 pub file-requires : goal.file-requires
-file-requires c = file_is_there _ c.args.self.now (vcpu_of c.args.found.vm c.args.found.vcpu) c.args.place _ c.self.view_is c.self.invariant.0
+file-requires c = file_is_there _ c.args.self.now (vcpu_of c.args.found.vm c.args.found.vcpu) c.args.place _ c.self.view_is c.self.invariant
     (record { there = c.requires.found.there; whole = c.requires.whole; at = c.requires.resident }) c.file_spot-spot.ensures
 
 pub file-requires-in-Sip : goal.file-requires-in-Sip
 file-requires-in-Sip c = file_is_there _ c.args.self.now (vcpu_of c.args.found.vm c.args.found.vcpu) c.args.place _ c.self.view_is
-    c.self.invariant.0 (record { there = c.requires.found.there; whole = c.requires.whole; at = c.requires.resident }) c.file_spot-spot.ensures
+    c.self.invariant (record { there = c.requires.found.there; whole = c.requires.whole; at = c.requires.resident }) c.file_spot-spot.ensures
 
 pub invariant_of-self-in-Sip : goal.invariant_of-self-in-Sip
-invariant_of-self-in-Sip c = (
-  still _ _ _ _ (sip_taken c) c.self.invariant.0,
-  (let room = c.access_sip_in.ensures.room in let before = c.self.invariant.1 in omega (arith, room, before)),
-)
+invariant_of-self-in-Sip c = still _ _ _ _ (sip_taken c) c.self.invariant
 
 pub invariant_of-self-in-Sie : goal.invariant_of-self-in-Sie
-invariant_of-self-in-Sie c = (
-  still _ _ _ _ (sie_taken c) c.self.invariant.0,
-  (let room = c.access_sie_in.ensures.room in let before = c.self.invariant.1 in omega (arith, room, before)),
-)
+invariant_of-self-in-Sie c = still _ _ _ _ (sie_taken c) c.self.invariant
 
 pub returns-in-Topi : goal.returns-in-Topi
 returns-in-Topi c = rw (← c.self.view_is) (topi_taken c)
@@ -387,10 +381,7 @@ returns-in-Illegal c = guest_illegal c.args.self.now c.args.found.vm c.args.foun
     c.requires.resident (sym c.in-Illegal.is ∙ c.guest_reached.ensures.table)
 
 pub invariant_of-self : goal.invariant_of-self
-invariant_of-self c = (
-  still _ _ _ _ (select_taken c) c.self.invariant.0,
-  (let room = c.access_select_in.ensures.room in let before = c.self.invariant.1 in omega (arith, room, before)),
-)
+invariant_of-self c = still _ _ _ _ (select_taken c) c.self.invariant
 
 pub reg-requires-clause-there : goal.reg-requires-clause-there
 reg-requires-clause-there c =
@@ -405,10 +396,10 @@ reg-requires-clause-there c =
     let a = asked x c.args.self.now (vcpu_of c.args.found.vm c.args.found.vcpu) c.args.place c.self.view_is
     (record { there = c.requires.found.there; whole = c.requires.whole; at = c.requires.resident }) in
     subst (λ (s : Spot). IsThere x.world.imsic s) (sym c.file_spot-spot.ensures)
-    (file_there x (vcpu_of c.args.found.vm c.args.found.vcpu) c.args.place c.self.invariant.0 a.there a.at)
+    (file_there x (vcpu_of c.args.found.vm c.args.found.vcpu) c.args.place c.self.invariant a.there a.at)
 
 pub invariant_of-self-in-File : goal.invariant_of-self-in-File
-invariant_of-self-in-File c = (still _ _ _ _ (file_taken c) c.self.invariant.0, c.self.invariant.1)
+invariant_of-self-in-File c = still _ _ _ _ (file_taken c) c.self.invariant
 
 pub claim_or_read-requires : goal.claim_or_read-requires
 claim_or_read-requires c =
@@ -423,10 +414,10 @@ claim_or_read-requires c =
     let a = asked x c.args.self.now (vcpu_of c.args.found.vm c.args.found.vcpu) c.args.place c.self.view_is
     (record { there = c.requires.found.there; whole = c.requires.whole; at = c.requires.resident }) in
     subst (λ (s : Spot). IsThere x.world.imsic s) (sym c.file_spot-spot.ensures)
-    (file_there x (vcpu_of c.args.found.vm c.args.found.vcpu) c.args.place c.self.invariant.0 a.there a.at)
+    (file_there x (vcpu_of c.args.found.vm c.args.found.vcpu) c.args.place c.self.invariant a.there a.at)
 
 pub invariant_of-self-in-Top : goal.invariant_of-self-in-Top
-invariant_of-self-in-Top c = (still _ _ _ _ (top_taken c) c.self.invariant.0, c.self.invariant.1)
+invariant_of-self-in-Top c = still _ _ _ _ (top_taken c) c.self.invariant
 
 pub returns-in-Select : goal.returns-in-Select
 returns-in-Select c = rw (← c.self.view_is) (select_taken c)

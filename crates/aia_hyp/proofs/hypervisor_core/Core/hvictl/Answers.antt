@@ -19,7 +19,7 @@ set_hvictl_in-requires c = who_low (record {
   vcpus = c.self.inside.vcpus.items;
   selects = c.self.inside.selects;
   passes = c.self.inside.passes;
-}) c.in-Some.found c.self.invariant.0 c.in-Some.ensures.there
+}) c.in-Some.found c.self.invariant c.in-Some.ensures.there
 
 taken : (c : After-set_hvictl_in) → CoreTakes (record {
   world = c.self.inside.fabric;
@@ -51,7 +51,7 @@ taken c =
     let there : is_vcpu_in x.world.vms (vcpu_of c.args.vm c.args.vcpu) ≡ true = subst (λ (g : Vcpu). is_vcpu_in x.world.vms g ≡ true) same is.there in
     let slot : c.in-Some.found.slot ≡ slot_of x.world.vms (vcpu_of c.args.vm c.args.vcpu) =
     subst (λ (g : Vcpu). c.in-Some.found.slot ≡ slot_of x.world.vms g) same is.slot in
-    let below = who_low x c.in-Some.found c.self.invariant.0 is in
+    let below = who_low x c.in-Some.found c.self.invariant is in
     let low : slot_of x.world.vms (vcpu_of c.args.vm c.args.vcpu) < length x.vcpus = omega (arith, below, slot) in
     majors_answered (record {
       world = c.self.inside.fabric;
@@ -80,10 +80,7 @@ returns-in_default c = no_such c.args.self.now c.args.self.now (Hvictl c.args.vm
     (subst (λ (z : CoreState). is_vcpu_in z.world.vms (vcpu_of c.args.vm c.args.vcpu) ≡ false) c.self.view_is c.in_default.ensures.none)
 
 pub invariant_of-self : goal.invariant_of-self
-invariant_of-self c = (
-  still _ _ _ _ (taken c) c.self.invariant.0,
-  (let room = c.set_hvictl_in.ensures.room in let before = c.self.invariant.1 in omega (arith, room, before)),
-)
+invariant_of-self c = still _ _ _ _ (taken c) c.self.invariant
 
 pub returns : goal.returns
 returns c = rw (← c.self.view_is) (taken c)

@@ -76,7 +76,7 @@ taken c =
     ipi_taken _ _ c.args.vm c.args.vcpu c.args.to c.args.value c.find.ensures.whole sender kept there relays refl refl refl refl
 
 pub invariant_of-self : goal.invariant_of-self
-invariant_of-self c = (still _ _ _ _ (taken c) c.self.invariant.0, c.self.invariant.1)
+invariant_of-self c = still _ _ _ _ (taken c) c.self.invariant
 
 pub returns : goal.returns
 returns c = rw (← c.self.view_is) (taken c)

@@ -87,7 +87,7 @@ numbers c =
     let r = c.requires in
     let now : KeptNumbers = record { delivery = c.from.result; threshold = c.from-in-Image.result } in
     let is = is_of x c.args.self.now found c.args.kept c.args.part c.self.view_is r.found r.whole r.parked r.loadable in
-    let low = who_low x found c.self.invariant.0 is in
+    let low = who_low x found c.self.invariant is in
     subst (λ (p : Part). CoreTakes x y (LoadPart found.vm found.vcpu p) Okay) (sym i.is)
     (numbers_are_loaded x y found.vm found.vcpu c.args.kept now i.version i.n i.threshold i.select i.delivery (record {
       load = load_of x c.args.self.now found c.args.kept c.args.part c.self.view_is r.found r.whole r.parked r.loadable y _ i.is refl refl refl;
@@ -144,7 +144,7 @@ majors c =
     let i = c.in-Majors in
     let r = c.requires in
     let is = is_of x c.args.self.now found c.args.kept c.args.part c.self.view_is r.found r.whole r.parked r.loadable in
-    let low = who_low x found c.self.invariant.0 is in
+    let low = who_low x found c.self.invariant is in
     subst (λ (p : Part). CoreTakes x y (LoadPart found.vm found.vcpu p) Okay) (sym i.is)
     (majors_are_loaded x y found.vm found.vcpu i.injected i.enabled c.args.kept
     (load_of x c.args.self.now found c.args.kept c.args.part c.self.view_is r.found r.whole r.parked r.loadable y _ i.is refl refl refl) (record {
@@ -193,7 +193,7 @@ registers c =
     let i = c.in-Prio in
     let r = c.requires in
     let is = is_of x c.args.self.now found c.args.kept c.args.part c.self.view_is r.found r.whole r.parked r.loadable in
-    let low = who_low x found c.self.invariant.0 is in
+    let low = who_low x found c.self.invariant is in
     subst (λ (p : Part). CoreTakes x y (LoadPart found.vm found.vcpu p) Okay) (sym i.is)
     (registers_are_loaded x y found.vm found.vcpu i.hviprio i.hvictl c.args.kept
     (load_of x c.args.self.now found c.args.kept c.args.part c.self.view_is r.found r.whole r.parked r.loadable y _ i.is refl refl refl) (record {
@@ -318,7 +318,7 @@ load_numbers_in-requires c =
       selects =
           c.self.inside.selects;
       passes = c.self.inside.passes;
-    }) c.args.found c.self.invariant.0
+    }) c.args.found c.self.invariant
     (subst (λ (s : CoreState). IsFound s.world c.args.found) (sym c.self.view_is) r.found)
 
 pub load_majors_in-requires : goal.load_majors_in-requires
@@ -331,7 +331,7 @@ load_majors_in-requires c =
       selects =
           c.self.inside.selects;
       passes = c.self.inside.passes;
-    }) c.args.found c.self.invariant.0
+    }) c.args.found c.self.invariant
     (subst (λ (s : CoreState). IsFound s.world c.args.found) (sym c.self.view_is) r.found)
 
 pub load_registers_in-requires-clause-slot : goal.load_registers_in-requires-clause-slot
@@ -344,7 +344,7 @@ load_registers_in-requires-clause-slot c =
       selects =
           c.self.inside.selects;
       passes = c.self.inside.passes;
-    }) c.args.found c.self.invariant.0
+    }) c.args.found c.self.invariant
     (subst (λ (s : CoreState). IsFound s.world c.args.found) (sym c.self.view_is) r.found)
 
 pub load_word-requires-clause-slot : goal.load_word-requires-clause-slot
@@ -364,28 +364,19 @@ notice-requires c =
 -- ---- the core stands, and promises
 
 pub invariant_of-self : goal.invariant_of-self
-invariant_of-self c = (
-  still _ _ _ _ (numbers c) c.self.invariant.0,
-  (let room = c.load_numbers_in.ensures.room in let before = c.self.invariant.1 in omega (arith, room, before)),
-)
+invariant_of-self c = still _ _ _ _ (numbers c) c.self.invariant
 
 pub invariant_of-self-in-Majors : goal.invariant_of-self-in-Majors
-invariant_of-self-in-Majors c = (
-  still _ _ _ _ (majors c) c.self.invariant.0,
-  (let room = c.load_majors_in.ensures.room in let before = c.self.invariant.1 in omega (arith, room, before)),
-)
+invariant_of-self-in-Majors c = still _ _ _ _ (majors c) c.self.invariant
 
 pub invariant_of-self-in-Prio : goal.invariant_of-self-in-Prio
-invariant_of-self-in-Prio c = (
-  still _ _ _ _ (registers c) c.self.invariant.0,
-  (let room = c.load_registers_in.ensures.room in let before = c.self.invariant.1 in omega (arith, room, before)),
-)
+invariant_of-self-in-Prio c = still _ _ _ _ (registers c) c.self.invariant
 
 pub invariant_of-self-then-is_live : goal.invariant_of-self-then-is_live
-invariant_of-self-then-is_live c = (still _ _ _ _ (told c) c.self.invariant.0, c.self.invariant.1)
+invariant_of-self-then-is_live c = still _ _ _ _ (told c) c.self.invariant
 
 pub invariant_of-self-else-is_live : goal.invariant_of-self-else-is_live
-invariant_of-self-else-is_live c = (still _ _ _ _ (untold c) c.self.invariant.0, c.self.invariant.1)
+invariant_of-self-else-is_live c = still _ _ _ _ (untold c) c.self.invariant
 
 pub returns-in-Image : goal.returns-in-Image
 returns-in-Image c = rw (← c.self.view_is) (numbers c)

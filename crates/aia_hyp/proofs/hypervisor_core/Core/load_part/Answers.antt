@@ -22,7 +22,7 @@ returns-then-not-is_loadable c =
 
 pub parked-requires : goal.parked-requires
 parked-requires c =
-    who_low c.args.self.now c.in-Some.found (subst StandsForSome c.self.view_is c.self.invariant.0)
+    who_low c.args.self.now c.in-Some.found (subst StandsForSome c.self.view_is c.self.invariant)
     (subst (λ (z : CoreState). IsFound z.world c.in-Some.found) c.self.view_is c.in-Some.ensures.there)
 
 pub returns-in_err-kept : goal.returns-in_err-kept

@@ -73,7 +73,7 @@ select_taken c =
     c.guest_reached.ensures.table in
     let named = names x g reaches.Select c.args.csr c.args.op table in
     let slot = slot_is x c.args.self.now c.args.found c.self.view_is c.requires.found in
-    let low = slot_low x c.args.self.now c.args.found c.self.view_is c.self.invariant.0 c.requires.found in
+    let low = slot_low x c.args.self.now c.args.found c.self.view_is c.self.invariant c.requires.found in
     let after = record (record_of x g) { select = select_written c.args.op (record_of x g).select } in
     memory_accessed x y c.args.found.vm c.args.found.vcpu c.args.csr csrs.Select c.args.op c.args.kept c.args.kept reaches.Select
     c.access_select_in.result a.whole a.there a.at table refl refl named
@@ -128,7 +128,7 @@ number_taken c =
     c.guest_reached.ensures.table in
     let named = names x g (reaches.File reg) c.args.csr op table in
     let slot = slot_is x c.args.self.now c.args.found c.self.view_is c.requires.found in
-    let low = slot_low x c.args.self.now c.args.found c.self.view_is c.self.invariant.0 c.requires.found in
+    let low = slot_low x c.args.self.now c.args.found c.self.view_is c.self.invariant c.requires.found in
     let all : modulus ≡ x.world.n + 1 = ap (λ m. 64 * m) c.from-modulus.ensures ∙ c.words.ensures.all in
     let number = sym c.is_outside_sets.ensures ∙ c.if-is_outside_sets.true in
     let after = record (record_of x g) { stay = stays.InMemory Entered now } in
@@ -252,31 +252,25 @@ top_taken c =
     (top_accessed x.world y.world q kept (is_writing op) done.done)) tt
 
 pub invariant_of-self : goal.invariant_of-self
-invariant_of-self c = (
-  still _ _ _ _ (select_taken c) c.self.invariant.0,
-  (let room = c.access_select_in.ensures.room in let before = c.self.invariant.1 in omega (arith, room, before)),
-)
+invariant_of-self c = still _ _ _ _ (select_taken c) c.self.invariant
 
 pub returns-in-Select : goal.returns-in-Select
 returns-in-Select c = rw (← c.self.view_is) (select_taken c)
 
 pub invariant_of-self-then-is_outside_sets : goal.invariant_of-self-then-is_outside_sets
-invariant_of-self-then-is_outside_sets c = (
-  still _ _ _ _ (number_taken c) c.self.invariant.0,
-  (let room = c.access_kept_in.ensures.room in let before = c.self.invariant.1 in omega (arith, room, before)),
-)
+invariant_of-self-then-is_outside_sets c = still _ _ _ _ (number_taken c) c.self.invariant
 
 pub returns-in-File : goal.returns-in-File
 returns-in-File c = rw (← c.self.view_is) (number_taken c)
 
 pub invariant_of-self-in-File-2 : goal.invariant_of-self-in-File-2
-invariant_of-self-in-File-2 c = (still _ _ _ _ (sets_taken c) c.self.invariant.0, c.self.invariant.1)
+invariant_of-self-in-File-2 c = still _ _ _ _ (sets_taken c) c.self.invariant
 
 pub returns-in-File-2 : goal.returns-in-File-2
 returns-in-File-2 c = rw (← c.self.view_is) (sets_taken c)
 
 pub invariant_of-self-in-Top : goal.invariant_of-self-in-Top
-invariant_of-self-in-Top c = (still _ _ _ _ (top_taken c) c.self.invariant.0, c.self.invariant.1)
+invariant_of-self-in-Top c = still _ _ _ _ (top_taken c) c.self.invariant
 
 pub returns-in-Top : goal.returns-in-Top
 returns-in-Top c = rw (← c.self.view_is) (top_taken c)

@@ -27,7 +27,7 @@ taken c =
     c.device_store.ensures.route c.device_store.ensures.reaches refl refl refl refl
 
 pub invariant_of-self : goal.invariant_of-self
-invariant_of-self c = (still _ _ _ _ (taken c.before) c.self.invariant.0, c.self.invariant.1)
+invariant_of-self c = still _ _ _ _ (taken c.before) c.self.invariant
 
 pub returns-then-vm-from : goal.returns-then-vm-from
 returns-then-vm-from c =

@@ -19,17 +19,14 @@ made_happens harts guests n some few low width =
     (and_from (is_in_range 1 HARTS harts && is_in_range 0 GUEST_FILES guests) (is_greatest_identity n) (grind (arith, nat_tests)) width) refl))
 
 pub invariant_of-result : goal.invariant_of-result
-invariant_of-result c = rw c.new-3.ensures (
-  record {
-    past = Accepted (Machine c.args.harts c.args.guests c.args.n 1) ∷ [];
-    happens =
-        (made_happens c.args.harts c.args.guests c.args.n c.requires.some c.requires.few c.requires.guests c.requires.width, tt);
-    stands =
-        begun _ c.args.harts c.args.guests c.args.n 1 c.in_ok-fabric.ensures c.in_ok-pool.ensures c.in_ok-vcpus.ensures.items refl refl;
-  },
-  c.in_ok-vcpus.ensures.exact,
-)
+invariant_of-result c = rw c.new-4.ensures (record {
+  past = Accepted (Machine c.args.harts c.args.guests c.args.n 1) ∷ [];
+  happens =
+      (made_happens c.args.harts c.args.guests c.args.n c.requires.some c.requires.few c.requires.guests c.requires.width, tt);
+  stands =
+      begun _ c.args.harts c.args.guests c.args.n 1 c.in_ok-fabric.ensures c.in_ok-pool.ensures c.new-3.ensures refl refl;
+})
 
 pub returns : goal.returns
-returns c = λ sources. rw c.new-3.ensures (begun _ c.args.harts c.args.guests c.args.n sources c.in_ok-fabric.ensures c.in_ok-pool.ensures
-    c.in_ok-vcpus.ensures.items refl refl)
+returns c = λ sources. rw c.new-4.ensures (begun _ c.args.harts c.args.guests c.args.n sources c.in_ok-fabric.ensures c.in_ok-pool.ensures
+    c.new-3.ensures refl refl)

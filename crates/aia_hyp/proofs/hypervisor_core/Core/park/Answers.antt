@@ -120,16 +120,10 @@ untold c =
     })
 
 pub invariant_of-self : goal.invariant_of-self
-invariant_of-self c = (
-  still _ _ _ _ (told c) c.self.invariant.0,
-  (let room = c.put_stay.ensures.room in let before = c.self.invariant.1 in omega (arith, room, before)),
-)
+invariant_of-self c = still _ _ _ _ (told c) c.self.invariant
 
 pub invariant_of-self-else-slot_is_live : goal.invariant_of-self-else-slot_is_live
-invariant_of-self-else-slot_is_live c = (
-  still _ _ _ _ (untold c) c.self.invariant.0,
-  (let room = c.put_stay.ensures.room in let before = c.self.invariant.1 in omega (arith, room, before)),
-)
+invariant_of-self-else-slot_is_live c = still _ _ _ _ (untold c) c.self.invariant
 
 pub returns-then-slot_is_live : goal.returns-then-slot_is_live
 returns-then-slot_is_live c = rw (← c.self.view_is) (told c)

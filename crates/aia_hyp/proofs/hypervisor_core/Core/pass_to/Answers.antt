@@ -13,13 +13,14 @@ use Rattle.aia_hyp_values.specs.Stands.{CoreStands, StandsForSome}
 use Rattle.aia_hyp_values.proofs.PassLemmas.{free_so, record_low, record_read, few_identities, resident_there, pass_stands, pass_aims, pass_stands_for_some}
 use Rattle.aia_hyp.proofs.hypervisor_core.Core.pass_to.Goals as goal
 
-pub index-requires : goal.index-requires
-index-requires g c =
+pub bounds-deref-found : goal.bounds-deref-found
+bounds-deref-found g c =
     let low = record_low c.args.self.now c.requires.may.past (vcpu_of c.args.found.vm c.args.found.vcpu) c.args.found.slot c.requires.may.stands
     c.requires.found.there c.requires.found.slot in
     let kept : c.args.found.slot < length c.self.inside.vcpus.items =
     subst (λ (z : CoreState). c.args.found.slot < length z.vcpus) (sym c.self.view_is) low in
-    omega (arith, kept)
+    let same : length c.deref.result.now ≡ length c.self.inside.vcpus.items = ap (λ (xs : List VcpuRecord). length xs) c.deref.ensures.0 in
+    omega (arith, kept, same)
 
 pub aim_first-requires-clause-harts : goal.aim_first-requires-clause-harts
 aim_first-requires-clause-harts g c =
@@ -39,12 +40,13 @@ pub aim_first-requires-clause-place : goal.aim_first-requires-clause-place
 aim_first-requires-clause-place g c = λ p e.
     let x = c.args.self.now in
     let to = vcpu_of c.args.found.vm c.args.found.vcpu in
-    let read = record_read x c.requires.may.past to c.args.found.slot c.index.result.now c.requires.may.stands c.requires.found.there
-    c.requires.found.slot (c.index.ensures ∙ ap (λ (z : CoreState). slice_index_or z.vcpus c.args.found.slot c.index.result.now)
+    let read = record_read x c.requires.may.past to c.args.found.slot c.index-deref-found.result c.requires.may.stands c.requires.found.there
+    c.requires.found.slot (c.index-deref-found.is
+    ∙ ap (λ (xs : List VcpuRecord). slice_index_or xs c.args.found.slot c.index-deref-found.result) c.deref.ensures.0 ∙ ap (λ (z : CoreState). slice_index_or z.vcpus c.args.found.slot c.index-deref-found.result)
     c.self.view_is) in
     let there = resident_there x c.requires.may.past to p c.requires.may.stands
     (subst (λ (z : CoreState). IsWhole z.world) c.self.view_is c.recall.ensures.whole) c.requires.found.there
-    (ap (λ (r : VcpuRecord). resident_at r.stay) (sym read) ∙ e) in
+    (ap (λ (r : VcpuRecord). resident_at r.stay) (sym read ∙ c.index-deref-found.is) ∙ e) in
     (omega (arith, there.0, c.requires.harts), there.1)
 
 pub invariant_of-self : goal.invariant_of-self
@@ -54,17 +56,15 @@ invariant_of-self g c =
     m.past m.stands m.tells (c.requires.free m.past m.stands m.tells) in
     let some = pass_stands_for_some c.args.self.now (g.T.Targets.map c.args.targets.now) c.args.source c.args.found.vm c.args.found.vcpu
     c.args.identity m c.requires.free free in
-    let pass : PassedSource = record { source = c.args.source; to = vcpu_of c.args.found.vm c.args.found.vcpu; identity = c.args.identity } in (
-      subst StandsForSome (ap (λ (z : CoreState). record z { passes = z.passes ++ pass ∷ [] }) (sym c.self.view_is)
-          ∙ ap (λ (ps : List PassedSource). record {
-            world = c.self.inside.fabric;
-            leases = c.self.inside.pool;
-            vcpus = c.self.inside.vcpus.items;
-            selects = c.self.inside.selects;
-            passes = ps;
-          }) (sym c.push.ensures)) some,
-      c.self.invariant.1,
-    )
+    let pass : PassedSource = record { source = c.args.source; to = vcpu_of c.args.found.vm c.args.found.vcpu; identity = c.args.identity } in
+    subst StandsForSome (ap (λ (z : CoreState). record z { passes = z.passes ++ pass ∷ [] }) (sym c.self.view_is)
+    ∙ ap (λ (ps : List PassedSource). record {
+      world = c.self.inside.fabric;
+      leases = c.self.inside.pool;
+      vcpus = c.self.inside.vcpus.items;
+      selects = c.self.inside.selects;
+      passes = ps;
+    }) (sym c.push.ensures)) some
 
 pub returns-clause-passes : goal.returns-clause-passes
 returns-clause-passes g c = λ h stands tells.
@@ -89,10 +89,12 @@ returns-clause-aims g c = λ h stands.
     let to = vcpu_of c.args.found.vm c.args.found.vcpu in
     let free = free_so x (g.T.Targets.map c.args.targets.now) c.args.source c.args.found.vm c.args.found.vcpu c.args.identity m.past m.stands
     m.tells (c.requires.free m.past m.stands m.tells) in
-    let read = record_read x m.past to c.args.found.slot c.index.result.now m.stands c.requires.found.there c.requires.found.slot
-    (c.index.ensures ∙ ap (λ (z : CoreState). slice_index_or z.vcpus c.args.found.slot c.index.result.now) c.self.view_is) in
+    let read = record_read x m.past to c.args.found.slot c.index-deref-found.result m.stands c.requires.found.there c.requires.found.slot
+    (c.index-deref-found.is
+    ∙ ap (λ (xs : List VcpuRecord). slice_index_or xs c.args.found.slot c.index-deref-found.result) c.deref.ensures.0 ∙ ap (λ (z : CoreState). slice_index_or z.vcpus c.args.found.slot c.index-deref-found.result) c.self.view_is) in
     pass_aims x h c.args.source c.args.found.vm c.args.found.vcpu c.args.identity stands free g.T.Targets.aimed c.args.targets.now
     c.aim_first.new.targets c.args.found.notice c.count-number.result c.requires.found.notice
     (c.count-number.ensures.value ∙ ap (λ (z : CoreState). length z.passes) c.self.view_is)
     (subst (λ (r : VcpuRecord). g.T.Targets.aimed c.args.targets.now c.args.source
-    (target_to c.args.found.notice c.count-number.result c.args.identity (resident_at r.stay)) c.aim_first.new.targets) read c.aim_first.ensures)
+    (target_to c.args.found.notice c.count-number.result c.args.identity (resident_at r.stay)) c.aim_first.new.targets) (sym c.index-deref-found.is ∙ read)
+    c.aim_first.ensures)

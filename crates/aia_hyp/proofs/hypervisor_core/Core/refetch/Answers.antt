@@ -82,7 +82,7 @@ taken c =
     })))
 
 pub invariant_of-self : goal.invariant_of-self
-invariant_of-self c = (still _ _ _ _ (taken c) c.self.invariant.0, c.self.invariant.1)
+invariant_of-self c = still _ _ _ _ (taken c) c.self.invariant
 
 pub returns : goal.returns
 returns c = rw (← c.self.view_is) (taken c)

@@ -53,7 +53,7 @@ goes c =
     })
 
 pub invariant_of-self : goal.invariant_of-self
-invariant_of-self c = (goes_on (old c) (new c) (Relayed c.args.number) (may c) (goes c), c.self.invariant.1)
+invariant_of-self c = goes_on (old c) (new c) (Relayed c.args.number) (may c) (goes c)
 
 pub returns : goal.returns
 returns c = rw (← c.self.view_is) (goes c)

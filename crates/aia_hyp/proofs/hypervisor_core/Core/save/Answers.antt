@@ -27,7 +27,7 @@ returns-then-k-from c = rw (← c.self.view_is) (no_such_part _ c.args.vm c.args
 
 pub parked-requires : goal.parked-requires
 parked-requires c =
-    who_low c.args.self.now c.in-Some.found (subst StandsForSome c.self.view_is c.self.invariant.0)
+    who_low c.args.self.now c.in-Some.found (subst StandsForSome c.self.view_is c.self.invariant)
     (subst (λ (z : CoreState). IsFound z.world c.in-Some.found) c.self.view_is c.in-Some.ensures.there)
 
 pub returns-in_err-kept : goal.returns-in_err-kept
@@ -52,7 +52,7 @@ part-requires-clause-slot c = found_few c.self.inside.fabric c.in-Some.found c.w
 
 pub part-requires-clause-there : goal.part-requires-clause-there
 part-requires-clause-there c =
-    who_low c.args.self.now c.in-Some.found (subst StandsForSome c.self.view_is c.self.invariant.0)
+    who_low c.args.self.now c.in-Some.found (subst StandsForSome c.self.view_is c.self.invariant)
     (subst (λ (z : CoreState). IsFound z.world c.in-Some.found) c.self.view_is c.in-Some.ensures.there)
 
 parked_there : (c : In_ok-kept) → (record_of c.args.self.now (vcpu_of c.in-Some.found.vm c.in-Some.found.vcpu)).stay ≡ stays.InMemory Parked
@@ -66,7 +66,7 @@ part-requires-clause-small c =
     let x = c.args.self.now in
     let found = c.in-Some.found in
     let is = subst (λ (z : CoreState). IsFound z.world found) c.self.view_is c.in-Some.ensures.there in
-    small_number x (vcpu_of found.vm found.vcpu) c.in_ok-kept.kept (subst StandsForSome c.self.view_is c.self.invariant.0)
+    small_number x (vcpu_of found.vm found.vcpu) c.in_ok-kept.kept (subst StandsForSome c.self.view_is c.self.invariant)
     (subst (λ (z : CoreState). IsWhole z.world) c.self.view_is c.words.ensures.whole) is.there (parked_there c)
 
 pub returns : goal.returns

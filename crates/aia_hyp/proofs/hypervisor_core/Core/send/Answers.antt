@@ -50,7 +50,7 @@ taken c =
     c.send.ensures.sends refl refl refl refl
 
 pub invariant_of-self : goal.invariant_of-self
-invariant_of-self c = (still _ _ _ _ (taken c.before) c.self.invariant.0, c.self.invariant.1)
+invariant_of-self c = still _ _ _ _ (taken c.before) c.self.invariant
 
 pub returns : goal.returns
 returns c = rw (← c.self.view_is, c.taken_by.ensures) (taken c.before)

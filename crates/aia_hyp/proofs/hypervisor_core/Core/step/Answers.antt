@@ -33,7 +33,7 @@ returns-then-not-is_moved-clause-takes g c =
 
 pub step_of-requires-clause-moving : goal.step_of-requires-clause-moving
 step_of-requires-clause-moving g c =
-    moved_now c.args.self.now c.in-Some.found (subst (λ (x : CoreState). StandsForSome x) c.self.view_is c.self.invariant.0)
+    moved_now c.args.self.now c.in-Some.found (subst (λ (x : CoreState). StandsForSome x) c.self.view_is c.self.invariant)
     (subst (λ (x : CoreState). IsFound x.world c.in-Some.found) c.self.view_is c.in-Some.ensures.there)
     (sym c.is_moved.ensures ∙ c.if-not-is_moved.false)
 

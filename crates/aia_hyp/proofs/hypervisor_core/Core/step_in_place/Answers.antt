@@ -27,7 +27,7 @@ carry_on-made-requires-clause-low g c = who_low
       vcpus = c.self.inside.vcpus.items;
       selects = c.self.inside.selects;
       passes = c.self.inside.passes;
-    }) c.args.found c.self.invariant.0
+    }) c.args.found c.self.invariant
     (subst (λ (x : CoreState). IsFound x.world c.args.found) (sym c.self.view_is) c.requires.found)
 
 pub carry_on-made-requires-clause-knows : goal.carry_on-made-requires-clause-knows
@@ -38,12 +38,12 @@ carry_on-made-requires-clause-knows g c = λ plan is. plan_known
       vcpus = c.self.inside.vcpus.items;
       selects = c.self.inside.selects;
       passes = c.self.inside.passes;
-    }) c.args.found plan c.self.invariant.0
+    }) c.args.found plan c.self.invariant
     (subst (λ (x : CoreState). IsFound x.world c.args.found) (sym c.self.view_is) c.requires.found) (sym is)
 
 pub carry_on-made-requires-clause-passes : goal.carry_on-made-requires-clause-passes
 carry_on-made-requires-clause-passes g c = λ plan is.
-    let some = c.self.invariant.0 in
+    let some = c.self.invariant in
     let found = (subst (λ (x : CoreState). IsFound x.world c.args.found) (sym c.self.view_is) c.requires.found) in
     let there : has_vcpu some.past (vcpu_of c.args.found.vm c.args.found.vcpu) ≡ true =
     subst (λ (vs : List Vm). is_vcpu_in vs (vcpu_of c.args.found.vm c.args.found.vcpu) ≡ true) some.stands.vms found.there in
@@ -80,7 +80,7 @@ makes : (g : Over) (c : After-recall-2 g)
     }) (vcpu_of c.args.found.vm c.args.found.vcpu) c.carry_on-made.result
 makes g c = made_in_place _ _ c.args.found (get_or c.carry_on-made.new.vcpus.items c.args.found.slot no_record).stay c.carry_on-made.result (record {
   is_who = subst (λ (x : CoreState). IsFound x.world c.args.found) (sym c.self.view_is) c.requires.found;
-  some = c.self.invariant.0;
+  some = c.self.invariant;
   moving = subst (λ (x : CoreState). is_moving (home_in (record_of x (vcpu_of c.args.found.vm c.args.found.vcpu)).stay) ≡ true)
       (sym c.self.view_is) c.requires.moving;
   back = c.carry_on-made.ensures.rest;
@@ -105,13 +105,7 @@ its_plan g c =
     (own.0, sym own.1)
 
 pub invariant_of-self : goal.invariant_of-self
-invariant_of-self g c = (
-  in_place_stands _ _ c.args.found c.carry_on-made.result (makes g c) c.self.invariant.0
-      (subst (λ (x : CoreState). IsFound x.world c.args.found) (sym c.self.view_is) c.requires.found)
-      (subst (λ (x : CoreState). is_moving (home_in (record_of x (vcpu_of c.args.found.vm c.args.found.vcpu)).stay) ≡ true) (sym c.self.view_is)
-      c.requires.moving),
-  (let room = c.carry_on-made.ensures.room in let before = c.self.invariant.1 in omega (arith, room, before)),
-)
+invariant_of-self g c = in_place_stands _ _ c.args.found c.carry_on-made.result (makes g c) c.self.invariant (subst (λ (x : CoreState). IsFound x.world c.args.found) (sym c.self.view_is) c.requires.found) (subst (λ (x : CoreState). is_moving (home_in (record_of x (vcpu_of c.args.found.vm c.args.found.vcpu)).stay) ≡ true) (sym c.self.view_is) c.requires.moving)
 
 pub returns-clause-makes : goal.returns-clause-makes
 returns-clause-makes g c = rw (← c.self.view_is) (makes g c)
@@ -134,13 +128,13 @@ returns-clause-aims g c = rw (← c.self.view_is) (λ h stands.
     g.T.Targets.aimed c.args.targets.now c.carry_on-made.new.targets (c.carry_on-made.ensures.aims plan.0 plan.1))
 
 pub returns-clause-found : goal.returns-clause-found
-returns-clause-found g c = in_place_who _ _ c.args.found c.carry_on-made.result (makes g c) c.self.invariant.0
+returns-clause-found g c = in_place_who _ _ c.args.found c.carry_on-made.result (makes g c) c.self.invariant
     (subst (λ (x : CoreState). IsFound x.world c.args.found) (sym c.self.view_is) c.requires.found)
 
 pub returns-clause-harts : goal.returns-clause-harts
 returns-clause-harts g c =
     let plan = its_plan g c in
-    in_place_harts _ _ (vcpu_of c.args.found.vm c.args.found.vcpu) c.carry_on-made.result (makes g c) c.self.invariant.0
+    in_place_harts _ _ (vcpu_of c.args.found.vm c.args.found.vcpu) c.carry_on-made.result (makes g c) c.self.invariant
     ∙ subst (λ (x : CoreState). x.world.imsic.harts ≡ (g.T.Targets.map c.args.targets.now).harts) (sym c.self.view_is) c.requires.harts
     ∙ sym (told_harts g.T.Targets.aimed g.T.Targets.map g.met.T.Targets.aims_one (next_aim (moving_of plan.0)) c.args.targets.now
     c.carry_on-made.new.targets (c.carry_on-made.ensures.aims plan.0 plan.1))

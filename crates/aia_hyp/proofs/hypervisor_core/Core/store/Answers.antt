@@ -65,7 +65,7 @@ out : (c : After-host_store) → domain_at c.args.addr ≡ None
 out c = is_outside c.args.self.now.world.imsic c.args.addr c.in_ok-spot.ensures.refused
 
 pub invariant_of-self : goal.invariant_of-self
-invariant_of-self c = (still _ _ _ _ (taken c (out c)) c.self.invariant.0, c.self.invariant.1)
+invariant_of-self c = still _ _ _ _ (taken c (out c)) c.self.invariant
 
 pub returns-in_err-spot-clause-takes : goal.returns-in_err-spot-clause-takes
 returns-in_err-spot-clause-takes c = λ outside.

@@ -49,13 +49,10 @@ pub add_records-requires : goal.add_records-requires
 add_records-requires c =
     let room = subst (λ (x : CoreState). lacks_room x.world.vms c.args.vcpus ≡ false) (sym c.self.view_is)
     (sym c.lacks_room.ensures.room ∙ c.if-lacks_room.false) in
-    room_left _ c.args.vcpus _ c.self.invariant.0 (let all = c.self.invariant.1 in omega (arith, all)) room
+    room_left _ c.args.vcpus _ c.self.invariant (omega arith) room
 
 pub invariant_of-self : goal.invariant_of-self
-invariant_of-self c = (
-  still _ _ _ _ (taken c) c.self.invariant.0,
-  (let grown = c.add_records.ensures.room in let low = c.self.invariant.1 in omega (arith, grown, low)),
-)
+invariant_of-self c = still _ _ _ _ (taken c) c.self.invariant
 
 pub returns : goal.returns
 returns c = rw (← c.self.view_is) (taken c)

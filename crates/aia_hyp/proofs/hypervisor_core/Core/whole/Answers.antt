@@ -45,7 +45,7 @@ returns-in_err-begin_of-clause-aims g c =
 pub loop-found-init : goal.loop-found-init
 loop-found-init g c = (
   first_step g.T.Targets.aimed c.args.targets.now c.args.self.now c.begin_of.new.self c.in-Some.found c.args.want c.in_ok-begin_of.ensures.begins
-      (subst (λ (x : CoreState). StandsForSome x) c.self.view_is c.self.invariant.0)
+      (subst (λ (x : CoreState). StandsForSome x) c.self.view_is c.self.invariant)
       (subst (λ (w : World). IsFound w c.in-Some.found) (sym c.in_ok-begin_of.ensures.world)
       (subst (λ (x : CoreState). IsFound x.world c.in-Some.found) c.self.view_is c.in-Some.ensures.there)),
   ap (λ (w : World). w.imsic.harts) c.in_ok-begin_of.ensures.world ∙ c.requires,
