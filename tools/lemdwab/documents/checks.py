@@ -18,8 +18,11 @@ from lemdwab.documents.plans import KINDS, Move, Reader
 from lemdwab.running import TOP
 
 REFERENCE = "docs/REFERENCE.md"
+# Where the table of crates stands.
+CRATES = "docs/maintaining/CRATES.md"
 # The most words of a document; REFERENCE, DEFINITIONS and EDITS have no limit.
-LIMITS = {"README.md": 1150, REFERENCE: None, "docs/DEFINITIONS.md": None, "docs/EDITS.md": None}
+LIMITS = {"README.md": 1150, REFERENCE: None, "docs/DEFINITIONS.md": None,
+          "docs/maintaining/EDITS.md": None}
 MOST_WORDS = 4000
 # The parts of a machine, with the limits that say how many there may be.
 SIZES = {
@@ -306,16 +309,16 @@ def libraries() -> dict[str, list[str]]:
 
 
 def crates() -> Iterator[Any]:
-    """Compares the crates of CRATES and PROMISES with crates.txt."""
+    """Compares the table of crates, and PROMISES, with crates.txt."""
     wanted = list(libraries())
-    table = rows(section("docs/CRATES.md", "The crates"))
+    table = rows(section(CRATES, "The crates"))
     stands = [name for cells in table for name in ticked(cells[0])]
-    yield from differ("docs/CRATES.md, The crates,", stands, wanted)
+    yield from differ(f"{CRATES}, The crates,", stands, wanted)
     promises = " ".join(read(name) for name in ["docs/PROMISES.md", *pages()])
     for crate in wanted:
         if not re.search(rf"\b{crate}\b", promises):
             yield f"docs/PROMISES.md says nothing of {crate}"
-    told = " ".join(section("docs/CRATES.md", "The crates").split())
+    told = " ".join(section(CRATES, "The crates").split())
     under = len(below("aia")) - 1
     for part in (
         f"These are {len(wanted)} crates: `aia` and the {under} that it stands on",
@@ -323,7 +326,7 @@ def crates() -> Iterator[Any]:
         f"The longest chain of crates has {max(map(depth, wanted))}.",
     ):
         if part not in told:
-            yield f"docs/CRATES.md, The crates, does not say: {part}"
+            yield f"{CRATES}, The crates, does not say: {part}"
 
 
 def promised() -> Iterator[Any]:
