@@ -19,7 +19,7 @@ from lemdwab.running import TOP
 
 REFERENCE = "docs/REFERENCE.md"
 # Where the table of crates stands.
-CRATES = "docs/maintaining/CRATES.md"
+CRATES = "docs/maintaining/ARCHITECTURE.md"
 # The most words of a document; REFERENCE, DEFINITIONS and EDITS have no limit.
 LIMITS = {"README.md": 1150, REFERENCE: None, "docs/DEFINITIONS.md": None,
           "docs/maintaining/EDITS.md": None}
