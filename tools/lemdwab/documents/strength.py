@@ -91,12 +91,13 @@ def code(text: str) -> str:
 
 
 def differing(old: str, new: str) -> tuple[str, str]:
-    """Gives the parts of two lines of code that differ, with the words around them."""
-    if len(old) <= 64 and len(new) <= 64:
-        return old, new
-    first = next((i for i, (a, b) in enumerate(zip(old, new)) if a != b), min(len(old), len(new)))
-    first = max(0, old.rfind(" ", 0, max(0, first - 2)) + 1)
-    return old[first:], new[first:]
+    """Gives the words of two lines of code that differ, with one that they share on each side."""
+    olds, news = old.split(), new.split()
+    least = min(len(olds), len(news))
+    first = next((i for i in range(least) if olds[i] != news[i]), least)
+    last = next((i for i in range(least - first) if olds[~i] != news[~i]), least - first)
+    first, last = max(0, first - 1), max(0, last - 1)
+    return " ".join(olds[first:len(olds) - last]), " ".join(news[first:len(news) - last])
 
 
 def type_of(head: str) -> str:
@@ -158,18 +159,15 @@ def star(edit: Edit, by: str) -> str:
 
 
 def table() -> str:
-    """Gives the tables of all edits that the gate tries, by crate."""
-    told, out, crate = refusals(), [], None
+    """Gives the table of all edits that the gate tries, by crate."""
+    told, out = refusals(), ["", *HEAD]
     for edit in edits():
-        if edit.crate != crate:
-            crate = edit.crate
-            out += ["", f"**`{crate}`**", "", *HEAD]
         olds, news = zip(*[differing(old, new) for _, old, new in edit.changes])
         turns = ", ".join(code(old) for old in olds)
         into = ", ".join(code(new) for new in news)
         words = edit.name.replace("_", " ")
-        files = ", ".join(dict.fromkeys(file for file, _, _ in edit.changes))
-        by = told.get((crate, edit.name), "`?`")
+        files = ", ".join(dict.fromkeys(f"{edit.crate}/{file}" for file, _, _ in edit.changes))
+        by = told.get((edit.crate, edit.name), "`?`")
         by += star(edit, by)
         out.append(f"| [{words}](../../{edit.path()}) | {files}: {turns} | {into} | {by} |")
     sets = [(len(some), len({edit.crate for edit in some})) for some in (edits(), edits(WIDER))]
