@@ -174,7 +174,7 @@ def statuses() -> Iterator[Any]:
     """Compares the exit statuses with the numbers that the contracts of `command` have, those of
     launchers that could not build a program left out."""
     tables = (("aia_replay", REFERENCE, "Exit statuses", "1"),
-              ("plans_text", "docs/ANY-PLAN.md", "Exit statuses", "126"))
+              ("plans_text", "docs/PLANS.md", "Exit statuses", "126"))
     for crate, document, heading, unbuilt in tables:
         wanted = re.findall(r"\d+", clauses(crate, "Command", "exit_numbers")[0][1])
         stands = [cells[0] for cells in rows(section(document, heading))]
