@@ -18,8 +18,9 @@ from lemdwab.documents.plans import KINDS, Move, Reader
 from lemdwab.running import TOP
 
 REFERENCE = "docs/REFERENCE.md"
-# Where the table of crates stands.
+# Where the table of crates stands, and that of what stands where in a move.
 CRATES = "docs/maintaining/ARCHITECTURE.md"
+PROOF = "docs/maintaining/MOVES-PROOF.md"
 # The most words of a document; REFERENCE, DEFINITIONS and EDITS have no limit.
 LIMITS = {"README.md": 1150, REFERENCE: None, "docs/DEFINITIONS.md": None,
           "docs/maintaining/EDITS.md": None}
@@ -177,7 +178,7 @@ def statuses() -> Iterator[Any]:
     """Compares the exit statuses with the numbers that the contracts of `command` have, those of
     launchers that could not build a program left out."""
     tables = (("aia_replay", REFERENCE, "Exit statuses", "1"),
-              ("plans_text", "docs/ANY-PLAN.md", "Exit statuses", "126"))
+              ("plans_text", "docs/PLANS.md", "Exit statuses", "126"))
     for crate, document, heading, unbuilt in tables:
         wanted = re.findall(r"\d+", clauses(crate, "Command", "exit_numbers")[0][1])
         stands = [cells[0] for cells in rows(section(document, heading))]
@@ -272,9 +273,9 @@ STANDS = {
 
 def stands_where() -> Iterator[Any]:
     """Compares the table of what stands where with the definitions that its last column names."""
-    text = section("docs/MOVES.md", "Why each step may be followed by anything")
+    text = section(PROOF, "Why each step may be followed by anything")
     table = {ticked(cells[4])[0]: cells for cells in rows(text) if len(cells) == 5}
-    yield from differ("docs/MOVES.md, where things are,", table, STANDS)
+    yield from differ(f"{PROOF}, where things are,", table, STANDS)
     for of in [of for of in STANDS if of in table]:
         name, *cells = table[of][:4]
         for kind, cell in zip(KINDS, cells):
@@ -282,7 +283,7 @@ def stands_where() -> Iterator[Any]:
                 move = Move(kind, size)
                 states = [(w, k) for w in range(size) for k in range(move.length() + 1)]
                 if any(says(cell, move, w, k) != STANDS[of](move, w, k) for w, k in states):
-                    yield f"docs/MOVES.md: {name}, of {CALLED[kind]}: '{cell}' is not {of}"
+                    yield f"{PROOF}: {name}, of {CALLED[kind]}: '{cell}' is not {of}"
 
 
 def says(cell: str, move: Move, w: int, k: int) -> bool | None:
