@@ -19,8 +19,7 @@ from lemdwab.running import TOP
 
 REFERENCE = "docs/REFERENCE.md"
 # Where the table of crates stands, and that of what stands where in a move.
-CRATES = "docs/maintaining/ARCHITECTURE.md"
-PROOF = "docs/maintaining/MOVES-PROOF.md"
+CRATES = PROOF = "docs/maintaining/ARCHITECTURE.md"
 # The most words of a document; REFERENCE, DEFINITIONS and EDITS have no limit.
 LIMITS = {"README.md": 1150, REFERENCE: None, "docs/DEFINITIONS.md": None,
           "docs/maintaining/EDITS.md": None}
@@ -273,7 +272,7 @@ STANDS = {
 
 def stands_where() -> Iterator[Any]:
     """Compares the table of what stands where with the definitions that its last column names."""
-    text = section(PROOF, "Why each step may be followed by anything")
+    text = section(PROOF, "Why the plans of moves are right")
     table = {ticked(cells[4])[0]: cells for cells in rows(text) if len(cells) == 5}
     yield from differ(f"{PROOF}, where things are,", table, STANDS)
     for of in [of for of in STANDS if of in table]:
