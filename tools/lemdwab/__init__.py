@@ -1,2 +1,2 @@
-"""The tools beside the proofs, and what they share: docs/CONTRIBUTING.md says which module is for
-what. It needs Python 3.10 or later, and no other package."""
+"""The tools beside the proofs, and what they share; each module says what it is for. They need
+Python 3.10 or later, and no other package."""

@@ -1,4 +1,4 @@
-"""Why a line of a plan for `judge` is bad, as docs/ANY-PLAN.md has it: it spells nothing, or it
+"""Why a line of a plan for `judge` is bad, as docs/PLANS.md has it: it spells nothing, or it
 says what it may not say there."""
 
 from __future__ import annotations
@@ -26,7 +26,7 @@ CHOICES = {
     "set": SETS, "thing": (*SETS, *NUMBERS), "written": ("notice",),
     "declared": ("unset",),
 }
-# The forms, as docs/ANY-PLAN.md has them.
+# The forms, as docs/PLANS.md has them.
 FORMS = {
     "words": "`words N`", "producer": "`producer KIND`", "numbers": "`numbers FROM TO`",
     "notices": "`notices unset`",

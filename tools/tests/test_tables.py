@@ -1,4 +1,4 @@
-"""What is made of rows and of the rule of majors, and which lines count steps."""
+"""What is made of rows, of the rule of majors and of edits, and which lines count steps."""
 
 import tempfile
 import unittest
@@ -9,6 +9,7 @@ from pathlib import Path
 from lemdwab import majors_table, rows, running, step_numbers
 from lemdwab.apart import model
 from lemdwab.apart.majors import Majors
+from lemdwab.documents import strength
 
 ROW = """\
 //! Rows for a test.
@@ -133,6 +134,21 @@ class StepNumbers(unittest.TestCase):
         self.assertFalse([name for name in names if "_tests/" in name])
         self.assertNotIn("crates/aia_vcpu/proofs/PlanLemmas.antt", names)
         self.assertIn("crates/aia_move/src/lib.rt", names)
+
+
+class Edits(unittest.TestCase):
+    """What the table of edits shows of a line that an edit turns."""
+
+    def test_differing(self) -> None:
+        """The words that differ stand with one that both lines have on each side."""
+        for old, new, wanted in (
+            ("    let a = b + c;", "    let a = b - c;", ("b + c;", "b - c;")),
+            ("b == 0", "c == 0", ("b ==", "c ==")),
+            ("a && b", "a", ("a && b", "a")),
+            ("a a", "a a a", ("a", "a a")),
+            ("gone", "", ("gone", "")),
+        ):
+            self.assertEqual(strength.differing(old, new), wanted)
 
 
 if __name__ == "__main__":

@@ -1,6 +1,6 @@
 """any_plans.py PROGRAM COUNT SEED: random plans, judged by a program and tried by this machine.
 
-The machine, told a second time from docs/ANY-PLAN.md: two places, a hand, producers with routes. A
+The machine, told a second time from docs/PLANS.md: two places, a hand, producers with routes. A
 plan is one of a hypervisor's with some edits. It is tried with one store, or one in flight, at
 every place, from several starts; and where the program shows a run, that run is made: one that
 loses something, or, of a plan that the rule on notices alone refuses, one that leaves the host

@@ -18,8 +18,11 @@ from lemdwab.documents.plans import KINDS, Move, Reader
 from lemdwab.running import TOP
 
 REFERENCE = "docs/REFERENCE.md"
+# Where the table of crates stands, and that of what stands where in a move.
+CRATES = PROOF = "docs/maintaining/ARCHITECTURE.md"
 # The most words of a document; REFERENCE, DEFINITIONS and EDITS have no limit.
-LIMITS = {"README.md": 1150, REFERENCE: None, "docs/DEFINITIONS.md": None, "docs/EDITS.md": None}
+LIMITS = {"README.md": 1150, REFERENCE: None, "docs/DEFINITIONS.md": None,
+          "docs/maintaining/EDITS.md": None}
 MOST_WORDS = 4000
 # The parts of a machine, with the limits that say how many there may be.
 SIZES = {
@@ -174,7 +177,7 @@ def statuses() -> Iterator[Any]:
     """Compares the exit statuses with the numbers that the contracts of `command` have, those of
     launchers that could not build a program left out."""
     tables = (("aia_replay", REFERENCE, "Exit statuses", "1"),
-              ("plans_text", "docs/ANY-PLAN.md", "Exit statuses", "126"))
+              ("plans_text", "docs/PLANS.md", "Exit statuses", "126"))
     for crate, document, heading, unbuilt in tables:
         wanted = re.findall(r"\d+", clauses(crate, "Command", "exit_numbers")[0][1])
         stands = [cells[0] for cells in rows(section(document, heading))]
@@ -269,9 +272,9 @@ STANDS = {
 
 def stands_where() -> Iterator[Any]:
     """Compares the table of what stands where with the definitions that its last column names."""
-    text = section("docs/MOVES.md", "Why each step may be followed by anything")
+    text = section(PROOF, "Why the plans of moves are right")
     table = {ticked(cells[4])[0]: cells for cells in rows(text) if len(cells) == 5}
-    yield from differ("docs/MOVES.md, where things are,", table, STANDS)
+    yield from differ(f"{PROOF}, where things are,", table, STANDS)
     for of in [of for of in STANDS if of in table]:
         name, *cells = table[of][:4]
         for kind, cell in zip(KINDS, cells):
@@ -279,7 +282,7 @@ def stands_where() -> Iterator[Any]:
                 move = Move(kind, size)
                 states = [(w, k) for w in range(size) for k in range(move.length() + 1)]
                 if any(says(cell, move, w, k) != STANDS[of](move, w, k) for w, k in states):
-                    yield f"docs/MOVES.md: {name}, of {CALLED[kind]}: '{cell}' is not {of}"
+                    yield f"{PROOF}: {name}, of {CALLED[kind]}: '{cell}' is not {of}"
 
 
 def says(cell: str, move: Move, w: int, k: int) -> bool | None:
@@ -306,16 +309,16 @@ def libraries() -> dict[str, list[str]]:
 
 
 def crates() -> Iterator[Any]:
-    """Compares the crates of CRATES and PROMISES with crates.txt."""
+    """Compares the table of crates, and PROMISES, with crates.txt."""
     wanted = list(libraries())
-    table = rows(section("docs/CRATES.md", "The crates"))
+    table = rows(section(CRATES, "The crates"))
     stands = [name for cells in table for name in ticked(cells[0])]
-    yield from differ("docs/CRATES.md, The crates,", stands, wanted)
+    yield from differ(f"{CRATES}, The crates,", stands, wanted)
     promises = " ".join(read(name) for name in ["docs/PROMISES.md", *pages()])
     for crate in wanted:
         if not re.search(rf"\b{crate}\b", promises):
             yield f"docs/PROMISES.md says nothing of {crate}"
-    told = " ".join(section("docs/CRATES.md", "The crates").split())
+    told = " ".join(section(CRATES, "The crates").split())
     under = len(below("aia")) - 1
     for part in (
         f"These are {len(wanted)} crates: `aia` and the {under} that it stands on",
@@ -323,7 +326,7 @@ def crates() -> Iterator[Any]:
         f"The longest chain of crates has {max(map(depth, wanted))}.",
     ):
         if part not in told:
-            yield f"docs/CRATES.md, The crates, does not say: {part}"
+            yield f"{CRATES}, The crates, does not say: {part}"
 
 
 def promised() -> Iterator[Any]:

@@ -30,7 +30,7 @@ class Source(NamedTuple):
 
 
 SOURCES = {"aia": Source(1, "aia", "docs/REFERENCE.md"),
-           "plans": Source(1, "plans", "docs/ANY-PLAN.md"),
+           "plans": Source(1, "plans", "docs/PLANS.md"),
            "libaia": Source(3, "library", "docs/LIBRARY.md")}
 
 

@@ -18,7 +18,7 @@ import time
 from collections.abc import Iterator
 from pathlib import Path
 
-from lemdwab.documents.checks import libraries
+from lemdwab.documents.checks import CRATES, libraries
 from lemdwab.documents.markdown import read, rows, section
 
 # What each name stands for: its files, the crate that it is built of, and its launcher.
@@ -82,7 +82,7 @@ def files(folder: Path, origins: dict[str, str]) -> Iterator[str]:
 def crates(origins: dict[str, str]) -> Iterator[str]:
     """Says which crates are in what is built, and what each promises."""
     uses, said = libraries(), {}
-    for row in rows(section("docs/CRATES.md", "The crates")):
+    for row in rows(section(CRATES, "The crates")):
         for name in re.findall(r"`(\w+)`", row[0]):
             said.setdefault(name, row)
     yield "\nTHE CRATES\n"
@@ -92,7 +92,7 @@ def crates(origins: dict[str, str]) -> Iterator[str]:
         yield told(f"{name} is built of these {len(order)}, in an order in which each stands after"
                    f" those that it uses: {', '.join(order)}.") + "\n"
         seen += [each for each in order if each not in seen]
-    yield "What each promises, as docs/CRATES.md has it; docs/promises has every clause:\n"
+    yield f"What each promises, as {CRATES} has it; docs/promises has every clause:\n"
     for each in seen:
         does, promises = [*said[each][1:], ""][:2]
         yield f"{each}\n{told(unlinked(promises or does), '    ')}"

@@ -1,5 +1,5 @@
-"""Makes the tables of docs/EDITS.md of the edits in must-fail/, and of refusals.txt; sees that
-every edit can be made, of must-fail/ and of the wider set in more-fail/, and that each of
+"""Makes the tables of docs/maintaining/EDITS.md of the edits in must-fail/, and of refusals.txt;
+sees that every edit can be made, of must-fail/ and of the wider set in more-fail/, and that each of
 wrong_bodies.txt is there."""
 
 from __future__ import annotations
@@ -12,7 +12,8 @@ from typing import Any, NamedTuple
 
 from lemdwab.running import TOP
 
-TARGET = TOP / "docs/EDITS.md"
+EDITS = "docs/maintaining/EDITS.md"
+TARGET = TOP / EDITS
 REFUSALS = TOP / "docs/make/refusals.txt"
 WRONG_BODIES = TOP / "docs/make/wrong_bodies.txt"
 # The edits that the gate tries, and those that suite/wider tries.
@@ -90,12 +91,13 @@ def code(text: str) -> str:
 
 
 def differing(old: str, new: str) -> tuple[str, str]:
-    """Gives the parts of two lines of code that differ, with the words around them."""
-    if len(old) <= 64 and len(new) <= 64:
-        return old, new
-    first = next((i for i, (a, b) in enumerate(zip(old, new)) if a != b), min(len(old), len(new)))
-    first = max(0, old.rfind(" ", 0, max(0, first - 2)) + 1)
-    return old[first:], new[first:]
+    """Gives the words of two lines of code that differ, with one that they share on each side."""
+    olds, news = old.split(), new.split()
+    least = min(len(olds), len(news))
+    first = next((i for i in range(least) if olds[i] != news[i]), least)
+    last = next((i for i in range(least - first) if olds[~i] != news[~i]), least - first)
+    first, last = max(0, first - 1), max(0, last - 1)
+    return " ".join(olds[first:len(olds) - last]), " ".join(news[first:len(news) - last])
 
 
 def type_of(head: str) -> str:
@@ -157,20 +159,17 @@ def star(edit: Edit, by: str) -> str:
 
 
 def table() -> str:
-    """Gives the tables of all edits that the gate tries, by crate."""
-    told, out, crate = refusals(), [], None
+    """Gives the table of all edits that the gate tries, by crate."""
+    told, out = refusals(), ["", *HEAD]
     for edit in edits():
-        if edit.crate != crate:
-            crate = edit.crate
-            out += ["", f"**`{crate}`**", "", *HEAD]
         olds, news = zip(*[differing(old, new) for _, old, new in edit.changes])
         turns = ", ".join(code(old) for old in olds)
         into = ", ".join(code(new) for new in news)
         words = edit.name.replace("_", " ")
-        files = ", ".join(dict.fromkeys(file for file, _, _ in edit.changes))
-        by = told.get((crate, edit.name), "`?`")
+        files = ", ".join(dict.fromkeys(f"{edit.crate}/{file}" for file, _, _ in edit.changes))
+        by = told.get((edit.crate, edit.name), "`?`")
         by += star(edit, by)
-        out.append(f"| [{words}](../{edit.path()}) | {files}: {turns} | {into} | {by} |")
+        out.append(f"| [{words}](../../{edit.path()}) | {files}: {turns} | {into} | {by} |")
     sets = [(len(some), len({edit.crate for edit in some})) for some in (edits(), edits(WIDER))]
     head = "{} edits stand today, in {} crates; the wider set has {} more, in {}.".format(
         *sets[0], *sets[1])
@@ -181,7 +180,7 @@ def rendered() -> str:
     """Gives the document with its tables made anew."""
     text = TARGET.read_text(encoding="utf-8")
     if BEGIN not in text or END not in text:
-        raise SystemExit("docs/EDITS.md has no place for the tables of edits")
+        raise SystemExit(f"{EDITS} has no place for the tables of edits")
     before, rest = text.split(BEGIN, 1)
     return before + table() + rest.split(END, 1)[1]
 
@@ -299,7 +298,7 @@ def drifts() -> Iterator[Any]:
         yield f"docs/make/refusals.txt speaks of {of} {name}, which is no edit"
     yield from misplaced({key: by for key, by in refusals().items() if key in there})
     if rendered() != TARGET.read_text(encoding="utf-8"):
-        yield ("docs/EDITS.md: its tables drift from must-fail/ or docs/make/refusals.txt:"
+        yield (f"{EDITS}: its tables drift from must-fail/ or docs/make/refusals.txt:"
                " suite/documents make writes them anew")
 
 

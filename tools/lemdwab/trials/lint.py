@@ -452,7 +452,7 @@ def lints_as_documents(trial: Trial) -> None:
     def told(text: str, title: str) -> set[str]:
         table = text.partition(f"\n## {title}\n")[2].partition("\n## ")[0]
         return {form for cell in re.findall(r"(?m)^\| ([^|]*) \|", table)
-                for form in re.findall("`([^`]+)", cell)}
+                for form in re.findall("`([^`]+)`", cell)}
 
     forms = {f"{keywords} {linting.NAMES[keywords]}" for keywords in reading.FORMS}
     forms |= {"load VM C PART", "g VM C INS", "g VM C ipi C2 D", "m H INS", "h H INS", "h H hgeip"}
@@ -461,11 +461,11 @@ def lints_as_documents(trial: Trial) -> None:
     trial.sees(images >= {f"{part} {linting.NAMES[part]}" for part in IMAGE_PARTS},
                "the parts of images")
     steps = {*plans.PLAIN, *(f"{name} w" for name in plans.OF_A_WORD)}
-    trial.sees(told(reference, "A plan that is judged") >= steps, "the steps of audit")
-    judged = (TOP / "docs/ANY-PLAN.md").read_text(encoding="utf-8")
+    of_plans = (TOP / "docs/PLANS.md").read_text(encoding="utf-8")
+    trial.sees(told(of_plans, "Plans of our own shape: audit") >= steps, "the steps of audit")
     forms = {form for name in linting_plans.STEPS
              for form in linting_plans.FORMS.get(name, f"`{name}`").replace("`", "").split(" or ")}
-    trial.sees(told(judged, "Write down your own, in ten minutes") >= forms, "the steps of judge")
+    trial.sees(told(of_plans, "What to write") >= forms, "the steps of judge")
     wrong = []
     for path in sorted((TOP / "crates/aia_script_tests/data").glob("*/*.script")):
         said = answers.answers(path.with_suffix(".out").read_bytes())
@@ -535,7 +535,7 @@ def lints_machines(trial: Trial) -> None:
 
 
 def lints_declarations(trial: Trial) -> None:
-    """What plans for `judge` do not declare, as docs/ANY-PLAN.md has it: no plan at all, which is
+    """What plans for `judge` do not declare, as docs/PLANS.md has it: no plan at all, which is
     an error, and of a plan no producer and no memory, which is none."""
     for text, status, said in (("", 1, ["there is no plan"]), ("# x\n\n", 1, ["there is no plan"]),
                                ("fresh\nlook 0\n", 0, [":1:1: warning: ", "no `producer`",
