@@ -13,7 +13,7 @@ DOCUMENT = "docs/REGISTERS.md"
 FILES = {"domain": "aia_regs/specs/DomainRegisters.antt", "file": "aia_regs/specs/FileRegisters.antt",
          "names": "aia_regs/src/domain_registers.rt", "csrs": "aia_model/specs/Grammar.antt",
          "entry": "aia_entry/specs/Format.antt"}
-ROW = re.compile(r"(single|indexed) (0x[0-9a-f]+) (?:(\d+) (\d+) (\d+) )?(\w+)")
+ROW = re.compile(r"(single|indexed) (0x[0-9a-f]+) (?:(\d+) (\d+) (\w+) )?(\w+)")
 LEVELS = {"m": "Machine", "h": "Host", "g": "Guest"}
 # A field, or a bit, of one of an entry's words.
 FIELD = re.compile(r"field (w[01]) (\d+) (\d+)|has_bit (w[01]) (\d+)")
