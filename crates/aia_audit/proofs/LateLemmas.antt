@@ -100,7 +100,8 @@ free_more takes may words later (Some u) inside =
     one_below (λ w. not (may later && not (is_taken takes w later))) (λ w. is_free takes may w later) u words inside
     ∙ ap (λ b. b && all_below (λ w. is_free takes may w later) words) (not_not (may later && not (is_taken takes u later)))
 
-all_free : (takes : Step → Option ℕ) (may : WrittenPlan → Bool) (words : ℕ) (plan : WrittenPlan) → AllByRecursion (λ x. IfSome (takes x) (λ w. w < words)) plan
+all_free : (takes : Step → Option ℕ) (may : WrittenPlan → Bool) (words : ℕ) (plan : WrittenPlan) → AllByRecursion
+    (λ x. IfSome (takes x) (λ w. w < words)) plan
     → all_below (λ w. is_free takes may w plan) words ≡ all_may_take takes may plan
 all_free takes may words [] inside = all_true words
   where

@@ -66,7 +66,8 @@ step_more words before plan text texts step s on e false room =
     subst (Means words (before ++ text ∷ unskipped texts)) (sym (bad_stays words (suc (length plan)) texts))
     (bad_here words before plan text (unskipped texts) s (inr (omega (arith, same, none_left, s.few))))
 
-text_more : (words : ℕ) (before : List (List ℕ)) (plan : WrittenPlan) (text : List ℕ) (texts : List (List ℕ)) → Spell words before plan → ReadsOn words texts
+text_more : (words : ℕ) (before : List (List ℕ)) (plan : WrittenPlan) (text : List ℕ) (texts : List (List ℕ))
+    → Spell words before plan → ReadsOn words texts
     → (skipped : Bool) (found : Option Step) → step_of words text ≡ found
     → Means words (before ++ (if skipped then unskipped texts else text ∷ unskipped texts))
     (with_texts words (if skipped then Steps plan else with_step plan found) texts)

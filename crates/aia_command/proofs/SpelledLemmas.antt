@@ -260,7 +260,8 @@ printed_asked count seed most fits =
 -- ---- a width is taken, and no other number
 
 width_is : (number words : ℕ) → width_of number ≡ Some words → IsWidth words
-width_is number words is = go (nat_eq number 1) (nat_eq number 2) (nat_eq number 4) (nat_eq number 8) (nat_eq number 16) (nat_eq number FILE_WORDS) refl
+width_is number words is = go (nat_eq number 1) (nat_eq number 2) (nat_eq number 4) (nat_eq number 8)
+    (nat_eq number 16) (nat_eq number FILE_WORDS) refl
     refl refl refl refl refl
   where
     same : (width : ℕ) → nat_eq number width ≡ true → width_of number ≡ Some number → words ≡ width

@@ -253,7 +253,8 @@ module _ {T : Type 0} (view : T → TargetMap) (aim : T → ℕ → ℕ → T �
   follows_then event h old new p may good tells stands (Some a) is made low = absurd (only_aims event h a is refl)
 
   -- the targets stand after the event
-  pub event_targets : (event : Event) (h : History) (old new : T) → MayHappen h event → IsHistory h → LeavesTheAplic event → TellsReady (view old) event
+  pub event_targets : (event : Event) (h : History) (old new : T) → MayHappen h event → IsHistory h
+      → LeavesTheAplic event → TellsReady (view old) event
       → AimsBy aim (aimed_by h event) old new → TargetsStand (view old) h → TargetsStand (view new) (event ∷ h)
   event_targets event h old new may good quiet tells made stands = record {
     harts = kept_harts (aimed_by h event) made ∙ stands.harts ∙ sym (harts_kept event h quiet);

@@ -122,7 +122,13 @@ ends_all w u map plan reach file saw hand whole two within all ends =
         targets = targets_shut w map m whole fits two has none all.targets;
       };
       ways = come_further u m (record m { home = ended m.home; hand = hand }) (ended_here m hand) refl
-          (λ v k s is its. record { vm = its.vm; place = its.place; entry = its.entry; may = reach_ended (width w) m.home its.place ends.last its.may })
+          (λ v k s is its. record {
+            vm = its.vm;
+            place = its.place;
+            entry = its.entry;
+            may = reach_ended
+                (width w) m.home its.place ends.last its.may;
+          })
           ways;
       targets = record {
         passes = all.targets.passes;
@@ -230,10 +236,11 @@ module _ (w : World) (who : Who) (hand now : Hand) where
           → (leads_here (resting (Resident p)) at ≡ true) ⊎ ((q : GuestPlace) × (Some to ≡ Some q) × (at ≡ Some (File (spot_of q))))
       here None led = inl led
       here (Some (Slot q)) led = inl led
-      here (Some (File (GuestFile h f))) led = elim (either (is_place (record { hart = h; file = f }) p) (is_place (record { hart = h; file = f }) to) led) [
-        | inl old ↦ inl old
-        | inr new ↦ inr (to, refl, ap (λ (x : GuestPlace). Some (File (spot_of x))) (same_place (record { hart = h; file = f }) to new))
-      ]
+      here (Some (File (GuestFile h f))) led = elim (either (is_place (record { hart = h; file = f }) p)
+          (is_place (record { hart = h; file = f }) to) led) [
+            | inl old ↦ inl old
+            | inr new ↦ inr (to, refl, ap (λ (x : GuestPlace). Some (File (spot_of x))) (same_place (record { hart = h; file = f }) to new))
+          ]
       here (Some (File (MachineFile h))) led = inl led
       here (Some (File (SupervisorFile h))) led = inl led
       here (Some (File Nowhere)) led = inl led

@@ -111,7 +111,8 @@ module _ (w : World) (g : Vcpu) (map : TargetMap) (plan : PlanState) (reach : Op
   other_fetched : mover m ≢ g → Knows fetched plan reach file saw
   other_fetched other =
       let entry = others_kept (mover m) other in
-      let seen : places_of fetched (mover m) m.home ≡ places_of w (mover m) m.home = λ k. record (places_of w (mover m) m.home) { in_force = entry k } in
+      let seen : places_of fetched (mover m) m.home ≡ places_of w (mover m) m.home = λ k. record
+      (places_of w (mover m) m.home) { in_force = entry k } in
       knows_by w fetched plan reach saw same_machine file file all.places (places_of w (mover m) m.home) seen all.places.holds
 
   knows_fetched : (b : Bool) → is_vcpu (mover m) g ≡ b → Knows fetched plan (reach_fetched b m reach) file saw
@@ -214,7 +215,8 @@ module _ (w : World) (map : TargetMap) (plan : PlanState) (reach : Option GuestP
       let same_entry = led_same w u so.same l.store.entry in
       let is : landed_if (leads_here (moving_of plan) (led_by_entry u l.store.entry)) l.store.offset l.store.value
       (ways.landed_flight w (moving_of plan) so.came file) ≡ ways.landed_flight w (moving_of plan) (so.came ++ l.store ∷ []) file =
-      ap (λ at. landed_if (leads_here (moving_of plan) at) l.store.offset l.store.value (ways.landed_flight w (moving_of plan) so.came file)) same_entry
+      ap (λ at. landed_if (leads_here (moving_of plan) at) l.store.offset l.store.value
+      (ways.landed_flight w (moving_of plan) so.came file)) same_entry
       ∙ sym (one_more_lands w (moving_of plan) so.came l.store file) in
       record {
         came = so.came ++ l.store ∷ [];

@@ -48,6 +48,7 @@ module _ (w u : World) (map : TargetMap) (plan : PlanState) (reach : Option Gues
       record {
         places = lands_knows w u plan reach file saw 0 value whole apart within all.places None
             (subst (MayLand (width w) (moving_of plan).home) leads may) stores;
-        ways = stored_ways w u (moving_of plan) rest (record_words w u (mover (moving_of plan)) None value whole all.places.fits.there stores) all.ways;
+        ways = stored_ways w u (moving_of plan) rest (record_words w u
+            (mover (moving_of plan)) None value whole all.places.fits.there stores) all.ways;
         targets = all.targets;
       }

@@ -86,7 +86,8 @@ sent_is (x ∷ xs) y s (suc j) e = elim (sent_is xs y s j e) [
 
 -- those of a VM are other ones
 pub flight_set : (flights : List (List Flying)) (vm v : ℕ) (stores : List Flying)
-    → ((v ≡ vm) × (slice_index_or (slice_set flights vm stores) v [] ≡ stores)) ⊎ (slice_index_or (slice_set flights vm stores) v [] ≡ slice_index_or flights v [])
+    → ((v ≡ vm) × (slice_index_or (slice_set flights vm stores) v [] ≡ stores))
+    ⊎ (slice_index_or (slice_set flights vm stores) v [] ≡ slice_index_or flights v [])
 flight_set flights vm v stores = elim (cases_eq v vm) [
   | inl same ↦ elim (cases_lt vm (length flights)) [
     | inl low ↦ inl (same, ap (λ x. slice_index_or (slice_set flights vm stores) x []) same ∙ get_or-set_same flights vm stores [] low)

@@ -78,7 +78,8 @@ pub replaced_kept : (w u : World) (m : Moving) (spot : Spot) (notices : ℕ) →
 replaced_kept w u m spot notices here other fits is =
     let e = kept (own_file m.home) (λ p own. (fits.own p own, own_is_held m.home p own)) in
     let o = kept (next_file m.home) (λ p next. (fits.next p next, next_is_held m.home p next)) in
-    let all : places_of (record w { imsic = with_file w.imsic spot (file_at u.imsic spot); notices = notices }) (mover m) m.home ≡ places_of w (mover m)
+    let all : places_of (record w { imsic = with_file w.imsic spot (file_at u.imsic spot); notices = notices })
+    (mover m) m.home ≡ places_of w (mover m)
     m.home = λ k. record (places_of w (mover m) m.home) { own = e k; next = o k } in
     ap (λ (x : World). places_of x (mover m) m.home) is ∙ all
   where
@@ -126,7 +127,8 @@ module _ (w u : World) (m : Moving) (offset value : ℕ) (whole : IsWhole w) (fi
 
     noticed : (spot : Spot) (identity : ℕ) → ((hart : ℕ) → spot ≡ MachineFile hart → hart < w.imsic.harts)
         → ((hart : ℕ) → spot ≡ SupervisorFile hart → hart < w.imsic.harts)
-        → NoticedAt (with_store w q offset value) u spot identity → places_of u (mover m) m.home ≡ places_of (with_store w q offset value) (mover m) m.home
+        → NoticedAt (with_store w q offset value) u spot identity → places_of u (mover m) m.home ≡ places_of
+        (with_store w q offset value) (mover m) m.home
     noticed (MachineFile hart) identity machine host posts = replaced_kept (with_store w q offset value) u m (MachineFile hart) u.notices
         (machine hart refl) (λ p held e. absurd (cc)) between_fits
         (posts.rest ∙ ap (λ (j : ImsicState). record (with_store w q offset value) { imsic = j; notices = u.notices }) posts.lands.others)

@@ -210,7 +210,8 @@ kept_by_touch sent w u o x fits t there other =
 pub touched_flights : (sent : Bool) (w u : World) (o : Moving) (v : ℕ) → Touches sent w u o → flight_of u v ≡ flight_of w v
 touched_flights sent w u o v t = ap (λ (x : World). flight_of x v) t.rest
 
-module _ (sent : Bool) (w u : World) (plan : PlanState) (o : Moving) (fits : MoveFits w o) (t : Touches sent w u o) (ways : KnowsWays w (moving_of plan))
+module _ (sent : Bool) (w u : World) (plan : PlanState) (o : Moving) (fits : MoveFits w o) (t : Touches sent w u o)
+    (ways : KnowsWays w (moving_of plan))
   where
     abbrev mine : Moving
     mine = moving_of plan
@@ -249,7 +250,8 @@ module _ (sent : Bool) (w u : World) (plan : PlanState) (o : Moving) (fits : Mov
           (ap (λ e. leads_here mine (led_by_entry w e)) (sym (t.in_force x other)) ∙ was_entry (entry_of u x) led));
       written = λ x there. by_whom (λ x. is_vcpu_in w.vms x ≡ true → leads_here mine (led_by_entry u (written_of u x)) ≡ true → x ≡ mover mine) x
           (λ there. known.written)
-          (λ other there led. ways.written x there (ap (λ e. leads_here mine (led_by_entry w e)) (sym (kept_by_touch sent w u o x fits t there other).written)
+          (λ other there led. ways.written x there (ap (λ e. leads_here mine (led_by_entry w e))
+          (sym (kept_by_touch sent w u o x fits t there other).written)
           ∙ was_entry (written_of u x) led)) (was_there x there);
       records = λ x there. by_whom (λ x. is_vcpu_in w.vms x ≡ true → leads_here mine (led_by_record u x (stage_of u x).in_force) ≡ true
           → x ≡ mover mine) x (λ there. known.in_force)

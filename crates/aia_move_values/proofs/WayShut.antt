@@ -259,7 +259,8 @@ shut w map plan reach file saw whole two past all =
     let none = step_aims (phase_of plan) (width w) m (some_words w.n whole.greatest) all.places.phase ∙ past_is_some (phase_of plan) past in
     let closed = drain_closed (width w) m.home has.moves (le_test (begins (width w) m.home DrainPhase) (steps_done m.home) has.come) in
     let routes = all.places.holds.routes in
-    let reached : (place : Option GuestPlace) → MayReach m.home place → place ≡ new_file m.home = λ place may. closed_reach m.home place closed.0 may in
+    let reached : (place : Option GuestPlace) → MayReach m.home place
+    → place ≡ new_file m.home = λ place may. closed_reach m.home place closed.0 may in
     let in_force : peers_reach m.home ≡ new_file m.home = rw closed.1 refl in
     let named : stage_names m.home ≡ new_file m.home = rw (stage_first m.home closed.1) refl in
     record {

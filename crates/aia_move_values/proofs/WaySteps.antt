@@ -43,7 +43,8 @@ use Rattle.aia_move_values.proofs.WayTargets.{goes_aimed, own_aimed}
 place_further : (m : Moving) (hand : Hand) (at : Option At) → leads_here (record m { home = one_more m.home; hand = hand }) at ≡ leads_here m at
 place_further m hand at = by_home m.home at
   where
-    by_home : (there : Home) (at : Option At) → leads_here (record m { home = one_more there; hand = hand }) at ≡ leads_here (record m { home = there }) at
+    by_home : (there : Home) (at : Option At) → leads_here (record m { home = one_more there; hand = hand }) at ≡ leads_here
+        (record m { home = there }) at
     by_home (OnWay way so_far) at = refl
     by_home (InMemory rest) at = refl
     by_home (Resident p) at = refl
@@ -107,7 +108,8 @@ module _ (w : World) (map : TargetMap) (plan : PlanState) (reach : Option GuestP
     where
       by_fence : (b : Bool) → is_at_fence m.home ≡ b → IsItsFlight t v s
       by_fence true at =
-          let no : None ≡ Some s = ap (λ xs. slice_get xs k) (sym (none_left landed first at)) ∙ ap (λ x. slice_get (flight_of landed x) k) (sym its.vm)
+          let no : None ≡ Some s = ap (λ xs. slice_get xs k) (sym (none_left landed first at)) ∙ ap
+          (λ x. slice_get (flight_of landed x) k) (sym its.vm)
           ∙ is in absurd (cc)
       by_fence false none = subst (λ (x : Moving). IsItsFlight x v s) refl (record {
         vm = its.vm ∙ ap (λ (x : Who). x.found.vm) (sym who);
@@ -135,12 +137,14 @@ module _ (w : World) (map : TargetMap) (plan : PlanState) (reach : Option GuestP
         places = record {
           fits = fits;
           phase = phase;
-          holds = subst (λ n. Holds ((n + 1) / 64) t.who.found.slot t.who.found.notice (reach_stepped m.home reach) (places_of u (mover t) t.home) t.home
+          holds = subst (λ n. Holds ((n + 1) / 64) t.who.found.slot t.who.found.notice (reach_stepped m.home reach)
+              (places_of u (mover t) t.home) t.home
               t.hand (landed_before w m m file) (saw || sees (width w) m.home (landed_before w m m file))) (sym (same.n))
               (subst (λ words. Holds (width landed) t.who.found.slot t.who.found.notice (reach_stepped m.home reach) (places_of u (mover t) t.home)
               t.home t.hand (landed_before w m m file) (saw || sees words m.home (landed_before w m m file))) wide held);
         };
-        ways = come_further u m t (λ at led. sym (further_place t goes.same_who goes.home at) ∙ led) (ap (λ (x : Who). vcpu_of x.found.vm x.found.vcpu) goes.same_who)
+        ways = come_further u m t (λ at led. sym (further_place t goes.same_who goes.home at) ∙ led)
+            (ap (λ (x : Who). vcpu_of x.found.vm x.found.vcpu) goes.same_who)
             (λ v k s is. flies_on landed first t goes.same_who goes.home v k s
             (ap (λ xs. slice_get xs k) (sym (touched_flights (sends goes.step.access m.hand) landed u m v touches)) ∙ is)) stepped;
         targets = goes_aimed map m t (width landed) none goes.more goes.home goes.same_who before.targets;

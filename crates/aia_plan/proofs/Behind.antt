@@ -42,7 +42,8 @@ none_after : (second any : Bool) → not (second && any) ≡ true → second ≡
 none_after true any h e = not-true any h
 none_after false any h e = absurd (false≢true e)
 
-none_behind : (first second : Step → Bool) (x : Step) (rest : WrittenPlan) → Before first second (x ∷ rest) → second x ≡ true → list_any first rest ≡ false
+none_behind : (first second : Step → Bool) (x : Step) (rest : WrittenPlan) → Before first second (x ∷ rest)
+    → second x ≡ true → list_any first rest ≡ false
 none_behind first second x rest h e = none_after (second x) (list_any first rest)
     (and_parts (not (second x && list_any first rest)) (before first second rest) h).0 e
 

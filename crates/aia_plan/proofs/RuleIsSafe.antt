@@ -103,7 +103,8 @@ split kinds.Arrive x later none = split_law (is_step Unmap x) (is_step Remap x) 
 split kinds.Shift x later none = split_law (is_step Map x) (is_step Unmap x) (stands Map later) (stands Unmap later) none
 
 -- so the steps that write the record are the kind's own
-pub any_record : (kind : Kind) (plan : WrittenPlan) → NoOther kind (λ step. stands step plan) → list_any is_record plan ≡ stands (own_record kind) plan
+pub any_record : (kind : Kind) (plan : WrittenPlan) → NoOther kind (λ step. stands step plan)
+    → list_any is_record plan ≡ stands (own_record kind) plan
 any_record kind [] none = refl
 any_record kind (x ∷ later) none =
     let both = split kind x later none in

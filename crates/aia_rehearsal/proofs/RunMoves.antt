@@ -93,7 +93,8 @@ run_steps (StoreLands vm k ∷ later) w r u t (x, y, whole, happens, rest) =
     no_landing_step (nat_eq vm r.passage.who.found.vm) w r.passage k (slice_get (flight_of w vm) k) (all_seen later x y u t rest)
     ∙ run_steps later x y u t rest
 run_steps (EntryRead vm file ∷ later) w r u t (x, y, whole, happens, rest) =
-    no_steps (is_vcpu (vcpu_of vm file) (mover_of r.passage)) happenings.Refetches (all_seen later x y u t rest) refl refl ∙ run_steps later x y u t rest
+    no_steps (is_vcpu (vcpu_of vm file) (mover_of r.passage)) happenings.Refetches (all_seen later x y u t rest) refl refl
+    ∙ run_steps later x y u t rest
 
 -- ---- the passage stays
 

@@ -31,7 +31,8 @@ unfolding word_of least_of packed ones number_at n32_at flag_at csr_at line_at r
     stage_in_force_of flight passes_of look_saw domain_register_of newest wire_of enabled target pending least_pair addresses_of genmsi_waits
     all_senders after
 returns-clause-own c = ap (λ file. file.pending 5)
-    (c.a_forward_asks_at_its_guest_alone.ensures.guests (history_of PASSED.now) 0 forward (vcpu_of 0 0) (script_happens PASSED.now) is_passed is_forward)
+    (c.a_forward_asks_at_its_guest_alone.ensures.guests (history_of PASSED.now) 0 forward (vcpu_of 0 0)
+    (script_happens PASSED.now) is_passed is_forward)
 
 pub returns-clause-asks : goal.returns-clause-asks
 unfolding word_of least_of packed ones number_at n32_at flag_at csr_at line_at reading select_by file_by majors_of home in_force_of

@@ -27,4 +27,5 @@ pub returns-clause-sie : goal.returns-clause-sie
 returns-clause-sie c = λ h g op ok. c.a_guest_reads_what_is_its_own.ensures h g Sie op ok
 
 pub returns-clause-one : goal.returns-clause-one
-returns-clause-one c = c.a_guest_reads_what_is_its_own.ensures asked (vcpu_of 0 0) Topei Read read_allowed ∙ ap (λ top. Wide (top_value top)) top_asked
+returns-clause-one c = c.a_guest_reads_what_is_its_own.ensures asked (vcpu_of 0 0) Topei Read read_allowed ∙ ap
+    (λ top. Wide (top_value top)) top_asked

@@ -113,7 +113,10 @@ goes : (c : After-swap_stay-2) → MoveGoes (record {
 goes c = step_called _ _ c.args.found c.in-Moving.plan (Finished c.finish-outcome.result) (calls c)
 
 pub invariant_of-self : goal.invariant_of-self
-invariant_of-self c = goes_still _ _ c.args.found _ (goes c) c.self.invariant (subst (λ (x : CoreState). IsFound x.world c.args.found) (sym c.self.view_is) c.requires.found) (subst (λ (x : CoreState). is_moving (home_in (record_of x (vcpu_of c.args.found.vm c.args.found.vcpu)).stay) ≡ true) (sym c.self.view_is) c.requires.moving)
+invariant_of-self c = goes_still _ _ c.args.found _ (goes c) c.self.invariant
+    (subst (λ (x : CoreState). IsFound x.world c.args.found) (sym c.self.view_is) c.requires.found)
+    (subst (λ (x : CoreState). is_moving (home_in (record_of x (vcpu_of c.args.found.vm c.args.found.vcpu)).stay) ≡ true)
+    (sym c.self.view_is) c.requires.moving)
 
 pub returns-clause-goes : goal.returns-clause-goes
 returns-clause-goes c = rw (← c.self.view_is) (goes c)

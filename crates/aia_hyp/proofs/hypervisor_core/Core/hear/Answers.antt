@@ -46,7 +46,8 @@ heard c =
     }) (ap (λ (z : CoreState). number_of_pass z.passes c.args.msi.source) same ∙ c.requires.none)
 
 pub invariant_of-self : goal.invariant_of-self
-invariant_of-self c = hears_on _ _ c.args.msi (ap (λ (z : CoreState). number_of_pass z.passes c.args.msi.source) c.self.view_is ∙ c.requires.none) (subst (λ (z : CoreState). MayGo z (Delivered c.args.msi)) (sym c.self.view_is) c.requires.may) (heard c)
+invariant_of-self c = hears_on _ _ c.args.msi (ap (λ (z : CoreState). number_of_pass z.passes c.args.msi.source) c.self.view_is ∙ c.requires.none)
+    (subst (λ (z : CoreState). MayGo z (Delivered c.args.msi)) (sym c.self.view_is) c.requires.may) (heard c)
 
 pub returns-then-is_host : goal.returns-then-is_host
 returns-then-is_host c = rw (← c.self.view_is) (heard c)

@@ -34,7 +34,8 @@ returns-in_default-find c =
     (subst (λ (x : CoreState). is_vcpu_in x.world.vms (vcpu_of c.in-Some.from.vm c.in-Some.from.vcpu) ≡ true) c.self.view_is
     c.in-Some.ensures.there.there) in
     let kept = sym (c.runs.ensures ∙ ap (λ (r : VcpuRecord). runs_in r.stay) c.record_of.ensures) ∙ c.if-not-runs.false in
-    let lacks = subst (λ (x : CoreState). is_vcpu_in x.world.vms (vcpu_of c.args.vm c.args.to) ≡ false) c.self.view_is c.in_default-find.ensures.none in
+    let lacks = subst (λ (x : CoreState). is_vcpu_in x.world.vms
+    (vcpu_of c.args.vm c.args.to) ≡ false) c.self.view_is c.in_default-find.ensures.none in
     no_peer c.args.self.now c.args.vm c.args.vcpu c.args.to c.args.value there
     (subst (λ (g : Vcpu). runs_in (record_of c.args.self.now g).stay ≡ true) same kept) lacks
 

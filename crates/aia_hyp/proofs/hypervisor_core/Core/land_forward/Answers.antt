@@ -33,7 +33,8 @@ host_store-requires c =
     (subst (λ (z : CoreState). MayGo z (Delivered c.args.msi)) (sym c.self.view_is) c.requires.may)
 
 pub invariant_of-self : goal.invariant_of-self
-invariant_of-self c = goes_on _ _ (Delivered c.args.msi) (subst (λ (z : CoreState). MayGo z (Delivered c.args.msi)) (sym c.self.view_is) c.requires.may) (goes c)
+invariant_of-self c = goes_on _ _ (Delivered c.args.msi) (subst (λ (z : CoreState). MayGo z (Delivered c.args.msi))
+    (sym c.self.view_is) c.requires.may) (goes c)
 
 pub returns : goal.returns
 returns c = rw (← c.self.view_is) (goes c)

@@ -42,7 +42,8 @@ aim_first-requires-clause-place g c = λ p e.
     let to = vcpu_of c.args.found.vm c.args.found.vcpu in
     let read = record_read x c.requires.may.past to c.args.found.slot c.index-deref-found.result c.requires.may.stands c.requires.found.there
     c.requires.found.slot (c.index-deref-found.is
-    ∙ ap (λ (xs : List VcpuRecord). slice_index_or xs c.args.found.slot c.index-deref-found.result) c.deref.ensures.0 ∙ ap (λ (z : CoreState). slice_index_or z.vcpus c.args.found.slot c.index-deref-found.result)
+    ∙ ap (λ (xs : List VcpuRecord). slice_index_or xs c.args.found.slot c.index-deref-found.result) c.deref.ensures.0
+    ∙ ap (λ (z : CoreState). slice_index_or z.vcpus c.args.found.slot c.index-deref-found.result)
     c.self.view_is) in
     let there = resident_there x c.requires.may.past to p c.requires.may.stands
     (subst (λ (z : CoreState). IsWhole z.world) c.self.view_is c.recall.ensures.whole) c.requires.found.there
@@ -91,10 +92,12 @@ returns-clause-aims g c = λ h stands.
     m.tells (c.requires.free m.past m.stands m.tells) in
     let read = record_read x m.past to c.args.found.slot c.index-deref-found.result m.stands c.requires.found.there c.requires.found.slot
     (c.index-deref-found.is
-    ∙ ap (λ (xs : List VcpuRecord). slice_index_or xs c.args.found.slot c.index-deref-found.result) c.deref.ensures.0 ∙ ap (λ (z : CoreState). slice_index_or z.vcpus c.args.found.slot c.index-deref-found.result) c.self.view_is) in
+    ∙ ap (λ (xs : List VcpuRecord). slice_index_or xs c.args.found.slot c.index-deref-found.result) c.deref.ensures.0
+    ∙ ap (λ (z : CoreState). slice_index_or z.vcpus c.args.found.slot c.index-deref-found.result) c.self.view_is) in
     pass_aims x h c.args.source c.args.found.vm c.args.found.vcpu c.args.identity stands free g.T.Targets.aimed c.args.targets.now
     c.aim_first.new.targets c.args.found.notice c.count-number.result c.requires.found.notice
     (c.count-number.ensures.value ∙ ap (λ (z : CoreState). length z.passes) c.self.view_is)
     (subst (λ (r : VcpuRecord). g.T.Targets.aimed c.args.targets.now c.args.source
-    (target_to c.args.found.notice c.count-number.result c.args.identity (resident_at r.stay)) c.aim_first.new.targets) (sym c.index-deref-found.is ∙ read)
+    (target_to c.args.found.notice c.count-number.result c.args.identity (resident_at r.stay)) c.aim_first.new.targets)
+    (sym c.index-deref-found.is ∙ read)
     c.aim_first.ensures)

@@ -105,7 +105,10 @@ its_plan g c =
     (own.0, sym own.1)
 
 pub invariant_of-self : goal.invariant_of-self
-invariant_of-self g c = in_place_stands _ _ c.args.found c.carry_on-made.result (makes g c) c.self.invariant (subst (λ (x : CoreState). IsFound x.world c.args.found) (sym c.self.view_is) c.requires.found) (subst (λ (x : CoreState). is_moving (home_in (record_of x (vcpu_of c.args.found.vm c.args.found.vcpu)).stay) ≡ true) (sym c.self.view_is) c.requires.moving)
+invariant_of-self g c = in_place_stands _ _ c.args.found c.carry_on-made.result (makes g c) c.self.invariant
+    (subst (λ (x : CoreState). IsFound x.world c.args.found) (sym c.self.view_is) c.requires.found)
+    (subst (λ (x : CoreState). is_moving (home_in (record_of x (vcpu_of c.args.found.vm c.args.found.vcpu)).stay) ≡ true)
+    (sym c.self.view_is) c.requires.moving)
 
 pub returns-clause-makes : goal.returns-clause-makes
 returns-clause-makes g c = rw (← c.self.view_is) (makes g c)

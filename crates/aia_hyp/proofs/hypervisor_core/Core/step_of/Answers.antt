@@ -14,7 +14,8 @@ pub finish_move-requires-clause-moving : goal.finish_move-requires-clause-moving
 finish_move-requires-clause-moving g c =
     let none = subst (λ b. MoveInPlace c.args.self.now c.step_in_place.new.self (vcpu_of c.args.found.vm c.args.found.vcpu) b)
     c.if-step_in_place.false c.step_in_place.ensures.makes in
-    subst (λ (x : CoreState). is_moving (home_in (record_of x (vcpu_of c.args.found.vm c.args.found.vcpu)).stay) ≡ true) (sym none.0) c.requires.moving
+    subst (λ (x : CoreState). is_moving (home_in (record_of x (vcpu_of c.args.found.vm c.args.found.vcpu)).stay) ≡ true)
+    (sym none.0) c.requires.moving
 
 pub finish_move-requires-clause-last : goal.finish_move-requires-clause-last
 finish_move-requires-clause-last g c =
