@@ -17,7 +17,7 @@ import signal
 from lemdwab import running
 
 MOST = 8
-LONGEST_RUN = 10
+LONGEST_RUN = 60
 MOST_LINES = 200
 
 

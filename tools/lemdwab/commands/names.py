@@ -26,7 +26,7 @@ from lemdwab import running
 
 CRATES = running.TOP / "crates"
 KEPT = running.TOP / "docs/make/names.txt"
-LONGEST_RUN = 10
+LONGEST_RUN = 60
 MOST_LINES = 200
 COMMENT = re.compile(r"(?m)//.*$")
 RUST_TYPE = re.compile(r"(?m)^[ \t]*pub (?:unsafe )?(struct|enum|trait|type) (\w+)")

@@ -14,7 +14,7 @@ line of that table that names nothing, and ends with status 1 where there is any
 many are named. With `all` it prints the named ones too; with `try` it first sees that it finds what
 is planted, and nothing else. Not found are two that differ in form, as a lemma with its premises in
 another order or code with other names, and lemmas behind a `where`, each a step of its proof, but
-for what they share to the letter. It needs Python 3.10 or later, ends within two minutes and prints
+for what they share to the letter. It needs Python 3.10 or later, ends within ten minutes and prints
 at most 2,000 lines; a table that is wrong ends it with status 2.
 """
 
@@ -36,7 +36,7 @@ NAMED = running.TOP / "docs/make/repeats.txt"
 LEFT_OUT = {"out", "data", "rows"}
 # How many words and marks count: of a passage, of a statement, of a definition with its type.
 PASSAGE, STATEMENT, DEFINITION = 70, 12, 12
-LONGEST_RUN = 120
+LONGEST_RUN = 600
 MOST_LINES = 2000
 KINDS = ("passage", "lemma", "definition", "any")
 MODULUS, BASE = (1 << 61) - 1, 1_000_003
