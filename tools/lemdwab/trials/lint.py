@@ -452,7 +452,7 @@ def lints_as_documents(trial: Trial) -> None:
     def told(text: str, title: str) -> set[str]:
         table = text.partition(f"\n## {title}\n")[2].partition("\n## ")[0]
         return {form for cell in re.findall(r"(?m)^\| ([^|]*) \|", table)
-                for form in re.findall("`([^`]+)", cell)}
+                for form in re.findall("`([^`]+)`", cell)}
 
     forms = {f"{keywords} {linting.NAMES[keywords]}" for keywords in reading.FORMS}
     forms |= {"load VM C PART", "g VM C INS", "g VM C ipi C2 D", "m H INS", "h H INS", "h H hgeip"}
