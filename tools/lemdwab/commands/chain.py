@@ -7,7 +7,7 @@ the one before it. For each crate on which no other stands, a program, a library
 tests, it prints how many crates its longest chain has, and one such chain, the lowest crate first.
 Ends with status 1 where one has more than eight, and with 2 where crates.txt can't be read, names a
 crate twice, or has a ring of crates. It needs Python 3.10 or later, reads that one file, ends
-within ten seconds and prints at most 200 lines.
+within a minute and prints at most 200 lines.
 """
 
 from __future__ import annotations

@@ -9,7 +9,7 @@ crate, with its places, and each line of that table that does not hold, and ends
 there is any; else prints how many names there are, and how many are kept. With `try` it first
 sees that it finds what is planted, and nothing else. What is `pub(crate)` does not count, nor does
 a name that a definition has which is no type. It needs Python 3.10 or
-later, ends within ten seconds and prints at most 200 lines; a table that is wrong ends it with
+later, ends within a minute and prints at most 200 lines; a table that is wrong ends it with
 status 2.
 """
 
