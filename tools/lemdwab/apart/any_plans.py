@@ -425,7 +425,7 @@ UNTOLD = re.compile(
     r'; in the end it is pending(?:, enabled and let through| and enabled) in the new place,'
     r' and the host was not told')
 NONE = re.compile(r'  run: none was found among those that are tried'
-                  r'(; the rule asks for more than that the host is told)?')
+                  r'(; the rule may ask for more than that the host is told)?')
 
 
 def is_untold_shown(setting: Any, plan: Any, first_line: int, text: str) -> bool:
