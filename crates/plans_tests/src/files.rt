@@ -177,12 +177,38 @@ fn what_has_come_is_heeded_in_memory_alone(rt: HostRuntime) -> Result<(), Fail> 
     let found = answers(rt.alloc(), &file)?;
     assert!(rt;
         found.text.as_slice()
-            == b"accepted\nrefused notice at line 31: zero new delivery\n  run: identity 1 is \
+            == b"accepted\nrefused notice in the end\n  run: identity 1 is \
 enabled in the old place at the start, and pending there; at the start delivery is 1 in the old \
 place and 0 elsewhere, and the threshold is 0 in the old place and 1 elsewhere; in the end it is \
 pending, enabled and let through in the new place, and the host was not told\n"
                 .as_slice()
     );
+    Ok(())
+}
+
+/// A plan into memory that tells of copies before it zeroes the old place.
+const TOLD_OF_COPIES: &[u8] = b"fresh\nmemory\nproducer routed\nnumbers old old\nroute 0\nfence 0\n\
+copy pending 0\njoin pending 0\ncopy enabled 0\njoin enabled 0\ntell\n";
+
+/// What it goes on by.
+const ZEROED: &[u8] = b"zero old pending 0\nzero old enabled 0\n";
+
+#[test]
+fn copies_may_be_told_of_before_the_old_place_is_zeroed(rt: HostRuntime) -> Result<(), Fail> {
+    let mut file = Vec::new(rt.alloc());
+    file.extend_from_slice(TOLD_OF_COPIES)?;
+    file.extend_from_slice(ZEROED)?;
+    let is_accepted = answers_so(rt.alloc(), &file, b"accepted\n")?;
+    assert!(rt; is_accepted);
+    let mut again = Vec::new(rt.alloc());
+    again.extend_from_slice(TOLD_OF_COPIES)?;
+    again.extend_from_slice(b"zero new enabled 0\ncopy enabled 0\njoin enabled 0\n")?;
+    again.extend_from_slice(ZEROED)?;
+    let untold = b"refused notice in the end\n  run: identity 1 is enabled in the old place at the \
+start; producer 0 stores it behind line 12 by its route in force; in the end it is pending and \
+enabled in the new place, and the host was not told\n";
+    let is_untold = answers_so(rt.alloc(), &again, untold)?;
+    assert!(rt; is_untold);
     Ok(())
 }
 
