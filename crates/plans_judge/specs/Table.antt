@@ -14,7 +14,7 @@ use Rattle.plans_rules.specs.declared.setting.RouteKind.TheVariants.{Routed, Swi
 use Rattle.plans_rules.specs.declared.setting.NumberSpot.{NumberSpot}
 use Rattle.plans_rules.specs.declared.setting.NumberSpot.TheVariants.{InOld, InHand, InNew}
 use Rattle.plans_rules.specs.Setting.{Setting, setting_of, same_number, same_spot}
-use Rattle.plans_rules.specs.Rules.{turns, fences, switches, empties, lifts, fills, blanks, frees, looks, posts, tells, Done, is_turned, is_fenced, all_led, is_reached, any_of_two, brought, alone_by, may_stand, is_blank, was_shut, has_number, are_heeded, is_noticed, is_looked, is_reported}
+use Rattle.plans_rules.specs.Rules.{turns, fences, switches, empties, lifts, fills, blanks, frees, looks, posts, tells, untells, Done, is_turned, is_fenced, all_led, is_reached, any_of_two, brought, alone_by, may_stand, is_blank, was_shut, has_number, are_heeded, is_noticed, is_seen, is_looked, is_reported}
 use Rattle.plans_judge.specs.declared.lead.Lead.{Lead}
 use Rattle.plans_judge.specs.declared.standing.Standing.{Standing}
 use Rattle.plans_judge.specs.declared.table.Table.{Table}
@@ -131,6 +131,7 @@ abbrev pub word_first : Bool → Word
 word_first is_fresh = record {
   pending = flags_first is_fresh;
   enabled = flags_first is_fresh;
+  seen = false;
   looked = false;
   reported = false;
 }
@@ -139,14 +140,29 @@ word_first is_fresh = record {
 abbrev pub word_settled : Bool → Flags → Flags → Bool
 word_settled ready pending enabled = flags_there pending && (flags_there enabled && ready)
 
--- Whether a word was looked at, and is settled since, with one step more.
+-- Whether a word was looked at, is settled since, and nobody may have stored into it since, with one
+-- step more.
+abbrev pub seen_after : Bool → Bool → AnyStep → ℕ → Word → Bool
+seen_after settled reached x w word = (looks w x || word.seen) && (settled && not reached)
+
+-- Whether it was looked at before a step that may take back what was told.
+abbrev pub looked_by : AnyStep → Word → Bool
+looked_by x word = elim (untells x) [ true ↦ word.seen | false ↦ word.looked ]
+
+-- Whether it was looked at, and is settled since, with one step more.
 abbrev pub looked_after : Bool → AnyStep → ℕ → Word → Bool
-looked_after settled x w word = (looks w x || word.looked) && settled
+looked_after settled x w word = (looks w x || looked_by x word) && settled
+
+-- Whether it was told of by a step, or before it and that is not taken back.
+abbrev pub told_by : AnyStep → Word → Bool
+told_by x word = elim (untells x) [
+  | true ↦ word.seen
+  | false ↦ (posts x && word.looked) || (tells x || word.reported)
+]
 
 -- Whether it was told of, or posted after such a look, and is settled since, with one step more.
 abbrev pub reported_after : Bool → AnyStep → Word → Bool
-reported_after settled x word =
-    ((posts x && word.looked) || (tells x || word.reported)) && settled
+reported_after settled x word = told_by x word && settled
 
 -- The flags of the pending word after a step, and those of the enables.
 abbrev pub pending_after : World → AnyStep → ℕ → Word → Flags
@@ -165,6 +181,7 @@ abbrev pub word_after : World → AnyStep → ℕ → Word → Word
 word_after world x w word = record {
   pending = pending_after world x w word;
   enabled = enabled_after x w word;
+  seen = seen_after (settled_after world x w word) world.reached x w word;
   looked = looked_after (settled_after world x w word) x w word;
   reported = reported_after (settled_after world x w word) x word;
 }
@@ -212,6 +229,7 @@ abbrev pub word_at : Setting → Done → ℕ → Word
 word_at d done w = record {
   pending = flags_at d done Pending w;
   enabled = flags_at d done Enabled w;
+  seen = is_seen d w done;
   looked = is_looked d w done;
   reported = is_reported d w done;
 }

@@ -3,7 +3,7 @@
 ghost use Rattle.std.specs.Prelude.{◌≡◌, ◌&&◌, not, length};
 ghost use Rattle.plans_rules.specs.Rules as rules;
 ghost use Rattle.plans_rules.specs.Setting.{all_below};
-ghost use Rattle.plans_judge.specs.Table.{AllAfter, flags_after, flags_there, is_blank_at, is_kept_at, is_reported_at, is_taken_at, looked_after, reported_after, spots_any_old, word_after, word_first, word_settled};
+ghost use Rattle.plans_judge.specs.Table.{AllAfter, flags_after, flags_there, is_blank_at, is_kept_at, is_reported_at, is_taken_at, looked_after, looked_by, reported_after, seen_after, spots_any_old, told_by, word_after, word_first, word_settled};
 
 use crate::spots::{Effect, Spots, Stores};
 use plans_rules::{AnyStep, WhichSet};
@@ -24,8 +24,11 @@ pub(crate) struct Word {
     pub(crate) pending: Flags,
     pub(crate) enabled: Flags,
 
-    /// It was looked at, and all was there then and since that a look heeds, and notices went to
-    /// the host.
+    /// It was looked at, all was there then and since that a look heeds, notices went to the host,
+    /// and nobody may have stored into it since.
+    pub(crate) seen: bool,
+
+    /// It was looked at, and all that was so but for the stores; what they tell may be taken back.
     pub(crate) looked: bool,
 
     /// It was told of, or posted after such a look, if there was reason to, and all that was so then
@@ -77,6 +80,16 @@ fn tells(step: AnyStep) -> bool
     }
 }
 
+/// Tells whether it takes back what the host was told.
+fn untells(step: AnyStep) -> bool
+    ensures { result ≡ rules.untells step }
+{
+    match step {
+        AnyStep::Untell => true,
+        _ => false,
+    }
+}
+
 impl Flags {
     /// Tells whether all of the word that is due stands in the new place.
     fn is_there(self) -> bool
@@ -109,8 +122,28 @@ impl Word {
         Word {
             pending: flags,
             enabled: flags,
+            seen: false,
             looked: false,
             reported: false,
+        }
+    }
+
+    /// Tells whether word `word` was looked at after a step, is settled since, and nobody may have
+    /// stored into it since.
+    fn is_seen_after(self, step: AnyStep, word: usize, settled: bool, reached: bool) -> bool
+        ensures { result ≡ seen_after settled reached step word self }
+    {
+        (looks(step, word) || self.seen) && settled && !reached
+    }
+
+    /// Tells whether it was looked at before a step that may take back what was told.
+    fn is_looked_at(self, step: AnyStep) -> bool
+        ensures { result ≡ looked_by step self }
+    {
+        if untells(step) {
+            self.seen
+        } else {
+            self.looked
         }
     }
 
@@ -118,7 +151,18 @@ impl Word {
     fn is_looked_after(self, step: AnyStep, word: usize, settled: bool) -> bool
         ensures { result ≡ looked_after settled step word self }
     {
-        (looks(step, word) || self.looked) && settled
+        (looks(step, word) || self.is_looked_at(step)) && settled
+    }
+
+    /// Tells whether the host was told of the word by a step, or before it and it is not taken back.
+    fn is_told_by(self, step: AnyStep) -> bool
+        ensures { result ≡ told_by step self }
+    {
+        if untells(step) {
+            self.seen
+        } else {
+            posts(step) && self.looked || tells(step) || self.reported
+        }
     }
 
     /// Tells whether the host was told of the word after a step, if there is reason to, and it is
@@ -126,7 +170,7 @@ impl Word {
     fn is_reported_after(self, step: AnyStep, settled: bool) -> bool
         ensures { result ≡ reported_after settled step self }
     {
-        (posts(step) && self.looked || tells(step) || self.reported) && settled
+        self.is_told_by(step) && settled
     }
 
     /// Gives what a step makes of word `word`.
@@ -147,6 +191,7 @@ impl Word {
         Word {
             pending,
             enabled,
+            seen: self.is_seen_after(step, word, settled, world.reached),
             looked: self.is_looked_after(step, word, settled),
             reported: self.is_reported_after(step, settled),
         }

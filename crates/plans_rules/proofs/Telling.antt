@@ -1,5 +1,5 @@
 -- A plan into memory that keeps the rules tells the host.
-use Rattle.std.proofs.Common.{◌≡◌, ℕ, zero, suc, ◌/◌, ◌%◌, ◌*◌, ◌+◌, ◌<◌, Bool, true, false, not, ◌&&◌, ◌||◌, nat_eq, nat_lt, length, List, [], ◌∷◌, inl, inr, refl, sym, ap, subst, ◌∙◌, arith}
+use Rattle.std.proofs.Common.{◌≡◌, ℕ, zero, suc, ◌/◌, ◌%◌, ◌*◌, ◌+◌, ◌<◌, Bool, true, false, not, ◌&&◌, ◌||◌, nat_eq, nat_lt, length, List, [], ◌∷◌, ◌⊎◌, inl, inr, refl, sym, ap, subst, ◌∙◌, arith}
 use Rattle.std.specs.List.{AllByRecursion}
 use Rattle.plans_rules.specs.declared.rule.Rule.{Rule}
 use Rattle.plans_rules.specs.declared.rule.Rule.TheVariants.{Notice}
@@ -13,12 +13,12 @@ use Rattle.plans_rules.specs.declared.step.Number.{Number}
 use Rattle.plans_rules.specs.declared.step.Number.TheVariants.{Threshold, Delivery}
 use Rattle.plans_rules.specs.declared.setting.NumberSpot.TheVariants.{InNew}
 use Rattle.plans_rules.specs.declared.step.AnyStep.{AnyStep}
-use Rattle.plans_rules.specs.declared.step.AnyStep.TheVariants.{Fence, Zero, ZeroNumber, Look, Post, Tell, WriteNotice}
+use Rattle.plans_rules.specs.declared.step.AnyStep.TheVariants.{Fence, Zero, ZeroNumber, Look, Post, Tell, Untell, WriteNotice}
 use Rattle.plans_rules.specs.Setting.{Setting, is_old}
 use Rattle.plans_rules.specs.Machine.{lets_out, stands_out, word_stands_out, AnyFlight, AnyMachine, landed, flight_landed, all_landed, flights_of, stepped, route_of, AnyHappening, one_landed, happened, all_happened, steps_in}
 use Rattle.plans_rules.specs.Machine.AnyHappening.{Does, Stores, Sends, Lands, Refetches}
 use Rattle.plans_rules.specs.Safe.{IsProducer, CanHappen, IsStartOfAny, number_in, IsTold}
-use Rattle.plans_rules.specs.Rules.{looks, posts, tells, Done, is_turned, is_led, all_led, may_stand, only_old, is_there, are_heeded, is_noticed, is_settled, is_looked, is_reported, lets, lets_end, lets_rest}
+use Rattle.plans_rules.specs.Rules.{looks, posts, tells, untells, Done, is_turned, is_led, all_led, may_stand, only_old, is_there, are_heeded, is_noticed, is_reached, is_settled, is_seen, is_looked, is_reported, lets, lets_end, lets_rest}
 use Rattle.plans_rules.proofs.BoolLaws.{false_of, true_of, clash, not_true, and_left, and_right, and_of, or_left, or_right, or_false_left, or_false_right, or_cases, all_at, any_at}
 use Rattle.plans_rules.proofs.Brought.{Places, busy_old}
 use Rattle.plans_rules.proofs.Safety as safety
@@ -57,12 +57,29 @@ settled_is d w done e =
 
 looked_settled : (d : Setting) (w : ℕ) (done : Done) → is_looked d w done ≡ true → Settled d w done
 looked_settled d w [] e = absurd (false≢true e)
-looked_settled d w (x ∷ done) e = settled_is d w (x ∷ done) (and_right (looks w x || is_looked d w done) _ e)
+looked_settled d w (x ∷ done) e =
+    settled_is d w (x ∷ done) (and_right (looks w x || elim (untells x) [ true ↦ is_seen d w done | false ↦ is_looked d w done ]) _ e)
+
+seen_settled : (d : Setting) (w : ℕ) (done : Done) → is_seen d w done ≡ true → Settled d w done
+seen_settled d w [] e = absurd (false≢true e)
+seen_settled d w (x ∷ done) e =
+    settled_is d w (x ∷ done) (and_left (is_settled d w (x ∷ done)) _ (and_right (looks w x || is_seen d w done) _ e))
+
+seen_calm : (d : Setting) (w : ℕ) (done : Done) → is_seen d w done ≡ true → is_reached d Pending done ≡ false
+seen_calm d w [] e = absurd (false≢true e)
+seen_calm d w (x ∷ done) e = not_true _ (and_right (is_settled d w (x ∷ done)) _ (and_right (looks w x || is_seen d w done) _ e))
+
+-- what was told by one step more
+abbrev reported_by : Setting → ℕ → AnyStep → Done → Bool
+reported_by d w x done = elim (untells x) [
+  | true ↦ is_seen d w done
+  | false ↦ (posts x && is_looked d w done) || (tells x || is_reported d w done)
+]
 
 reported_settled : (d : Setting) (w : ℕ) (done : Done) → is_reported d w done ≡ true → Settled d w done
 reported_settled d w [] e = absurd (false≢true e)
 reported_settled d w (x ∷ done) e =
-    settled_is d w (x ∷ done) (and_right ((posts x && is_looked d w done) || (tells x || is_reported d w done)) _ e)
+    settled_is d w (x ∷ done) (and_right (reported_by d w x done) _ e)
 
 -- what is due of a word that is there stands in the new place
 there_at : (stands : Places) (o h n : Bool) → not (stands true false false || (stands false true false || stands true true false)) ≡ true
@@ -125,6 +142,7 @@ out_there d start done z i v settled due =
 -- ---- the invariant
 
 pub record Noted (d : Setting) (start : AnyMachine) (done : Done) (z : AnyMachine) : Type 0 where
+  pub seen : (i : ℕ) → is_seen d (i / 64) done ≡ true → due_out d start z i ≡ true → z.seen ≡ true
   pub looked : (i : ℕ) → is_looked d (i / 64) done ≡ true → due_out d start z i ≡ true → (z.told || z.seen) ≡ true
   pub reported : (i : ℕ) → i / 64 < d.words → is_reported d (i / 64) done ≡ true → due_out d start z i ≡ true → z.told ≡ true
   pub noticed : is_noticed d done ≡ true → z.noticed ≡ true
@@ -145,8 +163,10 @@ past_seen false x true e = or_right x true refl
 past_seen false x false e = or_left x false e
 
 noted_land : (d : Setting) (start : AnyMachine) (done : Done) (place : AnyPlace) (x : ℕ) (z : AnyMachine)
-    → (is_old place ≡ true → all_led d done ≡ false) → Invariant d start done z → Noted d start done z → Noted d start done (landed d place x z)
-noted_land d start done place x z past w v = record {
+    → (is_old place ≡ true → all_led d done ≡ false) → (is_old place ≡ false → is_reached d Pending done ≡ true)
+    → Invariant d start done z → Noted d start done z → Noted d start done (landed d place x z)
+noted_land d start done place x z past reaches w v = record {
+  seen = λ i e due. clash _ (reaches (ahead i (seen_settled d (i / 64) done e))) (seen_calm d (i / 64) done e);
   looked = λ i e due. past_seen z.told _ z.seen (tells_host i (z.told || z.seen) (looked_settled d (i / 64) done e) (v.looked i e) due);
   reported = λ i inside e due. tells_host i z.told (reported_settled d (i / 64) done e) (v.reported i inside e) due;
   noticed = v.noticed;
@@ -173,6 +193,11 @@ past_of : (d : Setting) (done : Done) (p : ℕ) (place : AnyPlace) → IsProduce
 past_of d done p Old declared may o = false_of _ (λ all. clash _ (all_at (λ q. is_led d q done) (length d.producers) p all declared) (may.0 refl))
 past_of d done p New declared may o = absurd (false≢true o)
 
+reach_of : (d : Setting) (done : Done) (p : ℕ) (place : AnyPlace) → IsProducer d p → MayLand (is_turned p done) (is_led d p done) place
+    → is_old place ≡ false → is_reached d Pending done ≡ true
+reach_of d done p Old declared may o = absurd (false≢true (sym o))
+reach_of d done p New declared may o = any_at (λ q. is_turned q done) (length d.producers) p declared (may.1 refl)
+
 -- both invariants
 pub record Both (d : Setting) (start : AnyMachine) (done : Done) (z : AnyMachine) : Type 0 where
   pub kept : Invariant d start done z
@@ -182,7 +207,8 @@ fly_noted : (d : Setting) (start : AnyMachine) (done : Done) (f : AnyFlight) (z 
     → Both d start done (flight_landed d f z)
 fly_noted d start done f z may v = record {
   kept = fly d start done f z may v.kept;
-  noted = noted_land d start done f.place f.identity z (past_of d done f.producer f.place may.0.0 may.1) v.kept v.noted;
+  noted = noted_land d start done f.place f.identity z (past_of d done f.producer f.place may.0.0 may.1)
+      (reach_of d done f.producer f.place may.0.0 may.1) v.kept v.noted;
 }
 
 noted_all : (d : Setting) (start : AnyMachine) (done : Done) (fs : List AnyFlight) (z : AnyMachine) → AllFly d done fs → Both d start done z
@@ -200,12 +226,13 @@ noted_between : (d : Setting) (start : AnyMachine) (done : Done) (x : AnyHappeni
     → Invariant d start done z → Noted d start done z → Noted d start done (happened d x z)
 noted_between d start done (Does step) z is can w v = absurd is
 noted_between d start done (Stores p by x) z is can w v =
-    noted_land d start done (route_of by p z) x z (past_of d done p (route_of by p z) can (may_by by p _ _ z (w.leads p can))) w v
-noted_between d start done (Sends p by x) z is can w v = record { looked = v.looked; reported = v.reported; noticed = v.noticed }
+    noted_land d start done (route_of by p z) x z (past_of d done p (route_of by p z) can (may_by by p _ _ z (w.leads p can)))
+    (reach_of d done p (route_of by p z) can (may_by by p _ _ z (w.leads p can))) w v
+noted_between d start done (Sends p by x) z is can w v = record { seen = v.seen; looked = v.looked; reported = v.reported; noticed = v.noticed }
 noted_between d start done (Lands k) z is can w v =
     let u = (noted_one d start done z z.flights k w.flights (record { kept = w; noted = v })).noted in
-    record { looked = u.looked; reported = u.reported; noticed = u.noticed }
-noted_between d start done (Refetches p) z is can w v = record { looked = v.looked; reported = v.reported; noticed = v.noticed }
+    record { seen = u.seen; looked = u.looked; reported = u.reported; noticed = u.noticed }
+noted_between d start done (Refetches p) z is can w v = record { seen = v.seen; looked = v.looked; reported = v.reported; noticed = v.noticed }
 
 -- ---- a step that is no fence
 
@@ -227,15 +254,16 @@ due_before : (d : Setting) (start : AnyMachine) (x : AnyStep) (z : AnyMachine) (
 due_before d start x z i is due = subst (λ sets. stands_out d sets (first_numbers d start) i ≡ true) (due_stays d x z is) due
 
 -- what was told, or seen, stays so
-told_stays : (d : Setting) (x : AnyStep) (z : AnyMachine) → IsNoFence x → z.told ≡ true → (stepped d x z).told ≡ true
-told_stays d (Fence p) z is e = absurd is
-told_stays d Post z is e = or_left z.told _ e
-told_stays d Tell z is e = or_left z.told _ e
-told_stays d (Zero Old s w) z is e = e
-told_stays d (Zero New s w) z is e = e
-told_stays d (ZeroNumber Old n) z is e = e
-told_stays d (ZeroNumber New n) z is e = e
-told_stays d x z is e = e
+told_stays : (d : Setting) (x : AnyStep) (z : AnyMachine) → IsNoFence x → untells x ≡ false → z.told ≡ true → (stepped d x z).told ≡ true
+told_stays d (Fence p) z is none e = absurd is
+told_stays d Untell z is none e = absurd (false≢true (sym none))
+told_stays d Post z is none e = or_left z.told _ e
+told_stays d Tell z is none e = or_left z.told _ e
+told_stays d (Zero Old s w) z is none e = e
+told_stays d (Zero New s w) z is none e = e
+told_stays d (ZeroNumber Old n) z is none e = e
+told_stays d (ZeroNumber New n) z is none e = e
+told_stays d x z is none e = e
 
 seen_more : (t s x : Bool) → (t || s) ≡ true → (t || (s || x)) ≡ true
 seen_more true s x e = refl
@@ -244,17 +272,32 @@ seen_more false s x e = or_left s x e
 told_more : (t s x : Bool) → (t || s) ≡ true → ((t || x) || s) ≡ true
 told_more t s x e = past_seen t x s (or_left (t || s) x e)
 
-seen_stays : (d : Setting) (x : AnyStep) (z : AnyMachine) → IsNoFence x → (z.told || z.seen) ≡ true
+seen_stays : (d : Setting) (x : AnyStep) (z : AnyMachine) → IsNoFence x → untells x ≡ false → (z.told || z.seen) ≡ true
     → ((stepped d x z).told || (stepped d x z).seen) ≡ true
-seen_stays d (Fence p) z is e = absurd is
-seen_stays d Post z is e = told_more z.told z.seen z.seen e
-seen_stays d Tell z is e = told_more z.told z.seen _ e
-seen_stays d (Look w) z is e = seen_more z.told z.seen _ e
-seen_stays d (Zero Old s w) z is e = e
-seen_stays d (Zero New s w) z is e = e
-seen_stays d (ZeroNumber Old n) z is e = e
-seen_stays d (ZeroNumber New n) z is e = e
-seen_stays d x z is e = e
+seen_stays d (Fence p) z is none e = absurd is
+seen_stays d Untell z is none e = absurd (false≢true (sym none))
+seen_stays d Post z is none e = told_more z.told z.seen z.seen e
+seen_stays d Tell z is none e = told_more z.told z.seen _ e
+seen_stays d (Look w) z is none e = seen_more z.told z.seen _ e
+seen_stays d (Zero Old s w) z is none e = e
+seen_stays d (Zero New s w) z is none e = e
+seen_stays d (ZeroNumber Old n) z is none e = e
+seen_stays d (ZeroNumber New n) z is none e = e
+seen_stays d x z is none e = e
+
+-- what a look saw stays seen, and is told where what was told is taken back
+look_stays : (d : Setting) (x : AnyStep) (z : AnyMachine) → IsNoFence x → z.seen ≡ true → (stepped d x z).seen ≡ true
+look_stays d (Fence p) z is e = absurd is
+look_stays d (Look w) z is e = or_left z.seen _ e
+look_stays d (Zero Old s w) z is e = e
+look_stays d (Zero New s w) z is e = e
+look_stays d (ZeroNumber Old n) z is e = e
+look_stays d (ZeroNumber New n) z is e = e
+look_stays d x z is e = e
+
+untold_now : (d : Setting) (x : AnyStep) (z : AnyMachine) → untells x ≡ true → z.seen ≡ true → (stepped d x z).told ≡ true
+untold_now d Untell z m e = e
+untold_now d x z m e = absurd (false≢true m)
 
 -- where notices go is written once and for all
 noticed_stays : (d : Setting) (done : Done) (x : AnyStep) (z : AnyMachine) → IsNoFence x → (is_noticed d done ≡ true → z.noticed ≡ true)
@@ -276,10 +319,10 @@ word_out : (d : Setting) (z : AnyMachine) (w i : ℕ) → w ≡ i / 64 → stand
 word_out d z w i e out = any_at (λ b. stands_out d z.new z.new_number (64 * w + b)) 64 (i % 64) (omega arith)
     (ap (stands_out d z.new z.new_number) (place_of w i e) ∙ out)
 
-looked_now : (d : Setting) (x : AnyStep) (z : AnyMachine) (i : ℕ) → looks (i / 64) x ≡ true
-    → stands_out d (stepped d x z).new (stepped d x z).new_number i ≡ true → ((stepped d x z).told || (stepped d x z).seen) ≡ true
-looked_now d (Look w) z i m out = or_right z.told _ (or_right z.seen _ (word_out d z w i (eqb-true w (i / 64) m) out))
-looked_now d x z i m out = absurd (false≢true m)
+look_now : (d : Setting) (x : AnyStep) (z : AnyMachine) (i : ℕ) → looks (i / 64) x ≡ true
+    → stands_out d (stepped d x z).new (stepped d x z).new_number i ≡ true → (stepped d x z).seen ≡ true
+look_now d (Look w) z i m out = or_right z.seen _ (word_out d z w i (eqb-true w (i / 64) m) out)
+look_now d x z i m out = absurd (false≢true m)
 
 posted_now : (d : Setting) (x : AnyStep) (z : AnyMachine) → posts x ≡ true → (z.told || z.seen) ≡ true → (stepped d x z).told ≡ true
 posted_now d Post z m e = e
@@ -291,23 +334,39 @@ told_now d Tell z i inside m out = or_right z.told _
     (any_at (word_stands_out d z.new z.new_number) d.words (i / 64) inside (word_out d z (i / 64) i refl out))
 told_now d x z i inside m out = absurd (false≢true m)
 
+-- by whether a step takes back what was told
+either_cases : (u a b : Bool) → (elim u [ true ↦ a | false ↦ b ]) ≡ true → ((u ≡ true) × (a ≡ true)) ⊎ ((u ≡ false) × (b ≡ true))
+either_cases true a b e = inl (refl, e)
+either_cases false a b e = inr (refl, e)
+
 -- **A step that the rules let stand keeps what was noted.**
 pub notes : (d : Setting) (start : AnyMachine) (done : Done) (x : AnyStep) (z : AnyMachine) → IsNoFence x
     → Invariant d start (x ∷ done) (stepped d x z) → Noted d start done z → Noted d start (x ∷ done) (stepped d x z)
 notes d start done x z is w v = record {
-  looked = λ i e due. elim (or_cases (looks (i / 64) x) _ (and_left (looks (i / 64) x || is_looked d (i / 64) done) _ e)) [
-    | inl now ↦ looked_now d x z i now (out_there d start (x ∷ done) (stepped d x z) i w (looked_settled d (i / 64) (x ∷ done) e) due)
-    | inr before ↦ seen_stays d x z is (v.looked i before (due_before d start x z i is due))
+  seen = λ i e due. elim (or_cases (looks (i / 64) x) _ (and_left (looks (i / 64) x || is_seen d (i / 64) done) _ e)) [
+    | inl now ↦ look_now d x z i now (out_there d start (x ∷ done) (stepped d x z) i w (seen_settled d (i / 64) (x ∷ done) e) due)
+    | inr before ↦ look_stays d x z is (v.seen i before (due_before d start x z i is due))
   ];
-  reported = λ i inside e due. elim (or_cases (posts x && is_looked d (i / 64) done) _
-      (and_left ((posts x && is_looked d (i / 64) done) || (tells x || is_reported d (i / 64) done)) _ e)) [
-        | inl now ↦ posted_now d x z (and_left (posts x) _ now) (v.looked i (and_right (posts x) _ now) (due_before d start x z i is due))
-        | inr later ↦ elim (or_cases (tells x) _ later) [
-          | inl now ↦ told_now d x z i inside now
-              (out_there d start (x ∷ done) (stepped d x z) i w (reported_settled d (i / 64) (x ∷ done) e) due)
-          | inr before ↦ told_stays d x z is (v.reported i inside before (due_before d start x z i is due))
+  looked = λ i e due. elim (or_cases (looks (i / 64) x) _ (and_left
+      (looks (i / 64) x || elim (untells x) [ true ↦ is_seen d (i / 64) done | false ↦ is_looked d (i / 64) done ]) _ e)) [
+        | inl now ↦ or_right (stepped d x z).told _
+            (look_now d x z i now (out_there d start (x ∷ done) (stepped d x z) i w (looked_settled d (i / 64) (x ∷ done) e) due))
+        | inr before ↦ elim (either_cases (untells x) _ _ before) [
+          | inl back ↦ or_left (stepped d x z).told _ (untold_now d x z back.0 (v.seen i back.1 (due_before d start x z i is due)))
+          | inr on ↦ seen_stays d x z is on.0 (v.looked i on.1 (due_before d start x z i is due))
         ]
       ];
+  reported = λ i inside e due. elim (either_cases (untells x) _ _ (and_left (reported_by d (i / 64) x done) _ e)) [
+    | inl back ↦ untold_now d x z back.0 (v.seen i back.1 (due_before d start x z i is due))
+    | inr on ↦ elim (or_cases (posts x && is_looked d (i / 64) done) _ on.1) [
+      | inl now ↦ posted_now d x z (and_left (posts x) _ now) (v.looked i (and_right (posts x) _ now) (due_before d start x z i is due))
+      | inr later ↦ elim (or_cases (tells x) _ later) [
+        | inl now ↦ told_now d x z i inside now
+            (out_there d start (x ∷ done) (stepped d x z) i w (reported_settled d (i / 64) (x ∷ done) e) due)
+        | inr before ↦ told_stays d x z is on.0 (v.reported i inside before (due_before d start x z i is due))
+      ]
+    ]
+  ];
   noticed = noticed_stays d done x z is v.noticed;
 }
 
@@ -317,6 +376,7 @@ notes_fence : (d : Setting) (start : AnyMachine) (done : Done) (p : ℕ) (z : An
 notes_fence d start done p z w v =
     let u = (noted_all d start done (flights_of p z.flights) z (of_all (Flies d done) p z.flights w.flights) (record { kept = w; noted = v })).noted in
     record {
+      seen = λ i e. u.seen i (and_left (is_seen d (i / 64) done) _ e);
       looked = λ i e. u.looked i (and_left (is_looked d (i / 64) done) _ e);
       reported = λ i inside e. u.reported i inside (and_left (is_reported d (i / 64) done) _ e);
       noticed = u.noticed;
@@ -353,6 +413,7 @@ hears d start done (Refetches p ∷ later) z can guards w v =
 
 noted_start : (d : Setting) (z : AnyMachine) → IsStartOfAny d z → Noted d z [] z
 noted_start d z is = record {
+  seen = λ i e due. absurd (false≢true e);
   looked = λ i e due. absurd (false≢true e);
   reported = λ i inside e due. absurd (false≢true e);
   noticed = is.noticed;

@@ -16,7 +16,7 @@ use Rattle.plans_rules.specs.declared.setting.RouteKind.TheVariants.{Routed, Swi
 use Rattle.plans_rules.specs.declared.rule.Rule.{Rule}
 use Rattle.plans_rules.specs.declared.rule.Rule.TheVariants.{Routes, Blank, Words, Numbers, Freeing, Notice}
 use Rattle.plans_rules.specs.declared.step.AnyStep.{AnyStep}
-use Rattle.plans_rules.specs.declared.step.AnyStep.TheVariants.{Route, Fence, Switch, Zero, Take, Copy, Join, Put, ZeroNumber, TakeNumber, CopyNumber, PutNumber, Look, Post, Tell, WriteNotice, Free}
+use Rattle.plans_rules.specs.declared.step.AnyStep.TheVariants.{Route, Fence, Switch, Zero, Take, Copy, Join, Put, ZeroNumber, TakeNumber, CopyNumber, PutNumber, Look, Post, Tell, Untell, WriteNotice, Free}
 use Rattle.plans_rules.specs.Setting.{Setting, same_number, same_spot, names, all_below, any_below}
 
 -- ---- what a step does
@@ -86,6 +86,11 @@ posts x = false
 abbrev pub tells : AnyStep → Bool
 tells Tell = true
 tells x = false
+
+-- Whether it takes back what the host was told.
+abbrev pub untells : AnyStep → Bool
+untells Untell = true
+untells x = false
 
 -- Whether it writes where notices go.
 abbrev pub writes_notice : AnyStep → Bool
@@ -287,16 +292,30 @@ is_settled d w done =
     is_there d Pending w done
     && (is_there d Enabled w done && (are_heeded d done && is_noticed d done))
 
--- A word was looked at, and was settled then and since.
+-- A word was looked at, was settled then and since, and nobody may have stored into it since.
+abbrev pub is_seen : Setting → ℕ → Done → Bool
+is_seen d w [] = false
+is_seen d w (x ∷ done) =
+    (looks w x || is_seen d w done)
+    && (is_settled d w (x ∷ done) && not (is_reached d Pending (x ∷ done)))
+
+-- A word was looked at, and was settled then and since. What stores tell after the look may be
+-- taken back.
 abbrev pub is_looked : Setting → ℕ → Done → Bool
 is_looked d w [] = false
-is_looked d w (x ∷ done) = (looks w x || is_looked d w done) && is_settled d w (x ∷ done)
+is_looked d w (x ∷ done) =
+    (looks w x || elim (untells x) [ true ↦ is_seen d w done | false ↦ is_looked d w done ])
+    && is_settled d w (x ∷ done)
 
--- A word was told of, or posted after such a look, and was settled then and since.
+-- A word was told of, or posted after such a look, and was settled then and since. What was told is
+-- taken back unless a look saw it.
 abbrev pub is_reported : Setting → ℕ → Done → Bool
 is_reported d w [] = false
 is_reported d w (x ∷ done) =
-    ((posts x && is_looked d w done) || (tells x || is_reported d w done))
+    elim (untells x) [
+      | true ↦ is_seen d w done
+      | false ↦ (posts x && is_looked d w done) || (tells x || is_reported d w done)
+    ]
     && is_settled d w (x ∷ done)
 
 -- ---- the rules

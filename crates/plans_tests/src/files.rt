@@ -213,6 +213,23 @@ enabled in the new place, and the host was not told\n";
 }
 
 #[test]
+fn what_a_store_tells_is_lost_where_it_is_taken_back(rt: HostRuntime) -> Result<(), Fail> {
+    let mut file = Vec::new(rt.alloc());
+    file.extend_from_slice(TOLD_OF_COPIES)?;
+    file.extend_from_slice(ZEROED)?;
+    file.extend_from_slice(b"look 0\npost\nuntell\n")?;
+    let untold = b"refused notice in the end\n  run: identity 1 is enabled in the old place at the \
+start; producer 0 stores it behind line 14 by its route in force; in the end it is pending and \
+enabled in the new place, and the host was not told\n";
+    let is_lost = answers_so(rt.alloc(), &file, untold)?;
+    assert!(rt; is_lost);
+    file.extend_from_slice(b"look 0\npost\n")?;
+    let is_kept = answers_so(rt.alloc(), &file, b"accepted\n")?;
+    assert!(rt; is_kept);
+    Ok(())
+}
+
+#[test]
 fn bad_lines_are_named_by_their_numbers(rt: HostRuntime) -> Result<(), Fail> {
     let found = answers(
         rt.alloc(),
@@ -229,6 +246,8 @@ fn lines_are_read(rt: HostRuntime) {
     assert!(rt; parse_line(b"words 100") == Reading::Bad);
     assert!(rt; parse_line(b"join threshold") == Reading::Bad);
     assert!(rt; parse_line(b"write notice") == Reading::Line(PlanLine::Step(AnyStep::WriteNotice)));
+    assert!(rt; parse_line(b"untell") == Reading::Line(PlanLine::Step(AnyStep::Untell)));
+    assert!(rt; parse_line(b"untell 0") == Reading::Bad);
     assert!(rt; parse_line(b"write") == Reading::Bad);
     assert!(rt; parse_line(b"write notice 0") == Reading::Bad);
     assert!(rt; parse_line(b"notices unset # yet") == Reading::Line(PlanLine::NoticesUnset));
