@@ -18,7 +18,7 @@ DECLARATIONS = {
 STEPS = {
     "route": ("producer",), "fence": ("producer",), "switch": ("producer",),
     "zero": ("place", "thing"), "take": ("thing",), "copy": ("thing",), "join": ("set",), "put": ("thing",),
-    "look": ("word",), "post": (), "tell": (), "write": ("written",), "free": (),
+    "look": ("word",), "post": (), "tell": (), "untell": (), "write": ("written",), "free": (),
 }
 SETS, NUMBERS = ("pending", "enabled"), ("threshold", "delivery")
 CHOICES = {

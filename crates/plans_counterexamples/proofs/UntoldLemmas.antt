@@ -27,7 +27,7 @@ use Rattle.plans_counterexamples.specs.declared.untold.UntoldRun.{UntoldRun}
 use Rattle.plans_counterexamples.specs.Search.{first_of, or_else}
 use Rattle.plans_counterexamples.specs.UntoldSearch.{is_small, stored_before, stored_by, tried_untold, untold_of, untold_run_of, untold_word, with_delivery, untold_with_numbers}
 use Rattle.plans_counterexamples.specs.Run.{by_of, extra_at, run_upto, step_at}
-use Rattle.plans_counterexamples.specs.Untold.{IsAlone, IsWatched, LeavesUntold, can_come, can_store, enabled_bit, extra_of, is_unstored, is_untold, pending_bit, producer_of, run_in, watch_sees, watch_tells, untold_end, untold_start, watch_after, watch_begun, watch_end, watch_extra, watch_landed, watch_out, watch_route, watch_stepped, watch_upto}
+use Rattle.plans_counterexamples.specs.Untold.{IsAlone, IsWatched, LeavesUntold, can_come, can_store, enabled_bit, extra_of, is_unstored, is_untold, pending_bit, producer_of, run_in, watch_sees, watch_told, untold_end, untold_start, watch_after, watch_begun, watch_end, watch_extra, watch_landed, watch_out, watch_route, watch_stepped, watch_upto}
 use Rattle.plans_counterexamples.proofs.FollowLemmas.{follows_landed, follows_step}
 use Rattle.plans_counterexamples.proofs.RunLemmas.{MayStore, all_happened-append, below_is, happens_well, true_false}
 use Rattle.plans_counterexamples.proofs.FoundLemmas.{IfFound, either, first}
@@ -74,7 +74,8 @@ seen_after producers terms u (steps.ZeroNumber New n) w z v = v.seen ∙ or_noth
 seen_after producers terms u x w z v = v.seen ∙ or_nothing w.seen
 
 told_after : (producers : List RouteKind) (terms : Terms) (u : UntoldRun) (x : AnyStep) (w : Watch) (z : AnyMachine)
-    → u.identity / 64 < terms.words → IsWatched u w z → (stepped (setting_of producers terms) x z).told ≡ (w.told || watch_tells terms u.identity x w)
+    → u.identity / 64 < terms.words → IsWatched u w z → (stepped (setting_of producers terms) x z).told ≡ watch_told terms u.identity x w
+told_after producers terms u steps.Untell w z inside v = v.seen
 told_after producers terms u steps.Post w z inside v = ap₂ (λ a b. a || b) v.told v.seen
 told_after producers terms u steps.Tell w z inside v = ap₂ (λ a b. a || b) v.told (any_same producers terms u w z inside v)
 told_after producers terms u (steps.Fence p) w z inside v = ap (λ (y : AnyMachine). y.told) (fenced (setting_of producers terms) p z v.flights)

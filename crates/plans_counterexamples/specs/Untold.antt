@@ -15,7 +15,7 @@ use Rattle.plans_rules.specs.declared.setting.NumberSpot.TheVariants.{InOld, InH
 use Rattle.plans_rules.specs.declared.setting.Terms.{Terms}
 use Rattle.plans_rules.specs.Setting.{Setting, is_old, same_spot}
 use Rattle.plans_rules.specs.Machine.{AnyMachine, Sets, all_happened, stands_out}
-use Rattle.plans_rules.specs.Rules.{writes_notice}
+use Rattle.plans_rules.specs.Rules.{untells, writes_notice}
 use Rattle.plans_rules.specs.Safe.{HostKnows, IsRun, IsStartOfAny}
 use Rattle.plans_counterexamples.specs.declared.trace.Begin.{Begin}
 use Rattle.plans_counterexamples.specs.declared.trace.Begin.TheVariants as begins
@@ -222,6 +222,13 @@ watch_tells terms identity steps.Post w = w.seen
 watch_tells terms identity steps.Tell w = watch_out terms identity w
 watch_tells terms identity step w = false
 
+-- Whether the host was told after a step.
+abbrev pub watch_told : Terms → ℕ → AnyStep → Watch → Bool
+watch_told terms identity step w = elim (untells step) [
+  | true ↦ w.seen
+  | false ↦ w.told || watch_tells terms identity step w
+]
+
 -- What a step makes of all that is followed.
 abbrev pub watch_after : Terms → ℕ → ℕ → AnyStep → Watch → Watch
 watch_after terms identity producer step w = record {
@@ -229,7 +236,7 @@ watch_after terms identity producer step w = record {
   enabled = trace_after (enabled_bit identity producer) step w.enabled;
   noticed = writes_notice step || w.noticed;
   seen = w.seen || watch_sees terms identity step w;
-  told = w.told || watch_tells terms identity step w;
+  told = watch_told terms identity step w;
 }
 
 -- What is followed with one step more, where there is one.

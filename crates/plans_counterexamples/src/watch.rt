@@ -2,7 +2,7 @@
 
 ghost use Rattle.std.specs.Prelude.{◌≡◌};
 ghost use Rattle.plans_rules.specs.Rules as rules;
-ghost use Rattle.plans_counterexamples.specs.Untold.{enabled_bit, pending_bit, watch_sees, watch_tells, watch_after, watch_landed, watch_lets, watch_out, watch_route};
+ghost use Rattle.plans_counterexamples.specs.Untold.{enabled_bit, pending_bit, watch_sees, watch_tells, watch_told, watch_after, watch_landed, watch_lets, watch_out, watch_route};
 ghost use Rattle.plans_counterexamples.specs.Trace.{trace_after};
 
 use crate::trace::{Case, StoreRoute, Trace};
@@ -49,6 +49,16 @@ fn writes_notice(step: AnyStep) -> bool
 {
     match step {
         AnyStep::WriteNotice => true,
+        _ => false,
+    }
+}
+
+/// Tells whether it takes back what the host was told.
+fn untells(step: AnyStep) -> bool
+    ensures { result ≡ rules.untells step }
+{
+    match step {
+        AnyStep::Untell => true,
         _ => false,
     }
 }
@@ -120,6 +130,17 @@ impl Watch {
         }
     }
 
+    /// Tells whether the host was told after a step.
+    fn is_told_after(self, terms: Terms, identity: u64, step: AnyStep) -> bool
+        ensures { result ≡ watch_told terms identity step self }
+    {
+        if untells(step) {
+            self.seen
+        } else {
+            self.told || self.tells(terms, identity, step)
+        }
+    }
+
     /// Gives what a step makes of it.
     pub(crate) fn after(self, terms: Terms, identity: u64, producer: usize, step: AnyStep) -> Watch
         ensures { result ≡ watch_after terms identity producer step self }
@@ -129,7 +150,7 @@ impl Watch {
             enabled: self.enabled.after(enabled_bit(identity, producer), step),
             noticed: writes_notice(step) || self.noticed,
             seen: self.seen || self.sees(terms, identity, step),
-            told: self.told || self.tells(terms, identity, step),
+            told: self.is_told_after(terms, identity, step),
         }
     }
 }

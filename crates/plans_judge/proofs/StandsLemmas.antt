@@ -20,7 +20,7 @@ use Rattle.plans_rules.specs.declared.rule.Rule.TheVariants.{Freeing}
 use Rattle.std.specs.List.{list_any}
 use Rattle.plans_rules.specs.declared.setting.Terms.{Terms}
 use Rattle.plans_judge.specs.declared.word.World.{World}
-use Rattle.plans_judge.specs.Table.{AllAfter, Stands, lead_first, lead_after, lead_at, led_by, is_led_at, is_turned_at, shut_by, spots_any_old, is_taken_at, is_kept_at, is_blank_at, is_reported_at, word_first, word_after, word_at, standing_first, standing_after, standing_at, world_at}
+use Rattle.plans_judge.specs.Table.{AllAfter, Stands, lead_first, lead_after, lead_at, led_by, is_led_at, is_turned_at, ready_by, shut_by, spots_any_old, is_taken_at, is_kept_at, is_blank_at, is_reported_at, word_first, word_after, word_at, standing_first, standing_after, standing_at, world_at}
 
 pub all_below_same : (f g : ℕ → Bool) (n : ℕ) → ((k : ℕ) → k < n → f k ≡ g k) → all_below f n ≡ all_below g n
 all_below_same f g zero same = refl
@@ -159,29 +159,39 @@ standing_step d (Zero New s w) n done = refl
 standing_step d x n done = refl
 
 -- the table is that of one step more
-pub stands_more : (old new : Table) (x : AnyStep) (world : World) (ready : Bool) (producers : List RouteKind) (done : Done)
+pub stands_more : (old new : Table) (x : AnyStep) (world : World) (producers : List RouteKind) (done : Done)
     → world ≡ record {
       still = all_below (is_led_at new.leads.items) (length new.leads.items);
       reached = any_below (is_turned_at new.leads.items) (length new.leads.items);
-      ready = ready;
+      ready = ready_by old.terms.heeds new.threshold new.delivery new.noticed;
     }
-    → ((producers : List RouteKind) (done : Done) → Stands old producers done
-    → ready ≡ (are_heeded (setting_of producers old.terms) done && is_noticed (setting_of producers old.terms) done))
     → new.terms ≡ old.terms → AllAfter (lead_after x) old.leads.items new.leads.items → AllAfter (word_after world x) old.words.items new.words.items
     → new.threshold ≡ standing_after x Threshold old.threshold → new.delivery ≡ standing_after x Delivery old.delivery
     → new.freed ≡ (frees x || old.freed) → new.threshold_shut ≡ (shuts Threshold x || old.threshold_shut)
     → new.delivery_shut ≡ (shuts Delivery x || old.delivery_shut) → new.noticed ≡ (writes_notice x || old.noticed)
     → Stands old producers done → Stands new producers (x ∷ done)
-stands_more old new x world ready producers done knows_world knows terms leads words threshold delivery freed threshold_shut delivery_shut noticed v =
+stands_more old new x world producers done knows_world terms leads words threshold delivery freed threshold_shut delivery_shut noticed v =
     let d : Setting = setting_of producers old.terms in
+    let low : new.threshold ≡ standing_at d Threshold (x ∷ done) =
+    threshold ∙ ap (standing_after x Threshold) v.threshold ∙ standing_step d x Threshold done in
+    let goes : new.delivery ≡ standing_at d Delivery (x ∷ done) =
+    delivery ∙ ap (standing_after x Delivery) v.delivery ∙ standing_step d x Delivery done in
+    let notes : new.noticed ≡ is_noticed d (x ∷ done) = noticed ∙ ap (λ b. writes_notice x || b) v.noticed in
+    let knows : ready_by d.heeds new.threshold new.delivery new.noticed ≡ (are_heeded d (x ∷ done) && is_noticed d (x ∷ done)) =
+    ap (λ s. ready_by d.heeds s new.delivery new.noticed) low ∙ ap (λ s. ready_by d.heeds (standing_at d Threshold (x ∷ done)) s new.noticed) goes
+    ∙ ap (ready_by d.heeds (standing_at d Threshold (x ∷ done)) (standing_at d Delivery (x ∷ done))) notes in
     let is : world ≡ world_at d x done = knows_world
     ∙ ap (λ b. record {
       still = b;
       reached = any_below (is_turned_at new.leads.items) (length new.leads.items);
-      ready = ready;
+      ready = ready_by d.heeds new.threshold new.delivery new.noticed;
     }) (led_all_next old new.leads.items x producers done v leads)
-    ∙ ap (λ b. record { still = all_led d (x ∷ done); reached = b; ready = ready }) (turned_next old new.leads.items x producers done v leads)
-    ∙ ap (λ b. record { still = all_led d (x ∷ done); reached = is_reached d Pending (x ∷ done); ready = b }) (knows producers done v) in
+    ∙ ap (λ b. record {
+      still = all_led d (x ∷ done);
+      reached = b;
+      ready = ready_by d.heeds new.threshold new.delivery new.noticed;
+    }) (turned_next old new.leads.items x producers done v leads)
+    ∙ ap (λ b. record { still = all_led d (x ∷ done); reached = is_reached d Pending (x ∷ done); ready = b }) knows in
     let inside : (w : ℕ) → w < old.terms.words → slice_get new.words.items w ≡ Some (word_at d (x ∷ done) w) =
     λ w low. words.1 w ∙ ap (option_map (word_after world x w)) (v.words w low) ∙ ap (λ k. Some (word_after k x w (word_at d done w))) is
     ∙ ap Some (word_step d done x w) in
@@ -192,14 +202,14 @@ stands_more old new x world ready producers done knows_world knows terms leads w
       words = λ w low. subst (λ (t : Terms). slice_get new.words.items w ≡ Some (word_at (setting_of producers t) (x ∷ done) w)) (sym terms)
           (inside w (subst (λ (t : Terms). w < t.words) terms low));
       threshold = subst (λ (t : Terms). new.threshold ≡ standing_at (setting_of producers t) Threshold (x ∷ done)) (sym terms)
-          (threshold ∙ ap (standing_after x Threshold) v.threshold ∙ standing_step d x Threshold done);
+          low;
       delivery = subst (λ (t : Terms). new.delivery ≡ standing_at (setting_of producers t) Delivery (x ∷ done)) (sym terms)
-          (delivery ∙ ap (standing_after x Delivery) v.delivery ∙ standing_step d x Delivery done);
+          goes;
       freed = freed ∙ ap (λ b. frees x || b) v.freed;
       threshold_shut = threshold_shut ∙ ap (λ b. shuts Threshold x || b) v.threshold_shut;
       delivery_shut = delivery_shut ∙ ap (λ b. shuts Delivery x || b) v.delivery_shut;
       noticed = subst (λ (t : Terms). new.noticed ≡ is_noticed (setting_of producers t) (x ∷ done)) (sym terms)
-          (noticed ∙ ap (λ b. writes_notice x || b) v.noticed);
+          notes;
     }
 
 -- ---- no step

@@ -14,7 +14,7 @@ use Rattle.plans_rules.specs.declared.setting.RouteKind.TheVariants.{Routed, Swi
 use Rattle.plans_rules.specs.declared.setting.NumberSpot.{NumberSpot}
 use Rattle.plans_rules.specs.declared.setting.NumberSpot.TheVariants.{InOld, InHand, InNew}
 use Rattle.plans_rules.specs.Setting.{Setting, setting_of, same_number, same_spot}
-use Rattle.plans_rules.specs.Rules.{turns, fences, switches, empties, lifts, fills, blanks, shuts, frees, looks, posts, tells, Done, is_turned, is_fenced, all_led, is_reached, any_of_two, brought, alone_by, may_stand, is_blank, was_shut, has_number, are_heeded, is_noticed, is_looked, is_reported}
+use Rattle.plans_rules.specs.Rules.{turns, fences, switches, empties, lifts, fills, blanks, frees, looks, posts, tells, untells, Done, is_turned, is_fenced, all_led, is_reached, any_of_two, brought, alone_by, may_stand, is_blank, was_shut, has_number, are_heeded, is_noticed, is_seen, is_looked, is_reported}
 use Rattle.plans_judge.specs.declared.lead.Lead.{Lead}
 use Rattle.plans_judge.specs.declared.standing.Standing.{Standing}
 use Rattle.plans_judge.specs.declared.table.Table.{Table}
@@ -96,16 +96,13 @@ spots_of stands = record {
   old_hand_new = stands true true true;
 }
 
--- Whether one may stand in the old place, or in the hand, wherever else.
+-- Whether one may stand in the old place, wherever else.
 abbrev pub spots_any_old : Spots → Bool
 spots_any_old spots = any_of_two (λ h n. may_by spots true h n)
 
-abbrev pub spots_any_hand : Spots → Bool
-spots_any_hand spots = any_of_two (λ o n. may_by spots o true n)
-
--- Whether a word of a set is moved for good.
-abbrev pub flags_moved : Flags → Bool
-flags_moved flags = not (spots_any_old flags.spots) && not (spots_any_hand flags.spots)
+-- Whether all of a word of a set that is due stands in the new place.
+abbrev pub flags_there : Flags → Bool
+flags_there flags = not (flags.spots.old || (flags.spots.hand || flags.spots.old_hand))
 
 -- Where one may stand, once a step empties, lifts, fills or blanks the word, and once nobody stores
 -- into the old place (still), or somebody may into the new one (reached).
@@ -134,38 +131,59 @@ abbrev pub word_first : Bool → Word
 word_first is_fresh = record {
   pending = flags_first is_fresh;
   enabled = flags_first is_fresh;
+  seen = false;
   looked = false;
   reported = false;
 }
 
--- Whether a word of both sets is moved for good, and the move is ready for notices.
-abbrev pub word_settled : Bool → Word → Bool
-word_settled ready word = flags_moved word.pending && (flags_moved word.enabled && ready)
+-- Whether all of a word of both sets stands in the new place, and the move is ready for notices.
+abbrev pub word_settled : Bool → Flags → Flags → Bool
+word_settled ready pending enabled = flags_there pending && (flags_there enabled && ready)
 
--- Whether a word was looked at once it was settled, with one step more.
+-- Whether a word was looked at, is settled since, and nobody may have stored into it since, with one
+-- step more.
+abbrev pub seen_after : Bool → Bool → AnyStep → ℕ → Word → Bool
+seen_after settled reached x w word = (looks w x || word.seen) && (settled && not reached)
+
+-- Whether it was looked at before a step that may take back what was told.
+abbrev pub looked_by : AnyStep → Word → Bool
+looked_by x word = elim (untells x) [ true ↦ word.seen | false ↦ word.looked ]
+
+-- Whether it was looked at, and is settled since, with one step more.
 abbrev pub looked_after : Bool → AnyStep → ℕ → Word → Bool
-looked_after ready x w word = elim (looks w x) [
-  | true ↦ word_settled ready word || word.looked
-  | false ↦ word.looked
+looked_after settled x w word = (looks w x || looked_by x word) && settled
+
+-- Whether it was told of by a step, or before it and that is not taken back.
+abbrev pub told_by : AnyStep → Word → Bool
+told_by x word = elim (untells x) [
+  | true ↦ word.seen
+  | false ↦ (posts x && word.looked) || (tells x || word.reported)
 ]
 
--- Whether it was told of once it was settled, or posted after such a look, with one step more.
+-- Whether it was told of, or posted after such a look, and is settled since, with one step more.
 abbrev pub reported_after : Bool → AnyStep → Word → Bool
-reported_after ready x word = elim (posts x) [
-  | true ↦ word.looked || word.reported
-  | false ↦ elim (tells x) [
-    | true ↦ word_settled ready word || word.reported
-    | false ↦ word.reported
-  ]
-]
+reported_after settled x word = told_by x word && settled
+
+-- The flags of the pending word after a step, and those of the enables.
+abbrev pub pending_after : World → AnyStep → ℕ → Word → Flags
+pending_after world x w word = flags_after Pending world.still world.reached x w word.pending
+
+abbrev pub enabled_after : AnyStep → ℕ → Word → Flags
+enabled_after x w word = flags_after Enabled true false x w word.enabled
+
+-- Whether the word is settled after a step.
+abbrev pub settled_after : World → AnyStep → ℕ → Word → Bool
+settled_after world x w word =
+    word_settled world.ready (pending_after world x w word) (enabled_after x w word)
 
 -- What a step makes of all that is kept of word w.
 abbrev pub word_after : World → AnyStep → ℕ → Word → Word
 word_after world x w word = record {
-  pending = flags_after Pending world.still world.reached x w word.pending;
-  enabled = flags_after Enabled true false x w word.enabled;
-  looked = looked_after world.ready x w word;
-  reported = reported_after world.ready x word;
+  pending = pending_after world x w word;
+  enabled = enabled_after x w word;
+  seen = seen_after (settled_after world x w word) world.reached x w word;
+  looked = looked_after (settled_after world x w word) x w word;
+  reported = reported_after (settled_after world x w word) x word;
 }
 
 -- Whether the word in a place of the list passes what an end asks of it: nothing due of its pending
@@ -211,6 +229,7 @@ abbrev pub word_at : Setting → Done → ℕ → Word
 word_at d done w = record {
   pending = flags_at d done Pending w;
   enabled = flags_at d done Enabled w;
+  seen = is_seen d w done;
   looked = is_looked d w done;
   reported = is_reported d w done;
 }
@@ -263,15 +282,23 @@ standing_at d n done = record {
 
 -- ---- the whole move
 
--- What the words turn on at a step: whether nobody stores into the old place after it, and whether
--- somebody may into the new one; and whether the move is ready for notices before it: what is
--- heeded is in the new place, and they go to the host.
+-- What the words turn on after a step: whether nobody stores into the old place, and whether
+-- somebody may into the new one; and whether the move is ready for notices: what is heeded is in
+-- the new place, and they go to the host.
 abbrev pub world_at : Setting → AnyStep → Done → World
 world_at d x done = record {
   still = all_led d (x ∷ done);
   reached = is_reached d Pending (x ∷ done);
-  ready = are_heeded d done && is_noticed d done;
+  ready = are_heeded d (x ∷ done) && is_noticed d (x ∷ done);
 }
+
+-- Whether the move is ready for notices, by whether they heed the numbers, where these stand, and
+-- whether they go to the host.
+abbrev pub ready_by : Bool → Standing → Standing → Bool → Bool
+ready_by heeds threshold delivery noticed = elim heeds [
+  | true ↦ threshold.new && delivery.new
+  | false ↦ true
+] && noticed
 
 -- Whether nothing is left to the next owner of the old place, where that takes it over, by whether
 -- threshold and delivery were left 0.

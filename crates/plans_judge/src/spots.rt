@@ -2,7 +2,7 @@
 
 ghost use Rattle.std.specs.Prelude.{◌≡◌, ◌&&◌, ◌||◌, not};
 ghost use Rattle.plans_rules.specs.Rules as rules;
-ghost use Rattle.plans_judge.specs.Table.{may_by, spots_after, spots_any_hand, spots_any_old, spots_of};
+ghost use Rattle.plans_judge.specs.Table.{may_by, spots_after, spots_any_old, spots_of};
 
 use plans_rules::{AnyPlace, AnyStep, WhichSet};
 
@@ -232,13 +232,6 @@ impl Spots {
         ensures { result ≡ spots_any_old self }
     {
         self.old_hand_new || self.old_hand || self.old_new || self.old
-    }
-
-    /// Tells whether one may stand in the hand, wherever else.
-    pub(crate) fn any_hand(self) -> bool
-        ensures { result ≡ spots_any_hand self }
-    {
-        self.old_hand_new || self.old_hand || self.hand_new || self.hand
     }
 
     /// Tells whether one may stand in these places after a step, where stores alone make some

@@ -5,7 +5,7 @@ ghost use Rattle.plans_rules.specs.Rules as rules;
 ghost use Rattle.plans_rules.specs.Rules.{Done};
 ghost use Rattle.plans_rules.specs.Safe.{IsInFile};
 ghost use Rattle.plans_rules.specs.Setting.{all_below, any_below, setting_of};
-ghost use Rattle.plans_judge.specs.Table.{AllAfter, Stands, flags_at, is_led_at, lead_after, is_turned_at, lead_first, shut_by, word_after, word_first};
+ghost use Rattle.plans_judge.specs.Table.{AllAfter, Stands, flags_at, is_led_at, lead_after, is_turned_at, lead_first, ready_by, shut_by, word_after, word_first};
 ghost use Rattle.plans_judge.specs.Verdicts.{refusing, refusing_end, rules_of};
 ghost use Rattle.plans_rules.specs.declared.rule.Rule.TheVariants as rule_;
 ghost use Rattle.plans_rules.specs.declared.step.AnyStep.TheVariants.{Free};
@@ -135,19 +135,6 @@ impl Table {
         }
     }
 
-    /// Tells whether both numbers are in the new place, if they are heeded there.
-    fn are_heeded(&self) -> bool
-        ensures { (producers : List RouteKind) (done : Done) → Stands self.now producers done
-            → result ≡ rules.are_heeded (setting_of producers self.now.terms) done }
-    {
-        if self.terms.heeds {
-            self.has_number(Number::Threshold, NumberSpot::InNew)
-                && self.has_number(Number::Delivery, NumberSpot::InNew)
-        } else {
-            true
-        }
-    }
-
     /// Tells whether nothing is left to the next owner of the old place that takes it over.
     #[tactic(auto, using(crate::proofs::StandsLemmas::shut_is))]
     fn is_shut(&self) -> bool
@@ -218,28 +205,6 @@ impl Table {
         }
     }
 
-    /// Tells whether a number has come to the new place, and a notice heeds it there.
-    fn has_heeded_number(&self, number: Number) -> bool
-        ensures { (producers : List RouteKind) (done : Done) → Stands self.now producers done
-            → result ≡ (rules.heeds_there (setting_of producers self.now.terms)
-            && rules.has_number (setting_of producers self.now.terms) number spot.InNew done) }
-    {
-        self.terms.in_memory && self.terms.heeds && self.has_number(number, NumberSpot::InNew)
-    }
-
-    /// Tells whether the rule on notices does.
-    fn lets_notice(&self, step: AnyStep) -> bool
-        ensures { (producers : List RouteKind) (done : Done) → Stands self.now producers done
-            → result ≡ rules.lets rule_.Notice (setting_of producers self.now.terms) step done }
-    {
-        match step {
-            AnyStep::ZeroNumber(AnyPlace::New, n) => !self.has_heeded_number(n),
-            AnyStep::PutNumber(n) => !self.has_heeded_number(n)
-                || self.has_number(n, NumberSpot::InHand),
-            _ => true,
-        }
-    }
-
     /// Gives the first rule of a part that does not let a step stand. `None`: all do.
     pub(crate) fn refusing(&self, part: Part, step: AnyStep) -> Option<Rule>
         requires word { IsInFile self.now.terms.words step }
@@ -260,12 +225,7 @@ impl Table {
                 }
                 None
             }
-            Part::Telling => {
-                if !self.lets_notice(step) {
-                    return Some(Rule::Notice);
-                }
-                None
-            }
+            Part::Telling => None,
         }
     }
 
@@ -348,29 +308,24 @@ impl Table {
         }
     }
 
-    /// Tells whether the move is ready for notices: what is heeded is in the new place, and they go
-    /// to the host.
-    fn is_ready(&self) -> bool
-        ensures { (producers : List RouteKind) (done : Done) → Stands self.now producers done
-            → result ≡ (rules.are_heeded (setting_of producers self.now.terms) done
-            && rules.is_noticed (setting_of producers self.now.terms) done) }
-    {
-        self.are_heeded() && self.noticed
-    }
-
-    /// Gives what is known of the whole move at a step that the leads have made, which was ready
-    /// for notices before it, or was not.
-    fn world(&self, ready: bool) -> World
+    /// Gives what is known of the whole move after a step that the leads and the numbers have made.
+    fn world(&self) -> World
         ensures { result ≡ record {
           still = all_below (is_led_at self.now.leads.items) (length self.now.leads.items);
           reached = any_below (is_turned_at self.now.leads.items) (length self.now.leads.items);
-          ready = ready;
+          ready = ready_by self.now.terms.heeds self.now.threshold self.now.delivery
+              self.now.noticed;
         } }
     {
         World {
             still: all_led(&self.leads),
             reached: any_turned(&self.leads),
-            ready,
+            ready: ready_by(
+                self.terms.heeds,
+                self.threshold,
+                self.delivery,
+                self.noticed,
+            ),
         }
     }
 
@@ -382,17 +337,23 @@ impl Table {
         ensures terms { self.new.terms ≡ self.old.terms }
         ensures width { length self.new.words.items ≡ length self.old.words.items }
     {
-        let ready = self.is_ready();
         lead_list(&mut self.leads, step);
-        let world = self.world(ready);
-        step_list(&mut self.words, step, world);
         self.threshold = self.threshold.after(step, Number::Threshold);
         self.delivery = self.delivery.after(step, Number::Delivery);
+        self.noticed = either(writes_notice(step), self.noticed);
+        let world = self.world();
+        step_list(&mut self.words, step, world);
         self.freed = either(frees(step), self.freed);
         self.threshold_shut = either(shuts(step, Number::Threshold), self.threshold_shut);
         self.delivery_shut = either(shuts(step, Number::Delivery), self.delivery_shut);
-        self.noticed = either(writes_notice(step), self.noticed);
     }
+}
+
+/// Tells whether what is heeded of the numbers is in the new place, and notices go to the host.
+fn ready_by(heeds: bool, threshold: Standing, delivery: Standing, noticed: bool) -> bool
+    ensures { result ≡ ready_by heeds threshold delivery noticed }
+{
+    (!heeds || threshold.new && delivery.new) && noticed
 }
 
 /// Tells whether nothing is left to the next owner of the old place, where that takes it over.

@@ -3,7 +3,7 @@
 ghost use Rattle.std.specs.Prelude.{◌≡◌, ◌&&◌, not, length};
 ghost use Rattle.plans_rules.specs.Rules as rules;
 ghost use Rattle.plans_rules.specs.Setting.{all_below};
-ghost use Rattle.plans_judge.specs.Table.{AllAfter, flags_after, flags_moved, is_blank_at, is_kept_at, is_reported_at, is_taken_at, looked_after, reported_after, spots_any_old, word_after, word_first, word_settled};
+ghost use Rattle.plans_judge.specs.Table.{AllAfter, flags_after, flags_there, is_blank_at, is_kept_at, is_reported_at, is_taken_at, looked_after, looked_by, reported_after, seen_after, spots_any_old, told_by, word_after, word_first, word_settled};
 
 use crate::spots::{Effect, Spots, Stores};
 use plans_rules::{AnyStep, WhichSet};
@@ -24,10 +24,15 @@ pub(crate) struct Word {
     pub(crate) pending: Flags,
     pub(crate) enabled: Flags,
 
-    /// It was looked at after all was there that a look heeds, and notices went to the host.
+    /// It was looked at, all was there then and since that a look heeds, notices went to the host,
+    /// and nobody may have stored into it since.
+    pub(crate) seen: bool,
+
+    /// It was looked at, and all that was so but for the stores; what they tell may be taken back.
     pub(crate) looked: bool,
 
-    /// It was told of once that was so, or posted after such a look, if there was reason to.
+    /// It was told of, or posted after such a look, if there was reason to, and all that was so then
+    /// and since.
     pub(crate) reported: bool,
 }
 
@@ -40,7 +45,7 @@ pub(crate) struct World {
     /// Somebody may store into the new place after it.
     pub(crate) reached: bool,
 
-    /// Before it both numbers are in the new place, if they are heeded there, and notices go to the
+    /// After it both numbers are in the new place, if they are heeded there, and notices go to the
     /// host.
     pub(crate) ready: bool,
 }
@@ -55,12 +60,42 @@ fn looks(step: AnyStep, word: usize) -> bool
     }
 }
 
+/// Tells whether a step posts what looks saw.
+fn posts(step: AnyStep) -> bool
+    ensures { result ≡ rules.posts step }
+{
+    match step {
+        AnyStep::Post => true,
+        _ => false,
+    }
+}
+
+/// Tells whether it tells the host what stands out.
+fn tells(step: AnyStep) -> bool
+    ensures { result ≡ rules.tells step }
+{
+    match step {
+        AnyStep::Tell => true,
+        _ => false,
+    }
+}
+
+/// Tells whether it takes back what the host was told.
+fn untells(step: AnyStep) -> bool
+    ensures { result ≡ rules.untells step }
+{
+    match step {
+        AnyStep::Untell => true,
+        _ => false,
+    }
+}
+
 impl Flags {
-    /// Tells whether the word is moved for good.
-    fn is_moved(self) -> bool
-        ensures { result ≡ flags_moved self }
+    /// Tells whether all of the word that is due stands in the new place.
+    fn is_there(self) -> bool
+        ensures { result ≡ flags_there self }
     {
-        !self.spots.any_old() && !self.spots.any_hand()
+        !(self.spots.old || self.spots.hand || self.spots.old_hand)
     }
 
     /// Gives what a step makes of word `word` of a set, given who stores into that set after it.
@@ -87,38 +122,55 @@ impl Word {
         Word {
             pending: flags,
             enabled: flags,
+            seen: false,
             looked: false,
             reported: false,
         }
     }
 
-    /// Tells whether the word of both sets is moved for good, and the move is ready for notices.
-    fn is_settled(self, ready: bool) -> bool
-        ensures { result ≡ word_settled ready self }
+    /// Tells whether word `word` was looked at after a step, is settled since, and nobody may have
+    /// stored into it since.
+    fn is_seen_after(self, step: AnyStep, word: usize, settled: bool, reached: bool) -> bool
+        ensures { result ≡ seen_after settled reached step word self }
     {
-        self.pending.is_moved() && self.enabled.is_moved() && ready
+        (looks(step, word) || self.seen) && settled && !reached
     }
 
-    /// Tells whether word `word` was looked at after a step, once it was settled.
-    fn is_looked_after(self, step: AnyStep, word: usize, ready: bool) -> bool
-        ensures { result ≡ looked_after ready step word self }
+    /// Tells whether it was looked at before a step that may take back what was told.
+    fn is_looked_at(self, step: AnyStep) -> bool
+        ensures { result ≡ looked_by step self }
     {
-        if looks(step, word) {
-            self.is_settled(ready) || self.looked
+        if untells(step) {
+            self.seen
         } else {
             self.looked
         }
     }
 
-    /// Tells whether the host was told of the word after a step, if there is reason to.
-    fn is_reported_after(self, step: AnyStep, ready: bool) -> bool
-        ensures { result ≡ reported_after ready step self }
+    /// Tells whether word `word` was looked at after a step, and is settled since.
+    fn is_looked_after(self, step: AnyStep, word: usize, settled: bool) -> bool
+        ensures { result ≡ looked_after settled step word self }
     {
-        match step {
-            AnyStep::Post => self.looked || self.reported,
-            AnyStep::Tell => self.is_settled(ready) || self.reported,
-            _ => self.reported,
+        (looks(step, word) || self.is_looked_at(step)) && settled
+    }
+
+    /// Tells whether the host was told of the word by a step, or before it and it is not taken back.
+    fn is_told_by(self, step: AnyStep) -> bool
+        ensures { result ≡ told_by step self }
+    {
+        if untells(step) {
+            self.seen
+        } else {
+            posts(step) && self.looked || tells(step) || self.reported
         }
+    }
+
+    /// Tells whether the host was told of the word after a step, if there is reason to, and it is
+    /// settled since.
+    fn is_reported_after(self, step: AnyStep, settled: bool) -> bool
+        ensures { result ≡ reported_after settled step self }
+    {
+        self.is_told_by(step) && settled
     }
 
     /// Gives what a step makes of word `word`.
@@ -133,13 +185,25 @@ impl Word {
             still: true,
             reached: false,
         };
+        let pending = self.pending.after(step, WhichSet::Pending, word, pending);
+        let enabled = self.enabled.after(step, WhichSet::Enabled, word, enabled);
+        let settled = is_settled(pending, enabled, world.ready);
         Word {
-            pending: self.pending.after(step, WhichSet::Pending, word, pending),
-            enabled: self.enabled.after(step, WhichSet::Enabled, word, enabled),
-            looked: self.is_looked_after(step, word, world.ready),
-            reported: self.is_reported_after(step, world.ready),
+            pending,
+            enabled,
+            seen: self.is_seen_after(step, word, settled, world.reached),
+            looked: self.is_looked_after(step, word, settled),
+            reported: self.is_reported_after(step, settled),
         }
     }
+}
+
+/// Tells whether all of a word of both sets stands in the new place, and the move is ready for
+/// notices.
+fn is_settled(pending: Flags, enabled: Flags, ready: bool) -> bool
+    ensures { result ≡ word_settled ready pending enabled }
+{
+    pending.is_there() && enabled.is_there() && ready
 }
 
 /// Makes of all words what a step makes of them.

@@ -1,15 +1,11 @@
 -- Where a step brings an identity, and where a store alone makes one stand.
-use Rattle.std.proofs.Common.{◌≡◌, ℕ, ◌/◌, ◌<◌, Bool, true, false, not, ◌&&◌, ◌||◌, length, List, [], ◌∷◌, ◌⊎◌, inl, inr, refl, sym, ap, subst, ◌∙◌}
+use Rattle.std.proofs.Common.{◌≡◌, ℕ, Bool, true, false, not, ◌&&◌, ◌||◌, length, [], ◌∷◌, ◌⊎◌, inl, inr, refl, sym, ap}
 use Rattle.std.proofs.lemmas.Bool.{false≢true}
 use Rattle.plans_rules.specs.declared.step.WhichSet.{WhichSet}
 use Rattle.plans_rules.specs.declared.step.WhichSet.TheVariants.{Pending, Enabled}
-use Rattle.plans_rules.specs.declared.step.AnyPlace.TheVariants.{Old, New}
-use Rattle.plans_rules.specs.declared.step.AnyStep.{AnyStep}
-use Rattle.plans_rules.specs.declared.step.AnyStep.TheVariants.{Zero, Take, Copy, Join, Put, ZeroNumber}
-use Rattle.plans_rules.specs.declared.rule.Rule.TheVariants.{Words}
-use Rattle.plans_rules.specs.Setting.{Setting, names}
-use Rattle.plans_rules.specs.Rules.{Done, empties, lifts, fills, blanks, is_turned, is_reached, is_still, alike, brings, any_of_two, any_of_three, brought, stored_alone, may_stand, only_old, only_hand, only_new, any_old, any_hand, is_moved, lets}
-use Rattle.plans_rules.proofs.BoolLaws.{by_case, clash, not_true, true_of, and_left, and_right, and_of, or_left, or_right, or_false, or_false_left, or_false_right, or_cases, any_find}
+use Rattle.plans_rules.specs.Setting.{Setting}
+use Rattle.plans_rules.specs.Rules.{Done, empties, lifts, fills, blanks, is_turned, is_reached, is_still, alike, brings, any_of_two, any_of_three, brought, stored_alone, may_stand, only_old, only_new}
+use Rattle.plans_rules.proofs.BoolLaws.{and_left, and_right, and_of, or_left, or_right, or_false, or_cases, any_find}
 
 -- ---- any of some places
 

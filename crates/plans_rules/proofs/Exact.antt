@@ -21,7 +21,7 @@ use Rattle.plans_rules.specs.Safe.{IsRouted, IsStartOfAny, number_in, IsSafe, Is
 use Rattle.plans_rules.specs.Rules.{fences, empties, lifts, fills, blanks, frees, Done, is_turned, is_fenced, is_led, all_led, is_reached, is_still, brought, may_stand, only_old, only_hand, only_new, any_old, is_blank, was_shut, is_shut, has_number, lets, lets_end, lets_rest}
 use Rattle.plans_rules.proofs.BoolLaws.{by_case, true_of, clash, and_of, or_left, or_right, or_false_left, or_false_right, or_cases, all_of, all_find, any_find}
 use Rattle.plans_rules.proofs.Safety.{IsOfSafety}
-use Rattle.plans_rules.proofs.States.{Live, live_step, live_store, live_land, At, at_step, at_is, no_old, no_new, no_hand, end_new, end_old, lost, worth, Plain, Flying, plain_step, sent, flying_on, Witness, stored, kind_of, unled_routed, unled_switched, unled_old, fence_same, Unshut, unshut_step}
+use Rattle.plans_rules.proofs.States.{Live, live_step, live_store, live_land, At, at_step, at_is, no_old, no_hand, end_new, end_old, lost, worth, Plain, Flying, plain_step, sent, flying_on, Witness, stored, kind_of, unled_routed, unled_switched, unled_old, fence_same, Unshut, unshut_step}
 use Rattle.plans_rules.proofs.Brought.{two_find, old_after, hand_after, new_after, came, stored_cases}
 
 -- ---- a step

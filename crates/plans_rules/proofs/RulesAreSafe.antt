@@ -1,14 +1,11 @@
 -- The checker's yes implies that a plan is safe, and tells.
-use Rattle.std.proofs.Common.{◌≡◌, Bool, true, false, not, ◌&&◌, ◌||◌, List, [], ◌∷◌, refl, ap}
+use Rattle.std.proofs.Common.{◌≡◌, Bool, true, false, List, [], ◌∷◌, ap}
 use Rattle.std.specs.List.{All}
 use Rattle.plans_rules.proofs.Throughout.{recursively}
 use Rattle.plans_rules.specs.declared.rule.Rule.TheVariants.{Routes, Blank, Words, Numbers, Freeing, Notice}
-use Rattle.plans_rules.specs.declared.step.AnyPlace.TheVariants.{Old, New}
-use Rattle.plans_rules.specs.declared.setting.NumberSpot.TheVariants.{InHand, InNew}
 use Rattle.plans_rules.specs.declared.step.AnyStep.{AnyStep}
-use Rattle.plans_rules.specs.declared.step.AnyStep.TheVariants.{Zero, ZeroNumber, PutNumber}
 use Rattle.plans_rules.specs.Setting.{Setting, all_below}
-use Rattle.plans_rules.specs.Rules.{Done, has_number, is_reported, lets, lets_rest, keeps, moves, accepts}
+use Rattle.plans_rules.specs.Rules.{Done, is_reported, lets_rest, keeps, moves, accepts}
 use Rattle.plans_rules.specs.Safe.{IsInFile, IsSafe, IsTold}
 use Rattle.plans_rules.proofs.BoolLaws.{and_left, and_right, and_of}
 use Rattle.plans_rules.proofs.Safety.{GuardRest, guarded_is_safe}
@@ -52,20 +49,12 @@ pub rules_are_told : (d : Setting) (plan : List AnyStep) → d.in_memory ≡ tru
 rules_are_told d plan memory e = guarded_is_told d plan memory (all_kept d plan e)
 
 -- where nobody is told of anything the rule on notices lets all stand
-notice_lets : (d : Setting) (x : AnyStep) (done : Done) → d.in_memory ≡ false → lets Notice d x done ≡ true
-notice_lets d (ZeroNumber New n) done e = ap (λ m. not ((m && d.heeds) && has_number d n InNew done)) e
-notice_lets d (PutNumber n) done e = ap (λ m. not ((m && d.heeds) && has_number d n InNew done) || has_number d n InHand done) e
-notice_lets d (ZeroNumber Old n) done e = refl
-notice_lets d (Zero Old s w) done e = refl
-notice_lets d (Zero New s w) done e = refl
-notice_lets d x done e = refl
-
 notice_lets_rest : (d : Setting) (done : Done) (rest : List AnyStep) → d.in_memory ≡ false → lets_rest Notice d done rest ≡ true
 notice_lets_rest d done [] e = ap asked e
   where
     asked : Bool → Bool
     asked m = elim m [ true ↦ all_below (λ w. is_reported d w done) d.words | false ↦ true ]
-notice_lets_rest d done (x ∷ rest) e = and_of _ _ (notice_lets d x done e) (notice_lets_rest d (x ∷ done) rest e)
+notice_lets_rest d done (x ∷ rest) e = notice_lets_rest d (x ∷ done) rest e
 
 -- **Elsewhere than in memory a plan that is safe is accepted.**
 pub safe_is_accepted : (d : Setting) (plan : List AnyStep) → d.in_memory ≡ false → All (IsInFile d.words) plan → IsSafe d plan → accepts d plan ≡ true

@@ -23,7 +23,7 @@ use Rattle.plans_rules.specs.Machine.By.{Written, InForce}
 use Rattle.plans_rules.specs.Machine.AnyHappening.{Does, Stores, Sends, Lands, Refetches}
 use Rattle.plans_rules.specs.Safe.{IsProducer, IsRouted, CanHappen, IsRun, IsStartOfAny, number_in, IsMovedByAny, IsSafe}
 use Rattle.plans_rules.specs.Rules.{empties, lifts, fills, blanks, shuts, switches, frees, Done, is_turned, is_fenced, is_led_as, is_led, all_led, is_reached, any_of_two, brought, may_stand, only_old, only_hand, only_new, any_old, is_blank, was_shut, is_shut, has_number, lets, lets_end, lets_rest}
-use Rattle.plans_rules.proofs.BoolLaws.{false_of, true_of, clash, not_true, and_left, and_right, and_of, or_left, or_right, or_false, or_cases, added_cases, all_at, any_at}
+use Rattle.plans_rules.proofs.BoolLaws.{false_of, clash, not_true, and_left, and_right, and_of, or_left, or_right, or_false, or_cases, added_cases, all_at, any_at}
 use Rattle.plans_rules.proofs.Reached.{all_led_more}
 use Rattle.plans_rules.proofs.Brought.{Places, two_at, two_find, old_after, hand_after, new_after, brought_at, busy_old, reached_new, take_somewhere, copy_somewhere, join_somewhere, put_somewhere, wipe_somewhere, zero_somewhere, not_left, blank_before, hand_more, new_more, old_more, hand_cases}
 
@@ -183,7 +183,7 @@ all_kept P k [] all = all
 all_kept P zero (f ∷ later) (first, others) = others
 all_kept P (suc k) (f ∷ later) (first, others) = (first, all_kept P k later others)
 
-fly : (d : Setting) (start : AnyMachine) (done : Done) (f : AnyFlight) (z : AnyMachine) → Flies d done f → Invariant d start done z
+pub fly : (d : Setting) (start : AnyMachine) (done : Done) (f : AnyFlight) (z : AnyMachine) → Flies d done f → Invariant d start done z
     → Invariant d start done (flight_landed d f z)
 fly d start done f z may v = land d start done f.producer f.place f.identity z may.0.0 may.1 v
 
@@ -851,7 +851,7 @@ ended d done Enabled w guard inside =
           (all_at (λ w. is_blank d Pending w done && is_blank d Enabled w done) d.words w (guard Blank tt) inside);
     }
 
-moved_end : (d : Setting) (start z : AnyMachine) (done : Done) (s : WhichSet) (i : ℕ) → Invariant d start done z → Ended d s (i / 64) done
+pub moved_end : (d : Setting) (start z : AnyMachine) (done : Done) (s : WhichSet) (i : ℕ) → Invariant d start done z → Ended d s (i / 64) done
     → z.new s i ≡ z.due s i
 moved_end d start z done s i v end = moved (may_stand d s (i / 64) done) _ _ _ _ _ end.left end.alone (v.somewhere s (i / 64)) end.blank (v.kept s i)
 

@@ -10,14 +10,14 @@ use Rattle.plans_rules.specs.declared.step.Number.{Number}
 use Rattle.plans_rules.specs.declared.step.Number.TheVariants.{Threshold, Delivery}
 use Rattle.plans_rules.specs.declared.setting.NumberSpot.TheVariants.{InHand, InNew}
 use Rattle.plans_rules.specs.declared.step.AnyStep.{AnyStep}
-use Rattle.plans_rules.specs.declared.step.AnyStep.TheVariants.{Route, Fence, Switch, Take, Join, ZeroNumber, TakeNumber, PutNumber, Look, Post, Tell, WriteNotice, Free}
+use Rattle.plans_rules.specs.declared.step.AnyStep.TheVariants.{Route, Fence, Switch, Zero, Take, Copy, Join, ZeroNumber, TakeNumber, PutNumber, Look, Post, Tell, Untell, WriteNotice, Free}
 use Rattle.plans_rules.specs.Setting.{Setting}
 use Rattle.plans_rules.specs.Machine.{AnyFlight, AnyMachine, stands_out, one_landed, AnyHappening, happened, all_happened, steps_in}
 use Rattle.plans_rules.specs.Machine.By.{Written, InForce}
 use Rattle.plans_rules.specs.Machine.AnyHappening.{Does, Stores, Sends, Lands, Refetches}
 use Rattle.plans_rules.specs.Safe.{CanHappen, IsStartOfAny, IsTold}
 use Rattle.plans_rules.specs.Plans.{kvm_producers, kvm_leaves, put_numbers}
-use Rattle.plans_rules.specs.Rows.{to_memory, unset, heeded, all_moved, numbers_taken, looked_early, looked_first, posted_first, told_early, looked_last, written_late, written_last, told_shut, shut_again, shut_in_the_end, kvm_told_early}
+use Rattle.plans_rules.specs.Rows.{to_memory, unset, heeded, all_moved, numbers_taken, looked_early, looked_first, posted_first, told_early, looked_last, written_late, written_last, told_shut, shut_again, shut_in_the_end, copied_again, taken_back, kvm_told_early}
 
 abbrev if_pending : WhichSet → Bool → Bool → Bool
 if_pending Pending a b = a
@@ -125,6 +125,19 @@ told_shut_leaves_untold = untold_by (heeded InNew) told_shut
     (Stores 0 InForce 1 ∷ Does (Route 0) ∷ Does (Fence 0) ∷ Does (Take Pending 0) ∷ Does (Join Pending 0) ∷ Does (Take Enabled 0) ∷ Does
     (Join Enabled 0) ∷ Does (TakeNumber Threshold) ∷ Does (TakeNumber Delivery) ∷ Does (PutNumber Threshold) ∷ Does Tell ∷ Does
     (PutNumber Delivery) ∷ []) refl refl (omega arith, (tt, (tt, (tt, (tt, (tt, (tt, (tt, (tt, (tt, (tt, (tt, tt)))))))))))) refl refl
+
+pub copied_again_leaves_untold : IsTold to_memory copied_again → ⊥
+copied_again_leaves_untold = untold_by to_memory copied_again
+    (Does (Route 0) ∷ Does (Fence 0) ∷ Does (Copy Pending 0) ∷ Does (Join Pending 0) ∷ Does (Copy Enabled 0) ∷ Does (Join Enabled 0) ∷ Does Tell ∷ Does
+    (Zero New Enabled 0) ∷ Stores 0 InForce 1 ∷ Does (Copy Enabled 0) ∷ Does (Join Enabled 0) ∷ Does (Zero Old Pending 0) ∷ Does
+    (Zero Old Enabled 0) ∷ []) refl refl
+    (tt, (tt, (tt, (tt, (tt, (tt, (tt, (tt, (omega arith, (tt, (tt, (tt, (tt, tt))))))))))))) refl refl
+
+pub taken_back_leaves_untold : IsTold to_memory taken_back → ⊥
+taken_back_leaves_untold = untold_by to_memory taken_back
+    (Does (Route 0) ∷ Does (Fence 0) ∷ Does (Take Pending 0) ∷ Does (Join Pending 0) ∷ Does (Take Enabled 0) ∷ Does (Join Enabled 0) ∷ Does
+    (Look 0) ∷ Stores 0 InForce 1 ∷ Does Post ∷ Does Untell ∷ []) refl refl
+    (tt, (tt, (tt, (tt, (tt, (tt, (tt, (omega arith, (tt, (tt, tt)))))))))) refl refl
 
 pub kvm_told_early_leaves_untold : IsTold (kvm_leaves kvm_producers 1) kvm_told_early → ⊥
 kvm_told_early_leaves_untold = untold_by (kvm_leaves kvm_producers 1) kvm_told_early

@@ -8,7 +8,7 @@ use Rattle.plans_rules.specs.declared.step.WhichSet.TheVariants.{Pending, Enable
 use Rattle.plans_rules.specs.declared.step.Number.{Number}
 use Rattle.plans_rules.specs.declared.step.Number.TheVariants.{Threshold, Delivery}
 use Rattle.plans_rules.specs.declared.step.AnyStep.{AnyStep}
-use Rattle.plans_rules.specs.declared.step.AnyStep.TheVariants.{Route, Fence, Switch, Zero, Take, Copy, Join, Put, ZeroNumber, TakeNumber, CopyNumber, PutNumber, Look, Post, Tell, WriteNotice, Free}
+use Rattle.plans_rules.specs.declared.step.AnyStep.TheVariants.{Route, Fence, Switch, Zero, Take, Copy, Join, Put, ZeroNumber, TakeNumber, CopyNumber, PutNumber, Look, Post, Tell, Untell, WriteNotice, Free}
 use Rattle.plans_rules.specs.Setting.{Setting, is_old, is_pending, same_number, names, any_below}
 
 -- For each set the identities that stand in it.
@@ -182,6 +182,7 @@ stepped d (PutNumber n) z = record z {
 stepped d (Look w) z = record z { seen = z.seen || word_stands_out d z.new z.new_number w }
 stepped d Post z = record z { told = z.told || z.seen }
 stepped d Tell z = record z { told = z.told || any_stands_out d z.new z.new_number }
+stepped d Untell z = record z { told = z.seen }
 stepped d WriteNotice z = record z { noticed = true }
 stepped d Free z = record z { freed = true; strayed = z.strayed || z.freed }
 

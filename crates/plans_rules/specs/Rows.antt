@@ -9,7 +9,7 @@ use Rattle.plans_rules.specs.declared.setting.RouteKind.TheVariants.{Routed}
 use Rattle.plans_rules.specs.declared.rule.Rule.{Rule}
 use Rattle.plans_rules.specs.declared.rule.Rule.TheVariants.{Notice}
 use Rattle.plans_rules.specs.declared.step.AnyStep.{AnyStep}
-use Rattle.plans_rules.specs.declared.step.AnyStep.TheVariants.{Route, Fence, Switch, Zero, Take, Join, Put, ZeroNumber, TakeNumber, PutNumber, Look, Post, Tell, WriteNotice, Free}
+use Rattle.plans_rules.specs.declared.step.AnyStep.TheVariants.{Route, Fence, Switch, Zero, Take, Copy, Join, Put, ZeroNumber, TakeNumber, PutNumber, Look, Post, Tell, Untell, WriteNotice, Free}
 use Rattle.plans_rules.specs.Setting.{Setting}
 use Rattle.plans_rules.specs.Safe.{IsTold}
 use Rattle.plans_rules.specs.Rules.{accepts, broken}
@@ -218,6 +218,40 @@ abbrev pub shut_again : List AnyStep
 shut_again =
     all_moved ++ numbers_taken ++ put_numbers
     ++ Tell ∷ ZeroNumber New Delivery ∷ PutNumber Delivery ∷ []
+
+-- A word of both sets is copied and joined.
+abbrev pub copied : List AnyStep
+copied = Copy Pending 0 ∷ Join Pending 0 ∷ Copy Enabled 0 ∷ Join Enabled 0 ∷ []
+
+-- The old word of both sets is zeroed.
+abbrev pub old_zeroed : List AnyStep
+old_zeroed = Zero Old Pending 0 ∷ Zero Old Enabled 0 ∷ []
+
+-- It tells of copies once they are joined, before the old word is zeroed.
+abbrev pub told_of_copies : List AnyStep
+told_of_copies = lead ++ copied ++ Tell ∷ old_zeroed
+
+-- It tells likewise, zeroes the new enables after that, and copies them again.
+abbrev pub copied_again : List AnyStep
+copied_again =
+    lead ++ copied
+    ++ Tell ∷ Zero New Enabled 0 ∷ Copy Enabled 0 ∷ Join Enabled 0 ∷ old_zeroed
+
+-- It looks and posts once all is there, and takes back what was told then.
+abbrev pub taken_back : List AnyStep
+taken_back = all_moved ++ Look 0 ∷ Post ∷ Untell ∷ []
+
+-- It takes that back before it looks.
+abbrev pub taken_back_first : List AnyStep
+taken_back_first = all_moved ++ Untell ∷ Look 0 ∷ Post ∷ []
+
+-- To memory, and nobody stores.
+abbrev pub unstored : Setting
+unstored = record to_memory { producers = [] }
+
+-- Where nobody stores, it looks, and takes back what was told unless it saw something.
+abbrev pub only_looked : List AnyStep
+only_looked = pending_moved ++ enables_moved ++ Look 0 ∷ Untell ∷ []
 
 -- ---- where the rule on notices asks for more
 

@@ -16,7 +16,7 @@ use Rattle.plans_rules.specs.declared.setting.RouteKind.TheVariants.{Routed, Swi
 use Rattle.plans_rules.specs.declared.rule.Rule.{Rule}
 use Rattle.plans_rules.specs.declared.rule.Rule.TheVariants.{Routes, Blank, Words, Numbers, Freeing, Notice}
 use Rattle.plans_rules.specs.declared.step.AnyStep.{AnyStep}
-use Rattle.plans_rules.specs.declared.step.AnyStep.TheVariants.{Route, Fence, Switch, Zero, Take, Copy, Join, Put, ZeroNumber, TakeNumber, CopyNumber, PutNumber, Look, Post, Tell, WriteNotice, Free}
+use Rattle.plans_rules.specs.declared.step.AnyStep.TheVariants.{Route, Fence, Switch, Zero, Take, Copy, Join, Put, ZeroNumber, TakeNumber, CopyNumber, PutNumber, Look, Post, Tell, Untell, WriteNotice, Free}
 use Rattle.plans_rules.specs.Setting.{Setting, same_number, same_spot, names, all_below, any_below}
 
 -- ---- what a step does
@@ -86,6 +86,11 @@ posts x = false
 abbrev pub tells : AnyStep → Bool
 tells Tell = true
 tells x = false
+
+-- Whether it takes back what the host was told.
+abbrev pub untells : AnyStep → Bool
+untells Untell = true
+untells x = false
 
 -- Whether it writes where notices go.
 abbrev pub writes_notice : AnyStep → Bool
@@ -198,12 +203,9 @@ only_hand d s w done = may_stand d s w done false true false
 abbrev pub only_new : Setting → WhichSet → ℕ → Done → Bool
 only_new d s w done = may_stand d s w done false false true
 
--- One may stand in the old place, or in the hand, wherever else it stands.
+-- One may stand in the old place, wherever else it stands.
 abbrev pub any_old : Setting → WhichSet → ℕ → Done → Bool
 any_old d s w done = any_of_two (λ h n. may_stand d s w done true h n)
-
-abbrev pub any_hand : Setting → WhichSet → ℕ → Done → Bool
-any_hand d s w done = any_of_two (λ o n. may_stand d s w done o true n)
 
 -- Nothing of a word stands in the new place but what is due: it was fresh, zeroed or put over.
 abbrev pub is_blank : Setting → WhichSet → ℕ → Done → Bool
@@ -266,9 +268,10 @@ is_shut d done = elim d.is_inherited [
   | false ↦ true
 ]
 
--- A word is moved for good: nothing of it that is due may stand in the old place or in the hand.
-abbrev pub is_moved : Setting → WhichSet → ℕ → Done → Bool
-is_moved d s w done = not (any_old d s w done) && not (any_hand d s w done)
+-- All of a word that is due stands in the new place: none may stand elsewhere, and not there.
+abbrev pub is_there : Setting → WhichSet → ℕ → Done → Bool
+is_there d s w done =
+    not (only_old d s w done || (only_hand d s w done || may_stand d s w done true true false))
 
 -- Both numbers are in the new place, if they are heeded.
 abbrev pub are_heeded : Setting → Done → Bool
@@ -282,36 +285,40 @@ abbrev pub is_noticed : Setting → Done → Bool
 is_noticed d [] = d.notices_go
 is_noticed d (x ∷ done) = writes_notice x || is_noticed d done
 
--- A word of both sets is moved for good, what is heeded is there, and notices go to the host.
+-- All of a word of both sets stands in the new place, what is heeded is there, and notices go to the
+-- host.
 abbrev pub is_settled : Setting → ℕ → Done → Bool
 is_settled d w done =
-    is_moved d Pending w done
-    && (is_moved d Enabled w done && (are_heeded d done && is_noticed d done))
+    is_there d Pending w done
+    && (is_there d Enabled w done && (are_heeded d done && is_noticed d done))
 
--- A word was looked at once it was settled.
+-- A word was looked at, was settled then and since, and nobody may have stored into it since.
+abbrev pub is_seen : Setting → ℕ → Done → Bool
+is_seen d w [] = false
+is_seen d w (x ∷ done) =
+    (looks w x || is_seen d w done)
+    && (is_settled d w (x ∷ done) && not (is_reached d Pending (x ∷ done)))
+
+-- A word was looked at, and was settled then and since. What stores tell after the look may be
+-- taken back.
 abbrev pub is_looked : Setting → ℕ → Done → Bool
 is_looked d w [] = false
-is_looked d w (x ∷ done) = elim (looks w x) [
-  | true ↦ is_settled d w done || is_looked d w done
-  | false ↦ is_looked d w done
-]
+is_looked d w (x ∷ done) =
+    (looks w x || elim (untells x) [ true ↦ is_seen d w done | false ↦ is_looked d w done ])
+    && is_settled d w (x ∷ done)
 
--- A word was told of once it was settled, or posted after such a look.
+-- A word was told of, or posted after such a look, and was settled then and since. What was told is
+-- taken back unless a look saw it.
 abbrev pub is_reported : Setting → ℕ → Done → Bool
 is_reported d w [] = false
-is_reported d w (x ∷ done) = elim (posts x) [
-  | true ↦ is_looked d w done || is_reported d w done
-  | false ↦ elim (tells x) [
-    | true ↦ is_settled d w done || is_reported d w done
-    | false ↦ is_reported d w done
-  ]
-]
+is_reported d w (x ∷ done) =
+    elim (untells x) [
+      | true ↦ is_seen d w done
+      | false ↦ (posts x && is_looked d w done) || (tells x || is_reported d w done)
+    ]
+    && is_settled d w (x ∷ done)
 
 -- ---- the rules
-
--- A notice heeds the numbers. Where the new place is no memory, nobody is told of anything.
-abbrev pub heeds_there : Setting → Bool
-heeds_there d = d.in_memory && d.heeds
 
 -- Whether a rule lets a step stand.
 abbrev pub lets : Rule → Setting → AnyStep → Done → Bool
@@ -333,12 +340,6 @@ lets Freeing d (Zero Old s w) done = not (list_any frees done)
 lets Freeing d (TakeNumber n) done = not (list_any frees done)
 lets Freeing d (CopyNumber n) done = not (list_any frees done)
 lets Freeing d (ZeroNumber Old n) done = not (list_any frees done)
--- Where a notice heeds the numbers, one that stands in the new place as it was at the start is not
--- zeroed there, and only the same number, from the hand, is put over it. A put of another one
--- breaks the rule on numbers too, since the number then stands nowhere.
-lets Notice d (ZeroNumber New n) done = not (heeds_there d && has_number d n InNew done)
-lets Notice d (PutNumber n) done =
-    not (heeds_there d && has_number d n InNew done) || has_number d n InHand done
 lets rule d x done = true
 
 -- Whether a rule lets a plan end.
@@ -356,7 +357,7 @@ lets_end Blank d done =
 -- Threshold and delivery are where they have to be.
 lets_end Numbers d done =
     has_number d Threshold d.number_to done && has_number d Delivery d.number_to done
--- In memory each word was reported.
+-- In memory each word was reported. No step breaks that rule.
 lets_end Notice d done = elim d.in_memory [
   | true ↦ all_below (λ w. is_reported d w done) d.words
   | false ↦ true

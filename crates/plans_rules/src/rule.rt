@@ -18,7 +18,7 @@ pub enum Rule {
     /// The old place is given back once nobody stores there, and not accessed after that.
     Freeing,
 
-    /// In memory the host is told after all has come there that it has to be told of; where the
-    /// numbers are heeded, one that has come there is overwritten by itself alone.
+    /// In memory the host is told of each word once all of it is there, with what is heeded, and it
+    /// stays there.
     Notice,
 }

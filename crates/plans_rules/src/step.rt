@@ -79,6 +79,9 @@ pub enum AnyStep {
     /// Tells the host, if something stands out anywhere in the new place.
     Tell,
 
+    /// Takes back what the host was told, unless a look saw something.
+    Untell,
+
     /// Writes where the notices of the new place go: to the host, from now on.
     WriteNotice,
 

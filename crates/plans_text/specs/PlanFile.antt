@@ -311,7 +311,7 @@ untold_begin_text run =
 -- The run that is shown, if one is found.
 abbrev pub untold_text : List StepLine → Bool → Option UntoldRun → Text
 untold_text places heeds None =
-    none_text ++ codes "; the rule asks for more than that the host is told"
+    none_text ++ codes "; the rule may ask for more than that the host is told"
 untold_text places heeds (Some run) =
     untold_begin_text run ++ (store_text places run.store ++ untold_end_text heeds run)
 

@@ -238,6 +238,7 @@ telling_named name text =
     if bytes_eq name (codes "look") then numbered_at steps.Look text
     else if bytes_eq name (codes "post") then at_end text steps.Post
     else if bytes_eq name (codes "tell") then at_end text steps.Tell
+    else if bytes_eq name (codes "untell") then at_end text steps.Untell
     else if bytes_eq name (codes "write") then write_at text
     else if bytes_eq name (codes "free") then at_end text steps.Free else None
 

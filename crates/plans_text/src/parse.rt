@@ -216,6 +216,8 @@ fn telling_named(name: &[u8], text: &[u8]) -> Option<AnyStep>
         at_end(text, AnyStep::Post)
     } else if name == b"tell".as_slice() {
         at_end(text, AnyStep::Tell)
+    } else if name == b"untell".as_slice() {
+        at_end(text, AnyStep::Untell)
     } else if name == b"write".as_slice() {
         write_at(text)
     } else if name == b"free".as_slice() {

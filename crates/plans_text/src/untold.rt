@@ -131,7 +131,7 @@ pub(crate) fn push_untold(
     match run {
         None => {
             push_none(out)?;
-            out.extend_from_slice(b"; the rule asks for more than that the host is told")
+            out.extend_from_slice(b"; the rule may ask for more than that the host is told")
         }
         Some(run) => push_untold_run(out, marks, heeds, run),
     }

@@ -78,6 +78,9 @@ def hypervisors(words: int) -> Iterator[tuple[Setting, list[tuple[int | str, ...
     yield (Setting(host, words, True, True, True, 'old', 'new'),
            [('switch', 0), ('route', 1), ('fence', 1)] + swapped
            + [('put', 'delivery'), ('put', 'threshold')] + joined + [('tell',), ('free',)])
+    yield (Setting(host, words, True, True, False, 'old', 'hand'),
+           kvm + swapped + joined + [('untell',)] + [('look', w) for w in range(words)]
+           + [('post',), ('free',)])
     yield (Setting(host, words, True, True, True, 'old', 'new', True),
            [('switch', 0), ('route', 1), ('fence', 1)] + swapped
            + [('put', 'delivery'), ('put', 'threshold')] + joined
@@ -86,7 +89,7 @@ def hypervisors(words: int) -> Iterator[tuple[Setting, list[tuple[int | str, ...
 
 def all_steps(setting: Setting) -> list[tuple[int | str, ...]]:
     """Every step that a plan of a setting may have."""
-    out = [('post',), ('tell',), ('write', 'notice'), ('free',)]
+    out = [('post',), ('tell',), ('untell',), ('write', 'notice'), ('free',)]
     for p in range(len(setting.producers)):
         out += [('route', p), ('fence', p), ('switch', p)]
     for w in range(setting.words):
@@ -242,6 +245,9 @@ class Machine:
 
     def do_tell(self) -> None:
         self.told |= any(self.out(w) for w in range(self.s.words))
+
+    def do_untell(self) -> None:
+        self.told = self.seen
 
     def do_write(self, what: str) -> None:
         self.notices_reach_the_host = True
@@ -425,7 +431,7 @@ UNTOLD = re.compile(
     r'; in the end it is pending(?:, enabled and let through| and enabled) in the new place,'
     r' and the host was not told')
 NONE = re.compile(r'  run: none was found among those that are tried'
-                  r'(; the rule asks for more than that the host is told)?')
+                  r'(; the rule may ask for more than that the host is told)?')
 
 
 def is_untold_shown(setting: Any, plan: Any, first_line: int, text: str) -> bool:
