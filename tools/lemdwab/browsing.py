@@ -108,7 +108,8 @@ class Browser:
                 self.said.extend(piece)
         text, _, rest = bytes(self.said).partition(b"\0")
         self.said = bytearray(rest)
-        return json.loads(text)
+        message: dict[str, Any] = json.loads(text)
+        return message
 
     def opens(self, address: str) -> int:
         """Opens a page; gives how many milliseconds that took."""

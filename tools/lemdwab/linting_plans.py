@@ -45,7 +45,7 @@ class Said(NamedTuple):
     column."""
 
     name: str
-    numbers: dict[str, int]
+    numbers: dict[str, tuple[int, int]]
 
 
 def cut(text: bytes) -> list[tuple[int, str]]:
@@ -82,7 +82,8 @@ def said_of(text: bytes) -> Fault | Said | None:
     wanted = [*DECLARATIONS.get(name, STEPS.get(name, ()))]
     if name not in DECLARATIONS and name not in STEPS:
         return Fault(column, unknown("word", name, {*DECLARATIONS, *STEPS}))
-    form, numbers = FORMS.get(name, f"`{name}`"), {}
+    form = FORMS.get(name, f"`{name}`")
+    numbers: dict[str, tuple[int, int]] = {}
     for column, word in words[1:]:
         if not wanted:
             return Fault(column, f"too many words: {form}")
@@ -116,7 +117,8 @@ def warning(names: set[str]) -> str:
 def notes(texts: list[bytes]) -> list[tuple[int, str]] | None:
     """Lists what the judge does not say of a file's plans: that there is none, by None, or of which
     line on a plan leaves what undeclared."""
-    plans_, is_any = [(1, set())], False
+    plans_: list[tuple[int, set[str]]] = [(1, set())]
+    is_any = False
     for number, text in enumerate(texts, 1):
         said = said_of(text)
         is_any |= said is not None

@@ -30,6 +30,8 @@ HERE = ("examples/*.c", "suite/library/*.c")
 CROSS = "riscv64-linux-gnu-gcc"
 THERE = ("peers/linux/guest/guest.c", "peers/linux/guest/machines.c")
 FLAGS = ["-I", str(TOP / "include"), "-I", str(TOP / "suite/library")]
+COMPILERS: tuple[tuple[str, tuple[str, ...], list[str]], ...] = (
+    ("cc", HERE, FLAGS), (CROSS, THERE, []))
 # Fronts have no ending, and are of Python too.
 SHELLS, PYTHON = ("sh", "bash"), "python3"
 CACHES = ["--cache-dir", "/dev/null"]
@@ -63,7 +65,7 @@ def commands_of(name: str, files: list[Path]) -> Iterator[list[str]]:
     if name == "shellcheck":
         yield ["shellcheck", *(str(path) for path in files if language(path) in SHELLS)]
     if name == "cc":
-        for compiler, patterns, flags in (("cc", HERE, FLAGS), (CROSS, THERE, [])):
+        for compiler, patterns, flags in COMPILERS:
             for path in files:
                 if any(path.relative_to(TOP).match(pattern) for pattern in patterns):
                     yield [compiler, *WARNINGS, *flags, str(path)]

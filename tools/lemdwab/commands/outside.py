@@ -118,7 +118,7 @@ def made(workers: running.Workers, command: list[str], text: bytes) -> None:
 
 def commands_of(name: str, library: str) -> list[list[str]]:
     """Lists the commands of a name; those of the library are told where it stands."""
-    given = {OF_THE_LIBRARY: [library], "examples": []}.get(name, [])
+    given = [library] if name == OF_THE_LIBRARY else []
     found = [[*command, *given] for command in CHECKS[name]]
     if name == "examples":
         found[-1].append(os.environ["PLANS"])

@@ -117,10 +117,11 @@ def release_files(trial: Trial) -> None:
     if not shutil.which("cc"):
         return
     script = trial.file("exported", "AIA_1 { global: aia_*; local: *; };\n")
-    for text, name, wanted in (
-            (CALLS, "libaia.so.1", []), (CALLS, "libaia.so", ["is called otherwise"]),
-            (CALLS + "int aia_more(void) { return 0; }\n", "libaia.so.1", ["disagree on aia_more"]),
-            (CALLS.splitlines()[0], "libaia.so.1", ["disagree on aia_close"])):
+    cases: list[tuple[str, str, list[str]]] = [
+        (CALLS, "libaia.so.1", []), (CALLS, "libaia.so", ["is called otherwise"]),
+        (CALLS + "int aia_more(void) { return 0; }\n", "libaia.so.1", ["disagree on aia_more"]),
+        (CALLS.splitlines()[0], "libaia.so.1", ["disagree on aia_close"])]
+    for text, name, wanted in cases:
         source = trial.file("library.c", text)
         trial.run("cc", "-shared", "-fPIC", f"-Wl,-soname,{name}", f"-Wl,--version-script={script}",
                   source, "-o", tree / "lib/libaia.so.1")
