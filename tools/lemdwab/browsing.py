@@ -62,7 +62,7 @@ class Browser:
     def __enter__(self) -> Browser:
         return self
 
-    def __exit__(self, *_: Any) -> None:
+    def __exit__(self, *_: object) -> None:
         running.kill([self.process])
         self.process.wait()
         with running.State.lock:

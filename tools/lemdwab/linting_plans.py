@@ -12,13 +12,13 @@ from lemdwab.linting import Fault, bytes_of_no_text, unknown
 LINE_BYTES, MOST_WORDS, MOST_PRODUCERS, MOST_STEPS = 128, 32, 16, 4096
 # What follows the first word of a declaration, and of a step: the names of CHOICES, or numbers.
 DECLARATIONS = {
-    "plan": (), "fresh": (), "memory": (), "heeds": (), "inherited": (), "words": ("count",), "producer": ("kind",),
-    "numbers": ("spot", "spot"), "notices": ("declared",),
+    "plan": (), "fresh": (), "memory": (), "heeds": (), "inherited": (), "words": ("count",),
+    "producer": ("kind",), "numbers": ("spot", "spot"), "notices": ("declared",),
 }
 STEPS = {
     "route": ("producer",), "fence": ("producer",), "switch": ("producer",),
-    "zero": ("place", "thing"), "take": ("thing",), "copy": ("thing",), "join": ("set",), "put": ("thing",),
-    "look": ("word",), "post": (), "tell": (), "write": ("written",), "free": (),
+    "zero": ("place", "thing"), "take": ("thing",), "copy": ("thing",), "join": ("set",),
+    "put": ("thing",), "look": ("word",), "post": (), "tell": (), "write": ("written",), "free": (),
 }
 SETS, NUMBERS = ("pending", "enabled"), ("threshold", "delivery")
 CHOICES = {

@@ -4,11 +4,11 @@
 
 Reads the code and the definitions of all crates, and takes from src/ each struct, enum, trait and
 type that is `pub`, and from specs/ each record, data and abbreviation of a type that is `pub`.
-docs/make/names.txt names what is kept in several crates, with its reason. Prints each other name that stands in more than one
-crate, with its places, and each line of that table that does not hold, and ends with status 1 where
-there is any; else prints how many names there are, and how many are kept. With `try` it first
-sees that it finds what is planted, and nothing else. What is `pub(crate)` does not count, nor does
-a name that a definition has which is no type. It needs Python 3.10 or
+docs/make/names.txt names what is kept in several crates, with its reason. Prints each other name
+that stands in more than one crate, with its places, and each line of that table that does not hold,
+and ends with status 1 where there is any; else prints how many names there are, and how many are
+kept. With `try` it first sees that it finds what is planted, and nothing else. What is `pub(crate)`
+does not count, nor does a name that a definition has which is no type. It needs Python 3.10 or
 later, ends within ten seconds and prints at most 200 lines; a table that is wrong ends it with
 status 2.
 """

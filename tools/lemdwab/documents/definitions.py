@@ -4,7 +4,6 @@ from __future__ import annotations
 
 import re
 from collections.abc import Iterator
-from typing import Any
 
 from lemdwab.documents.antt import all_modules, imports, module_path, read_item, read_module
 from lemdwab.documents.markdown import anchor
@@ -127,7 +126,7 @@ def rendered() -> str:
     return re.sub(r"\n{3,}", "\n\n", text)
 
 
-def unplaced() -> Iterator[Any]:
+def unplaced() -> Iterator[str]:
     """Says which modules stand nowhere in the order, and which part I names without showing."""
     full, table = placed(FULL), placed(TABLE)
     for crate, module in all_modules():
@@ -146,8 +145,8 @@ def unplaced() -> Iterator[Any]:
 
 
 def missing(crate: str, module: str, named: tuple[str, str, str, list[str]],
-            full: list[tuple[str, str]], shown: set[tuple[str, str, str]],
-            passed: set[tuple[str, str, str, str]]) -> Iterator[Any]:
+            full: list[tuple[str, ...]], shown: set[tuple[str, str, str]],
+            passed: set[tuple[str, ...]]) -> Iterator[str]:
     """Says what one import of a module of part I names that part I does not show."""
     of, place, last, names = named
     if place.startswith("src/"):
@@ -159,7 +158,7 @@ def missing(crate: str, module: str, named: tuple[str, str, str, list[str]],
         yield f"part I shows {crate} {module}, which names {of} {place}, and not that"
 
 
-def drifts() -> Iterator[Any]:
+def drifts() -> Iterator[str]:
     """Says where docs/DEFINITIONS.md and the definitions differ."""
     yield from unplaced()
     wanted = rendered().split("\n")

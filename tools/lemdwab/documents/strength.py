@@ -8,7 +8,7 @@ import re
 from collections.abc import Iterator, Sequence
 from functools import cache
 from pathlib import Path
-from typing import Any, NamedTuple
+from typing import NamedTuple
 
 from lemdwab.running import TOP
 
@@ -228,7 +228,7 @@ def told_apart(found: list[Edit]) -> Iterator[str]:
         names.setdefault((edit.crate, edit.name), edit)
 
 
-def misfits() -> Iterator[Any]:
+def misfits() -> Iterator[str]:
     """Says which edits can't be made, which are the same, and which crates have too many."""
     every = [*edits(TRIED), *edits(WIDER)]
     found = [f"{edit.path()}: {why}" for edit in every if (why := misfit(edit.crate, edit.changes))]
@@ -283,7 +283,7 @@ def misplaced(told: dict[tuple[str, str], str]) -> Iterator[str]:
                    f" of crates/{of}/src")
 
 
-def drifts() -> Iterator[Any]:
+def drifts() -> Iterator[str]:
     """Says where the tables differ from the edits, which edits nothing is said of, which can't be
     made, and which wrong bodies are planted by none."""
     found = list(misfits())

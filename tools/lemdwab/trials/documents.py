@@ -11,7 +11,7 @@ from collections.abc import Callable
 from functools import partial
 from pathlib import Path
 from types import ModuleType
-from typing import TYPE_CHECKING, Any, Protocol
+from typing import TYPE_CHECKING, Protocol
 from unittest import mock
 
 from lemdwab.documents import (believed, claims, definitions, functions, header, site_documents,
@@ -62,7 +62,7 @@ class Tree:
 
     def __init__(self, trial: Trial) -> None:
         self.trial, self.folder = trial, trial.folder / "words"
-        self.stood: dict[tuple[ModuleType, str], Callable[..., Any] | Path] = {}
+        self.stood: dict[tuple[ModuleType, str], object] = {}
 
     def __enter__(self) -> Tree:
         files = {"crates/bits/src/lib.rt": SOURCE, PAGE: WORDS}

@@ -7,7 +7,7 @@ import os
 import random
 import re
 from collections.abc import Callable
-from typing import TYPE_CHECKING, Any
+from typing import TYPE_CHECKING
 
 from lemdwab import answers, linting, linting_plans, running
 from lemdwab.apart import plans, reading
@@ -86,7 +86,7 @@ def audit_line(draw: random.Random) -> bytes:
     return draw.choice(plans.OF_A_WORD).encode() + b" " + spelled(draw, draw.randrange(AUDIT_WIDTH))
 
 
-def judge_line(draw: random.Random, names: Any) -> bytes:
+def judge_line(draw: random.Random, names: dict[str, tuple[str, ...]]) -> bytes:
     """Gives a line of a plan for `judge` that spells something, whatever is declared."""
     name = draw.choice(list(names))
     words = [name]
@@ -156,7 +156,7 @@ class Tally:
     def __init__(self, language: str) -> None:
         self.language, self.lines, self.bad, self.differ = language, 0, 0, 0
 
-    def see(self, text: bytes, mine: Any, its: Any) -> None:
+    def see(self, text: bytes, mine: object, its: object) -> None:
         """Sees whether lint and the program say the same of a text."""
         if mine != its:
             self.differ += 1

@@ -7,7 +7,7 @@ import io
 import shutil
 import tarfile
 from collections.abc import Iterator
-from typing import TYPE_CHECKING, Any
+from typing import TYPE_CHECKING
 
 from lemdwab import installed, released
 from lemdwab.running import TOP
@@ -68,7 +68,7 @@ def release_refuses(trial: Trial) -> None:
                f"release --dirty ends with {ran.status}: {ran.errors}")
 
 
-def sees_only(trial: Trial, faults: Iterator[Any], *wanted: str) -> None:
+def sees_only(trial: Trial, faults: Iterator[str], *wanted: str) -> None:
     """Sees that what is found is just this, in this order."""
     found = list(faults)
     trial.sees(len(found) == len(wanted) and all(map(lambda a, b: b in a, found, wanted)),
