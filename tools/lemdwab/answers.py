@@ -366,7 +366,7 @@ def bare(answer: str) -> list[str]:
 
 
 def first_difference(script: bytes, model: bytes, mine: bytes, known: Known
-                    ) -> tuple[int, str] | None:
+                     ) -> tuple[int, str] | None:
     """Gives the place of the first difference among the lines that have an answer, and what the
     model answers there; None where there is none."""
     for at, (line, want, got) in enumerate(zip_longest(lines(script), answers(model),

@@ -202,6 +202,7 @@ def in_text(found: list[Shown], names: dict[VirtualHart, str]) -> str:
     return "".join("  ".join(word.ljust(width) for word, width in zip(row, widths)).rstrip() + "\n"
                    for row in rows)
 
+
 # As SVG: a row a virtual hart, a column a line of the script.
 
 def bars(picture: Picture, hart: VirtualHart, found: list[Shown], y: int) -> None:

@@ -138,7 +138,7 @@ def foreseen(script: bytes, make: Callable[..., Any]) -> list[str]:
 
 
 def print_script(subjects: Iterable[str], make: Callable[[str, int, int], bytes], usage: str
-                ) -> int:
+                 ) -> int:
     """Prints the random script that the words of the command line name: SUBJECT, SEED, COUNT. Gives
     the exit status."""
     subject, seed, count = words.given(usage, lambda given: len(given) == 3 and (

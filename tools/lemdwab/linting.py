@@ -209,7 +209,8 @@ def of_instruction(words: Words, front: str) -> Fault | None:
     return words.one_of("CSR", known) or last_numbers(words, "n" * (mnemonic != "csrr"), "V")
 
 
-def of_hart(words: Words, kinds: str, names: str, others: dict[str, tuple[str, str]]) -> Fault | None:
+def of_hart(words: Words, kinds: str, names: str,
+            others: dict[str, tuple[str, str]]) -> Fault | None:
     """Finds what is wrong with a line that begins with a hart or virtual hart: behind it stands a
     CSR instruction, or a word of some others with the kinds and names of what follows it."""
     front = f"{words.words[0]} {names}"

@@ -56,7 +56,7 @@ def answered(script: bytes) -> Iterator[tuple[int, bytes, str]]:
 
 
 def first_difference(seed: int, script: bytes, wanted: bytes, found: bytes, ended: str | None
-                    ) -> tuple[str, str]:
+                     ) -> tuple[str, str]:
     """The form of the first line whose answers differ, and what to say of it."""
     difference, lines = (answers.first_difference(script, wanted, found, answers.Known()),
                          answers.lines(script))
@@ -72,7 +72,7 @@ def first_difference(seed: int, script: bytes, wanted: bytes, found: bytes, ende
 
 
 def compare(work: tuple[int, argparse.Namespace]
-           ) -> tuple[int, Counter[Any], tuple[str, str] | None]:
+            ) -> tuple[int, Counter[Any], tuple[str, str] | None]:
     """One seed: its counts and, where there is one, its difference."""
     seed, options = work
     script = script_of(seed, options)

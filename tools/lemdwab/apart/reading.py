@@ -41,8 +41,8 @@ LIMITS = {"n": 1 << 64, "w": 1 << 32, "b": 2}
 # The fields that follow each keyword, or both of two.
 FORMS = {
     "machine": "nnnn", "vm": "nnn", "wire": "nb", "ld": "n", "st": "nw", "msi": "nnw",
-         "send": "nnw",
-    "land": "nn", "refetch": "nn", "pass": "nnnn", "arrive": "nnn", "leave": "nn", "shift": "nnn",
+    "send": "nnw", "land": "nn", "refetch": "nn", "pass": "nnnn", "arrive": "nnn", "leave": "nn",
+    "shift": "nnn",
     "begin arrive": "nnn", "begin leave": "nn", "begin shift": "nnn", "step": "nn", "enter": "nn",
     "exit": "nn", "inject": "nnnb", "hvictl": "nnn", "hviprio": "nnn", "pins": "n", "entry": "nn",
     "save": "nnn",

@@ -7,7 +7,7 @@
     chain         no chain of crates is too long
     names         no two crates have a public type of one name
     step-numbers  no number of a step stands outside the plans
-    linters       shellcheck, the C compiler, ruff and mypy, where they are installed
+    linters       shellcheck, the C compiler, ruff or flake8, and mypy, where they are installed
     units         the unit tests of tools/lemdwab
     statuses      the exit statuses of the programs
     isolation     a VM is answered as if it were alone: 200 pairs of scripts

@@ -183,8 +183,8 @@ def bound_names(found: list[str]) -> set[str]:
         end = at + 1
         while token in ("(", "{", "λ") and end < len(found) and WORD.match(found[end]):
             end += 1
-        if token == "λ" or found[end : end + 1] == [":"]:
-            names.update(found[at + 1 : end])
+        if token == "λ" or found[end:end + 1] == [":"]:
+            names.update(found[at + 1:end])
     return names
 
 

@@ -55,7 +55,7 @@ from typing import TYPE_CHECKING
 from xml.etree import ElementTree
 
 from lemdwab import answers, comparing, running
-from lemdwab.apart import generated, model
+from lemdwab.apart import model
 from lemdwab.running import TOP
 from lemdwab.trials import (bugs, classes, documents, edges, hunts, launchers, lint, release, site,
                             weaken, wider)

@@ -47,7 +47,7 @@ import time
 from collections.abc import Iterator
 from concurrent.futures import FIRST_COMPLETED, Future, wait
 from pathlib import Path
-from typing import TYPE_CHECKING, Any, NamedTuple
+from typing import TYPE_CHECKING, NamedTuple
 
 from lemdwab import running, using, weakening
 from lemdwab.keeping import (UNTRIED, Kept, Verdict, bounds_of, check_rt, copied, crate_named,

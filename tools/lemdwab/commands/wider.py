@@ -35,7 +35,7 @@ import tempfile
 import time
 from concurrent.futures import Future, TimeoutError as StillRuns
 from pathlib import Path
-from typing import TYPE_CHECKING, Any, NamedTuple
+from typing import TYPE_CHECKING, NamedTuple
 
 from lemdwab import running
 from lemdwab.documents import strength

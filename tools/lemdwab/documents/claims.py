@@ -133,7 +133,7 @@ def cut(one: Function) -> tuple[str, str, dict[str, str]]:
     required = []
     ensured: dict[str, str] = {}
     for clause in clauses:
-        text = "\n".join(lines[clause.first : clause.last + 1])
+        text = "\n".join(lines[clause.first:clause.last + 1])
         if clause.kind == "requires":
             required.append(text)
         else:

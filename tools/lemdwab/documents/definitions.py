@@ -23,7 +23,7 @@ def order_lines() -> list[str]:
 
 def placed(kind: str) -> list[tuple[str, ...]]:
     """Lists what stands in the order with this mark, each split into its words."""
-    return [tuple(line[len(kind) :].split()) for line in order_lines() if line.startswith(kind)]
+    return [tuple(line[len(kind):].split()) for line in order_lines() if line.startswith(kind)]
 
 
 def prose(comment: list[str]) -> list[str]:
@@ -92,7 +92,7 @@ def contents() -> list[str]:
     """Gives the chapters of the document with the modules of each."""
     out = ["## Contents", ""]
     lines = order_lines()
-    for line in lines[lines.index(CONTENTS) + 1 :]:
+    for line in lines[lines.index(CONTENTS) + 1:]:
         if line.startswith("# "):
             out += ["", f"*{line[2:]}*", ""]
         elif line.startswith("## "):
@@ -115,11 +115,11 @@ def rendered() -> str:
         if line == CONTENTS:
             out += contents()
         elif line.startswith(FULL):
-            out += whole_module(*line[len(FULL) :].split())
+            out += whole_module(*line[len(FULL):].split())
         elif line.startswith(TABLE):
-            out += module_table(*line[len(TABLE) :].split())
+            out += module_table(*line[len(TABLE):].split())
         elif line.startswith(ITEM):
-            out += items(*line[len(ITEM) :].split())
+            out += items(*line[len(ITEM):].split())
         elif not line.startswith(PASSED):
             out.append(line)
     text = "\n".join([out[0], "", made.rstrip("\n"), *out[1:]]) + "\n"

@@ -137,7 +137,7 @@ def shown_as(crate: str, file: str, name: str) -> list[str]:
     if at is None:
         return []
     end = next(i for i in range(at, len(lines)) if lines[i].startswith("}"))
-    kept = [line for line in lines[at : end + 1] if " use Rattle." not in line]
+    kept = [line for line in lines[at:end + 1] if " use Rattle." not in line]
     return ["", *(line for i, line in enumerate(kept) if line or i == 0 or kept[i - 1][-1:] != "{")]
 
 
@@ -361,7 +361,7 @@ def labels(block: str) -> set[int]:
 
 def is_bracket(block: str, match: re.Match[str]) -> bool:
     """Says whether a sign is a bracket of a type of Rust, as in `Vec<u8>`, and no operator."""
-    return set(match["sign"]) <= set("<>&") and block[match.start() - 1 : match.start()] != " "
+    return set(match["sign"]) <= set("<>&") and block[match.start() - 1:match.start()] != " "
 
 
 def named(block: str, meaning: Meaning) -> Iterator[tuple[int, int, Target]]:

@@ -203,7 +203,7 @@ def names_page(site: Site, functions: list[tuple[Function, str]]) -> None:
 
 
 def namers_of(functions: list[tuple[Function, str, tuple[str, ...]]]
-             ) -> dict[str, list[str | tuple[str, str]]]:
+              ) -> dict[str, list[str | tuple[str, str]]]:
     """Gives what names each definition: keys of definitions, and places and names of functions."""
     found: dict[str, list[str | tuple[str, str]]] = {}
     for key in all_definitions():

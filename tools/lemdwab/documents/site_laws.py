@@ -94,7 +94,7 @@ def keys_in(one: Function, names: tuple[str, ...] = ()) -> tuple[str, ...]:
     found = []
     for clause in one.clauses():
         if not names or clause.name in names:
-            text = "\n".join(one.text[clause.first : clause.last + 1])
+            text = "\n".join(one.text[clause.first:clause.last + 1])
             found += [leads for _, _, leads in named(text, meaning(one))]
     return keys_of(found)
 

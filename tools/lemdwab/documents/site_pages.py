@@ -194,7 +194,7 @@ def linked_code(block: str, meaning: Meaning, page: str, own: str = "") -> str:
     found, at = [], 0
     for first, length, leads in sorted(named(block, meaning)):
         found.append(escape(block[at:first], quote=False))
-        words = escape(block[first : first + length], quote=False)
+        words = escape(block[first:first + length], quote=False)
         if leads.place and leads.place != own:
             words = link(page, leads.place, words)
         elif not leads.place:

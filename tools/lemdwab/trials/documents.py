@@ -9,7 +9,6 @@ import contextlib
 import io
 from collections.abc import Callable
 from functools import partial
-from pathlib import Path
 from types import ModuleType
 from typing import TYPE_CHECKING, Protocol
 from unittest import mock
