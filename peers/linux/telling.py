@@ -432,9 +432,8 @@ class Telling:
     def kernel_hgeip(self, out, one, shown):
         """Files that KVM left as they stood when a VM ended are hidden, and those of moves."""
         moving = {place for places in self.coming.values() for place in places}
-        hidden = {number for hart, number in self.left | {place for place in moving
-                                                         if isinstance(place, tuple)}
-                  if hart == one.hart}
+        left = self.left | {place for place in moving if isinstance(place, tuple)}
+        hidden = {number for hart, number in left if hart == one.hart}
         mask = None
         if hidden:
             mask = (1 << 64) - 1 - sum(1 << number for number in hidden)

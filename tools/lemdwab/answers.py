@@ -131,7 +131,8 @@ def sizes_of(text: str) -> tuple[int, int, int, int]:
     if not (len(found) == 4 and all(re.fullmatch("[0-9]{1,4}", word) for word in found)
             and is_machine_size(*map(int, found))):
         fail(f"no machine has the numbers {text!r}: they are {SIZES}")
-    return tuple(map(int, found))
+    harts, guests, greatest, sources = map(int, found)
+    return harts, guests, greatest, sources
 
 
 def with_sizes(script: bytes, sizes: tuple[int, int, int, int]) -> bytes:
@@ -171,13 +172,13 @@ class Known:
     """Differences that are known, each with a reason, and how often each was met."""
 
     def __init__(self, path: Path | str | None = None) -> None:
-        self.rows = [self.row(path, number, text)
-                     for number, text in enumerate(answers(contents(path)) if path else [], 1)
+        texts = answers(contents(path)) if path else []
+        self.rows = [self.row(str(path), number, text) for number, text in enumerate(texts, 1)
                      if text and not text.startswith("#")]
         self.met = [0] * len(self.rows)
 
     @staticmethod
-    def row(path: Path | str, number: int, text: str) -> list[str]:
+    def row(path: str, number: int, text: str) -> list[str]:
         """Reads a row: patterns of the line, the model's answer and mine, and a reason."""
         fields = [field.strip() for field in text.split("|")]
         if len(fields) != 4 or not all(fields):
@@ -365,13 +366,13 @@ def bare(answer: str) -> list[str]:
 
 
 def first_difference(script: bytes, model: bytes, mine: bytes, known: Known
-                    ) -> tuple[int, str] | None:
+                     ) -> tuple[int, str] | None:
     """Gives the place of the first difference among the lines that have an answer, and what the
     model answers there; None where there is none."""
     for at, (line, want, got) in enumerate(zip_longest(lines(script), answers(model),
                                                        answers(mine), fillvalue="")):
         if want != got and not (got == NOT_SHOWN and want not in MISTAKES):
-            text = line.text if line else ""
+            text = line.text if isinstance(line, Line) else ""
             if not known.has(text, want, got):
                 return at, want
     return None

@@ -3,9 +3,11 @@ what is looked at after the move."""
 
 from __future__ import annotations
 
-from typing import Any, NamedTuple
+from typing import NamedTuple, TypeVar
 
 from lemdwab.apart import moves
+
+T = TypeVar("T")
 
 MOVES = {"leave": moves.LEAVING, "arrive": moves.ARRIVING, "shift": moves.SHIFTING}
 # Beside them where a virtual hart is at rest.
@@ -68,8 +70,7 @@ class Setting(NamedTuple):
         """The greatest identity."""
         return 64 * self.words - 1
 
-    def second(self, two: int | str | tuple[str, str, str, str],
-               one: Any) -> Any:
+    def second(self, two: T, one: T) -> T:
         """Gives what differs by whether a file has a second word."""
         return two if self.words == 2 else one
 

@@ -62,7 +62,7 @@ class Browser:
     def __enter__(self) -> Browser:
         return self
 
-    def __exit__(self, *_: Any) -> None:
+    def __exit__(self, *_: object) -> None:
         running.kill([self.process])
         self.process.wait()
         with running.State.lock:
@@ -108,7 +108,8 @@ class Browser:
                 self.said.extend(piece)
         text, _, rest = bytes(self.said).partition(b"\0")
         self.said = bytearray(rest)
-        return json.loads(text)
+        message: dict[str, Any] = json.loads(text)
+        return message
 
     def opens(self, address: str) -> int:
         """Opens a page; gives how many milliseconds that took."""

@@ -7,7 +7,7 @@ from collections.abc import Iterator
 from pathlib import Path
 from typing import TYPE_CHECKING, NamedTuple
 
-from lemdwab.running import TOP, fail
+from lemdwab.running import TOP, fail, sure
 
 if TYPE_CHECKING:
     from lemdwab.comparing import Options
@@ -23,7 +23,7 @@ PARTS = ("harts", "guest files", "identities", "sources")
 class Needs(NamedTuple):
     """What a machine has to have at least: its sizes, a delivery or any, the bits of a priority."""
 
-    sizes: tuple[int, ...]
+    sizes: tuple[int, int, int, int]
     delivery: str
     bits: int
 
@@ -39,13 +39,14 @@ class Needs(NamedTuple):
 
 def needs_of(words: str) -> Needs | None:
     """Reads what a standard script needs, None where the words say no such thing."""
-    words = words.split()
-    sizes, rest = words[:4], words[4:]
+    found = words.split()
+    sizes, rest = found[:4], found[4:]
     delivery = rest.pop(0) if rest[:1] and rest[0] in DELIVERIES else ""
     bits = rest or ["1"]
     if len(sizes) < 4 or len(bits) > 1 or not all(map(str.isdecimal, [*sizes, *bits])):
         return None
-    return Needs(tuple(map(int, sizes)), delivery, int(bits[0]))
+    harts, files, greatest, sources = map(int, sizes)
+    return Needs((harts, files, greatest, sources), delivery, int(bits[0]))
 
 
 def scripts() -> dict[str, Path]:
@@ -61,7 +62,7 @@ def rows(text: str) -> Iterator[list[str]]:
             yield ([*line.split(None, 2), "", ""])[:3]
 
 
-def drifts(text: str | None = None) -> Iterator[None]:
+def drifts(text: str | None = None) -> Iterator[str]:
     """Says where the table is wrong: each script has one row, and each row a script, a class and
     words that say why, or what the script needs."""
     names, seen = scripts(), set()
@@ -85,5 +86,5 @@ def standard() -> dict[Path, Needs]:
     for wrong in drifts():
         fail(wrong)
     names = scripts()
-    return {names[name]: needs_of(words)
+    return {names[name]: sure(needs_of(words))
             for name, kind, words in rows(TABLE.read_text(encoding="ascii")) if kind == STANDARD}

@@ -40,7 +40,7 @@ class Options(NamedTuple):
     sizes: tuple[int, int, int, int] | None = None
     each: int = EACH
     most: int = MOST
-    known: answers.Known | None = None
+    known: answers.Known = answers.Known()
     is_strict: bool = False
     is_standard: bool = False
     delivery: str = ""
@@ -136,7 +136,7 @@ def wanted(path: Path, script: bytes, options: Options, model: list[str] | None)
     if not options.sizes:
         stands = path.with_suffix(".out")
         return stands.read_bytes() if stands.exists() else b""
-    ran = running.run(model, script, options.each, answers.most_output(script))
+    ran = running.run(running.sure(model), script, options.each, answers.most_output(script))
     if ran.fault():
         running.fail(f"the model has no answers to {path.name}: {ran.fault()}")
     return ran.output
@@ -153,14 +153,14 @@ def needs_others(path: Path, script: bytes, anew: bytes) -> bool:
 
 
 def held(path: Path, script: bytes, command: list[str], options: Options,
-         model: list[str] | None) -> tuple[Ran | None, Verdict | str]:
+         model: list[str] | None) -> tuple[Ran, Verdict] | str:
     """Runs a command over one script; gives how it ended, and what came of it, or what the script
     needs that the machine has not."""
     if options.sizes:
         script = answers.with_sizes(script, options.sizes)
     answer = wanted(path, script, options, model)
     if options.sizes and needs_others(path, script, answer):
-        return None, "a machine of other sizes"
+        return "a machine of other sizes"
     ran = running.run(command, script, options.each, answers.most_output(script))
     running.check_started(ran, command)
     return ran, answers.Verdict(script, answer, ran.output, options.known, options.is_strict)
@@ -183,10 +183,11 @@ def over_suite(command: list[str], options: Options, workers: Workers,
     found = list(asked(options, tally))
     for at, (path, script) in enumerate(found):
         pace.tell(f"{at} of {running.counted(len(found), 'script')}")
-        ran, verdict = workers.submit(held, path, script, command, options, model).result()
-        if not ran:
-            tally.left_out[verdict] += 1
+        came = workers.submit(held, path, script, command, options, model).result()
+        if isinstance(came, str):
+            tally.left_out[came] += 1
             continue
+        ran, verdict = came
         if not verdict.is_unseen():
             tally.take(script)
         if tally.look(ran, verdict):

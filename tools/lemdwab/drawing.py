@@ -13,6 +13,7 @@ from lemdwab import answers
 from lemdwab.apart import model, moves, reading
 from lemdwab.apart.interrupt_file import requested
 from lemdwab.documents import svg
+from lemdwab.running import sure
 
 if TYPE_CHECKING:
     from lemdwab.apart.moves import VirtualHart
@@ -46,7 +47,7 @@ class Shown(NamedTuple):
 
     number: int
     name: str
-    hart: moves.VirtualHart
+    hart: moves.VirtualHart | None
     said: str
     stores: list[Store]
     told: list[moves.VirtualHart]
@@ -92,12 +93,12 @@ class Watching(model.Script):
 
     def shown(self, number: int, text: bytes) -> Shown | None:
         """Gives what a line did; None where it did nothing that is drawn."""
-        name, fields = reading.read(text)
+        name, fields = sure(reading.read(text))
         about = self.about(name, fields)
         said = step_name(about) if name == "step" and about and about.is_moving() else None
         flying = sum(len(vm.flight) for vm in self.machine.vms) if self.machine else 0
-        answer = self.answer(text)
-        if not self.machine or answers.is_refused(answers.shown(text), answer):
+        answer = sure(self.answer(text))
+        if not isinstance(self.machine, Watched) or answers.is_refused(answers.shown(text), answer):
             return None
         stores, self.machine.stores = self.machine.stores, []
         told, self.machine.told = self.machine.told, []
@@ -116,8 +117,11 @@ class Watching(model.Script):
         if not self.machine or len(fields) < 2 or not (
                 name in ("step", "enter", "exit", "g", "refetch") or name.split("_")[-1] in MOVES):
             return None
-        harts = self.machine.vms[fields[0]].harts if fields[0] < len(self.machine.vms) else []
-        return harts[fields[1]] if fields[1] < len(harts) else None
+        vm, number, *_ = fields
+        if not isinstance(vm, int) or not isinstance(number, int):
+            return None
+        harts = self.machine.vms[vm].harts if vm < len(self.machine.vms) else []
+        return harts[number] if number < len(harts) else None
 
     @staticmethod
     def said(name: str, fields: list[int | str], answer: str) -> str:
@@ -198,6 +202,7 @@ def in_text(found: list[Shown], names: dict[VirtualHart, str]) -> str:
     return "".join("  ".join(word.ljust(width) for word, width in zip(row, widths)).rstrip() + "\n"
                    for row in rows)
 
+
 # As SVG: a row a virtual hart, a column a line of the script.
 
 def bars(picture: Picture, hart: VirtualHart, found: list[Shown], y: int) -> None:
@@ -247,7 +252,7 @@ def heads(picture: Picture, found: list[Shown], bottom: int) -> None:
 
 def legend(picture: Picture, y: int) -> None:
     """Draws what colors and marks mean."""
-    x = 14
+    x: float = 14
     for color, words in ((svg.GUEST, "in a guest file, or a store that went there"),
                          (svg.MEMORY, "in memory, or a store that went there"),
                          (svg.OTHER, "runs from memory"), (svg.HAND, "moves"),

@@ -22,7 +22,7 @@ from typing import Any, NamedTuple
 from lemdwab.answers import Known
 from lemdwab.apart import model, reading, words
 from lemdwab.apart.refusals import Refused
-from lemdwab.running import ending
+from lemdwab.running import ending, sure
 
 ANY = "-"
 LINES = 600  # of a script
@@ -43,10 +43,10 @@ def printed(command: list[str], script: bytes) -> bytes:
     with subprocess.Popen(["setpriv", "--pdeathsig", "KILL", *command], stdin=source,
                           stdout=subprocess.PIPE, stderr=subprocess.DEVNULL) as process:
         os.close(source)
-        waits = selectors.DefaultSelector()
-        waits.register(process.stdout, selectors.EVENT_READ)
+        waits, pipe = selectors.DefaultSelector(), sure(process.stdout).fileno()
+        waits.register(pipe, selectors.EVENT_READ)
         while waits.select(max(0, deadline - time.monotonic())) and len(found) <= OUTPUT_LIMIT:
-            piece = os.read(process.stdout.fileno(), 65536)
+            piece = os.read(pipe, 65536)
             if not piece:
                 if process.wait(TIME_LIMIT):
                     raise Stopped(f"{command[0]} {ending(process.returncode)}")
@@ -71,8 +71,8 @@ class Tally:
 
     def __init__(self, known: Known) -> None:
         self.known = known
-        self.subjects: Any = {}
-        self.reasons: Any = Counter()
+        self.subjects: dict[str, Counter[str]] = {}
+        self.reasons: Counter[str | None] = Counter()
         self.unexplained = 0
 
     def script(self, name: str, subject: str, script: bytes, wanted: list[str], told: list[str],
@@ -104,7 +104,7 @@ class Tally:
 
     def show(self) -> bool:
         """The counts, and whether all is explained."""
-        total = Counter()
+        total: Counter[str] = Counter()
         for subject, counts in self.subjects.items():
             total += counts
             print(f"{subject}: " + counted(counts))
@@ -125,7 +125,7 @@ def foreseen(script: bytes, make: Callable[..., Any]) -> list[str]:
     sizes `make` gives a machine."""
     machine, answers = None, []
     for text in lines_of(script):
-        form, fields = reading.read(text)
+        form, fields = sure(reading.read(text))
         if form == "machine":
             machine = make(*fields)
             answers.append("ok")
@@ -138,7 +138,7 @@ def foreseen(script: bytes, make: Callable[..., Any]) -> list[str]:
 
 
 def print_script(subjects: Iterable[str], make: Callable[[str, int, int], bytes], usage: str
-                ) -> int:
+                 ) -> int:
     """Prints the random script that the words of the command line name: SUBJECT, SEED, COUNT. Gives
     the exit status."""
     subject, seed, count = words.given(usage, lambda given: len(given) == 3 and (

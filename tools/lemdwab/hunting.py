@@ -14,9 +14,10 @@ import time
 from collections.abc import Callable, Iterator
 from concurrent.futures import Future, wait
 from pathlib import Path
-from typing import TYPE_CHECKING, Any, NamedTuple
+from typing import TYPE_CHECKING, NamedTuple
 
 from lemdwab import answers, running, scripts
+from lemdwab.running import sure
 from lemdwab.shrinking import Shrinker
 
 if TYPE_CHECKING:
@@ -144,12 +145,12 @@ class Hunt:
             mine = f"   mine: {differing[at]}" if at in differing else ""
             mine = "   mine: (nothing)" if at in missing else mine
             yield answers.printable(f"{line.text:{width}}  => {model}{mine}")
-        for line in verdict.uneven():
-            yield answers.printable(line)
+        for said in verdict.uneven():
+            yield answers.printable(said)
         if found.ran.fault():
             yield answers.printable(found.ran.fault())
 
-    def uneven(self, script: bytes, found: Found) -> list[str]:
+    def uneven(self, script: bytes, found: Found | None) -> list[str]:
         """Says how many answers to a whole script are missing or spare, if any are."""
         if not found or found.kind == "answer":
             return []
@@ -176,7 +177,7 @@ class Left(NamedTuple):
     one came, how often that was, in how many runs, and how many runs the shrinking took."""
 
     script: bytes
-    found: Found
+    found: Found | None
     seen: int
     runs: int
     shrinking: int
@@ -202,7 +203,7 @@ class Progress:
         if self.left is None:
             said += "no script that differs was found so far"
         else:
-            path = self.into or keep(self.left, self.seed)
+            path = self.into or keep(self.left, sure(self.seed))
             if self.into:
                 Path(self.into).write_bytes(self.left)
             lines = running.counted(len(answers.lines(self.left)), "line")
@@ -212,15 +213,16 @@ class Progress:
 
     def tell(self, shrinker: Shrinker) -> None:
         """Says how far a shrinking is, now and then, and keeps what is left."""
-        self.left = self.hunt.whole(shrinker.seen_script())
+        hunt = sure(self.hunt)
+        self.left = hunt.whole(shrinker.seen_script())
         if self.into:
             Path(self.into).write_bytes(self.left)
-        self.hunt.pace.tell(f"shrinking: {running.counted(len(shrinker.texts), 'line')} left, after"
-                            f" {running.counted(shrinker.runs, 'run')}")
+        hunt.pace.tell(f"shrinking: {running.counted(len(shrinker.texts), 'line')} left, after"
+                       f" {running.counted(shrinker.runs, 'run')}")
 
 
-def left_of(hunt: Hunt, script: bytes, is_machine_fixed: bool, tell: Callable[..., Any],
-            progress: Progress) -> Left | None:
+def left_of(hunt: Hunt, script: bytes, is_machine_fixed: bool, tell: Callable[[str], None],
+            progress: Progress) -> Left:
     """Runs a script that differed once some more, and shrinks it unless the difference comes too
     seldom, or another one comes. Says where it does not come each time."""
     again = hunt.again(script, FEW)
@@ -324,7 +326,7 @@ def end(waiting: list[Future[Ran]]) -> None:
 
 # ---- files
 
-def check_writable(path: Path) -> None:
+def check_writable(path: str) -> None:
     """Ends the tool where a file can't be written; leaves it as it is."""
     is_there = os.path.lexists(path)
     try:

@@ -52,9 +52,9 @@ class Root:
                 (self.folder / to).mkdir(parents=True, exist_ok=True)
                 (self.folder / name).symlink_to(to)
         listed = self.done("dpkg-query", "-L", *names).decode().splitlines()
-        wanted = [path for path in dict.fromkeys(listed) if is_wanted(path)]
+        wanted = [name for name in dict.fromkeys(listed) if is_wanted(name)]
         files = self.folder / "tmp/files"
-        files.write_text("".join(f".{path}\n" for path in wanted), encoding="utf-8")
+        files.write_text("".join(f".{name}\n" for name in wanted), encoding="utf-8")
         self.done(*self.before, "bash", "-c",
                   "set -o pipefail; tar -C / --no-recursion -cf - -T \"$1\""
                   " | tar -C \"$2\" --no-same-owner -xf -", "-", files, self.folder)
@@ -62,13 +62,13 @@ class Root:
         status = self.done("dpkg-query", "-s", *names)
         (self.folder / "var/lib/dpkg/status").write_bytes(status + b"\n")
         for name in names:
-            for listed in [*LISTS.glob(f"{name}.list"), *LISTS.glob(f"{name}:*.list")]:
-                shutil.copy(listed, self.folder / "var/lib/dpkg/info")
+            for path in [*LISTS.glob(f"{name}.list"), *LISTS.glob(f"{name}:*.list")]:
+                shutil.copy(path, self.folder / "var/lib/dpkg/info")
         self.link("usr/bin/awk", "mawk")
         if self.run("mknod", "-m", "666", self.folder / "dev/null", "c", "1", "3").fault():
             (self.folder / "dev/null").touch()
 
-    def link(self, name: str, to: Path) -> None:
+    def link(self, name: str, to: str | Path) -> None:
         """Puts a link into the root where there is nothing."""
         if not (self.folder / name).exists():
             (self.folder / name).symlink_to(to)
@@ -111,16 +111,18 @@ def packages(run: Callable[..., Ran], names: list[str]) -> list[str]:
     not installed."""
     said = run("dpkg-query", "-W", "-f",
                "${Package}\\t${db:Status-Status}\\t${Pre-Depends}, ${Depends}\\t${Provides}\\n")
-    needs, gives = {}, {}
+    needs: dict[str, str] = {}
+    gives: dict[str, str] = {}
     for line in said.output.decode().splitlines():
         name, state, depends, provides = line.split("\t")
         if state == "installed":
             needs[name] = depends
             gives |= {each: name for each in plain_names(provides)}
-    found, left = [], list(names)
+    found: list[str] = []
+    left = list(names)
     while left:
         name = left.pop()
-        name = name if name in needs else gives.get(name)
+        name = name if name in needs else gives.get(name, "")
         if name and name not in found:
             found.append(name)
             left += plain_names(needs[name])

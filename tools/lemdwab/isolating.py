@@ -12,8 +12,9 @@ from typing import NamedTuple
 from lemdwab.answers import form
 from lemdwab.apart import model, reading
 from lemdwab.apart.interrupt_file import swapped
-from lemdwab.apart.moves import ENTERED, PARKED, RESIDENT
+from lemdwab.apart.moves import ENTERED, PARKED, RESIDENT, VirtualHart
 from lemdwab.apart.refusals import Refused
+from lemdwab.running import sure
 
 # Which lines concern whom, by their forms: all; the machine level alone; the VM that they name; and
 # in a script that passes sources those of wires, of accesses to the APLIC and of passes too.
@@ -169,9 +170,9 @@ class Drawn:
     @property
     def machine(self) -> model.Machine:
         """The machine that stands."""
-        return self.twin.machine
+        return sure(self.twin.machine)
 
-    def hart(self, who: Name) -> model.VirtualHart:
+    def hart(self, who: Name) -> VirtualHart:
         """A virtual hart, as the model has it."""
         return self.machine.vms[who.vm].harts[who.number]
 

@@ -52,7 +52,7 @@ class Kept:
     """What was tried, in a file of lines."""
 
     def __init__(self, folder: Path, is_anew: bool, kinds: tuple[str, ...]) -> None:
-        self.path = Path(folder) / "tried.txt"
+        self.path = folder / "tried.txt"
         self.found: dict[tuple[str, str, str], Verdict] = {}
         if self.path.exists() and not is_anew:
             for line in running.contents(self.path).decode(errors="replace").splitlines():
@@ -78,7 +78,7 @@ class Kept:
 def kept_folder(given: dict[str, str], name: str) -> Path:
     """Gives the folder where what was tried is kept: the one that is given, or one of a name."""
     if "kept" in given:
-        return given["kept"] or running.usage("a FOLDER is wanted behind --kept")
+        return Path(given["kept"] or running.usage("a FOLDER is wanted behind --kept"))
     caches = os.environ.get("XDG_CACHE_HOME") or Path.home() / ".cache"
     return Path(caches) / name
 
@@ -113,5 +113,5 @@ def copied(place: Path, only: Iterable[str] = ()) -> None:
     if (TOP / "HANDLES").is_file():
         shutil.copy(TOP / "HANDLES", place / "HANDLES")
     lines = running.contents(TOP / "crates.txt").decode().splitlines(keepends=True)
-    kept = [line for line in lines if not only or re.match(r"\w*", line).group() in ("", *only)]
+    kept = [line for line in lines if not only or re.split(r"\W", line, 1)[0] in ("", *only)]
     (place / "crates.txt").write_text("".join(kept), encoding="utf-8")

@@ -180,25 +180,25 @@ class Words:
         return None
 
 
-def last_numbers(words: Words, kinds: str, names: str) -> Fault:
+def last_numbers(words: Words, kinds: str, names: str) -> Fault | None:
     """Finds what is wrong with numbers behind which nothing stands."""
     return words.numbers(kinds, names.split()) or words.end()
 
 
-def of_keywords(words: Words, keywords: str) -> Fault:
+def of_keywords(words: Words, keywords: str) -> Fault | None:
     """Finds what is wrong with a line of a form that is keywords and numbers."""
     words.form = f"{keywords} {NAMES[keywords]}"
     return last_numbers(words, reading.FORMS[keywords], NAMES[keywords])
 
 
-def of_begin(words: Words) -> Fault:
+def of_begin(words: Words) -> Fault | None:
     """Finds what is wrong with a line that begins a move."""
     words.form = "begin leave VM C"
     moves = {keywords.split()[1] for keywords in reading.FORMS if keywords.startswith("begin ")}
     return words.one_of("move", moves) or of_keywords(words, f"begin {words.words[1]}")
 
 
-def of_instruction(words: Words, front: str) -> Fault:
+def of_instruction(words: Words, front: str) -> Fault | None:
     """Finds what is wrong with a CSR instruction behind the words of a hart or virtual hart."""
     level, mnemonic = words.words[0], words.words[words.at - 1]
     words.form = f"{front} {mnemonic} {MNEMONICS[mnemonic]}"
@@ -209,7 +209,8 @@ def of_instruction(words: Words, front: str) -> Fault:
     return words.one_of("CSR", known) or last_numbers(words, "n" * (mnemonic != "csrr"), "V")
 
 
-def of_hart(words: Words, kinds: str, names: str, others: dict[str, tuple[str, str]]) -> Fault:
+def of_hart(words: Words, kinds: str, names: str,
+            others: dict[str, tuple[str, str]]) -> Fault | None:
     """Finds what is wrong with a line that begins with a hart or virtual hart: behind it stands a
     CSR instruction, or a word of some others with the kinds and names of what follows it."""
     front = f"{words.words[0]} {names}"
@@ -226,7 +227,7 @@ def of_hart(words: Words, kinds: str, names: str, others: dict[str, tuple[str, s
     return last_numbers(words, kinds, names)
 
 
-def of_load(words: Words) -> Fault:
+def of_load(words: Words) -> Fault | None:
     """Finds what is wrong with a line that loads a part of an image."""
     words.form = "load VM C PART"
     known = {part.decode() for part in reading.PARTS}

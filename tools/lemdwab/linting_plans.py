@@ -12,13 +12,14 @@ from lemdwab.linting import Fault, bytes_of_no_text, unknown
 LINE_BYTES, MOST_WORDS, MOST_PRODUCERS, MOST_STEPS = 128, 32, 16, 4096
 # What follows the first word of a declaration, and of a step: the names of CHOICES, or numbers.
 DECLARATIONS = {
-    "plan": (), "fresh": (), "memory": (), "heeds": (), "inherited": (), "words": ("count",), "producer": ("kind",),
-    "numbers": ("spot", "spot"), "notices": ("declared",),
+    "plan": (), "fresh": (), "memory": (), "heeds": (), "inherited": (), "words": ("count",),
+    "producer": ("kind",), "numbers": ("spot", "spot"), "notices": ("declared",),
 }
 STEPS = {
     "route": ("producer",), "fence": ("producer",), "switch": ("producer",),
-    "zero": ("place", "thing"), "take": ("thing",), "copy": ("thing",), "join": ("set",), "put": ("thing",),
-    "look": ("word",), "post": (), "tell": (), "untell": (), "write": ("written",), "free": (),
+    "zero": ("place", "thing"), "take": ("thing",), "copy": ("thing",), "join": ("set",),
+    "put": ("thing",), "look": ("word",), "post": (), "tell": (), "untell": (),
+    "write": ("written",), "free": (),
 }
 SETS, NUMBERS = ("pending", "enabled"), ("threshold", "delivery")
 CHOICES = {
@@ -45,7 +46,7 @@ class Said(NamedTuple):
     column."""
 
     name: str
-    numbers: dict[str, int]
+    numbers: dict[str, tuple[int, int]]
 
 
 def cut(text: bytes) -> list[tuple[int, str]]:
@@ -82,7 +83,8 @@ def said_of(text: bytes) -> Fault | Said | None:
     wanted = [*DECLARATIONS.get(name, STEPS.get(name, ()))]
     if name not in DECLARATIONS and name not in STEPS:
         return Fault(column, unknown("word", name, {*DECLARATIONS, *STEPS}))
-    form, numbers = FORMS.get(name, f"`{name}`"), {}
+    form = FORMS.get(name, f"`{name}`")
+    numbers: dict[str, tuple[int, int]] = {}
     for column, word in words[1:]:
         if not wanted:
             return Fault(column, f"too many words: {form}")
@@ -116,7 +118,8 @@ def warning(names: set[str]) -> str:
 def notes(texts: list[bytes]) -> list[tuple[int, str]] | None:
     """Lists what the judge does not say of a file's plans: that there is none, by None, or of which
     line on a plan leaves what undeclared."""
-    plans_, is_any = [(1, set())], False
+    plans_: list[tuple[int, set[str]]] = [(1, set())]
+    is_any = False
     for number, text in enumerate(texts, 1):
         said = said_of(text)
         is_any |= said is not None

@@ -133,7 +133,7 @@ class NoSense:
         kind = 1 + self.below(255)
         return {1: b"\0", 10: b" "}.get(kind, bytes([kind]))
 
-    def bytes(self, count: int) -> bytes:
+    def some_bytes(self, count: int) -> bytes:
         """So many bytes."""
         return b"".join([self.byte() for _ in range(count)])
 
@@ -165,13 +165,13 @@ class NoSense:
         """A line of 127, 128 or 129 bytes."""
         count, kind = LINE_BYTES - 1 + self.below(3), self.below(5)
         if kind == 0:
-            return self.bytes(count)
+            return self.some_bytes(count)
         if kind == 1:
-            return b"#" + self.bytes(count - 1)
+            return b"#" + self.some_bytes(count - 1)
         line = self.good()
         if kind < 4:
             return (line + (b" " if kind == 2 else b"0") * count)[:count]
-        return (line + b" # " + self.bytes(count))[:count]
+        return (line + b" # " + self.some_bytes(count))[:count]
 
     def line(self) -> bytes:
         """A line of any kind."""
@@ -185,9 +185,9 @@ class NoSense:
         if kind < 84:
             return self.words(1 + self.below(7))
         if kind < 90:
-            return self.bytes(self.below(60))
+            return self.some_bytes(self.below(60))
         if kind < 96:
             return self.long()
         if kind < 98:
-            return b"#" + self.bytes(self.below(20))
+            return b"#" + self.some_bytes(self.below(20))
         return b"" if kind < 99 else self.byte()

@@ -9,7 +9,7 @@ import tarfile
 from collections.abc import Callable, Iterator
 from pathlib import Path
 
-from lemdwab.running import TOP, Ran
+from lemdwab.running import TOP, Ran, sure
 
 PACKAGE = "lemdwab"
 # The names that the library has for others: those of the header, each with the library's version.
@@ -99,7 +99,7 @@ def manuals(run: Callable[..., Ran], tree: Path) -> Iterator[str]:
 def claims() -> bytes:
     """Gives what examples/library.c prints, as examples/check-library has it."""
     text = (TOP / "examples/check-library").read_text(encoding="utf-8")
-    return re.search(r"(?m)^claims='([^']*)'$", text).group(1).encode() + b"\n"
+    return sure(re.search(r"(?m)^claims='([^']*)'$", text)).group(1).encode() + b"\n"
 
 
 def builds(run: Callable[..., Ran], tree: Path, folder: Path) -> Iterator[str]:
@@ -110,9 +110,9 @@ def builds(run: Callable[..., Ran], tree: Path, folder: Path) -> Iterator[str]:
     version = run("env", asked, "pkg-config", "--modversion", "aia").output.decode().strip()
     if words.fault() or version != (tree / "share/lemdwab/VERSION").read_text().strip():
         yield f"pkg-config says of aia: version {version!r}, {words.fault()}"
-    said = words.output.decode().split()
-    static = [word for word in said if word != "-laia"] + [tree / "lib/libaia.a"]
-    for name, libraries in (("shared", said), ("static", static)):
+    shared = words.output.decode().split()
+    static = [word for word in shared if word != "-laia"] + [str(tree / "lib/libaia.a")]
+    for name, libraries in (("shared", shared), ("static", static)):
         ran = run("cc", "-std=c11", "-Wall", "-Wextra", "-Werror", source, "-o", folder / name,
                   *libraries)
         if ran.fault():
@@ -123,7 +123,7 @@ def builds(run: Callable[..., Ran], tree: Path, folder: Path) -> Iterator[str]:
             yield f"library.c, {name}, prints {ran.output!r}: {ran.fault()}"
 
 
-def proved(tree: Path, commit: str, given: bool) -> Iterator[str]:
+def proved(tree: Path, commit: str, given: int) -> Iterator[str]:
     """Sees that PROVED names the commit, says what was given, and what is trusted."""
     said = (tree / "share/doc/lemdwab/PROVED").read_text(encoding="utf-8")
     for wanted in (commit, "WHAT IS TRUSTED", "aia_laws", "liblibc_c.a"):

@@ -20,7 +20,7 @@ from collections.abc import Callable
 from concurrent.futures import ThreadPoolExecutor
 from pathlib import Path
 from types import FrameType
-from typing import NamedTuple, NoReturn
+from typing import NamedTuple, NoReturn, TypeVar
 
 if sys.version_info < (3, 10):
     print(f"{Path(sys.argv[0]).name}: Python 3.10 or later is wanted", file=sys.stderr)
@@ -35,6 +35,7 @@ NOT_STARTED = (126, 127)
 STOPPING = (signal.SIGINT, signal.SIGTERM, signal.SIGHUP)
 # How long a command has to end once it is told to, in seconds.
 GRACE = 3
+T = TypeVar("T")
 
 
 class Ran(NamedTuple):
@@ -60,7 +61,7 @@ class Pace:
     """Says on standard error how far a tool is: each ten seconds on a terminal, else a minute."""
 
     def __init__(self) -> None:
-        self.every = 10 if sys.stderr.isatty() else 60
+        self.every: float = 10 if sys.stderr.isatty() else 60
         self.began = self.last = time.monotonic()
 
     def left(self) -> float:
@@ -84,7 +85,7 @@ class State:
     running: set[subprocess.Popen[bytes]] = set()
     is_stopping = False
     stopped_by = ""
-    grace = GRACE
+    grace: float = GRACE
 
 
 def ending(status: int) -> str:
@@ -178,6 +179,13 @@ def command_given(*known: str) -> str:
     return rest[0] if rest else ""
 
 
+def sure(value: T | None) -> T:
+    """Gives a value that is there; it would be a mistake of the tool's own if it were not."""
+    if value is None:
+        raise ValueError("there is nothing where something has to be")
+    return value
+
+
 def counted(number_: int, word: str) -> str:
     """Says how many there are of something, as 1 line, 2 lines."""
     return f"{number_} {word}" + ("" if number_ == 1 else "s")
@@ -254,12 +262,11 @@ def main(tool: Callable[[], int]) -> None:
 class Workers(ThreadPoolExecutor):
     """Threads that run commands, so many at a time; what has not begun by its end is left out."""
 
-    def __exit__(self, *_: object) -> bool:
+    def __exit__(self, *_: object) -> None:
         self.shutdown(wait=True, cancel_futures=True)
-        return False
 
 
-def start(command: list[str], text: bytes, errors: int) -> subprocess.Popen[bytes]:
+def start(command: list[str], text: bytes, errors: int | None) -> subprocess.Popen[bytes]:
     """Starts a command with a text on its standard input, in a group of its own."""
     with State.lock, tempfile.TemporaryFile() as source:
         source.write(text)

@@ -6,7 +6,7 @@ from __future__ import annotations
 from typing import TYPE_CHECKING, NamedTuple
 
 from lemdwab import answers, running
-from lemdwab.apart import model, random_scripts
+from lemdwab.apart import model, random_scripts, reading
 
 if TYPE_CHECKING:
     from lemdwab.answers import Known
@@ -42,10 +42,10 @@ def draw_of(given: dict[str, str]) -> Draw:
         beginning(given["begin"]) if "begin" in given else ())
 
 
-def beginning(path: str) -> tuple[bytes]:
+def beginning(path: str) -> tuple[bytes, ...]:
     """Reads the lines that stand behind the machine of each script."""
-    return tuple(text for text in answers.reading.texts(running.contents(path))
-                 if not answers.reading.is_skipped(text))
+    return tuple(text for text in reading.texts(running.contents(path))
+                 if not reading.is_skipped(text))
 
 
 def begun(script: bytes, begin: tuple[bytes, ...]) -> tuple[bytes, int]:
@@ -53,8 +53,8 @@ def begun(script: bytes, begin: tuple[bytes, ...]) -> tuple[bytes, int]:
     stand before them."""
     texts, before = script.split(b"\n"), 0
     for at, text in enumerate(texts):
-        before += not answers.reading.is_skipped(text)
-        name, fields = answers.reading.read(text) or ("", ())
+        before += not reading.is_skipped(text)
+        name, fields = reading.read(text) or ("", ())
         if name == "machine" and model.is_machine_size(*fields):
             return b"\n".join([*texts[:at + 1], *begin, *texts[at + 1:]]), before
     return script, before

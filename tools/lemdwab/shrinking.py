@@ -3,10 +3,12 @@
 from __future__ import annotations
 
 import time
-from collections.abc import Callable
-from typing import TYPE_CHECKING, Any
+from collections.abc import Callable, Sequence
+from typing import TYPE_CHECKING
 
 from lemdwab import answers
+from lemdwab.apart import reading
+from lemdwab.running import sure
 
 if TYPE_CHECKING:
     from lemdwab.hunting import Found
@@ -37,17 +39,18 @@ class Shrinker:
     without a run, unless the first time shows that it is wanted; so `seen` keeps the lines of the
     last run that differed. `tell` is called with the shrinker each time that lines are taken."""
 
-    def __init__(self, script: bytes, try_: Callable[..., Any], is_machine_fixed: bool = False,
-                 times: int = 1, tell: Callable[..., Any] | None = None) -> None:
+    def __init__(self, script: bytes, try_: Callable[[bytes], Found | None],
+                 is_machine_fixed: bool = False, times: int = 1,
+                 tell: Callable[[Shrinker], None] | None = None) -> None:
         self.try_, self.is_machine_fixed, self.times = try_, is_machine_fixed, times
         self.tell = tell or (lambda _: None)
         self.runs, self.deadline = 0, time.monotonic() + LONGEST
         self.allowed, self.cuts = answers.MISTAKES, True
         self.kind: str | None = None
-        # The place of the line whose answer differs.
-        self.target: int | None = None
-        self.texts = [text for text in answers.reading.texts(script)
-                      if not answers.reading.is_skipped(text)]
+        # The place of the line whose answer differs, below 0 where there is none.
+        self.target = -1
+        self.texts = [text for text in reading.texts(script)
+                      if not reading.is_skipped(text)]
         self.seen = self.texts
 
     def script(self) -> bytes:
@@ -60,14 +63,14 @@ class Shrinker:
 
     def read(self, at: int) -> tuple[str, list[int]]:
         """Gives the form and the fields of a line."""
-        return answers.reading.read(self.texts[at])
+        return sure(reading.read(self.texts[at]))
 
-    def is_kept(self, found: Found, target: int | None) -> bool:
+    def is_kept(self, found: Found, target: int) -> bool:
         """Says whether a difference is of the kind that is kept, and of the line at this place."""
         return (self.kind in (None, found.kind) and (self.kind != "answer" or found.at == target)
                 and found.model not in answers.MISTAKES - self.allowed)
 
-    def tried(self, texts: list[bytes], target: int | None = None) -> Found | None:
+    def tried(self, texts: list[bytes], target: int = -1) -> Found | None:
         """Gives the first difference over these lines, if it is one to be kept, by some of the runs
         that are left; None where none came."""
         for _ in range(self.times):
@@ -79,7 +82,7 @@ class Shrinker:
                 return found
         return None
 
-    def takes(self, texts: list[bytes], target: int | None) -> bool:
+    def takes(self, texts: list[bytes], target: int) -> bool:
         """Takes these lines, up to the first difference, if it is one to be kept; `target` is the
         place that the line whose answer differs has among them."""
         found = self.tried(texts, target)
@@ -107,7 +110,7 @@ class Shrinker:
         without these lines, which may differ in other ways; or that of the whole, where they are
         wanted. Says whether a difference came."""
         whole = self.texts
-        if not self.takes(whole, None):
+        if not self.takes(whole, -1):
             return False
         found = self.tried(self.texts)
         if not found:
@@ -144,7 +147,9 @@ class Shrinker:
         if self.is_machine_fixed:
             return False
         at = next((at for at, text in enumerate(self.texts) if text.startswith(b"machine ")), None)
-        _, sizes = self.read(at) if at is not None else ("", ())
+        if at is None:
+            return False
+        sizes: Sequence[int] = self.read(at)[1]
         before = list(sizes)
         for place in range(len(sizes)):
             for size in SMALLER[place]:
@@ -166,23 +171,23 @@ class Shrinker:
                 self.takes_whole(at, fields[:2])
         return len(self.texts) < before
 
-    def takes_whole(self, at: int, mover: Any) -> bool:
+    def takes_whole(self, at: int, mover: Sequence[int]) -> None:
         """Takes a whole move in the place of one by steps that begins at a place."""
         rest = [place for place in range(at + 1, len(self.texts))
-                if answers.reading.read(self.texts[place]) != ("step", mover)]
+                if reading.read(self.texts[place]) != ("step", mover)]
         # What came between the steps comes after the whole move, or else before it.
         for order in ([at, *rest], [*rest[:-1], at, *rest[-1:]]):
             order = [*range(at), *order]
             texts = [self.texts[place] for place in order]
             texts[order.index(at)] = self.texts[at].split(b" ", 1)[1]
-            target = order.index(self.target) if self.target in order else None
+            target = order.index(self.target) if self.target in order else -1
             if self.takes(texts, target):
                 return
 
     def spell(self) -> None:
         """Spells great numbers as addresses are, and others without zeros in front."""
         def plain(word: bytes) -> bytes:
-            value = answers.reading.number(word)
+            value = reading.number(word)
             if value is None or word.isdigit() and value < answers.GREAT:
                 return word
             return b"0x%x" % value

@@ -66,7 +66,7 @@ def source_of(crate: str, answers: Path) -> tuple[Path, str]:
 def citations() -> dict[tuple[str, str, str], list[str]]:
     """Gives of each clause that is cited from outside its crate, by crate, law and name, the
     functions that cite it; of a law with one clause, which has no name, the name is empty."""
-    found = {}
+    found: dict[tuple[str, str, str], list[str]] = {}
     for crate in below():
         for answers in weakening.sources(crate, "proofs", "antt"):
             if answers.name != "Answers.antt":
@@ -109,23 +109,30 @@ def needed(crate: str, files: list[Path]) -> tuple[set[str], set[tuple[str, str]
 
 def closure(crate: str, module: str) -> tuple[set[str], set[tuple[str, str]]]:
     """Gives the modules that a module needs with itself, and the files of specs/ and proofs/."""
-    modules, others, left = set(), set(), [(module, None)]
+    modules: set[str] = set()
+    others: set[tuple[str, str]] = set()
+    # A name, and the folder where its file stands; a module has none.
+    left = [(module, "")]
     while left:
         name, part = left.pop()
         if name in modules or (part, name) in others:
             continue
-        (others if part else modules).add((part, name) if part else name)
-        files = ([TOP / "crates" / crate / part / f"{name}.antt"] if part
-                 else files_of(crate, name))
+        if part:
+            others.add((part, name))
+            files = [TOP / "crates" / crate / part / f"{name}.antt"]
+        else:
+            modules.add(name)
+            files = files_of(crate, name)
         more, more_files = needed(crate, files)
-        left += [(one, None) for one in more] + [(one, of) for of, one in more_files]
+        left += [(one, "") for one in more] + [(one, of) for of, one in more_files]
     return modules, others
 
 
 def movable(uses: str, laws: str) -> tuple[list[str], list[tuple[str, str]]]:
     """Gives the modules of a crate of uses that use laws of a crate, with all that they need, and
     those files; but no module that stands on what is above that crate."""
-    modules, others = set(), set()
+    modules: set[str] = set()
+    others: set[tuple[str, str]] = set()
     allowed = {uses, laws, "crate", "std", *all_below(laws)}
     own = set(below()) - {uses}
     for path in weakening.sources(uses, "src", "rt"):

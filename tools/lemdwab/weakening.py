@@ -9,12 +9,12 @@ ways. So it goes on from a definition to those that it names."""
 from __future__ import annotations
 
 import re
-from collections.abc import Iterator
+from collections.abc import Iterator, Sequence
 from functools import cache
 from pathlib import Path
-from typing import Any, NamedTuple
+from typing import NamedTuple
 
-from lemdwab.running import TOP
+from lemdwab.running import TOP, sure
 
 PREMISE, DROPPED, NARROWER, WIDER = KINDS = ("premise", "dropped", "narrower", "wider")
 BELOW, ABOVE = -1, 1
@@ -27,6 +27,8 @@ IMPORT = re.compile(r"^(?:ghost )?use Rattle\.(\w+)\.specs\.(\w+)\.\{([^}]*)\}",
 TOKEN = re.compile(r'"[^"]*"|[(){}\[\],;]|[^\s(){}\[\],;."]+(?:\.[^\s(){}\[\],;."]+)*|\.')
 # What holds of more where what it is given does.
 GROWING = {"list_any", "list_all", "option_map_or"}
+# Words, and groups of words within brackets.
+Words = list["str | Words"]
 RELATIONS = {"≡", "≢", "≤", "<", "×", "⊎", "¬"}
 
 
@@ -121,7 +123,7 @@ def equations(name: str, block: str, at: int) -> tuple[Part, ...]:
     found = []
     for first, last in zip(begin, [*begin[1:], len(block)]):
         text = block[first:last].partition("\n--")[0].rstrip("\n")
-        sign = re.search(r" =\s+", text)
+        sign = sure(re.search(r" =\s+", text))
         found.append(Part(" ".join(text[:sign.start()].split()), text[sign.end():],
                           at + first + sign.end()))
     return tuple(found)
@@ -135,7 +137,7 @@ def fields(block: str, at: int) -> tuple[Part, ...]:
 
 def definition(module: str, at: int, block: str) -> Definition | None:
     """Reads a definition of a module; None where it is data."""
-    head = HEAD.match(block)
+    head = sure(HEAD.match(block))
     name = head.group(2)
     if head.group(1) == "record ":
         line = at + block.find("\n") + 1
@@ -143,9 +145,9 @@ def definition(module: str, at: int, block: str) -> Definition | None:
     if head.group(1):
         return None
     parts = equations(name, block, at)
-    of = block[head.end():re.search(rf"\n{re.escape(name)}(?=[ \n])", block).start()]
+    of = block[head.end():sure(re.search(rf"\n{re.escape(name)}(?=[ \n])", block)).start()]
     result = split(tokens(of.partition(":")[2]), "→")[-1]
-    given = result[0] if result[:1] in (["Type"], ["Bool"]) else "other"
+    given = str(result[0]) if result[:1] in (["Type"], ["Bool"]) else "other"
     return Definition(module, name, given, parts, at)
 
 
@@ -171,9 +173,9 @@ def imported(crate: str, text: str) -> dict[str, str]:
 
 # ---- where they stand
 
-def tokens(text: str) -> list[list[list[list[str] | str] | str] | str]:
+def tokens(text: str) -> Words:
     """Reads a text as words, and groups of words within brackets."""
-    groups = [[]]
+    groups: list[Words] = [[]]
     for token in TOKEN.findall(text):
         if token in "([{":
             groups.append([])
@@ -185,10 +187,9 @@ def tokens(text: str) -> list[list[list[list[str] | str] | str] | str]:
     return groups[0]
 
 
-def split(items: list[list[list[list[str] | str] | str] | str],
-          *signs: str) -> list[list[list[list[Any] | str] | str]]:
+def split(items: Words, *signs: str) -> list[Words]:
     """Divides words at the signs between them."""
-    parts = [[]]
+    parts: list[Words] = [[]]
     for item in items:
         if isinstance(item, str) and item in signs:
             parts.append([])
@@ -197,8 +198,7 @@ def split(items: list[list[list[list[str] | str] | str] | str],
     return parts
 
 
-def bare(items: list[list[list[list[str] | str] | str] | str]
-        ) -> list[list[list[list[str] | str] | str] | str]:
+def bare(items: Words) -> Words:
     """Takes off the brackets around all of the words, but of a variable with its type that type."""
     while len(items) == 1 and isinstance(items[0], list):
         items = items[0]
@@ -207,7 +207,7 @@ def bare(items: list[list[list[list[str] | str] | str] | str]
     return items
 
 
-def both(items: list[list[list[list[Any] | str] | str] | str]) -> Iterator[tuple[str, int]]:
+def both(items: Sequence[str | Words]) -> Iterator[tuple[str, int]]:
     """Yields the names in words, wherever they stand, both ways."""
     for item in items:
         if isinstance(item, list):
@@ -216,8 +216,7 @@ def both(items: list[list[list[list[Any] | str] | str] | str]) -> Iterator[tuple
             yield from ((item, BELOW), (item, ABOVE))
 
 
-def in_type(items: list[list[list[list[str] | str] | str] | str],
-            way: int) -> Iterator[tuple[str, int]]:
+def in_type(items: Words, way: int) -> Iterator[tuple[str, int]]:
     """Yields the names in a type, with the way in which they stand there."""
     items = bare(items)
     *premises, last = split(items, "→")
@@ -238,8 +237,7 @@ def in_type(items: list[list[list[list[str] | str] | str] | str],
         yield from in_call(items, way)
 
 
-def in_equation(sides: list[list[list[list[Any] | str] | str]],
-                way: int) -> Iterator[tuple[str, int]]:
+def in_equation(sides: list[Words], way: int) -> Iterator[tuple[str, int]]:
     """Yields those in an equation: of a value that holds, of one that does not, or of two."""
     for side, other in (sides, sides[::-1]):
         if bare(other) in (["true"], ["false"]):
@@ -248,18 +246,17 @@ def in_equation(sides: list[list[list[list[Any] | str] | str]],
     yield from both(sides)
 
 
-def otherwise(items: list[list[str] | str], then: int) -> int:
+def otherwise(items: Words, then: int) -> int:
     """Gives where the `else` stands that belongs to a `then`."""
     depth = 1
     for at in range(then + 1, len(items)):
-        depth += {"if": 1, "else": -1}.get(items[at] if isinstance(items[at], str) else "", 0)
+        depth += (items[at] == "if") - (items[at] == "else")
         if not depth:
             return at
     return len(items)
 
 
-def in_value(items: list[list[list[list[str] | str] | str] | str],
-             way: int) -> Iterator[tuple[str, int]]:
+def in_value(items: Words, way: int) -> Iterator[tuple[str, int]]:
     """Yields those in a value that is true or false, where `true` stands that way."""
     items = bare(items)
     parts = split(items, "&&", "||")
@@ -278,13 +275,13 @@ def in_value(items: list[list[list[list[str] | str] | str] | str],
         yield from in_value(items[1:], -way)
     elif isinstance(items[0], str) and items[0] in GROWING:
         for item in items[1:]:
-            yield from in_value(item, way) if bare([item])[:1] == ["λ"] else both([item])
+            is_function = isinstance(item, list) and bare([item])[:1] == ["λ"]
+            yield from in_value([item], way) if is_function else both([item])
     else:
         yield from in_call(items, way)
 
 
-def in_call(items: list[list[list[list[str] | str] | str] | str],
-            way: int) -> Iterator[tuple[str, int]]:
+def in_call(items: Words, way: int) -> Iterator[tuple[str, int]]:
     """Yields the first name of words that way, and those that it is given both ways."""
     if items and isinstance(items[0], str):
         yield items[0], way
@@ -305,9 +302,11 @@ def named_by(one: Definition, way: int) -> Iterator[tuple[str, int]]:
 @cache
 def ways(crate: str) -> dict[tuple[str, str], set[int]]:
     """Gives in which ways each definition of a crate stands in its laws, by module and name."""
-    every, found, left = definitions(crate), {}, []
+    every = definitions(crate)
+    found: dict[tuple[str, str], set[int]] = {}
+    left: list[tuple[tuple[str, str], int]] = []
 
-    def note(names: Iterator[Any], places: dict[str, str], module: str) -> None:
+    def note(names: Iterator[tuple[str, int]], places: dict[str, str], module: str) -> None:
         for name, way in names:
             key = (places.get(name, module), name)
             if key in every and way not in found.setdefault(key, set()):
@@ -346,8 +345,9 @@ def values(one: Definition, way: int) -> str:
 def is_said(text: str) -> bool:
     """Says whether the type of a field is something that holds or not, and no set of values."""
     items = split(tokens(text), "→")[-1]
+    first = items[0] if items and isinstance(items[0], str) else ""
     return bool(RELATIONS & {item for item in items if isinstance(item, str)}) or (
-        len(items) > 1 and items[0][:1].isupper() and items[0] not in ("List", "Option"))
+        len(items) > 1 and first[:1].isupper() and first not in ("List", "Option"))
 
 
 def of_definition(crate: str, one: Definition, way: int) -> Iterator[Plant]:
@@ -377,7 +377,7 @@ def of_definitions(crate: str) -> Iterator[Plant]:
             yield from of_definition(crate, one, way)
 
 
-def plants(crate: str, kinds: tuple[str, str, str, str]) -> list[Plant]:
+def plants(crate: str, kinds: tuple[str, ...]) -> list[Plant]:
     """Lists the plants of these kinds in a crate."""
     return [plant for plant in (*of_clauses(crate), *of_definitions(crate)) if plant.kind in kinds]
 

@@ -9,6 +9,7 @@ from collections.abc import Iterator
 from contextlib import contextmanager, redirect_stderr
 from io import StringIO
 from pathlib import Path
+from unittest import mock
 
 from lemdwab.commands import chain, check, from_memory, linters, outside
 from lemdwab.running import TOP
@@ -145,6 +146,13 @@ class Linters(unittest.TestCase):
                                          "tools/lemdwab/running.py")]
         for name in linters.LINTERS:
             self.assertTrue(list(linters.commands_of(name, files)), name)
+
+    def test_in_its_place(self) -> None:
+        """flake8 looks at Python where it is installed and ruff is not."""
+        for there, looks in (({"ruff", "flake8"}, "ruff"), ({"flake8"}, "flake8"), (set(), "ruff")):
+            with mock.patch("shutil.which", lambda name, there=there: name in there):
+                found = list(linters.commands_of("ruff", [TOP / "suite/hunt"]))
+            self.assertEqual([command[0] for command in found], [looks], there)
 
 
 class Outside(unittest.TestCase):

@@ -5,7 +5,7 @@ A set of sources is an int whose bit s is source s; bit 0 is never set in one th
 
 from __future__ import annotations
 
-from collections.abc import Iterator
+from collections.abc import Callable, Iterator
 
 from lemdwab.apart.interrupt_file import swapped
 
@@ -246,7 +246,8 @@ class Domain:
             return self.genmsi
         if index < self.aplic.harts:
             if register in CONTROLS:
-                return getattr(self, register)[index]
+                numbers: list[int] = getattr(self, register)
+                return numbers[index]
             if register == "topi":
                 return self.top(index)
             if register == "claimi":
@@ -260,8 +261,9 @@ TOUCHES = {"setip": Domain.set_pending, "setipnum": Domain.set_pending,
            "setie": Domain.set_enabled, "setienum": Domain.set_enabled,
            "clrie": Domain.clear_enabled, "clrienum": Domain.clear_enabled}
 CONTROLS = {"idelivery": 1, "iforce": 1, "ithreshold": 0xff}
-WORDS = {"setip": lambda domain: domain.pending, "in_clrip": Domain.inputs,
-         "setie": lambda domain: domain.enabled}
+WORDS: dict[str, Callable[[Domain], int]] = {
+    "setip": lambda domain: domain.pending, "in_clrip": Domain.inputs,
+    "setie": lambda domain: domain.enabled}
 
 
 class Aplic:

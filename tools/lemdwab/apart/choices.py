@@ -48,7 +48,7 @@ def take(names: list[str]) -> None:
 def told() -> Iterator[str]:
     """Says each choice in a line."""
     for name, change in CHOICES.items():
-        words = " ".join(change.__doc__.split())
+        words = " ".join((change.__doc__ or "").split())
         yield f"    {name}{' (not of all)' if name in APART else ''}\n        {words}"
 
 
@@ -57,7 +57,7 @@ def told() -> Iterator[str]:
 @choice
 def thresholds_of_eleven_bits() -> None:
     """eithreshold keeps 11 bits."""
-    InterruptFile.kept_threshold = lambda file, value: value & 0x7ff
+    setattr(InterruptFile, "kept_threshold", lambda file, value: value & 0x7ff)
 
 
 @choice
@@ -69,13 +69,13 @@ def delivery_by_the_aplic() -> None:
                "clear": old & ~operand}[operation]
         file.delivery = new if new in legal else old
         return old
-    InterruptFile.access_delivery = access
+    setattr(InterruptFile, "access_delivery", access)
 
 
 @choice
 def select_numbers_of_nine_bits() -> None:
     """A select CSR keeps 9 bits."""
-    def access(old: Callable[..., Any], file: InterruptFile, csr: str, *words: int | str) -> int:
+    def access(old: Callable[..., int], file: InterruptFile, csr: str, *words: int | str) -> int:
         read = old(file, csr, *words)
         file.select &= 0x1ff
         return read
@@ -85,7 +85,7 @@ def select_numbers_of_nine_bits() -> None:
 @choice
 def numbers_of_no_register_read_0() -> None:
     """An access by a select number that names no register reads 0, and raises nothing."""
-    def access(old: Callable[..., Any], file: InterruptFile, *words: int | str) -> int:
+    def access(old: Callable[..., int], file: InterruptFile, *words: int | str) -> int:
         try:
             return old(file, *words)
         except Refused:
@@ -96,7 +96,7 @@ def numbers_of_no_register_read_0() -> None:
 @choice
 def registers_above_the_greatest_raise() -> None:
     """eip and eie above the greatest identity are not there."""
-    def access(old: Callable[..., Any], file: InterruptFile, select: int, *words: int | str) -> int:
+    def access(old: Callable[..., int], file: InterruptFile, select: int, *words: int | str) -> int:
         if 32 * (select & 0x3f) > file.greatest:
             raise Refused("illegal")
         return old(file, select, *words)
@@ -194,7 +194,7 @@ def level_modes_ask_for_nothing() -> None:
 @choice
 def first_targets_are_anything() -> None:
     """The target of a source that becomes active is any legal one."""
-    Domain.first_target = lambda domain: 0x40055 if domain.by_msi else 0x40007
+    setattr(Domain, "first_target", lambda domain: 0x40055 if domain.by_msi else 0x40007)
 
 
 @choice
@@ -214,7 +214,7 @@ def modes_begin_anew() -> None:
 @choice
 def hart_indexes_are_kept() -> None:
     """target keeps the index of a hart that isn't there."""
-    Domain.hart_kept = lambda domain, value: field(value, 31, 18) << 18
+    setattr(Domain, "hart_kept", lambda domain, value: field(value, 31, 18) << 18)
 
 
 @choice
@@ -307,10 +307,10 @@ def big_endian_domains() -> None:
               value: int) -> None:
         value = swapped(value) if is_reversed(domain, register) else value
         if register == "domaincfg":
-            domain.is_reversed = bool(value & 1)
+            setattr(domain, "is_reversed", bool(value & 1))
         old(part, domain, register, index, value)
 
-    def load(old: Callable[..., Any], part: Aplic, domain: Domain, register: str,
+    def load(old: Callable[..., int], part: Aplic, domain: Domain, register: str,
              index: int) -> int:
         value = old(part, domain, register, index)
         value |= register == "domaincfg" and getattr(domain, "is_reversed", False)
@@ -347,7 +347,7 @@ def msis_go_backwards() -> None:
 @choice
 def msis_take_their_time() -> None:
     """An MSI arrives later than the access that made it ready."""
-    FixedMachine.changed = lambda chip: None
+    setattr(FixedMachine, "changed", lambda chip: None)
 
 
 @apart
@@ -382,7 +382,7 @@ def all_begins_with_anything() -> None:
         for domain in (chip.aplic.root, chip.aplic.child):
             for name, bits in CONTROLS.items():
                 setattr(domain, name, [draw.getrandbits(8) & bits for _ in range(fixed.HARTS)])
-    FixedMachine.reset = reset
+    setattr(FixedMachine, "reset", reset)
 
 
 def begin_source(part: Aplic, source: int, draw: random.Random) -> None:
@@ -412,7 +412,7 @@ def identities_to_2047() -> None:
 @choice
 def accesses_at_odd_places_do_nothing() -> None:
     """A load or store at no multiple of 4 is ignored."""
-    def load(old: Callable[..., Any], chip: FixedMachine, address: int) -> int:
+    def load(old: Callable[..., int], chip: FixedMachine, address: int) -> int:
         return 0 if address % 4 else old(chip, address)
 
     def store(old: Callable[..., Any], chip: FixedMachine, address: int, value: int) -> None:

@@ -35,7 +35,7 @@ def script_of(seed: int, options: argparse.Namespace) -> bytes:
     return random_script(seed, count, options.without_images, options.mood)
 
 
-def run(program: str, script: bytes) -> tuple[bytes, None]:
+def run(program: str, script: bytes) -> tuple[bytes, str | None]:
     """What the program prints for a script, within the limits, and how it ended."""
     ran = running.run([program, "replay"], script, TIME_LIMIT, OUTPUT_LIMIT)
     return ran.output, ran.fault() or None
@@ -56,7 +56,7 @@ def answered(script: bytes) -> Iterator[tuple[int, bytes, str]]:
 
 
 def first_difference(seed: int, script: bytes, wanted: bytes, found: bytes, ended: str | None
-                    ) -> tuple[str, str]:
+                     ) -> tuple[str, str]:
     """The form of the first line whose answers differ, and what to say of it."""
     difference, lines = (answers.first_difference(script, wanted, found, answers.Known()),
                          answers.lines(script))
@@ -72,13 +72,13 @@ def first_difference(seed: int, script: bytes, wanted: bytes, found: bytes, ende
 
 
 def compare(work: tuple[int, argparse.Namespace]
-           ) -> tuple[int, Counter[Any], tuple[str, str] | None]:
+            ) -> tuple[int, Counter[Any], tuple[str, str] | None]:
     """One seed: its counts and, where there is one, its difference."""
     seed, options = work
     script = script_of(seed, options)
     wanted = model.answers(script)
     found, ended = run(options.program, script)
-    counts = Counter()
+    counts: Counter[tuple[str, str]] = Counter()
     for (_, text, form), answer in zip(answered(script), wanted.decode().split("\n")):
         counts[form, answer if answers.is_refused(answers.shown(text), answer) else ""] += 1
     if wanted == found and not ended:
@@ -121,7 +121,9 @@ def main() -> int:
     check_program(options.program)
     if options.plant:
         plants.plant(options.plant)
-    counts, differing, scripts, told = Counter(), Counter(), 0, 0
+    counts: Counter[tuple[str, str]] = Counter()
+    differing: Counter[str] = Counter()
+    scripts = told = 0
     work = ((seed, options) for seed in range(options.first, options.last + 1))
     with Pool(options.processes) as pool:
         for seed, found, difference in pool.imap_unordered(compare, work, chunksize=8):

@@ -79,10 +79,12 @@ class FixedMachine:
     def store(self, address: int, value: int) -> None:
         """A store of 32 bits."""
         domain, file = self.domain_at(address), self.file_at(address)
-        if address % 4 or not (domain or file):
+        if address % 4:
             raise Fault
         if file:
             file.store(address % PAGE, value)
+        elif not domain:
+            raise Fault
         else:
             self.aplic.store(domain, *register_at(address % REGION_BYTES), value)
         self.changed()

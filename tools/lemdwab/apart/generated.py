@@ -8,6 +8,7 @@ from __future__ import annotations
 from collections.abc import Iterator
 
 from lemdwab.apart import model, words
+from lemdwab.apart.moves import VirtualHart
 
 MULTIPLIER, INCREMENT = 6364136223846793005, 1442695040888963407
 
@@ -43,12 +44,17 @@ def body(count: int, seed: int) -> Iterator[str]:
 
 def tell(count: int, seed: int) -> None:
     """Runs the script, and prints its four numbers."""
-    notices, notify = [], model.Machine.notify
-    model.Machine.notify = lambda machine, hart: (notices.append(hart), notify(machine, hart))
+    notices: list[VirtualHart] = []
+    notify = model.Machine.notify
+
+    def noted(machine: model.Machine, hart: VirtualHart) -> None:
+        notices.append(hart)
+        notify(machine, hart)
+    setattr(model.Machine, "notify", noted)
     script, lines, claims, total = model.Script(), 0, 0, 0
     for line in [*head(), *body(count, seed)]:
         lines += 1
-        answer = script.answer(line.encode())
+        answer = script.answer(line.encode()) or ""
         if line.split()[-2] == "stopei" and answer.startswith("0x") and int(answer, 16):
             claims, total = claims + 1, total + (int(answer, 16) & 0x7ff)
     print(f"lines {lines}\nclaims {claims}\nnotices {len(notices)}\nsum {total % 2 ** 64}")

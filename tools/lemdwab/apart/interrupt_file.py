@@ -123,7 +123,7 @@ class InterruptFile:
         """eip k or eie k: the identities 32k to 32k + 63, of which those that the file has."""
         first = 32 * (select & 0x3f)
         name = "enabled" if select >= 0xc0 else "pending"
-        members = getattr(self, name)
+        members: int = getattr(self, name)
         old = members >> first & ALL
         if operation != "read":
             new = written(operation, operand, old) & ALL

@@ -10,6 +10,7 @@ wrong.
 from __future__ import annotations
 
 import sys
+from collections.abc import Callable
 from typing import TYPE_CHECKING
 
 from lemdwab.apart import reading
@@ -183,6 +184,7 @@ class Machine:
         domain, file = self.place_at(address)
         if file:
             file.store(address & 0xfff, value)
+        if not domain:
             return "ok"
         register, index = register_at(address & 0x7fff)
         unless(not self.redirects(domain, register, index, value), "guarded")
@@ -496,7 +498,8 @@ class Script:
 
 NAMES = [name for name, _ in reading.BY_KEYWORDS.values() if name != "machine"]
 NAMES += ["m", "h", "hgeip", "g", "ipi", *("load_" + part.decode() for part in reading.PARTS)]
-METHODS = {name: getattr(Machine, "pass_" if name == "pass" else name) for name in NAMES}
+METHODS: dict[str, Callable[..., str]] = {
+    name: getattr(Machine, "pass_" if name == "pass" else name) for name in NAMES}
 
 
 def answers(script: bytes) -> bytes:

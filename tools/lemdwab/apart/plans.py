@@ -10,6 +10,7 @@ from __future__ import annotations
 
 import random
 import subprocess
+from collections.abc import Callable
 
 from lemdwab.apart import words
 from lemdwab.apart.reading import LINE_BYTES, number
@@ -40,7 +41,7 @@ def step_of(text: str, words: int) -> tuple[str, int | None] | None:
 def keeps_routes(kind: str, steps: list[tuple[str, int | None]]) -> bool:
     """Part 1: each route is written once, and then put in force once; a leave says before where
     notices go, and no other move does."""
-    places = {}
+    places: dict[str, list[int]] = {}
     for place, (name, _) in enumerate(steps):
         places.setdefault(name, []).append(place)
     own = RECORD_STEPS[kind]
@@ -55,7 +56,7 @@ def keeps_routes(kind: str, steps: list[tuple[str, int | None]]) -> bool:
 def takes_each(words: int, steps: list[tuple[str, int | None]]) -> bool:
     """Part 2: each pending word is taken once, after both fences."""
     begin = max(steps.index(("fence", None)), steps.index(("gfence", None)))
-    taken = [word for name, word in steps[begin:] if name == "takep"]
+    taken = [word for name, word in steps[begin:] if name == "takep" and word is not None]
     return sorted(taken) == list(range(words)) and len(taken) == sum(
         name == "takep" for name, _ in steps)
 
@@ -70,21 +71,22 @@ def puts_at_once(take: str, put: str, steps: list[tuple[str, int | None]]) -> bo
 
 def moves_enables(words: int, steps: list[tuple[str, int | None]]) -> bool:
     """Part 4: each word of the enables is taken once, and put at once."""
-    taken = sorted(word for name, word in steps if name == "takee")
+    taken = sorted(word for name, word in steps if name == "takee" and word is not None)
     return taken == list(range(words)) and puts_at_once("takee", "pute", steps)
 
 
 def verdict(kind: str, words: int, steps: list[tuple[str, int | None]]) -> str:
     """Which part of the rule is the first that a plan breaks."""
-    parts = (lambda: keeps_routes(kind, steps), lambda: takes_each(words, steps),
-             lambda: puts_at_once("takep", "putp", steps), lambda: moves_enables(words, steps))
+    parts: tuple[Callable[[], bool], ...] = (
+        lambda: keeps_routes(kind, steps), lambda: takes_each(words, steps),
+        lambda: puts_at_once("takep", "putp", steps), lambda: moves_enables(words, steps))
     broken = next((place for place, is_kept in enumerate(parts, 1) if not is_kept()), None)
     return f"refused {broken}" if broken else "accepted"
 
 
 def audit(kind: str, words: int, plan: str) -> str:
     """What is printed for the text of a plan."""
-    steps = []
+    steps: list[tuple[str, int | None]] = []
     for text in plan.split("\n"):
         if text == "" or text[0] == "#" and len(text) <= LINE_BYTES:
             continue
@@ -105,7 +107,7 @@ def core_plan(draw: random.Random, kind: str, words: int) -> list[str]:
     """A plan as the core's, with its words in any order."""
     blocks = moved_words(words)
     draw.shuffle(blocks)
-    middle = sum(blocks, [])
+    middle = [line for block in blocks for line in block]
     if kind == "leave":
         looks = [f"look {word}" for word in range(words)]
         return (["quiet", "word1", "word0", "fence", "unmap", "gfence"] + middle
@@ -147,7 +149,8 @@ def random_plan(draw: random.Random, kind: str, words: int) -> str:
 def main() -> int:
     program, seed, count = words.given(
         __doc__, lambda given: len(given) == 3 and words.are_numbers(given[1:]))
-    draw, counts, differing = random.Random(f"plans {seed}"), {}, 0
+    draw, differing = random.Random(f"plans {seed}"), 0
+    counts: dict[str, int] = {}
     for _ in range(int(count)):
         kind, width = draw.choice(list(RECORD_STEPS)), draw.choice(WIDTHS)
         plan = random_plan(draw, kind, width)

@@ -53,7 +53,7 @@ def in_source(owner: Any, name: str, old: str, new: str) -> None:
     text = textwrap.dedent(inspect.getsource(getattr(owner, name)))
     assert text.count(old) == 1, (name, old, text.count(old))
     scope = vars(sys.modules[owner.__module__])
-    made = {}
+    made: dict[str, Any] = {}
     exec(text.replace(old, new), scope, made)
     setattr(owner, name, made[name])
 
@@ -82,7 +82,7 @@ def exit_heeds_delivery() -> None:
 
 @planted
 def a_claim_from_memory_clears_the_word() -> None:
-    def g(old: Callable[..., Any], machine: Machine, vm: int, number: int, csr: str, operation: str,
+    def g(old: Callable[..., str], machine: Machine, vm: int, number: int, csr: str, operation: str,
           operand: int) -> str:
         hart = machine.hart_named(vm, number)
         top = hart.file.top()
@@ -100,7 +100,7 @@ def sip_is_answered_from_memory() -> None:
 
 @planted
 def own_writes_from_memory_send_notices() -> None:
-    def g(old: Callable[..., Any], machine: Machine, vm: int, number: int, csr: str, operation: str,
+    def g(old: Callable[..., str], machine: Machine, vm: int, number: int, csr: str, operation: str,
           operand: int) -> str:
         hart = machine.hart_named(vm, number)
         before = hart.file.pending & hart.file.enabled
@@ -208,7 +208,7 @@ def refetch_reaches_the_new_place_at_once() -> None:
 
 @planted
 def refetch_lands_what_is_in_flight() -> None:
-    def refetch(old: Callable[..., Any], machine: Machine, vm: int, number: int) -> str:
+    def refetch(old: Callable[..., str], machine: Machine, vm: int, number: int) -> str:
         answer = old(machine, vm, number)
         while machine.vms[vm].flight:
             machine.store_for(*machine.vms[vm].flight.pop(0))
@@ -354,7 +354,7 @@ def a_pass_is_aimed_one_step_early() -> None:
 
 @planted
 def passes_are_aimed_in_one_step() -> None:
-    def step(old: Callable[..., Any], machine: Machine, vm: int, number: int) -> str:
+    def step(old: Callable[..., str], machine: Machine, vm: int, number: int) -> str:
         hart = machine.hart_named(vm, number)
         answer = old(machine, vm, number)
         while hart.is_moving() and hart.aims and hart.next_aim():
@@ -629,7 +629,7 @@ def stopi_is_virtual_under_vti() -> None:
 
 @planted
 def hvictl_checks_iid_without_vti() -> None:
-    model.is_hvictl = lambda value: 1 <= value >> 16 & 0xfff <= 63
+    setattr(model, "is_hvictl", lambda value: 1 <= value >> 16 & 0xfff <= 63)
 
 
 # What lines name, and the order of words.
@@ -661,7 +661,7 @@ def unready_comes_before_passed() -> None:
 
 @planted
 def a_store_in_flight_that_names_no_identity_is_dropped() -> None:
-    def send(old: Callable[..., Any], machine: Machine, vm: int, address: int, value: int) -> str:
+    def send(old: Callable[..., str], machine: Machine, vm: int, address: int, value: int) -> str:
         answer = old(machine, vm, address, value)
         if not interrupt_file.requested(machine.greatest, address & 0xfff, value):
             machine.vms[vm].flight.pop()

@@ -14,7 +14,7 @@ from typing import Any
 from lemdwab.apart import compare, model, plants, words
 
 
-def told_by(script: bytes, wanted: list[str]) -> bool:
+def told_by(script: bytes, wanted: bytes) -> bool:
     """Whether the changed model answers otherwise, or not at all."""
     try:
         return model.answers(script) != wanted
@@ -22,7 +22,8 @@ def told_by(script: bytes, wanted: list[str]) -> bool:
         return True
 
 
-def try_plant(name: str, scripts: list[bytes], answers: list[bytes], results: Any) -> None:
+def try_plant(name: str, scripts: dict[int, bytes], answers: dict[int, bytes],
+              results: Any) -> None:
     """Plants an error and counts the scripts that tell it."""
     plants.plant(name)
     told, first = 0, None
@@ -45,7 +46,8 @@ def main() -> None:
     scripts = {seed: compare.script_of(seed, options)
                for seed in range(options.first, options.last + 1)}
     answers = {seed: model.answers(script) for seed, script in scripts.items()}
-    names, results = options.plants or list(plants.PLANTS), Queue()
+    names = options.plants or list(plants.PLANTS)
+    results: Queue[tuple[str, int, int | None]] = Queue()
     for start in range(0, len(names), 2):
         pair = [Process(target=try_plant, args=(name, scripts, answers, results))
                 for name in names[start:start + 2]]

@@ -13,11 +13,12 @@ from __future__ import annotations
 
 import random
 import sys
-from collections.abc import Callable
+from collections.abc import Mapping
 from pathlib import Path
-from typing import TYPE_CHECKING, Any
+from typing import TYPE_CHECKING, TypeVar
 
 from lemdwab.apart import model, vocabulary as say, words
+from lemdwab.apart.vocabulary import Action
 
 if TYPE_CHECKING:
     from lemdwab.scripts import Filter
@@ -31,6 +32,9 @@ FRUITLESS = 24
 TRIES = 400
 
 
+Choice = TypeVar("Choice")
+
+
 class Guess:
     """Where a virtual hart may be."""
 
@@ -41,6 +45,9 @@ class Guess:
         self.passes = 0
         self.sources: list[int] = []  # that seem to be passed to it
         self.holds: list[int] = []  # the harts of the guest files that it seems to have
+        # Where its move seems to end, and the harts of the guest files that it has then.
+        self.after = self.home
+        self.kept: list[int] = []
 
 
 class Generator:
@@ -70,20 +77,20 @@ class Generator:
         self.twin = model.Script() if self.mood == "images" or filter_ else None
         self.saved: list[str] = []  # parts of images, as they were printed
         # How often in a row an action said nothing that the filter keeps.
-        self.fruitless: dict[Callable[..., Any], int] = {}
+        self.fruitless: dict[Action, int] = {}
 
     # Numbers and choices.
 
     def chance(self, probability: float) -> bool:
         return self.random.random() < probability
 
-    def pick(self, *choices: Any) -> Any:
+    def pick(self, *choices: Choice) -> Choice:
         return self.random.choice(choices)
 
     def below(self, limit: int) -> int:
         return self.random.randrange(limit)
 
-    def weighted(self, table: dict[int | str, int]) -> int | str:
+    def weighted(self, table: Mapping[Choice, int]) -> Choice:
         return self.random.choices(list(table), weights=list(table.values()))[0]
 
     def number(self, value: int, hexadecimal: bool = False) -> str:
@@ -109,7 +116,7 @@ class Generator:
                    else self.number(word) if isinstance(word, int) else word for word in words]
         self.put(" ".join(spelled).encode())
         tries = TRIES if self.filter else 0
-        while tries and self.filter.wants_refused():
+        while tries and self.filter and self.filter.wants_refused():
             say.wrong(self)
             tries -= 1
 
@@ -234,7 +241,7 @@ class Generator:
             self.say("h", hart, "hgeip")
             self.say("pins", hart)
 
-    def act(self, action: Callable[..., Any], weights: dict[Callable[..., Any], float]) -> None:
+    def act(self, action: Action, weights: dict[Action, float]) -> None:
         """An action; of a filtered script, one that says nothing again and again is given up."""
         said = len(self.lines)
         action(self)
@@ -251,7 +258,7 @@ class Generator:
         room = 5 * len(self.guesses) + 3 * self.harts
         room = room if self.chance(0.7) and room < self.count // 3 and not self.filter else 0
         while len(self.lines) < self.count - room and weights:
-            for action in self.random.choices(list(weights), weights.values(), k=16):
+            for action in self.random.choices(list(weights), list(weights.values()), k=16):
                 self.act(action, weights)
         if room:
             self.finish()

@@ -8,6 +8,7 @@ operation and operand.
 from __future__ import annotations
 
 import re
+from collections.abc import Sequence
 from typing import Any
 
 LINE_BYTES = 128
@@ -40,8 +41,8 @@ LIMITS = {"n": 1 << 64, "w": 1 << 32, "b": 2}
 # The fields that follow each keyword, or both of two.
 FORMS = {
     "machine": "nnnn", "vm": "nnn", "wire": "nb", "ld": "n", "st": "nw", "msi": "nnw",
-         "send": "nnw",
-    "land": "nn", "refetch": "nn", "pass": "nnnn", "arrive": "nnn", "leave": "nn", "shift": "nnn",
+    "send": "nnw", "land": "nn", "refetch": "nn", "pass": "nnnn", "arrive": "nnn", "leave": "nn",
+    "shift": "nnn",
     "begin arrive": "nnn", "begin leave": "nn", "begin shift": "nnn", "step": "nn", "enter": "nn",
     "exit": "nn", "inject": "nnnb", "hvictl": "nnn", "hviprio": "nnn", "pins": "n", "entry": "nn",
     "save": "nnn",
@@ -64,7 +65,8 @@ def fields(kinds: str, words: list[bytes]) -> list[int] | None:
     if len(words) != len(kinds):
         return None
     found = [number(word, LIMITS[kind]) for kind, word in zip(kinds, words)]
-    return None if None in found else found
+    spelled = [value for value in found if value is not None]
+    return spelled if len(spelled) == len(found) else None
 
 
 def instruction(csrs: dict[bytes, str], words: list[bytes]) -> list[int | str] | None:
@@ -78,9 +80,9 @@ def instruction(csrs: dict[bytes, str], words: list[bytes]) -> list[int | str] |
 
 
 def joined(name: str, front: list[int] | None,
-           rest: list[int | str] | None) -> tuple[str, Any]:
+           rest: Sequence[int | str] | None) -> tuple[str, Any]:
     """A line of two parts, BAD where one of them spells nothing."""
-    return BAD if front is None or rest is None else (name, front + rest)
+    return BAD if front is None or rest is None else (name, [*front, *rest])
 
 
 def read_machine_csr(words: list[bytes]) -> tuple[str, Any]:

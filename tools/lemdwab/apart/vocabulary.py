@@ -5,12 +5,15 @@ from __future__ import annotations
 
 import re
 from collections.abc import Callable
-from typing import TYPE_CHECKING, Any
+from typing import TYPE_CHECKING
 
 from lemdwab.apart.interrupt_file import swapped
 
 if TYPE_CHECKING:
     from lemdwab.apart.random_scripts import Generator, Guess
+
+# Puts a few lines into a script.
+Action = Callable[..., object]
 
 ONES = (1 << 64) - 1
 ROOT, CHILD = 0x0c000000, 0x0c008000
@@ -437,10 +440,11 @@ def run(script: Generator) -> None:
     one = script.guess("parked")
     enter(script, one)
     for _ in range(script.below(8)):
-        script.pick(lambda s: s.say("msi", one.vm, (device_address(s, one),),
-                                    s.identity() % (1 << 32)),
-                    lambda s: guest_look(s, one), lambda s: ipi(s, one), guest,
-                    lambda s: host_look(s, s.vms[one.vm][2]))(script)
+        choices: tuple[Action, ...] = (
+            lambda s: s.say("msi", one.vm, (device_address(s, one),), s.identity() % (1 << 32)),
+            lambda s: guest_look(s, one), lambda s: ipi(s, one), guest,
+            lambda s: host_look(s, s.vms[one.vm][2]))
+        script.pick(*choices)(script)
     if script.chance(0.8):
         host_look(script, script.vms[one.vm][2])
         script.say("exit", one.vm, one.number)
@@ -712,8 +716,8 @@ def random_part(script: Generator) -> list[int | str | tuple[int]]:
                 script.pick(0, script.identity() % (1 << 32)),
                 (script.pick(select_number(script), 0xfff, 0x1000),)]
     if part == "majors":
-        return [part] + [(script.pick(0, 0x2222, 1 << script.pick(1, 5, 9, 13), script.below(0x4000)
-                                      & script.pick(0x2222, 0x2222, 0x3fff)),) for _ in range(2)]
+        return [part, *((script.pick(0, 0x2222, 1 << script.pick(1, 5, 9, 13), script.below(0x4000)
+                                     & script.pick(0x2222, 0x2222, 0x3fff)),) for _ in range(2))]
     if part == "prio":
         value = priority(script) << 8 | priority(script) << 24 | priority(script) << 40
         control = script.pick(0, 0x40090100, script.below(1 << 10), 0x40000000, 0x403f0000,
@@ -832,7 +836,8 @@ def repeat(script: Generator) -> None:
     script.put(sample(script))
 
 
-BACKGROUND = {device_store: 4, guest: 4, guest_look: 3, host_look: 3, ipi: 2, whole: 3, begin: 1.5,
+BACKGROUND: dict[Action, float] = {
+              device_store: 4, guest: 4, guest_look: 3, host_look: 3, ipi: 2, whole: 3, begin: 1.5,
               steps: 3,
               send: 1, sends: 0.1, land: 1, refetch: 0.7, hgeip: 1.5, pins: 1.5, host: 1.5,
               machine_level: 1, enter: 1,
@@ -840,8 +845,8 @@ BACKGROUND = {device_store: 4, guest: 4, guest_look: 3, host_look: 3, ipi: 2, wh
               pulse: 1.5,
               aplic_store: 1.5, aplic_load: 1.5, elsewhere: 1, host_file_store: 1, pass_source: 0.6,
               passed_registers: 0.6, entry: 0.8, bad: 1.2, again: 0.1, repeat: 1, new_vm: 0.25}
-IMAGES = {save: 1, load_random: 1.2, copy_image: 0.3}
-MOOD_WEIGHTS = {
+IMAGES: dict[Action, float] = {save: 1, load_random: 1.2, copy_image: 0.3}
+MOOD_WEIGHTS: dict[str, dict[Action, float]] = {
     "moves": {drill: 36, steps: 24, begin: 6, device_store: 18, send: 8, sends: 1, land: 6,
               refetch: 6, ipi: 10,
               host_look: 14, guest_look: 10, hgeip: 5, whole: 6},
@@ -866,7 +871,7 @@ MOOD_WEIGHTS = {
 }
 
 
-def weights_of(mood: str, without_images: bool) -> dict[Callable[..., Any], float]:
+def weights_of(mood: str, without_images: bool) -> dict[Action, float]:
     """How often each action is taken."""
     weights = {action: weight * 0.7 for action, weight in BACKGROUND.items()}
     if not without_images:

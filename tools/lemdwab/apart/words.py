@@ -4,6 +4,7 @@ wrong, or where it can't look."""
 from __future__ import annotations
 
 import argparse
+import os
 import subprocess
 import sys
 from collections.abc import Callable
@@ -48,7 +49,7 @@ def main(tool: Callable[[], int | None]) -> NoReturn:
         status = tool()
         sys.stdout.flush()
     except BrokenPipeError:
-        sys.stdout = None
+        sys.stdout = open(os.devnull, "w")
         status = 2
     except (OSError, subprocess.SubprocessError) as wrong:
         fail(wrong)

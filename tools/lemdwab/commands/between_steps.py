@@ -24,6 +24,7 @@ from typing import TYPE_CHECKING
 from lemdwab import between, running
 from lemdwab.apart import model, moves
 from lemdwab.between import KINDS, MOVES, Setting
+from lemdwab.running import sure
 
 if TYPE_CHECKING:
     from lemdwab.apart.model import Script
@@ -40,7 +41,7 @@ WIDE = re.compile("0x0*([0-9a-f]+)")
 
 def shown(answer: str) -> str:
     """Gives an answer as the table has it: numbers of 64 bits are cut."""
-    return f"x{WIDE.fullmatch(answer)[1]}" if len(answer) == 18 else answer
+    return f"x{sure(WIDE.fullmatch(answer))[1]}" if len(answer) == 18 else answer
 
 
 class Run:
@@ -55,7 +56,7 @@ class Run:
 
     def answers(self, lines: list[str]) -> list[str]:
         """Says lines, and lists their answers."""
-        return [shown(self.script.answer(line.encode())) for line in lines]
+        return [shown(sure(self.script.answer(line.encode()))) for line in lines]
 
     def steps(self, count: int) -> None:
         """Does so many steps of the move."""

@@ -39,7 +39,8 @@ def below_each(text: str) -> dict[str, list[str]]:
 
 def chains(below: dict[str, list[str]]) -> dict[str, list[str]]:
     """Gives the longest chain of each crate, the lowest crate first."""
-    found, begun = {}, []
+    found: dict[str, list[str]] = {}
+    begun: list[str] = []
 
     def chain(crate: str) -> list[str]:
         if crate in begun:

@@ -125,7 +125,7 @@ def over_one(name: str, command: list[str], path: str | None, options: Options, 
         running.check_started(ran, command)
         mine, fault = ran.output, ran.fault()
     else:
-        mine = answers_in(path)
+        mine = answers_in(running.sure(path))
     wanted = workers.submit(run_model, model, script, running.BUILDING).result()
     verdict = answers.Verdict(script, wanted, mine, options.known, options.is_strict)
     is_same = not verdict.count() and not fault

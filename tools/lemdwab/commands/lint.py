@@ -30,6 +30,7 @@ from typing import TYPE_CHECKING
 
 from lemdwab import answers, linting, running
 from lemdwab.apart import plans, reading
+from lemdwab.apart.model import is_machine_size
 from lemdwab.linting_plans import Judged, Said, notes, said_of
 
 if TYPE_CHECKING:
@@ -74,8 +75,9 @@ def language_of(texts: list[bytes]) -> tuple[str, dict[str, int]]:
 
 def reader_of(language: str, width: int | None) -> Audit | Judged | Script:
     """Gives what reads the lines of a file."""
-    return {"script": linting.Script, "judge": Judged,
-            "audit": lambda: linting.Audit(width)}[language]()
+    if language == "script":
+        return linting.Script()
+    return Judged() if language == "judge" else linting.Audit(width)
 
 
 class File:
@@ -84,10 +86,10 @@ class File:
     def __init__(self, name: str, data: bytes, language: str | None, width: int | None) -> None:
         self.name, self.size = name, len(data)
         # Of one that is too long the program answers the whole lines that it has read.
-        read = data if len(data) <= MOST_BYTES else data[:data.rfind(b"\n", 0, MOST_BYTES) + 1]
-        self.texts = reading.texts(read)
+        whole = data if len(data) <= MOST_BYTES else data[:data.rfind(b"\n", 0, MOST_BYTES) + 1]
+        self.texts = reading.texts(whole)
         first = FIRST_LINE.fullmatch(self.texts[0]) if self.texts else None
-        self.width = width or first and width_of(first[1].decode())
+        self.width = width or (width_of(first[1].decode()) if first else None)
         self.is_dos = 0 < data.count(b"\n") == data.count(b"\r\n")
         like, read = language_of(self.texts)
         # A file without a line is of no language; that of a plan says so by its name.
@@ -129,12 +131,15 @@ class File:
 
     def warn_of_machines(self) -> None:
         """Warns of a script whose first good line does not make a machine."""
-        read = ((number, reading.read(text)) for number, text in enumerate(self.texts, 1))
-        for number, (name, fields) in (one for one in read if one[1] not in (None, reading.BAD)):
+        for number, text in enumerate(self.texts, 1):
+            read = reading.read(text)
+            if read is None or read == reading.BAD:
+                continue
+            name, fields = read
             if name != "machine":
                 print(f"{self.name}:{number}:1: warning: no machine stands before this line, which"
                       " is answered nomachine")
-            elif not answers.is_machine_size(*fields):
+            elif not is_machine_size(*fields):
                 print(f"{self.name}:{number}:1: warning: no machine has these sizes: they are"
                       f" {answers.SIZES}; the answer is range, and that of the lines behind it"
                       " nomachine")
@@ -184,7 +189,7 @@ def main() -> int:
         running.usage(f"{late} stands behind a file: options come first, and a file is ./{late}")
     is_bad = False
     for name in rest:
-        file = File(name, contents(name), language, width and width_of(width))
+        file = File(name, contents(name), language, width_of(width) if width else None)
         bad = file.told()
         is_bad |= file.warned()
         print(file.verdict(bad))

@@ -4,8 +4,8 @@
 
     shellcheck  each script of a shell, by .shellcheckrc
     cc          each file of C that this machine can compile, with -Wall -Wextra -Werror
-    ruff        Python, by tools/pyproject.toml
-    mypy        the package tools/lemdwab, strictly, by the same file
+    ruff        Python, by tools/pyproject.toml; where it is not installed flake8, by tools/.flake8
+    mypy        the package tools/lemdwab, strictly, by tools/pyproject.toml
 
 Runs all of these, or those named, and says of one that is not installed that it is not. What a
 linter finds is printed as it says it. C that is compiled for RISC-V is looked at where
@@ -14,6 +14,7 @@ minute. Ends with status 1 where something is found, 2 where words are wrong. Ne
 later, and git.
 """
 
+import os
 import shutil
 from collections.abc import Iterator
 from pathlib import Path
@@ -30,8 +31,12 @@ HERE = ("examples/*.c", "suite/library/*.c")
 CROSS = "riscv64-linux-gnu-gcc"
 THERE = ("peers/linux/guest/guest.c", "peers/linux/guest/machines.c")
 FLAGS = ["-I", str(TOP / "include"), "-I", str(TOP / "suite/library")]
+COMPILERS: tuple[tuple[str, tuple[str, ...], list[str]], ...] = (
+    ("cc", HERE, FLAGS), (CROSS, THERE, []))
 # Fronts have no ending, and are of Python too.
 SHELLS, PYTHON = ("sh", "bash"), "python3"
+RUFF = ["ruff", "check", "--no-cache", "--config", CONFIGURATION]
+IN_ITS_PLACE = ["flake8", "--config", str(TOP / "tools/.flake8")]
 CACHES = ["--cache-dir", "/dev/null"]
 
 
@@ -63,14 +68,15 @@ def commands_of(name: str, files: list[Path]) -> Iterator[list[str]]:
     if name == "shellcheck":
         yield ["shellcheck", *(str(path) for path in files if language(path) in SHELLS)]
     if name == "cc":
-        for compiler, patterns, flags in (("cc", HERE, FLAGS), (CROSS, THERE, [])):
+        for compiler, patterns, flags in COMPILERS:
             for path in files:
                 if any(path.relative_to(TOP).match(pattern) for pattern in patterns):
                     yield [compiler, *WARNINGS, *flags, str(path)]
     if name == "ruff":
         python = [str(path) for path in files
                   if language(path) == PYTHON and "crates" not in path.parts]
-        yield ["ruff", "check", "--no-cache", "--config", CONFIGURATION, *python]
+        is_there = shutil.which("ruff") or not shutil.which(IN_ITS_PLACE[0])
+        yield [*(RUFF if is_there else IN_ITS_PLACE), *python]
     if name == "mypy":
         yield ["mypy", "--config-file", CONFIGURATION, *CACHES, str(TOP / "tools/lemdwab")]
 
@@ -103,6 +109,8 @@ def main() -> int:
     unknown = [name for name in names if name not in LINTERS]
     if unknown:
         running.usage(f"there is no linter {unknown[0]!r}: there are {', '.join(LINTERS)}")
+    # flake8 takes its exceptions for folders from where it is run.
+    os.chdir(TOP)
     with running.Workers(1) as workers:
         files = tracked(workers)
         wrong = sum(looks(workers, name, files) for name in names or LINTERS)

@@ -4,11 +4,11 @@
 
 Reads the code and the definitions of all crates, and takes from src/ each struct, enum, trait and
 type that is `pub`, and from specs/ each record, data and abbreviation of a type that is `pub`.
-docs/make/names.txt names what is kept in several crates, with its reason. Prints each other name that stands in more than one
-crate, with its places, and each line of that table that does not hold, and ends with status 1 where
-there is any; else prints how many names there are, and how many are kept. With `try` it first
-sees that it finds what is planted, and nothing else. What is `pub(crate)` does not count, nor does
-a name that a definition has which is no type. It needs Python 3.10 or
+docs/make/names.txt names what is kept in several crates, with its reason. Prints each other name
+that stands in more than one crate, with its places, and each line of that table that does not hold,
+and ends with status 1 where there is any; else prints how many names there are, and how many are
+kept. With `try` it first sees that it finds what is planted, and nothing else. What is `pub(crate)`
+does not count, nor does a name that a definition has which is no type. It needs Python 3.10 or
 later, ends within a minute and prints at most 200 lines; a table that is wrong ends it with
 status 2.
 """
@@ -89,7 +89,7 @@ def faults(found: defaultdict[str, list[tuple[str, str]]], kept: dict[str, list[
 # ---- what is planted
 
 # What two files have, by their places below crates/, and the names that stand twice in them.
-PLANTED = [
+PLANTED: list[tuple[str, str, str, str, list[str]]] = [
     ("a/src/lib.rt", "pub struct Place {", "b/src/lib.rt", "pub enum Place {", ["Place"]),
     ("a/src/lib.rt", "    pub trait Kind: Drop {", "b/src/b.rt", "pub type Kind = u8;", ["Kind"]),
     ("a/src/lib.rt", "pub struct Hand;", "b/specs/B.antt", "pub record Hand : Type 0 where",
@@ -125,8 +125,10 @@ def see_planted() -> None:
             print(f"names: found {several}, not {names}:\n{its_text}\n{other_text}")
             sys.exit(1)
         kept = {name: [file for file, _ in found[name]] for name in several}
-        for table, is_wrong in ((kept, False), ({}, bool(names)), ({"No": [one, other]}, True),
-                                ({name: [one] for name in names}, bool(names))):
+        tables: list[tuple[dict[str, list[str]], bool]] = [
+            (kept, False), ({}, bool(names)), ({"No": [one, other]}, True),
+            ({name: [one] for name in names}, bool(names))]
+        for table, is_wrong in tables:
             if bool(faults(found, table)) != is_wrong:
                 print(f"names: with the table {table} it says {faults(found, table)}")
                 sys.exit(1)

@@ -7,7 +7,7 @@
     chain         no chain of crates is too long
     names         no two crates have a public type of one name
     step-numbers  no number of a step stands outside the plans
-    linters       shellcheck, the C compiler, ruff and mypy, where they are installed
+    linters       shellcheck, the C compiler, ruff or flake8, and mypy, where they are installed
     units         the unit tests of tools/lemdwab
     statuses      the exit statuses of the programs
     isolation     a VM is answered as if it were alone: 200 pairs of scripts
@@ -23,8 +23,8 @@ Runs all of these, or those named, NUMBER at a time, else 2, and prints a line a
 status, and how long it took. Of one that does not end with 0 it also prints what that printed, its
 last 100 lines. The programs are those of the variables PROGRAM and PLANS, and the library is in the
 folder of the variable LIBRARY, which ./library made; else they are those of this repository, which
-are built first where they have to be. All of it takes some fifteen minutes on two processors that do
-nothing else. Each may take half an hour, and is ended then.
+are built first where they have to be. All of it takes some fifteen minutes on two processors that
+do nothing else. Each may take half an hour, and is ended then.
 
 Ends with the first status that is not 0, in the order above, or with 2 where one was ended, words
 are wrong, or a program can't be built. Needs Python 3.10 or later.
@@ -118,7 +118,7 @@ def made(workers: running.Workers, command: list[str], text: bytes) -> None:
 
 def commands_of(name: str, library: str) -> list[list[str]]:
     """Lists the commands of a name; those of the library are told where it stands."""
-    given = {OF_THE_LIBRARY: [library], "examples": []}.get(name, [])
+    given = [library] if name == OF_THE_LIBRARY else []
     found = [[*command, *given] for command in CHECKS[name]]
     if name == "examples":
         found[-1].append(os.environ["PLANS"])

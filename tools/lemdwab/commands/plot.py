@@ -35,7 +35,7 @@ REST = ("all else", "#9aa5b1")
 LEFT, WIDTH, ROW, TOP_EDGE = 150, 620, 26, 96
 
 
-def scripts_in(folder: Path) -> None:
+def scripts_in(folder: str) -> None:
     """Makes the scripts, each cut to its first lines."""
     subprocess.run([HERE / "scripts", folder, *SCRIPTS], check=True, timeout=SECONDS)
     for name in SCRIPTS:
@@ -58,14 +58,15 @@ def counted(script: Path, folder: str) -> dict[str, int]:
 
 def own_counts(text: str) -> dict[str, int]:
     """Reads what callgrind wrote: the instructions of each function without those that it calls."""
-    names, counts, name, called = {}, {}, "", False
+    names: dict[str, str] = {}
+    counts: dict[str, int] = {}
+    name, called = "", False
     for line in text.splitlines():
-        function = re.match(r"fn=\((\d+)\)(?: (.*))?", line)
-        if function:
-            name = names.setdefault(function[1], function[2])
-        elif line.startswith(("cfn=", "cfni=")):
-            function = re.match(r"cfni?=\((\d+)\)(?: (.*))?", line)
-            names.setdefault(function[1], function[2])
+        function = re.match(r"(fn|cfni?)=\((\d+)\)(?: (.*))?", line)
+        if function and function[1] == "fn":
+            name = names.setdefault(function[2], function[3])
+        elif function:
+            names.setdefault(function[2], function[3])
         elif line.startswith("calls="):
             called = True
         elif re.match(r"[+\-*\d]", line):
@@ -90,6 +91,7 @@ def drawn(rows: list[tuple[str, list[float]]]) -> str:
     height = TOP_EDGE + ROW * len(rows) + 24
     picture = Picture(LEFT + WIDTH + 80, height, "Instructions a line, and where they go")
     picture.text(16, 24, "Instructions a line, and where they go", 16, bold=True)
+    x: float
     x, y = 16, 44
     for words, color in [part[:2] for part in PARTS] + [REST]:
         if x + 24 + 6.6 * len(words) > LEFT + WIDTH + 80:

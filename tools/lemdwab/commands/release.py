@@ -96,9 +96,9 @@ def built(looks: Looks, folder: Path) -> list[str]:
         ran = looks.run(TOP / "plans", "judge", text=text, seconds=running.BUILDING)
         if ran.fault():
             running.fail(f"./plans can't be built: {ran.fault()}")
-        plans = TOP / "crates/plans/out/plans"
+        plans = str(TOP / "crates/plans/out/plans")
     if not library:
-        library = folder / "library"
+        library = str(folder / "library")
         ran = looks.run(TOP / "library", library, seconds=running.BUILDING)
         if ran.fault():
             running.fail(f"./library can't be built: {ran.fault()}")
@@ -147,7 +147,7 @@ def runs(root: installed.Root, version: str) -> Iterator[str]:
         text = running.contents(TOP / file) if file else b""
         ran = root.call(*words, text=text, seconds=300)
         if ran.status != status or wanted not in ran.output.decode(errors="replace"):
-            yield f"{' '.join(words)} ends with {ran.status}: {ran.output[-200:]} {ran.errors}"
+            yield f"{' '.join(words)} ends with {ran.status}: {ran.output[-200:]!r} {ran.errors}"
 
 
 def own_program(root: installed.Root, work: Path) -> Iterator[str]:

@@ -110,11 +110,14 @@ def tokens(crates: Path, file: str) -> list[tuple[str, Place]]:
 def all_tokens(crates: Path, files: list[str]) -> tuple[list[int], list[Place]]:
     """Gives the tokens of all files as numbers, with one of its own at the end of each file, and
     the place of each."""
-    numbers, codes, places = {}, [], []
+    numbers: dict[str | tuple[str, str], int] = {}
+    codes, places = [], []
     for file in files:
-        for token, place in [*tokens(crates, file), ((file, "end"), Place(file, 0, ""))]:
+        for token, place in tokens(crates, file):
             codes.append(numbers.setdefault(token, len(numbers) + 1))
             places.append(place)
+        codes.append(numbers.setdefault((file, "end"), len(numbers) + 1))
+        places.append(Place(file, 0, ""))
     return codes, places
 
 
@@ -158,7 +161,7 @@ def declarations(crates: Path, file: str) -> list[tuple[Place, str, list[str]]]:
     """Lists the declarations of a file as (place, type, clauses), each in one line; a record has no
     type, and one clause."""
     text = re.sub(r"(?m)--.*$", "", text_of(crates, file))
-    found = []
+    found: list[tuple[Place, list[str]]] = []
     for number, line in enumerate(text.split("\n"), 1):
         head, record = HEAD.match(line), RECORD.match(line)
         if line[:1] in (" ", "\t", ""):
@@ -180,15 +183,16 @@ def bound_names(found: list[str]) -> set[str]:
         end = at + 1
         while token in ("(", "{", "λ") and end < len(found) and WORD.match(found[end]):
             end += 1
-        if token == "λ" or found[end : end + 1] == [":"]:
-            names.update(found[at + 1 : end])
+        if token == "λ" or found[end:end + 1] == [":"]:
+            names.update(found[at + 1:end])
     return names
 
 
 def by_number(found: list[str], names: set[str]) -> tuple[str, ...]:
     """Gives tokens with the names among them numbered as they come; a name behind a field's dot
     stays."""
-    numbers, said = {}, []
+    numbers: dict[str, int] = {}
+    said = []
     for at, token in enumerate(found):
         is_field = at > 1 and found[at - 1] == "." and WORD.match(found[at - 2])
         is_name = token in names and not is_field
@@ -213,11 +217,11 @@ def meaning(place: Place, statement: str, clauses: list[str]) -> tuple[str, tupl
 
 def same_meanings(crates: Path, files: list[str]) -> list[Repeat]:
     """Lists the lemmas and the definitions that say the same."""
-    groups = defaultdict(list)
+    groups: dict[tuple[str, tuple[str, ...]], list[Place]] = defaultdict(list)
     for file in files:
         for place, statement, clauses in declarations(crates, file) if file[-5:] == ".antt" else ():
-            groups[meaning(place, statement, clauses)].append(place)
-    groups.pop(None, None)
+            if told := meaning(place, statement, clauses):
+                groups[told].append(place)
     return [Repeat(kind, len(said), tuple(places))
             for (kind, said), places in groups.items() if len(places) > 1]
 

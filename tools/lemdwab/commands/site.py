@@ -66,8 +66,8 @@ def opened(site: Pages, program: str, folder: Path) -> Iterator[str]:
 def main() -> int:
     _, rest, _ = running.words("")
     if len(rest) > 1 or rest and not (Path(rest[0]) / "index.html").is_file():
-        wrong = len(rest) > 1
-        running.usage("one FOLDER at most is wanted" if wrong else f"there is no site in {rest[0]}")
+        running.usage("one FOLDER at most is wanted" if len(rest) > 1
+                      else f"there is no site in {rest[0]}")
     with running.Workers(1) as workers, tempfile.TemporaryDirectory() as own:
         folder = Path(rest[0]) if rest else made(workers, Path(own) / "site")
         site = siting.Pages(folder)

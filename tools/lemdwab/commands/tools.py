@@ -55,7 +55,7 @@ from typing import TYPE_CHECKING
 from xml.etree import ElementTree
 
 from lemdwab import answers, comparing, running
-from lemdwab.apart import generated
+from lemdwab.apart import model
 from lemdwab.running import TOP
 from lemdwab.trials import (bugs, classes, documents, edges, hunts, launchers, lint, release, site,
                             weaken, wider)
@@ -72,6 +72,8 @@ LONGEST, MOST = 100, 1 << 24
 LEAVE = ("TakeDelivery", "WriteNotice", "WriteEntry", "Fence", "Map", "GFence",
          "TakePending 0", "PutPending 0", "TakeEnables 0", "PutEnables 0", "Look 0",
          "TakeThreshold", "Post")
+# What a command is made of.
+Word = Path | int | str
 
 
 class Trial:
@@ -81,7 +83,7 @@ class Trial:
         self.workers, self.program, self.folder = workers, program, folder
         self.right = self.wrong = 0
 
-    def sees(self, is_right: bool, what: str) -> None:
+    def sees(self, is_right: object, what: str) -> None:
         """Counts whether something is as it should be, and says where it is not."""
         if is_right:
             self.right += 1
@@ -89,7 +91,7 @@ class Trial:
             self.wrong += 1
             print(f"not as it should be: {what}", flush=True)
 
-    def run(self, *command: Path | int | str, text: bytes = b"", seconds: int = LONGEST) -> Ran:
+    def run(self, *command: Word, text: bytes = b"", seconds: int = LONGEST) -> Ran:
         """Runs a tool; gives how it ended. Says where it had to be stopped, since its status then
         tells of the signal alone."""
         words = [str(word) for word in command]
@@ -98,7 +100,7 @@ class Trial:
             self.sees(False, f"{' '.join(words)}: {ran.stopped}; it has {seconds} seconds")
         return ran
 
-    def prints(self, status: int, wanted: Sequence[str], *command: Path | int | str) -> str:
+    def prints(self, status: int, wanted: Sequence[str], *command: Word) -> str:
         """Sees that a tool ends with a status, and that all of these texts stand in what it prints,
         in this order."""
         ran = self.run(*command)
@@ -133,26 +135,26 @@ def looked_at(trial: Trial) -> None:
 
 def wrong_words(trial: Trial) -> None:
     """Wrong words, which each tool refuses with a message and status 2."""
-    script = EXAMPLES / "claim.script"
-    cases = [(TOOLS[0], [], [script], [script, "--"], ["--"], ["--x"], ["--", "/nosuch/command"],
-              ["--only", "x", "--", "cat"], ["--machine", "1 2 3", "--", "cat"],
-              ["--each", "0", "--", "cat"], [script, "/nosuch"], ["-k", "nosuch", "--", "cat"],
-              ["--known", script, script, script], [script, script, "--known", script],
-              [script, script, "--", "cat"]),
-             (TOOLS[1], ["-k"], ["-k", "nosuch"], ["--x"], ["-k", ""]),
-             (TOOLS[2], [], ["1"], ["x", "1"], ["1", "0"], ["1", "1", "1"], ["-1", "5"],
-              [str(1 << 64), "5"], ["1", "100001"], ["--mood", "x", "1", "1"],
-              ["--refused", "81", "1", "1"], ["--machine", "5 1 63 1", "1", "1"],
-              ["--begin", "/nosuch", "1", "1"]),
-             (TOOLS[3], [], ["1"], ["100001", "1"], ["1", str(1 << 64)], ["x", "1"],
-              ["1", "1", "x"]),
-             (TOOLS[4], [], ["--jobs", "0", "cat"], ["--jobs"], ["--scripts", "x", "cat"],
-              ["/nosuch/command"], ["--only", "x", "cat"], ["--known", "/nosuch", "cat"],
-              ["--begin", "/nosuch", "cat"]),
-             (TOOLS[5], ["x"], ["hunts", "x"], ["--jobs", "x", "hunts"], ["code", "x"],
-              ["code", "hunts"], ["--jobs", "2", "code"]),
-             (TOOLS[6], [], ["/nosuch"], ["--lines", "x", script], [script], [script, script])]
-    for tool, *all_words in cases:
+    script = str(EXAMPLES / "claim.script")
+    cases: list[tuple[Path, list[list[str]]]] = [
+        (TOOLS[0], [[], [script], [script, "--"], ["--"], ["--x"], ["--", "/nosuch/command"],
+                    ["--only", "x", "--", "cat"], ["--machine", "1 2 3", "--", "cat"],
+                    ["--each", "0", "--", "cat"], [script, "/nosuch"],
+                    ["-k", "nosuch", "--", "cat"], ["--known", script, script, script],
+                    [script, script, "--known", script], [script, script, "--", "cat"]]),
+        (TOOLS[1], [["-k"], ["-k", "nosuch"], ["--x"], ["-k", ""]]),
+        (TOOLS[2], [[], ["1"], ["x", "1"], ["1", "0"], ["1", "1", "1"], ["-1", "5"],
+                    [str(1 << 64), "5"], ["1", "100001"], ["--mood", "x", "1", "1"],
+                    ["--refused", "81", "1", "1"], ["--machine", "5 1 63 1", "1", "1"],
+                    ["--begin", "/nosuch", "1", "1"]]),
+        (TOOLS[3], [[], ["1"], ["100001", "1"], ["1", str(1 << 64)], ["x", "1"], ["1", "1", "x"]]),
+        (TOOLS[4], [[], ["--jobs", "0", "cat"], ["--jobs"], ["--scripts", "x", "cat"],
+                    ["/nosuch/command"], ["--only", "x", "cat"], ["--known", "/nosuch", "cat"],
+                    ["--begin", "/nosuch", "cat"]]),
+        (TOOLS[5], [["x"], ["hunts", "x"], ["--jobs", "x", "hunts"], ["code", "x"],
+                    ["code", "hunts"], ["--jobs", "2", "code"]]),
+        (TOOLS[6], [[], ["/nosuch"], ["--lines", "x", script], [script], [script, script]])]
+    for tool, all_words in cases:
         for words in all_words:
             ran = trial.run(tool, *words)
             trial.sees(ran.status == 2 and ran.errors and not ran.output,
@@ -185,14 +187,15 @@ def documented(trial: Trial) -> list[Path]:
         files.append(trial.file(name, rest.partition("END\n")[0]))
     drawn = "--lines 31-49 examples/stores-in-flight.script"
     words = drawn.replace("examples/", f"{EXAMPLES}/").split()
-    for marker, *command in (
-            ("suite/compare mine.script mine.out\n```", TOOLS[0], *files),
-            ("a_priority_of_0_is_kept` prints", TOOLS[4], APART / "plants.py",
-             "a_priority_of_0_is_kept"),
-            (f"{drawn}\n```", TOOLS[6], *words)):
-        ran = trial.run(*command)
+    commands: list[tuple[str, Path, list[Word]]] = [
+        ("suite/compare mine.script mine.out\n```", TOOLS[0], [*files]),
+        ("a_priority_of_0_is_kept` prints", TOOLS[4],
+         [APART / "plants.py", "a_priority_of_0_is_kept"]),
+        (f"{drawn}\n```", TOOLS[6], [*words])]
+    for marker, tool, given in commands:
+        ran = trial.run(tool, *given)
         trial.sees(answers.shown(ran.output) == block_after(text, marker),
-                   f"{command[0].name} does not print what docs/TRACES.md says")
+                   f"{tool.name} does not print what docs/TRACES.md says")
     return files
 
 
@@ -251,7 +254,7 @@ def compares_no_script(trial: Trial) -> None:
             ("plan", (EXAMPLES / "plans/leave.plan").read_text(encoding="utf-8"),
              "all lines are bad")):
         script = trial.file(f"{name}.script", text)
-        for words in ([answered], [os.devnull], ["--", trial.program, "replay"]):
+        for words in ([str(answered)], [os.devnull], ["--", trial.program, "replay"]):
             ran = trial.run(TOOLS[0], script, *words)
             trial.sees(ran.status == 2 and f"{script} is no script: {why}" in ran.errors
                        and not ran.output, f"compare {name}.script {words}: {ran}")
@@ -266,16 +269,17 @@ def compares_unseen(trial: Trial) -> None:
     unseen = trial.file("unseen", "#!/bin/sh\ngrep -v -e '^#' -e '^$' | sed 's/.*/-/'\n")
     unseen.chmod(0o755)
     said = "nothing was compared: the command answered - to every line"
-    for wanted, reason, *words in (
-            ([" 0 scripts same, 0 differ, 16 not looked at\n0 answers compared, "], said,
-             "--only-standard", "--", unseen),
-            (["0 answers same, 2 not looked at"], said, script, "--", unseen),
-            # Also of a script that no machine answers.
-            (["0 answers same, 2 not looked at"], said, none, "--", unseen),
-            (["0 answers same, 2 not looked at"], f"answers in {dashes} are -", script, dashes)):
+    cases: list[tuple[str, str, list[Word]]] = [
+        (" 0 scripts same, 0 differ, 16 not looked at\n0 answers compared, ", said,
+         ["--only-standard", "--", unseen]),
+        ("0 answers same, 2 not looked at", said, [script, "--", unseen]),
+        # Also of a script that no machine answers.
+        ("0 answers same, 2 not looked at", said, [none, "--", unseen]),
+        ("0 answers same, 2 not looked at", f"answers in {dashes} are -", [script, dashes])]
+    for wanted, reason, words in cases:
         ran = trial.run(tool, *words)
-        trial.sees(ran.status == 2 and reason in ran.errors and all(
-            one in " " + answers.shown(ran.output) for one in wanted), f"compare {words}: {ran}")
+        trial.sees(ran.status == 2 and reason in ran.errors
+                   and wanted in " " + answers.shown(ran.output), f"compare {words}: {ran}")
     # An answer that is shown is compared, though all others are not.
     some = trial.file("some", "#!/bin/sh\necho ok\ngrep -v -e '^#' -e '^$' | sed '1d; s/.*/-/'\n")
     some.chmod(0o755)
@@ -296,9 +300,11 @@ def compares_meant(trial: Trial) -> None:
     wrong = trial.file("wrong.out", "ok\nfault\n")
     said = trial.prints(1, ["1 answers same, 0 not looked at, 1 differ"], TOOLS[0], script, wrong)
     trial.sees("put --" not in said, "compare hints at a command beside answers")
-    for words, hint in (([script, "--"], "a COMMAND is wanted behind --"),
-                        ([right, script], f"{script} is a script: the SCRIPT stands before"),
-                        ([script, "python3", toy], "for a command put -- before it")):
+    cases: list[tuple[list[Word], str]] = [
+        ([script, "--"], "a COMMAND is wanted behind --"),
+        ([right, script], f"{script} is a script: the SCRIPT stands before"),
+        ([script, "python3", toy], "for a command put -- before it")]
+    for words, hint in cases:
         ran = trial.run(TOOLS[0], *words)
         trial.sees(ran.status == 2 and hint in ran.errors, f"compare {words}: {ran}")
 
@@ -332,7 +338,7 @@ def told(script: bytes) -> tuple[int, int, set[str]]:
 
 def answers_of(script: bytes) -> bytes:
     """Gives what the model written apart answers."""
-    return generated.model.answers(script)
+    return model.answers(script)
 
 
 def randoms(trial: Trial) -> None:
@@ -352,14 +358,15 @@ def randoms(trial: Trial) -> None:
     found = trial.run(tool, "--only", "st,ld,h", "--machine", "1 7 255 96", 9, 600).output
     trial.sees(told(found)[2] == {"machine", "st", "ld", "h"} and
                found.startswith(b"machine 1 7 255 96\n"), "random --only, --machine")
-    found = answers.lines(trial.run(tool, "--refused", 0, "--only", "st,h", "--without",
-                                    "st 0xc*,h * hgeip", 9, 600).output)
-    trial.sees(len(found) > 500 and not any(
+    left = answers.lines(trial.run(tool, "--refused", 0, "--only", "st,h", "--without",
+                                   "st 0xc*,h * hgeip", 9, 600).output)
+    trial.sees(len(left) > 500 and not any(
         "hgeip" in line.text or answers.form(line.text) == "st" and
-        int(line.text.split(" ")[1], 0) >> 24 == 0xc for line in found), "random --without")
+        int(line.text.split(" ")[1], 0) >> 24 == 0xc for line in left), "random --without")
     begin = trial.file("begin.script", "# a comment\nst 0xc000000 4\n")
-    found = trial.run(tool, "--begin", begin, "--only", "h", "--machine", "1 7 255 96", 9, 60)
-    trial.sees(found.output.startswith(b"machine 1 7 255 96\nst 0xc000000 4\nh "), "random --begin")
+    words = ["--begin", str(begin), "--only", "h", "--machine", "1 7 255 96"]
+    found = trial.run(tool, *words, 9, 60).output
+    trial.sees(found.startswith(b"machine 1 7 255 96\nst 0xc000000 4\nh "), "random --begin")
     for mood, form in (("aplic", "wire"), ("passes", "pass"), ("majors", "hvictl"),
                        ("moves", "step"), ("images", "save"), ("running", "enter")):
         found = trial.run(tool, "--mood", mood, 1, 2000).output
@@ -412,15 +419,17 @@ def stops(trial: Trial) -> None:
                                 "echo $! >> \"$0.pids\"\nwait\n")
     hangs.chmod(0o755)
     script, pids = EXAMPLES / "claim.script", trial.folder / "hangs.pids"
-    cases = [(TOOLS[0], "--", hangs), (TOOLS[0], script, "--", hangs),
-             (TOOLS[0], script, trial.program, hangs), (TOOLS[1], hangs), (TOOLS[4], hangs),
-             (TOOLS[4], "--jobs", "3", hangs), (EXAMPLES / "check",)]
-    for command in cases:
+    cases: list[tuple[Path, list[Word]]] = [
+        (TOOLS[0], ["--", hangs]), (TOOLS[0], [script, "--", hangs]),
+        (TOOLS[0], [script, trial.program, hangs]), (TOOLS[1], [hangs]), (TOOLS[4], [hangs]),
+        (TOOLS[4], ["--jobs", "3", hangs]), (EXAMPLES / "check", [])]
+    for tool, words in cases:
+        command = [str(word) for word in (tool, *words)]
         for each in (signal.SIGINT, signal.SIGTERM):
             pids.unlink(missing_ok=True)
             status, left = stopped(command, each, pids, trial, hangs)
             trial.sees(status == 128 + each and not left,
-                       f"{' '.join(map(str, command))}, stopped by {each.name}, ends with {status}"
+                       f"{' '.join(command)}, stopped by {each.name}, ends with {status}"
                        f" and leaves {left}")
 
 
@@ -436,15 +445,15 @@ def leaves_behind(trial: Trial) -> None:
     trial.sees(not is_left, "a process is left behind")
 
 
-def stopped(command: tuple[str | Path, ...], each: signal.Signals, pids: Path, trial: Trial,
+def stopped(command: list[str], each: signal.Signals, pids: Path, trial: Trial,
             hangs: Path) -> tuple[int, list[str]]:
     """Starts a tool, stops it once its command hangs, and gives its status and what it leaves."""
-    is_examples = command[0].name == "check" and len(command) == 1
+    is_examples = Path(command[0]).name == "check" and len(command) == 1
     folder = trial.folder / "tmp"
     folder.mkdir(exist_ok=True)
     program = str(hangs if is_examples else trial.program)
     tool = subprocess.Popen(
-        [str(word) for word in command], stdout=subprocess.DEVNULL, stderr=subprocess.DEVNULL,
+        command, stdout=subprocess.DEVNULL, stderr=subprocess.DEVNULL,
         env={**os.environ, "TMPDIR": str(folder), "PROGRAM": program},
         preexec_fn=lambda: signal.signal(signal.SIGINT, signal.SIG_DFL))
     try:
@@ -470,7 +479,7 @@ def stopped(command: tuple[str | Path, ...], each: signal.Signals, pids: Path, t
 def examples(trial: Trial) -> None:
     """The examples' own check, with the two programs in lockstep."""
     trial.prints(0, ["lockstep.py: same", "lockstep.c: "], EXAMPLES / "check")
-    for program, status in ((APART / "model.py", 1), ("/nosuch/program", 2)):
+    for program, status in ((f"{APART}/model.py", 1), ("/nosuch/program", 2)):
         ran = trial.run(EXAMPLES / "lockstep.py", program)
         trial.sees(ran.status == status, f"lockstep.py {program} ends with {ran.status}")
 

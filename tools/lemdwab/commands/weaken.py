@@ -45,9 +45,9 @@ import re
 import tempfile
 import time
 from collections.abc import Iterator
-from concurrent.futures import FIRST_COMPLETED, wait
+from concurrent.futures import FIRST_COMPLETED, Future, wait
 from pathlib import Path
-from typing import TYPE_CHECKING, Any, NamedTuple
+from typing import TYPE_CHECKING, NamedTuple
 
 from lemdwab import running, using, weakening
 from lemdwab.keeping import (UNTRIED, Kept, Verdict, bounds_of, check_rt, copied, crate_named,
@@ -82,9 +82,10 @@ def law_crates() -> list[str]:
             or any(using.uses_of(clause) for clause in weakening.clauses(name))]
 
 
-def read_words(words: list[str]) -> dict[Any, Any]:
+def read_words(words: list[str]) -> dict[str, set[str]]:
     """Reads of which crates, and of which laws and definitions of each, plants are asked for."""
-    asked, crate = {}, None
+    asked: dict[str, set[str]] = {}
+    crate = None
     for word in words:
         if of := crate_named(word, using.below()):
             if not weakening.clauses(of):
@@ -98,7 +99,7 @@ def read_words(words: list[str]) -> dict[Any, Any]:
     return asked
 
 
-def chosen(words: list[str], kinds: tuple[str, str, str, str]) -> list[tuple[str, list[Plant]]]:
+def chosen(words: list[str], kinds: tuple[str, ...]) -> list[tuple[str, list[Plant]]]:
     """Lists the plants that are asked for, by crate."""
     asked = read_words(words) or {name: set() for name in law_crates()}
     return [(crate, [plant for plant in weakening.plants(crate, kinds)
@@ -106,7 +107,7 @@ def chosen(words: list[str], kinds: tuple[str, str, str, str]) -> list[tuple[str
             for crate, names in asked.items()]
 
 
-def read_kinds(given: dict[str, str]) -> tuple[str, str, str, str]:
+def read_kinds(given: dict[str, str]) -> tuple[str, ...]:
     """Reads which kinds are asked for."""
     kinds = tuple(given.get("kind", ",".join(weakening.KINDS)).split(","))
     for kind in kinds:
@@ -136,7 +137,7 @@ def total_of(total: str, plant: Plant) -> str:
 
 def of_clause(plant: Plant) -> Verdict:
     """Gives what comes of a plant of a clause: it is noticed by those that cite it."""
-    uses = using.uses_of(plant.clause)
+    uses = using.uses_of(running.sure(plant.clause))
     return Verdict(NOTICED, ", ".join(uses)) if uses else Verdict(UNNOTICED, "")
 
 
@@ -231,7 +232,8 @@ def attempt(copy: Path, plant: weakening.Plant, seconds: int) -> tuple[Verdict, 
 def tried(workers: running.Workers, copies: list[Path], left: list[tuple[weakening.Plant, str]],
           plan: Plan, pace: running.Pace) -> Iterator[tuple[weakening.Plant, str, Verdict, float]]:
     """Yields each plant that is tried, its sum, what came of it and how long it took."""
-    crate, left, busy, done = left[0][0].crate, list(left), {}, 0
+    crate, left, done = left[0][0].crate, list(left), 0
+    busy: dict[Future[tuple[Verdict, float]], tuple[Path, tuple[weakening.Plant, str]]] = {}
     while busy or (left and time.monotonic() < plan.until):
         free = [copy for copy in copies if copy not in [held for held, _ in busy.values()]]
         for copy in free if time.monotonic() < plan.until else ():

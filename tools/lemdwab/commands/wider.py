@@ -35,7 +35,7 @@ import tempfile
 import time
 from concurrent.futures import Future, TimeoutError as StillRuns
 from pathlib import Path
-from typing import TYPE_CHECKING, Any, NamedTuple
+from typing import TYPE_CHECKING, NamedTuple
 
 from lemdwab import running
 from lemdwab.documents import strength
@@ -80,9 +80,10 @@ def layers() -> list[str]:
     return [match.group(1) for line in lines if (match := re.match(r"(\w+)[^#]*:", line))]
 
 
-def read_words(words: list[str], every: dict[str, list[Edit]]) -> dict[Any, Any]:
+def read_words(words: list[str], every: dict[str, list[Edit]]) -> dict[str, list[str]]:
     """Reads which edits are asked for: of each crate the names behind it, all if there are none."""
-    asked, crate = {}, None
+    asked: dict[str, list[str]] = {}
+    crate = None
     for word in words:
         name = word.rpartition("/")[2].removesuffix(".edit")
         if of := crate_named(word, {*every, *layers()}):
@@ -101,7 +102,7 @@ def read_words(words: list[str], every: dict[str, list[Edit]]) -> dict[Any, Any]
 
 def chosen(words: list[str]) -> list[tuple[str, list[Edit]]]:
     """Lists the edits that words ask for, or all where there are none, by crate."""
-    every = {}
+    every: dict[str, list[Edit]] = {}
     for edit in strength.edits(strength.WIDER):
         every.setdefault(edit.crate, []).append(edit)
     asked = read_words(words, every)
@@ -151,7 +152,7 @@ def why_untold(ran: running.Ran) -> str:
 
 
 def call(workers: running.Workers, copy: Path, crate: str, edits: list[Edit], plan: Plan,
-         how_far: str) -> tuple[dict[str, Verdict], float]:
+         how_far: tuple[running.Pace, str]) -> dict[str, Verdict]:
     """Has rt try some edits of a crate in the copy; gives the verdict on each, by its name."""
     place = copy / "crates" / crate / strength.TRIED
     shutil.rmtree(place, ignore_errors=True)
@@ -161,7 +162,7 @@ def call(workers: running.Workers, copy: Path, crate: str, edits: list[Edit], pl
     jobs = [f"RT_JOBS={plan.jobs}"] if plan.jobs else []
     command = ["env", "-C", str(copy), *jobs, "rt", "must-fail", crate]
     future = workers.submit(running.run, command, b"", plan.seconds, MOST)
-    ran = waited_for(future, how_far[0], how_far[1])
+    ran = waited_for(future, *how_far)
     running.check_started(ran, ["rt"])
     found = verdicts(crate, ran)
     return {edit.name: found.get(edit.name, Verdict(UNTRIED, why_untold(ran))) for edit in edits}
@@ -172,7 +173,8 @@ def tell(edit: Edit, verdict: Verdict) -> None:
     print(f"{edit.crate}/{edit.name}: {verdict.shortened()}", flush=True)
 
 
-def sorted_out(copy: Path, edits: list[Edit], kept: Kept) -> tuple[dict[Edit, Verdict], list[Edit]]:
+def sorted_out(copy: Path, edits: list[Edit], kept: Kept
+               ) -> tuple[list[tuple[Edit, Verdict]], list[tuple[Edit, str]]]:
     """Divides the edits of a crate: the verdicts that are known, as kept or since they can't be
     made, and those to be tried, with their sums."""
     known, left = [], []
@@ -187,8 +189,8 @@ def sorted_out(copy: Path, edits: list[Edit], kept: Kept) -> tuple[dict[Edit, Ve
     return known, left
 
 
-def try_all(workers: running.Workers, copy: Path, crates: Any, kept: Kept, plan: Plan
-           ) -> tuple[dict[str, int], int]:
+def try_all(workers: running.Workers, copy: Path, crates: list[tuple[str, list[Edit]]], kept: Kept,
+            plan: Plan) -> tuple[dict[str, int], int]:
     """Tries the edits of crates; gives how many of each kind there are, and how many are left."""
     counts, late, pace = dict.fromkeys((REFUSED, THROUGH, UNTRIED), 0), 0, running.Pace()
     for crate, edits in crates:

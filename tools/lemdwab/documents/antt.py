@@ -103,7 +103,7 @@ def read_item(crate: str, file: str, name: str) -> list[str]:
     if not lines[at].rstrip().endswith(";"):
         while not lines[last].startswith(("}", "]")) and not lines[last].endswith('";'):
             last += 1
-    text = lines[first : last + 1]
+    text = lines[first:last + 1]
     return [line for line in text if not line.startswith("#[")]
 
 

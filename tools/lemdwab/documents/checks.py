@@ -6,7 +6,6 @@ import re
 import subprocess
 from collections.abc import Callable, Iterable, Iterator
 from functools import cache
-from typing import Any
 
 from lemdwab.documents.antt import clauses
 from lemdwab.documents.claims import pages, sections
@@ -15,7 +14,7 @@ from lemdwab.documents.markdown import (anchors, documents, read, rows, section,
                                         words)
 from lemdwab.documents.pictures import address
 from lemdwab.documents.plans import KINDS, Move, Reader
-from lemdwab.running import TOP
+from lemdwab.running import TOP, sure
 
 REFERENCE = "docs/REFERENCE.md"
 # Where the table of crates stands, and that of what stands where in a move.
@@ -52,8 +51,7 @@ def ticked(cell: str) -> list[str]:
     return re.findall(r"`([^`]+)`", cell)
 
 
-def differ(where: str, stands: dict[str, list[str]] | list[str],
-           wanted: Iterable[Any] | dict[str, Callable[..., Any]] | list[str]) -> Iterator[Any]:
+def differ(where: str, stands: Iterable[str], wanted: Iterable[str]) -> Iterator[str]:
     """Says what a table lacks, and what it has too much."""
     for name in sorted(set(wanted) - set(stands)):
         yield f"{where} lacks {name}"
@@ -76,7 +74,7 @@ def shape_of(tokens: list[str]) -> list[str]:
         tokens.pop(0)
         return inner
     if first in ("Either", "Only"):
-        word = re.search(r'"(\w+)"', tokens.pop(0)).group(1)
+        word = sure(re.search(r'"(\w+)"', tokens.pop(0))).group(1)
         rest = [f"{word} {text}".strip() for text in shape_of(tokens)]
         return rest + (shape_of(tokens) if first == "Either" else [])
     if first == "End":
@@ -109,7 +107,7 @@ def forms_in(name: str) -> Iterator[tuple[str, str]]:
     for member in re.findall(r"\w+", clauses("aia_model", "Forms", name)[0][1]):
         right = clauses("aia_model", "Forms", member)[0][1]
         form = re.match(r'\s*form \(codes "(\w+)"\)\s*(.*)', right, re.S)
-        yield from [form.groups()] if form else forms_in(member)
+        yield from [(form[1], form[2])] if form else forms_in(member)
 
 
 def all_forms() -> Iterator[str]:
@@ -128,7 +126,7 @@ def number_or(word: str) -> str:
     return "#" if is_number else word
 
 
-def lines() -> Iterator[Any]:
+def lines() -> Iterator[str]:
     """Compares the forms of lines with the table of them, and the CSRs of each level."""
     stands, told = [], {}
     for cells in rows(section(REFERENCE, "Lines")):
@@ -149,7 +147,7 @@ def lines() -> Iterator[Any]:
     yield from differ(f"{REFERENCE}, Images, the parts,", got, shapes("part_shape"))
 
 
-def answers() -> Iterator[Any]:
+def answers() -> Iterator[str]:
     """Compares the answers with their spellings, and the refusals with their order."""
     first = {}
     for text in shapes("part_shape"):
@@ -173,7 +171,7 @@ def answers() -> Iterator[Any]:
         yield f"{REFERENCE}, Answers: the refusals stand as {got}, and are looked for as {order}"
 
 
-def statuses() -> Iterator[Any]:
+def statuses() -> Iterator[str]:
     """Compares the exit statuses with the numbers that the contracts of `command` have, those of
     launchers that could not build a program left out."""
     tables = (("aia_replay", REFERENCE, "Exit statuses", "1"),
@@ -184,7 +182,7 @@ def statuses() -> Iterator[Any]:
         yield from differ(f"{document}, {heading},", [s for s in stands if s != unbuilt], wanted)
 
 
-def places() -> Iterator[Any]:
+def places() -> Iterator[str]:
     """Compares the map with the address map, and the sizes of a machine with its limits."""
     wanted = [address(name) for name in PLACES]
     stands = [text for cells in rows(section(REFERENCE, "The map")) for text in ticked(cells[0])]
@@ -200,10 +198,10 @@ def formula(text: str, move: Move, number: int) -> int:
     """Computes a formula of docs/MOVES.md in W, R and the number of a word, w, or of a pass, r."""
     plain = re.sub(r"(\d)(W|w)", r"\1 * \2", text)
     names = {"W": move.words, "R": move.passes, "w": number, "r": number}
-    return Reader(plain, names).value()
+    return int(Reader(plain, names).value())
 
 
-def plans() -> Iterator[Any]:
+def plans() -> Iterator[str]:
     """Compares the tables of docs/MOVES.md with the plans."""
     table = {cells[0]: cells[1:] for cells in rows(section("docs/MOVES.md", "The three plans"))}
     steps = table.pop("how many steps there are", [""] * 4)
@@ -242,12 +240,12 @@ def told_plan(move: Move) -> list[str]:
     return lines_ + [step_line(step, None) for step in back.split(" ∷ ") if step != "[]"]
 
 
-def told_plans() -> Iterator[Any]:
+def told_plans() -> Iterator[str]:
     """Compares the core's plans in examples/hypervisors with the plans of homes, told so."""
     for kind in KINDS:
         name = f"examples/hypervisors/core-{kind}.plan"
         text = re.sub(r"(?m) *#.*$", "", (TOP / name).read_text(encoding="utf-8"))
-        size = int(re.search(r"(?m)^words (\d+)$", text)[1])
+        size = int(sure(re.search(r"(?m)^words (\d+)$", text))[1])
         steps = [line for line in text.strip().rpartition("\n\n")[2].split("\n") if line]
         if steps != told_plan(Move(kind, size)):
             yield f"{name} is not the plan of {CALLED[kind]}, as plans_of_aia tells it"
@@ -255,7 +253,7 @@ def told_plans() -> Iterator[Any]:
 
 # What the table of what stands where has, by the word of its last column: whether it is so of a
 # move, of word w after k steps.
-STANDS = {
+STANDS: dict[str, Callable[[Move, int, int], bool]] = {
     "entry_names": lambda move, w, k: move.place("entry_names", k) == "old",
     "in_force_of": lambda move, w, k: move.in_force("reach_stepped", k) == "old",
     "stage_names": lambda move, w, k: move.place("stage_names", k) == "old",
@@ -270,7 +268,7 @@ STANDS = {
 }
 
 
-def stands_where() -> Iterator[Any]:
+def stands_where() -> Iterator[str]:
     """Compares the table of what stands where with the definitions that its last column names."""
     text = section(PROOF, "Why the plans of moves are right")
     table = {ticked(cells[4])[0]: cells for cells in rows(text) if len(cells) == 5}
@@ -308,7 +306,7 @@ def libraries() -> dict[str, list[str]]:
     return found
 
 
-def crates() -> Iterator[Any]:
+def crates() -> Iterator[str]:
     """Compares the table of crates, and PROMISES, with crates.txt."""
     wanted = list(libraries())
     table = rows(section(CRATES, "The crates"))
@@ -329,7 +327,7 @@ def crates() -> Iterator[Any]:
             yield f"{CRATES}, The crates, does not say: {part}"
 
 
-def promised() -> Iterator[Any]:
+def promised() -> Iterator[str]:
     """Sees that docs/promises names functions and clauses that are there, and each law."""
     for name in pages():
         for heading, body in sections(name):
@@ -348,14 +346,14 @@ def source(crate: str) -> str | None:
 
 def contracts(text: str) -> dict[str, set[str]]:
     """Gives the names of the clauses of each function of some code, by its name."""
-    found = {}
+    found: dict[str, set[str]] = {}
     for piece in re.split(r"\bfn (?=\w)", text)[1:]:
-        of = found.setdefault(re.match(r"\w+", piece)[0], set())
+        of = found.setdefault(re.split(r"\W", piece)[0], set())
         of |= set(re.findall(r"\bensures\*? (\w+) \{", piece))
     return found
 
 
-def named_there(name: str, crate: str, body: str, text: str) -> Iterator[Any]:
+def named_there(name: str, crate: str, body: str, text: str) -> Iterator[str]:
     """Says which functions, clauses and laws of one crate a page has wrong or leaves out."""
     of_each = contracts(text)
     anywhere = set().union(*of_each.values()) if of_each else set()
@@ -398,7 +396,7 @@ def replayed(name: str) -> Iterator[tuple[str, str]]:
             yield line, next(answers_)
 
 
-def shown() -> Iterator[Any]:
+def shown() -> Iterator[str]:
     """Compares the example of README with the script that it is from, gaps and all."""
     text = section("README.md", "An example")
     block = re.search(r"(?ms)^```\n(.*?)^```", text)
@@ -425,28 +423,29 @@ def shown() -> Iterator[Any]:
         ends, is_gap = after, False
 
 
-def ran(command: list[str], text: str) -> str:
-    """Gives what a command prints, given a text."""
+def ran(command: list[str], text: str) -> subprocess.CompletedProcess[str]:
+    """Runs a command, given a text."""
     return subprocess.run(command, input=text, capture_output=True, text=True, timeout=60)
 
 
-def tried() -> Iterator[Any]:
+def tried() -> Iterator[str]:
     """Runs what TRACES, MOVES and REFERENCE say to run, where the program is built."""
     program = TOP / "crates/aia/out/aia"
     if not program.exists():
         return
     text = section("docs/TRACES.md", "A first comparison")
     here = dict(re.findall(r"(?ms)^cat > (\S+) <<'END'\n(.*?)^END\n", text))
-    run = ran([program, "replay"], here["mine.script"])
+    run = ran([str(program), "replay"], here["mine.script"])
     texts = [line for line in here["mine.script"].splitlines() if not line.startswith("#")]
     mine, model = here["mine.out"].splitlines(), run.stdout.splitlines()
     off = [(t, m, a) for t, m, a in zip(texts, model, mine) if a not in ("-", m)]
-    said = re.search(r"(?m)^line \d+: (.*)\n  model: (.*)\n  mine:  (.*)$", read("docs/TRACES.md"))
+    said = sure(re.search(r"(?m)^line \d+: (.*)\n  model: (.*)\n  mine:  (.*)$",
+                          read("docs/TRACES.md")))
     if off != [said.group(1, 2, 3)] or len(texts) != len(mine):
         yield f"docs/TRACES.md: its first comparison gives {off}"
-    yield from printed(program)
-    count, seed = re.search(r"`gen (\d+) (\d+)` prints", spoken(read(REFERENCE))).groups()
-    run = ran([program, "gen", count, seed], "")
+    yield from printed(str(program))
+    count, seed = sure(re.search(r"`gen (\d+) (\d+)` prints", spoken(read(REFERENCE)))).groups()
+    run = ran([str(program), "gen", count, seed], "")
     told = " ".join(spoken(read(REFERENCE)).split())
     for line in run.stdout.splitlines():
         if f"`{line}`" not in told:
@@ -455,15 +454,15 @@ def tried() -> Iterator[Any]:
 
 def printed(program: str) -> Iterator[str]:
     """Runs what TRACES says of lockstep, and the script of MOVES."""
-    code = re.search(r"(?ms)^```sh\n(.*?)^```", section("docs/MOVES.md", "Try it")).group(1)
-    lockstep = ["python3", "-B", TOP / "examples/lockstep.py", program]
+    code = sure(re.search(r"(?ms)^```sh\n(.*?)^```", section("docs/MOVES.md", "Try it"))).group(1)
+    lockstep = ["python3", "-B", str(TOP / "examples/lockstep.py"), program]
     for name, heading, command, wanted in (
         ("docs/TRACES.md", "In lockstep", lockstep, r"(?s)Each ends with `([^`]*)`"),
-        ("docs/MOVES.md", "Try it", ["bash", "-c", code.replace("./aia", str(program))],
+        ("docs/MOVES.md", "Try it", ["bash", "-c", code.replace("./aia", program)],
          r"(?ms)^It prints .*?^```\n(.*?)^```"),
     ):
         run = ran(command, "")
-        want = " ".join(re.search(wanted, section(name, heading)).group(1).split())
+        want = " ".join(sure(re.search(wanted, section(name, heading))).group(1).split())
         got = {" ".join(line.split()) for line in (run.stdout + run.stderr).splitlines()}
         if got != {want}:
             yield f"{name}, {heading}, prints {sorted(got)}"
@@ -491,10 +490,10 @@ def newest(paths: list[str]) -> tuple[str, str]:
         ["git", "-C", str(TOP), "log", "-1", "--format=%cs %h", "--", *paths],
         capture_output=True, text=True, check=True,
     ).stdout.split()
-    return tuple(found) if found else ("", "")
+    return (found[0], found[1]) if found else ("", "")
 
 
-def aged() -> Iterator[Any]:
+def aged() -> Iterator[str]:
     """Compares the days of figures with the day on which what they measure last changed. The
     figures say of which day they are, so that an older one is no drift."""
     code = [f"crates/{crate}/src" for crate in sorted(below("aia"))]
@@ -506,7 +505,7 @@ def aged() -> Iterator[Any]:
                f" {day} ({commit})")
 
 
-def linked() -> Iterator[Any]:
+def linked() -> Iterator[str]:
     """Sees that links between documents lead somewhere."""
     for name in documents():
         folder = (TOP / name).parent
@@ -521,7 +520,7 @@ def linked() -> Iterator[Any]:
                 yield f"{name} links to {link}, and there is no such heading"
 
 
-def patient() -> Iterator[Any]:
+def patient() -> Iterator[str]:
     """Sees that no document is longer than its reader's patience."""
     for name in documents():
         limit = LIMITS.get(name, MOST_WORDS)
@@ -529,9 +528,9 @@ def patient() -> Iterator[Any]:
             yield f"{name} has {count} words, and may have {limit}"
 
 
-def alone() -> Iterator[Any]:
+def alone() -> Iterator[str]:
     """Sees that README, REFERENCE and PROMISES share no sentence."""
-    seen = {}
+    seen: dict[str, str] = {}
     for name in ALONE + [n for n in documents() if n.startswith("docs/promises/")]:
         for sentence in set(sentences(name)):
             pages = "docs/promises"
@@ -541,7 +540,7 @@ def alone() -> Iterator[Any]:
             seen.setdefault(sentence, name)
 
 
-def drifts() -> Iterator[Any]:
+def drifts() -> Iterator[str]:
     """Says each place where a document is not in step."""
     for check in (lines, answers, statuses, places, plans, told_plans, crates, promised, shown,
                   tried, linked, patient, alone):

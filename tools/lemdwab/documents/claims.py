@@ -14,7 +14,7 @@ import re
 import subprocess
 from collections.abc import Iterator
 from functools import cache
-from typing import TYPE_CHECKING, Any, NamedTuple
+from typing import TYPE_CHECKING, NamedTuple
 
 from lemdwab.documents.functions import functions, functions_in, source_files
 from lemdwab.documents.markdown import documents, read
@@ -40,7 +40,7 @@ class Passage(NamedTuple):
     cell of clauses; None of a paragraph."""
 
     names: tuple[str, ...]
-    clauses: tuple | None
+    clauses: tuple[str, ...] | None
     text: str
 
 
@@ -80,7 +80,7 @@ def rows_of(block: str, before: tuple[str, ...]) -> Iterator[Passage]:
 
 def passages(body: str) -> Iterator[Passage]:
     """Lists the rows and paragraphs of a part of a page."""
-    before = ()
+    before: tuple[str, ...] = ()
     for block in re.split(r"\n\s*\n", body.strip()):
         if block.startswith("|"):
             yield from rows_of(block, before)
@@ -103,7 +103,8 @@ def is_named(one: Function, name: str, alone: set[str]) -> bool:
 def is_on(passage: Passage, clause: str, count: int) -> bool:
     """Says whether a row is on a clause of a function that has so many: it names it, or it has `-`
     and there is no other one, or it says how many there are."""
-    return clause in passage.clauses or passage.clauses == ("-" if count == 1 else str(count),)
+    own = passage.clauses or ()
+    return clause in own or own == ("-" if count == 1 else str(count),)
 
 
 def sentences_on(one: Function, clause: str, count: int, found: list[Passage],
@@ -129,9 +130,10 @@ def cut(one: Function) -> tuple[str, str, dict[str, str]]:
     clauses = one.clauses()
     lines = [re.sub(r"//.*", "", line) for line in one.text]
     head = "\n".join(lines[: min(c.first for c in clauses)])
-    required, ensured = [], {}
+    required = []
+    ensured: dict[str, str] = {}
     for clause in clauses:
-        text = "\n".join(lines[clause.first : clause.last + 1])
+        text = "\n".join(lines[clause.first:clause.last + 1])
         if clause.kind == "requires":
             required.append(text)
         else:
@@ -162,7 +164,8 @@ def told_of(crate: str) -> list[tuple[str, Function]]:
 
 def claims_of(page: str, crate: str, body: str) -> dict[tuple[str, str, str], Claim]:
     """Gives the claims of a crate, by their crate, function and clause."""
-    listed, claims = list(passages(body)), {}
+    listed = list(passages(body))
+    claims: dict[tuple[str, str, str], Claim] = {}
     alone = {one.name for _, one in told_of(crate) if not one.owner}
     for name, one in told_of(crate):
         own = statements(one)
@@ -200,7 +203,7 @@ def ledger() -> dict[tuple[str, str, str], tuple[str, str]]:
     """Gives the sums that were accepted, by crate, function and clause."""
     text = LEDGER.read_text(encoding="utf-8") if LEDGER.exists() else ""
     rows = [line.split() for line in text.split("\n") if line and not line.startswith("#")]
-    return {tuple(row[:3]): tuple(row[3:]) for row in rows}
+    return {(row[0], row[1], row[2]): (row[3], row[4]) for row in rows}
 
 
 def write(accepted: dict[tuple[str, str, str], tuple[str, str]]) -> None:
@@ -227,7 +230,7 @@ def compared(stands: dict[tuple[str, str, str], Claim],
             yield f"{what}: the statement changed, {so} ({stands[key].page}): {again}"
 
 
-def drifts() -> Iterator[Any]:
+def drifts() -> Iterator[str]:
     """Says where statements and what was accepted of them differ."""
     return compared(claims(), ledger())
 

@@ -28,7 +28,8 @@ def value(name: str) -> int:
     """Computes a constant: sums, products and shifts of numbers and of other constants."""
     right = expressions()[name]
     names = {word: value(word) for word in re.findall(r"\b[A-Z]\w+", right)}
-    return eval(right, {"__builtins__": {}}, names)
+    computed: int = eval(right, {"__builtins__": {}}, names)
+    return computed
 
 
 def limit(name: str) -> str:

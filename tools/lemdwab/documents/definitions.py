@@ -4,7 +4,6 @@ from __future__ import annotations
 
 import re
 from collections.abc import Iterator
-from typing import Any
 
 from lemdwab.documents.antt import all_modules, imports, module_path, read_item, read_module
 from lemdwab.documents.markdown import anchor
@@ -24,7 +23,7 @@ def order_lines() -> list[str]:
 
 def placed(kind: str) -> list[tuple[str, ...]]:
     """Lists what stands in the order with this mark, each split into its words."""
-    return [tuple(line[len(kind) :].split()) for line in order_lines() if line.startswith(kind)]
+    return [tuple(line[len(kind):].split()) for line in order_lines() if line.startswith(kind)]
 
 
 def prose(comment: list[str]) -> list[str]:
@@ -93,7 +92,7 @@ def contents() -> list[str]:
     """Gives the chapters of the document with the modules of each."""
     out = ["## Contents", ""]
     lines = order_lines()
-    for line in lines[lines.index(CONTENTS) + 1 :]:
+    for line in lines[lines.index(CONTENTS) + 1:]:
         if line.startswith("# "):
             out += ["", f"*{line[2:]}*", ""]
         elif line.startswith("## "):
@@ -116,18 +115,18 @@ def rendered() -> str:
         if line == CONTENTS:
             out += contents()
         elif line.startswith(FULL):
-            out += whole_module(*line[len(FULL) :].split())
+            out += whole_module(*line[len(FULL):].split())
         elif line.startswith(TABLE):
-            out += module_table(*line[len(TABLE) :].split())
+            out += module_table(*line[len(TABLE):].split())
         elif line.startswith(ITEM):
-            out += items(*line[len(ITEM) :].split())
+            out += items(*line[len(ITEM):].split())
         elif not line.startswith(PASSED):
             out.append(line)
     text = "\n".join([out[0], "", made.rstrip("\n"), *out[1:]]) + "\n"
     return re.sub(r"\n{3,}", "\n\n", text)
 
 
-def unplaced() -> Iterator[Any]:
+def unplaced() -> Iterator[str]:
     """Says which modules stand nowhere in the order, and which part I names without showing."""
     full, table = placed(FULL), placed(TABLE)
     for crate, module in all_modules():
@@ -146,8 +145,8 @@ def unplaced() -> Iterator[Any]:
 
 
 def missing(crate: str, module: str, named: tuple[str, str, str, list[str]],
-            full: list[tuple[str, str]], shown: set[tuple[str, str, str]],
-            passed: set[tuple[str, str, str, str]]) -> Iterator[Any]:
+            full: list[tuple[str, ...]], shown: set[tuple[str, str, str]],
+            passed: set[tuple[str, ...]]) -> Iterator[str]:
     """Says what one import of a module of part I names that part I does not show."""
     of, place, last, names = named
     if place.startswith("src/"):
@@ -159,7 +158,7 @@ def missing(crate: str, module: str, named: tuple[str, str, str, list[str]],
         yield f"part I shows {crate} {module}, which names {of} {place}, and not that"
 
 
-def drifts() -> Iterator[Any]:
+def drifts() -> Iterator[str]:
     """Says where docs/DEFINITIONS.md and the definitions differ."""
     yield from unplaced()
     wanted = rendered().split("\n")

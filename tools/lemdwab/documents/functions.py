@@ -150,7 +150,7 @@ def functions_in(crate: str, file: str, lines: list[str]) -> list[Function]:
         if not head or line.startswith(" ") != bool(owner):
             continue
         is_public = line.lstrip().startswith("pub ") or is_trait
-        text = lines[at : head_end(lines, at)]
+        text = lines[at:head_end(lines, at)]
         if text[-1].endswith("{"):
             text = [*text[:-1], text[-1].removesuffix("{").rstrip()]
         found.append(Function(

@@ -4,11 +4,11 @@ same parameters in the same order, and the same numbers of codes, instructions a
 from __future__ import annotations
 
 import re
-from collections.abc import Iterator
+from collections.abc import Iterator, Mapping
 
 from lemdwab.documents.antt import clauses
 from lemdwab.documents.functions import source_files, source_lines
-from lemdwab.running import TOP
+from lemdwab.running import TOP, sure
 
 HEADER, CRATE = "include/aia.h", "aia_c"
 EXPORT = re.compile(r'#\[unsafe\(no_mangle\)\]\n(?:#\[.*\]\n)*'
@@ -59,7 +59,7 @@ def exports() -> dict[str, str]:
     return found
 
 
-def without_mark() -> Iterator[None]:
+def without_mark() -> Iterator[str]:
     """Says which function of C is not exported by its name."""
     for file in source_files(CRATE):
         text = "\n".join(source_lines(CRATE, file))
@@ -130,7 +130,7 @@ def constants() -> dict[str, int]:
     places = {"ANSWER": ("aia_model", "src/limits.rt", "ANSWER_BYTES"),
               "VERSION": (CRATE, "src/version.rt", "VERSION")}
     text = {name: "\n".join(source_lines(crate, file)) for name, (crate, file, _) in places.items()}
-    return {name: int(re.search(rf"const {places[name][2]}: \w+ = ([\d_]+);", text[name])[1]
+    return {name: int(sure(re.search(rf"const {places[name][2]}: \w+ = ([\d_]+);", text[name]))[1]
                       .replace("_", "")) for name in places}
 
 
@@ -154,7 +154,8 @@ def said() -> dict[str, str]:
 
 # ---- both
 
-def differ(what: str, stands: dict[str, int | str], wanted: dict[str, int | str]) -> Iterator[str]:
+def differ(what: str, stands: Mapping[str, int | str], wanted: Mapping[str, int | str]
+           ) -> Iterator[str]:
     """Says where the header has something else than the crate."""
     for name in sorted(set(stands) | set(wanted)):
         if name not in wanted:

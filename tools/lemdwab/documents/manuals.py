@@ -53,7 +53,8 @@ def help_of(launcher: str) -> tuple[str, list[list[str]], str]:
 
 def pieces(text: str) -> list[tuple[str, list[str]]]:
     """Gives the comments of a header, each with the declarations that stand below it."""
-    found, lines = [], text.split("\n")
+    found: list[tuple[str, list[str]]] = []
+    lines = text.split("\n")
     while lines:
         line = lines.pop(0)
         if line.startswith("/*"):

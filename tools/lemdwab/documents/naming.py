@@ -4,9 +4,9 @@ has: of modules of specs/, by their `use` lines, and of items of src/."""
 from __future__ import annotations
 
 import re
-from collections.abc import Iterator
+from collections.abc import Iterable, Iterator
 from functools import cache
-from typing import Any, NamedTuple
+from typing import NamedTuple
 
 from lemdwab.documents.antt import all_modules, read_item, read_module
 from lemdwab.documents.functions import dedented, source_files, source_lines
@@ -72,7 +72,7 @@ def crates() -> list[str]:
 
 def members_of(lines: list[str]) -> tuple[str, ...]:
     """Lists the parts of a record, or the forms of a type."""
-    found = []
+    found: list[str] = []
     for line in lines:
         match = MEMBER.match(line.split("  --")[0] + " ")
         found += match[1].split() if match else []
@@ -88,8 +88,9 @@ def defined(crate: str, module: str) -> list[Definition]:
             head = DEFINED.match(line)
             if head:
                 name, page = head[2], spec_page(crate, module)
+                kind = (head[1],) if head[1] else ()
                 found.append(Definition(f"{crate} {module} {name}", crate, module, name,
-                                        f"{page}#{name}", group.comment, [], head[1], False))
+                                        f"{page}#{name}", group.comment, [], kind, False))
             if found and not line.startswith("infix"):
                 found[-1].lines.append(line)
     return [one._replace(members=members_of(one.lines[1:]) if one.members else ())
@@ -136,7 +137,7 @@ def shown_as(crate: str, file: str, name: str) -> list[str]:
     if at is None:
         return []
     end = next(i for i in range(at, len(lines)) if lines[i].startswith("}"))
-    kept = [line for line in lines[at : end + 1] if " use Rattle." not in line]
+    kept = [line for line in lines[at:end + 1] if " use Rattle." not in line]
     return ["", *(line for i, line in enumerate(kept) if line or i == 0 or kept[i - 1][-1:] != "{")]
 
 
@@ -175,8 +176,9 @@ def in_module(crate: str, module: str) -> dict[str, Target]:
     return forms | {name: target(one) for name, one in found.items()}
 
 
-def item_of(crate: str, file: str, name: str) -> Definition:
-    """Gives an item of a source file, by the file that a `use` line names."""
+def item_of(crate: str, file: str, name: str) -> Definition | None:
+    """Gives an item of a source file, by the file that a `use` line names; None where there is
+    none."""
     key = f"{crate} src/{file}.rt {name}"
     definitions = all_definitions()
     if key in definitions:
@@ -192,8 +194,7 @@ def space(crate: str, path: list[str]) -> dict[str, Target] | None:
     if first not in ("declared", "contracts"):
         if not rest:
             return in_module(crate, first)
-        one = next(one for one in defined(crate, first) if one.name == rest[0])
-        return inside(one)
+        return inside(next(one for one in defined(crate, first) if one.name == rest[0]))
     if rest[-1] == "TheConstants":
         return {one.name: target(one) for one in items(crate)
                 if one.module == f"src/{'/'.join(rest[:-1])}.rt"}
@@ -219,9 +220,9 @@ class Meaning:
 
     def take(self, crate: str, text: str) -> None:
         """Takes a `use` line, without its beginning."""
-        path, _, braced = text.partition(".{")
-        path, _, alias = path.partition(" as ")
-        path = path.split(".")
+        front, _, braced = text.partition(".{")
+        front, _, alias = front.partition(" as ")
+        path = front.split(".")
         offered = space(crate, path)
         if alias:
             self.spaces[alias] = (offered, f"{library(crate)} {'.'.join(path[1:])}")
@@ -239,7 +240,9 @@ class Meaning:
     def take_rust(self, crate: str, text: str) -> None:
         """Takes what a `use` item of Rust names of the repository's crates."""
         of = re.match(r"(\w+)::", text)
-        crate = crate if of and of[1] == "crate" else of and of[1]
+        if not of:
+            return
+        crate = crate if of[1] == "crate" else of[1]
         if crate not in crates():
             return
         for name in re.findall(r"[A-Z]\w*", text):
@@ -256,7 +259,7 @@ class Meaning:
             return leads or Target(f"{where}.{rest[0]}"), len(first) + 1 + len(rest[0])
         leads = self.names.get(first)
         one = all_definitions().get(leads.key) if leads else None
-        if one and rest and rest[0] in one.members and leads.place == one.place:
+        if leads and one and rest and rest[0] in one.members and leads.place == one.place:
             dots = 2 if "::" in name else 1
             return target(one, rest[0]), len(first) + dots + len(rest[0])
         return leads, len(first)
@@ -281,7 +284,7 @@ def offered_by(crate: str, name: str) -> Definition | None:
 
 
 @cache
-def elsewhere(name: str) -> str | None:
+def elsewhere(name: str) -> Definition | None:
     """Gives the one item of that name in all crates; None where there are more, or none."""
     found = [one for crate in crates() for one in items(crate) if one.name == name]
     return found[0] if len(found) == 1 else None
@@ -358,7 +361,7 @@ def labels(block: str) -> set[int]:
 
 def is_bracket(block: str, match: re.Match[str]) -> bool:
     """Says whether a sign is a bracket of a type of Rust, as in `Vec<u8>`, and no operator."""
-    return set(match["sign"]) <= set("<>&") and block[match.start() - 1 : match.start()] != " "
+    return set(match["sign"]) <= set("<>&") and block[match.start() - 1:match.start()] != " "
 
 
 def named(block: str, meaning: Meaning) -> Iterator[tuple[int, int, Target]]:
@@ -384,7 +387,7 @@ def named(block: str, meaning: Meaning) -> Iterator[tuple[int, int, Target]]:
 
 def blocks(lines: list[str]) -> list[str]:
     """Cuts lines into blocks: a line that is not moved in, and those that go on from it."""
-    found = []
+    found: list[list[str]] = []
     for line in lines:
         if not found or (line and not line.startswith((" ", "\t"))):
             found.append([line])
@@ -413,7 +416,7 @@ def rests_on(key: str) -> tuple[str, ...]:
     return keys_of((leads for block in cut for _, _, leads in named(block, meaning_of(one))), key)
 
 
-def keys_of(targets: Iterator[Any] | list[Target], own: str = "") -> tuple[str, ...]:
+def keys_of(targets: Iterable[Target], own: str = "") -> tuple[str, ...]:
     """Gives the keys of targets, each once: those of definitions and, last, those of libraries."""
     found = list(dict.fromkeys(leads.key for leads in targets if leads.key != own))
     definitions = all_definitions()

@@ -4,8 +4,8 @@ of a script."""
 from __future__ import annotations
 
 import re
-from collections.abc import Iterator
-from typing import Any
+from collections.abc import Iterator, Sequence
+from typing import TypeVar
 
 from lemdwab import drawing
 from lemdwab.documents.antt import clauses
@@ -14,6 +14,7 @@ from lemdwab.documents.plans import KINDS, Move
 from lemdwab.documents.svg import GUEST, HAND, INK, LINE, MEMORY, OTHER, PALE, TOLD, Picture
 from lemdwab.running import TOP
 
+T = TypeVar("T")
 FOLDER = TOP / "docs/pictures"
 # The script that is drawn as examples/draw does, from one line to another.
 DRAWN, FIRST, LAST = TOP / "examples/stores-in-flight.script", 20, 76
@@ -58,14 +59,12 @@ LEFT, TOP_EDGE, CELL, ROW = 212, 170, 49, 27
 WORDS, PASSES = 1, 1
 
 
-def runs(values: list[str | None]) -> list[list[int | str | None]]:
+def runs(values: Sequence[T]) -> list[tuple[T, int, int]]:
     """Gives (value, first, past the last) for each run of the same value."""
-    found = []
+    found: list[tuple[T, int, int]] = []
     for k, value in enumerate(values):
-        if found and found[-1][0] == value:
-            found[-1][2] = k + 1
-        else:
-            found.append([value, k, k + 1])
+        first = found.pop()[1] if found and found[-1][0] == value else k
+        found.append((value, first, k + 1))
     return found
 
 
@@ -309,7 +308,7 @@ def rendered() -> dict[str, str]:
         f"{kind}.svg": picture_of(kind) for kind in KINDS}
 
 
-def drifts() -> Iterator[Any]:
+def drifts() -> Iterator[str]:
     """Says which pictures are not what the definitions make."""
     for name, text in rendered().items():
         path = FOLDER / name

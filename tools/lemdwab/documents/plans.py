@@ -3,6 +3,7 @@
 from __future__ import annotations
 
 import re
+from collections.abc import Sequence
 from dataclasses import dataclass
 from functools import cache
 from typing import Any
@@ -19,8 +20,13 @@ KINDS = {
     "arrive": ("Inward", "memory", "guest file"),
     "shift": ("Across", "old guest file", "new guest file"),
 }
+# What a definition gives: a number, a truth value, a constructor with what it is given as a tuple,
+# a record, or a function of one of these. A plan's own types say which.
+Value = Any
+# A clause's patterns: names, and constructors with their patterns.
+Patterns = list["str | Patterns"]
 # What std has of numbers and truth values.
-STD = {
+STD: dict[str, Value] = {
     "true": True,
     "false": False,
     "not": lambda a: not a,
@@ -30,10 +36,10 @@ STD = {
 }
 
 
-def read_patterns(text: str) -> list[list[str] | str]:
+def read_patterns(text: str) -> Patterns:
     """Reads the patterns of a clause: each a name, or a constructor with its patterns, as a
     list."""
-    found = [[]]
+    found: list[Patterns] = [[]]
     for token in re.findall(r"[()]|[^\s()]+", text):
         if token == "(":
             found.append([])
@@ -45,7 +51,7 @@ def read_patterns(text: str) -> list[list[str] | str]:
 
 
 @cache
-def definition(name: str) -> list[tuple[list[list[str] | str], str]]:
+def definition(name: str) -> list[tuple[Patterns, str]]:
     """Gives the clauses of a definition of aia_vcpu, each as (patterns, right side)."""
     for module in MODULES:
         if has_clauses("aia_vcpu", module, name):
@@ -54,27 +60,31 @@ def definition(name: str) -> list[tuple[list[list[str] | str], str]]:
     raise SystemExit(f"the plans name {name}, which lemdwab.documents.plans does not find")
 
 
-def bound(pattern: list[str] | str,
-          value: Any
-         ) -> dict[str, Any] | None:
+def bound(pattern: str | Patterns, value: Value) -> dict[str, Value] | None:
     """Gives what the names of a pattern stand for, or None where the value is none of it."""
-    head, *parts = [pattern] if isinstance(pattern, str) else pattern
+    head, parts = (pattern, []) if isinstance(pattern, str) else (pattern[0], pattern[1:])
+    assert isinstance(head, str)
     if not head[0].isupper():
         return {head: value}
-    if value[0] != head:
-        return None
-    found = [bound(part, of_it) for part, of_it in zip(parts, value[1:])]
-    return None if None in found else {key: one for names in found for key, one in names.items()}
+    return all_bound(parts, value[1:]) if value[0] == head else None
 
 
-def computed(name: str,
-             values: list[int | tuple[dict[str, int] | int | str | tuple[str, ...], ...]]
-            ) -> int | tuple[str, ...]:
+def all_bound(patterns: Patterns, values: Sequence[Value]) -> dict[str, Value] | None:
+    """Gives what the names of patterns stand for, or None where a value is none of its pattern."""
+    found: dict[str, Value] = {}
+    for pattern, value in zip(patterns, values):
+        names = bound(pattern, value)
+        if names is None:
+            return None
+        found |= names
+    return found
+
+
+def computed(name: str, values: Sequence[Value]) -> Value:
     """Computes a definition of aia_vcpu of some values."""
     for patterns, right in definition(name):
-        found = [bound(pattern, value) for pattern, value in zip(patterns, values)]
-        if None not in found:
-            names = {key: value for names in found for key, value in names.items()}
+        names = all_bound(patterns, values)
+        if names is not None:
             return Reader(right, names).value()
     raise SystemExit(f"no clause of {name} fits {values}")
 
@@ -82,10 +92,8 @@ def computed(name: str,
 class Reader:
     """Computes an expression of the small part of antt in which the plans are written."""
 
-    def __init__(self, text: str,
-                 names: dict[str, Any]
-                ) -> None:
-        self.tokens = TOKEN.findall(text)
+    def __init__(self, text: str, names: dict[str, Value]) -> None:
+        self.tokens: list[str] = TOKEN.findall(text)
         self.at = 0
         self.names = names
 
@@ -99,7 +107,7 @@ class Reader:
         self.at += 1
         return token
 
-    def value(self) -> int | tuple[dict[str, int] | int | str | tuple[str, str], ...]:
+    def value(self) -> Value:
         """Gives the value of an `if`, or of an expression."""
         if self.peek() == "if":
             self.take()
@@ -116,31 +124,30 @@ class Reader:
             found = (found and other) if operator == "&&" else (found or other)
         return found
 
-    def sum(self) -> int | tuple[dict[str, int] | int | str | tuple[str, ...], ...]:
+    def sum(self) -> Value:
         found = self.product()
         while self.peek() in ("+", "-"):
             found = found + self.product() if self.take() == "+" else max(0, found - self.product())
         return found
 
-    def product(self) -> int | tuple[dict[str, int] | int | str | tuple[str, ...], ...]:
+    def product(self) -> Value:
         found = self.applied()
         while self.peek() == "*":
             self.take()
             found *= self.applied()
         return found
 
-    def applied(self) -> int | tuple[dict[str, int] | int | str | tuple[str, ...], ...]:
+    def applied(self) -> Value:
         """Gives a word applied to what stands behind it: a name, a constructor or a definition."""
-        token = self.peek()
+        token = self.peek() or ""
         if token == "(" or token.isdigit():
             return self.atom()
         head, values = self.take(), []
-        while self.peek() is not None and re.match(r"(?!then\b|else\b)[\w(]", self.peek()):
+        while re.match(r"(?!then\b|else\b)[\w(]", self.peek() or ""):
             values.append(self.atom())
         return self.named(head, values)
 
-    def atom(self
-            ) -> Any:
+    def atom(self) -> Value:
         token = self.take()
         if token == "(":
             found = self.value()
@@ -148,9 +155,7 @@ class Reader:
             return found
         return int(token) if token.isdigit() else self.named(token, [])
 
-    def named(self, head: str,
-              values: list[Any]
-             ) -> Any:
+    def named(self, head: str, values: list[Value]) -> Value:
         """Gives what a name stands for, applied to some values."""
         name, _, part = head.partition(".")
         found = self.names.get(name, STD.get(name))
@@ -179,11 +184,11 @@ class Move:
         places = {"leave": ["old"], "arrive": ["new"], "shift": ["old", "new"]}
         return ("OnWay", (KINDS[self.kind][0], *places[self.kind]), at)
 
-    def named_place(self, place: tuple[str, ...]) -> str:
+    def named_place(self, place: Value) -> str:
         """Gives `old` or `new` for a guest file or, by None, for the slot."""
         if place == ("None",):
             return "new" if self.kind == "leave" else "old"
-        return place[1]
+        return str(place[1])
 
     def place(self, name: str, steps: int) -> str:
         """Gives the place that a definition of homes names: `old` or `new`."""
@@ -221,7 +226,7 @@ class Move:
         """Gives how many steps it has, those that aim aside."""
         way = self.home()[1]
         ends = [computed(end, [way]) for end in ("old_end", "new_end")]
-        return computed("plan_steps", [*ends, self.words])
+        return int(computed("plan_steps", [*ends, self.words]))
 
     def accesses(self) -> list[tuple[str, int | None]]:
         """Lists its accesses in order, as (constructor, number of the word or None)."""
@@ -238,11 +243,11 @@ class Move:
     def ask(self, name: str, access: str, w: int | None = None, steps: int = 0) -> int:
         """Computes a definition of an access of this move."""
         made = (access,) if w is None else (access, w)
-        return computed(name, [self.words, self.home(steps), made])
+        return int(computed(name, [self.words, self.home(steps), made]))
 
     def has(self, access: str, w: int | None = None) -> bool:
         """Says whether its plan has an access."""
-        return self.ask("has_access", access, w)
+        return bool(self.ask("has_access", access, w))
 
     def step(self, access: str, w: int | None = None) -> int:
         """Gives the number of the step that makes an access, counted from 0."""
@@ -250,7 +255,7 @@ class Move:
 
     def is_made(self, access: str, w: int | None, steps: int) -> bool:
         """Says whether an access is made after so many steps."""
-        return self.ask("is_made", access, w, steps)
+        return bool(self.ask("is_made", access, w, steps))
 
     def word_at(self, take: str, w: int, steps: int) -> str:
         """Gives where a word stands that an access takes: `old`, `hand` or `new`."""
@@ -271,4 +276,4 @@ class Move:
 
     def of_word(self, name: str, w: int, steps: int) -> bool:
         """Computes a test of word w of this move, as whether it is watched."""
-        return computed(name, [self.words, self.home(steps), w])
+        return bool(computed(name, [self.words, self.home(steps), w]))

@@ -81,7 +81,8 @@ def files(folder: Path, origins: dict[str, str]) -> Iterator[str]:
 
 def crates(origins: dict[str, str]) -> Iterator[str]:
     """Says which crates are in what is built, and what each promises."""
-    uses, said = libraries(), {}
+    uses = libraries()
+    said: dict[str, list[str]] = {}
     for row in rows(section(CRATES, "The crates")):
         for name in re.findall(r"`(\w+)`", row[0]):
             said.setdefault(name, row)

@@ -5,12 +5,13 @@ numbers, the CSRs by their levels and names, and the bits of an entry by its for
 import re
 from collections.abc import Iterator
 
-from lemdwab.documents.antt import TOP
 from lemdwab.documents.checks import differ, ticked
 from lemdwab.documents.markdown import rows, section
+from lemdwab.running import TOP
 
 DOCUMENT = "docs/REGISTERS.md"
-FILES = {"domain": "aia_regs/specs/DomainRegisters.antt", "file": "aia_regs/specs/FileRegisters.antt",
+FILES = {"domain": "aia_regs/specs/DomainRegisters.antt",
+         "file": "aia_regs/specs/FileRegisters.antt",
          "names": "aia_regs/src/domain_registers.rt", "csrs": "aia_model/specs/Grammar.antt",
          "entry": "aia_entry/specs/Format.antt"}
 ROW = re.compile(r"(single|indexed) (0x[0-9a-f]+) (?:(\d+) (\d+) (\w+) )?(\w+)")

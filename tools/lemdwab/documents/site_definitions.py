@@ -3,7 +3,7 @@ definitions by chapters, and an index of names."""
 
 from __future__ import annotations
 
-from collections.abc import Iterator, Sequence
+from collections.abc import Callable, Iterator, Sequence
 from html import escape
 from typing import TYPE_CHECKING
 
@@ -39,7 +39,8 @@ def comments() -> Iterator[str]:
 
 def links(page: str, keys: list[str]) -> str:
     """Gives keys of definitions and of names of libraries as links, the latter in words."""
-    found, leaves = [], {}
+    found = []
+    leaves: dict[str, list[str]] = {}
     definitions = all_definitions()
     for key in keys:
         if key in definitions:
@@ -151,7 +152,10 @@ def placed_items(crate: str, file: str, *names: str) -> str:
 
 def by_chapters(site: Site) -> None:
     """Writes the definitions by chapters, in the order in which they are read."""
-    body, text = [], []
+    body: list[str] = []
+    text: list[str] = []
+    gives: list[tuple[str, Callable[..., str]]] = [
+        (TABLE, folded), (FULL, folded), (PLACED_ITEM, placed_items)]
 
     def said() -> None:
         html = pandoc("\n".join(text)) if "".join(text).strip() else ""
@@ -159,7 +163,7 @@ def by_chapters(site: Site) -> None:
         text.clear()
 
     for line in order_lines():
-        for mark, give in ((TABLE, folded), (FULL, folded), (PLACED_ITEM, placed_items)):
+        for mark, give in gives:
             if line.startswith(mark):
                 said()
                 body.append(give(*line[len(mark):].split()))
@@ -184,7 +188,7 @@ def names_page(site: Site, functions: list[tuple[Function, str]]) -> None:
         found += [(part, f"{one.place}.{part}", one.name) for part in one.members]
     found += [(one.called(), place, f"{one.crate}, {'law' if one.is_law else 'call'}")
               for one, place in functions]
-    letters = {}
+    letters: dict[str, list[str]] = {}
     for name, place, of in sorted(found, key=lambda row: (row[0].lower(), row)):
         letter = name[0].upper() if name[0].isalpha() else "operators"
         letters.setdefault(letter, []).append(
@@ -199,9 +203,9 @@ def names_page(site: Site, functions: list[tuple[Function, str]]) -> None:
 
 
 def namers_of(functions: list[tuple[Function, str, tuple[str, ...]]]
-             ) -> dict[str, list[str | tuple[str, str]]]:
+              ) -> dict[str, list[str | tuple[str, str]]]:
     """Gives what names each definition: keys of definitions, and places and names of functions."""
-    found = {}
+    found: dict[str, list[str | tuple[str, str]]] = {}
     for key in all_definitions():
         for named_key in rests_on(key):
             found.setdefault(named_key, []).append(key)

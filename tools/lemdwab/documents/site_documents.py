@@ -24,6 +24,8 @@ README, HEADING = "README.md", "What is proved"
 PAST = "**What it does not say"
 PLAIN = ("LICENSE", "NOTICE")
 MARK = "the-laws-of-sentence-{}-stand-here"
+# Of the first words of a sentence the references that carry it, each in its words.
+Rows = dict[str, list[tuple[str, ...]]]
 
 
 def plain(text: str) -> str:
@@ -48,7 +50,7 @@ def claims() -> list[str]:
 
 def joined(pieces: list[str]) -> list[str]:
     """Joins pieces that belong to one sentence: what follows a colon, or begins with no capital."""
-    found = []
+    found: list[str] = []
     for piece in pieces:
         begins = plain(piece).lstrip("- ")[:1]
         if found and (found[-1].rstrip("*").endswith(":") or not (begins.isupper() or not begins)):
@@ -58,10 +60,11 @@ def joined(pieces: list[str]) -> list[str]:
     return found
 
 
-def proved() -> dict[str, list[tuple[str, ...]]]:
+def proved() -> Rows:
     """Gives what docs/make/proved.txt says: of the first words of a sentence, which laws, clauses
     and definitions carry it, each as the words of a reference."""
-    found, now = {}, []
+    found: Rows = {}
+    now: list[tuple[str, ...]] = []
     for line in PROVED.read_text(encoding="utf-8").split("\n"):
         if line.startswith(" "):
             now.append(tuple(line.split()))

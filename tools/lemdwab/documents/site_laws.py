@@ -94,7 +94,7 @@ def keys_in(one: Function, names: tuple[str, ...] = ()) -> tuple[str, ...]:
     found = []
     for clause in one.clauses():
         if not names or clause.name in names:
-            text = "\n".join(one.text[clause.first : clause.last + 1])
+            text = "\n".join(one.text[clause.first:clause.last + 1])
             found += [leads for _, _, leads in named(text, meaning(one))]
     return keys_of(found)
 
@@ -169,7 +169,7 @@ class Tree:
             words = " ".join(f'<a href="#t{self.numbers[key]}">{escape(definitions[key].name)}</a>'
                              for key in again)
             found += f'<li class="again">{words}</li>'
-        leaves = {}
+        leaves: dict[str, list[str]] = {}
         for key in keys:
             if key not in definitions:
                 of, _, name = key.partition(" ")
@@ -258,7 +258,7 @@ def listed(site: Site, page: str, title: str, note: str,
 
 def shared_tree(crate: str, own: list[Function]) -> str:
     """Gives the tree of what all clauses of some laws of a crate name."""
-    shared = [key for key in keys_in(own[0]) if all(key in keys_in(one) for one in own)]
+    shared = tuple(key for key in keys_in(own[0]) if all(key in keys_in(one) for one in own))
     rests = Tree(f"laws/{crate}.html", shared)
     return ("<h2>What they rest on</h2>\n"
             f'<p class="note">What all of these clauses name, with {len(rests.below)} definitions;'
@@ -291,7 +291,9 @@ def headline_words() -> str:
 
 def make(site: Site) -> None:
     """Writes all pages on what is proved."""
-    laws, worked, calls = {}, {}, {}
+    laws: dict[str, list[Function]] = {}
+    worked: dict[str, list[Function]] = {}
+    calls: dict[str, list[Function]] = {}
     for one in all_functions():
         of = calls if not one.is_law else worked if is_worked(one) else laws
         of.setdefault(one.crate, []).append(one)

@@ -8,7 +8,7 @@ import re
 import shutil
 import subprocess
 from collections.abc import Sequence
-from functools import cache
+from functools import cache, partial
 from html import escape, unescape
 from pathlib import Path
 from typing import TYPE_CHECKING
@@ -169,7 +169,8 @@ class Prose:
         if meaning is None:
             return html
         html = re.sub(r"\[(<code>[^<]*</code>)\]", r"\1", html)
-        return re.sub(r"<code>([^<\s]*)</code>", lambda m: named_code(m, page, meaning), html)
+        lead = partial(named_code, page=page, meaning=meaning)
+        return re.sub(r"<code>([^<\s]*)</code>", lead, html)
 
 
 def named_code(match: re.Match[str], page: str, meaning: Meaning) -> str:
@@ -193,7 +194,7 @@ def linked_code(block: str, meaning: Meaning, page: str, own: str = "") -> str:
     found, at = [], 0
     for first, length, leads in sorted(named(block, meaning)):
         found.append(escape(block[at:first], quote=False))
-        words = escape(block[first : first + length], quote=False)
+        words = escape(block[first:first + length], quote=False)
         if leads.place and leads.place != own:
             words = link(page, leads.place, words)
         elif not leads.place:

@@ -8,7 +8,7 @@ import os
 import sys
 from html import escape
 from pathlib import Path
-from typing import TYPE_CHECKING
+from typing import TYPE_CHECKING, NamedTuple
 
 from lemdwab import answers, drawing, running
 from lemdwab.documents.markdown import read, rows
@@ -75,29 +75,39 @@ def states(found: list[Shown], names: dict[VirtualHart, str]) -> dict[int, tuple
     return told
 
 
-def slides(script: bytes,
-           said: list[tuple[Line, str]]
-          ) -> tuple[list[list[int | str]], list[Shown], dict[VirtualHart, str]]:
-    """Gives the data of the slider: of each line with an answer its number, its text, the answer,
-    how many columns of the picture are drawn by then, what it did, and where all are then."""
+class Slide(NamedTuple):
+    """What the slider shows of a line with an answer: its number, its text, the answer, how many
+    columns of the picture are drawn by then, what it did, and where all are then."""
+
+    number: int
+    text: str
+    answer: str
+    column: int
+    did: str
+    now: str
+
+
+def slides(script: bytes, said: list[tuple[Line, str]]
+           ) -> tuple[list[Slide], list[Shown], dict[VirtualHart, str]]:
+    """Gives the data of the slider, what is drawn, and the names of virtual harts."""
     found, names = drawing.watched(script, 1, 1 << 30)
     told, column, now = states(found, names), 0, ""
     slides_ = []
     for line, answer in said:
         column, did, now = told.get(line.number, (column, "", now))
-        slides_.append([line.number, line.text, answer, column, did, now])
+        slides_.append(Slide(line.number, line.text, answer, column, did, now))
     return slides_, found, names
 
 
-def listing(script: bytes, slides_: list[list[int | str]]) -> str:
+def listing(script: bytes, slides_: list[Slide]) -> str:
     """Gives the script as a table: each line with its answer, comments among them."""
-    by_number = {slide[0]: (at, slide) for at, slide in enumerate(slides_)}
+    by_number = {slide.number: (at, slide) for at, slide in enumerate(slides_)}
     found = []
     for number, text in enumerate(script.decode().rstrip("\n").split("\n"), 1):
         if number in by_number:
             at, slide = by_number[number]
             found.append(f'<tr data-at="{at}"><td>{number}</td><td>{escape(text)}</td>'
-                         f"<td>{escape(slide[2])}</td></tr>")
+                         f"<td>{escape(slide.answer)}</td></tr>")
         else:
             found.append(f'<tr class="said"><td>{number}</td><td colspan="2">{escape(text)}</td>'
                          "</tr>")
@@ -133,7 +143,7 @@ def example_page(site: Site, workers: Workers, path: Path, command: list[str],
 def make_examples(site: Site, workers: Workers) -> None:
     """Writes the pages of all examples, and their list."""
     command, by = answering()
-    drawn = {}
+    drawn: dict[bool, list[str]] = {}
     for path in examples():
         page, is_drawn = example_page(site, workers, path, command, by)
         said = " ".join(one.removeprefix("#").strip()
@@ -153,7 +163,8 @@ def make_examples(site: Site, workers: Workers) -> None:
 def differences() -> list[tuple[str, list[str], list[tuple[str, str]]]]:
     """Lists the rows of docs/PEERS.md that have least scripts: the heading above, the names of the
     scripts, and the other cells as (head, text)."""
-    found, heading, heads = [], "", []
+    found, heading = [], ""
+    heads: list[str] = []
     for line in read("docs/PEERS.md").split("\n"):
         if line.startswith("#"):
             heading = line.lstrip("# ")

@@ -9,7 +9,7 @@ from collections.abc import Iterator
 from lemdwab.documents.claims import PAGES, STATEMENTS, pages, sections, told_of
 from lemdwab.documents.functions import dedented
 from lemdwab.documents.markdown import documents, read
-from lemdwab.running import TOP
+from lemdwab.running import TOP, sure
 
 MADE = "<!-- Made by `suite/documents make` of the contracts in src/. -->"
 HEAD = """\
@@ -30,7 +30,7 @@ def name_for(page: str) -> str:
 
 def contracts_of(crate: str) -> dict[str, list[str]]:
     """Gives the contracts of a crate under their names, those of one name together."""
-    found = {}
+    found: dict[str, list[str]] = {}
     for name, one in told_of(crate):
         text = "\n".join(line.rstrip() for line in dedented(one.text)).rstrip("\n;")
         found.setdefault(name, []).append(text)
@@ -40,7 +40,7 @@ def contracts_of(crate: str) -> dict[str, list[str]]:
 def rendered(page: str) -> str:
     """Gives the whole page of the statements that a page has in words."""
     own = page.removeprefix(PAGES)
-    title = re.match(r"# (.*)", read(page))[1]
+    title = sure(re.match(r"# (.*)", read(page)))[1]
     parts = [HEAD.format(title=title, made=MADE, page=own)]
     for crate, _ in sections(page):
         parts.append(f"## `{crate}`\n\n[In words]({own}#{crate})\n")

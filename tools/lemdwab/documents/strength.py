@@ -8,7 +8,7 @@ import re
 from collections.abc import Iterator, Sequence
 from functools import cache
 from pathlib import Path
-from typing import Any, NamedTuple
+from typing import NamedTuple
 
 from lemdwab.running import TOP
 
@@ -144,10 +144,11 @@ def star(edit: Edit, by: str) -> str:
     a line stands in no function, that is the one that its refusal names."""
     if not all(file.startswith("src/") for file, _, _ in edit.changes):
         return "\\*"
-    texts = {}
+    texts: dict[str, str] = {}
     for file, old, new in edit.changes:
         text = texts.get(file, source(edit.crate, file))
         module = file.removeprefix("src/").removesuffix(".rt")
+        place: tuple[str, ...]
         if function := function_at(text, old):
             place = (*function, "." if module in ("lib", "main") else module)
         else:
@@ -189,7 +190,7 @@ def made(crate: str, each: Sequence[tuple[str, str, str]]) -> tuple[dict[str, st
     """Gives the files of a crate as the changes of an edit leave them, by their names, and why the
     edit can't be made, which is nothing where it can: each old text stands once in its file, as the
     changes before it left that."""
-    texts = {}
+    texts: dict[str, str] = {}
     for file, old, new in each:
         if not file.startswith(("src/", "specs/", "proofs/")):
             return texts, f"a line 'file: ' names no file of src/, specs/ or proofs/: {file}"
@@ -213,7 +214,8 @@ def misfit(crate: str, each: Sequence[tuple[str, str, str]]) -> str:
 
 def told_apart(found: list[Edit]) -> Iterator[str]:
     """Says which edits are the same as another, though their words or their folders differ."""
-    first, names = {}, {}
+    first: dict[tuple[str, tuple[tuple[str, str], ...]], Edit] = {}
+    names: dict[tuple[str, str], Edit] = {}
     for edit in found:
         texts, _ = made(edit.crate, edit.changes)
         key = edit.crate, tuple(sorted((file, " ".join(text.split()))
@@ -226,7 +228,7 @@ def told_apart(found: list[Edit]) -> Iterator[str]:
         names.setdefault((edit.crate, edit.name), edit)
 
 
-def misfits() -> Iterator[Any]:
+def misfits() -> Iterator[str]:
     """Says which edits can't be made, which are the same, and which crates have too many."""
     every = [*edits(TRIED), *edits(WIDER)]
     found = [f"{edit.path()}: {why}" for edit in every if (why := misfit(edit.crate, edit.changes))]
@@ -237,7 +239,7 @@ def misfits() -> Iterator[Any]:
             yield f"crates/{crate}/must-fail has {count} edits, and may have {MOST}"
 
 
-def wrong_bodies() -> list[tuple[str, list[tuple[str, str]]]] | None:
+def wrong_bodies() -> list[tuple[str, list[tuple[str, str]]]]:
     """Lists the wrong bodies that are to be planted: the words of each, and the edits, as crate and
     name, that plant it."""
     found = []
@@ -245,8 +247,8 @@ def wrong_bodies() -> list[tuple[str, list[tuple[str, str]]]] | None:
         match = re.fullmatch(r"(.+): (\w+/\w+(?:, \w+/\w+)*)", line)
         if not match:
             raise SystemExit(f"docs/make/wrong_bodies.txt has a line that names no edit: {line}")
-        found.append((match.group(1), [tuple(name.split("/"))
-                                       for name in match.group(2).split(", ")]))
+        named = [name.partition("/") for name in match.group(2).split(", ")]
+        found.append((match.group(1), [(crate, name) for crate, _, name in named]))
     return found
 
 
@@ -281,7 +283,7 @@ def misplaced(told: dict[tuple[str, str], str]) -> Iterator[str]:
                    f" of crates/{of}/src")
 
 
-def drifts() -> Iterator[Any]:
+def drifts() -> Iterator[str]:
     """Says where the tables differ from the edits, which edits nothing is said of, which can't be
     made, and which wrong bodies are planted by none."""
     found = list(misfits())

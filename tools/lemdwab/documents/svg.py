@@ -2,7 +2,6 @@
 
 from __future__ import annotations
 
-from typing import Any
 from xml.sax.saxutils import escape
 
 GUEST, OTHER, MEMORY = "#4c78a8", "#2b8a93", "#4f9d5b"
@@ -29,10 +28,9 @@ class Picture:
         )
 
     def text(self, x: float, y: float, words: str, size: float = 13, fill: str = INK,
-             anchor: str = "start", bold: bool = False, **how: Any) -> None:
-        family = MONO if how.get("mono") else SANS
+             anchor: str = "start", bold: bool = False, mono: bool = False, turn: int = 0) -> None:
+        family = MONO if mono else SANS
         more = ' font-weight="bold"' if bold else ""
-        turn = how.get("turn")
         more += f' transform="rotate({turn} {x:g} {y:g})"' if turn else ""
         self.shapes.append(
             f'<text x="{x:g}" y="{y:g}" font-family="{family}" font-size="{size}" fill="{fill}"'

@@ -5,7 +5,6 @@ from __future__ import annotations
 
 import re
 from collections.abc import Callable
-from typing import Any
 
 ESCAPES = {"\\": r"\e", "-": r"\-", "'": r"\(aq", "`": r"\(ga", "^": r"\(ha", "~": r"\(ti",
            '"': r"\(dq"}
@@ -119,7 +118,7 @@ class Page:
                 self.paragraph(" ".join([line, *taken(lines, is_filled)]))
 
 
-def taken(lines: list[str], fits: Callable[..., Any]) -> list[str]:
+def taken(lines: list[str], fits: Callable[[str], object]) -> list[str]:
     """Takes lines off the front while they fit."""
     found = []
     while lines and fits(lines[0]):

@@ -102,11 +102,11 @@ class Copy:
     def run(self, test: str) -> int:
         """Runs a test; gives its status."""
         if test.startswith("tests."):
-            words = ["env", "-C", self.folder / "tools", sys.executable, "-B", "-m", "unittest",
+            words = ["env", "-C", f"{self.folder}/tools", sys.executable, "-B", "-m", "unittest",
                      "-q", test]
         else:
             tool, *parts = test.split()
-            words = [self.folder / "suite" / tool, *parts]
+            words = [f"{self.folder}/suite/{tool}", *parts]
         return self.trial.run(*words, seconds=LONGEST).status
 
     def status_with(self, bug: Bug) -> int | None:

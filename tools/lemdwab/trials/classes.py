@@ -6,18 +6,15 @@ from __future__ import annotations
 import re
 import sys
 from collections import Counter
-from typing import TYPE_CHECKING, Any
+from typing import TYPE_CHECKING
 
 from lemdwab import answers, classes
-from lemdwab.apart import choices, generated
-from lemdwab.running import TOP
+from lemdwab.apart import choices, model
+from lemdwab.running import TOP, sure
 
 if TYPE_CHECKING:
     from lemdwab.classes import Needs
-
-if TYPE_CHECKING:
-    from lemdwab.classes import Needs
-    from lemdwab.commands.tools import Trial
+    from lemdwab.commands.tools import Trial, Word
 
 FIXED = TOP / "examples/fixed-machine.py"
 COMPARE = TOP / "suite/compare"
@@ -35,7 +32,7 @@ ALIKE = classes.Needs(SIZES, "", 4)
 
 def by_class() -> dict[str, set[str]]:
     """Gives the names of the scripts of each class."""
-    found = {kind: set() for kind in classes.CLASSES}
+    found: dict[str, set[str]] = {kind: set() for kind in classes.CLASSES}
     for name, kind, _ in classes.rows(classes.TABLE.read_text(encoding="ascii")):
         found[kind].add(name)
     return found
@@ -81,11 +78,11 @@ def standard_scripts(trial: Trial) -> None:
         forms = {answers.form(line.text) for line in answers.lines(script)}
         trial.sees(forms <= FORMS, f"{path.stem} has the forms {forms}")
         least = answers.with_sizes(script, needs.sizes)
-        own = re.search(rb"(?m)^machine (.*)$", script)[1].split()
+        own = sure(re.search(rb"(?m)^machine (.*)$", script))[1].split()
         trial.sees(all(need <= int(size) for need, size in zip(needs.sizes, own)),
                    f"{path.stem} needs more than its machine has")
         for one in (script, least):
-            said = answers.answers(generated.model.answers(one))
+            said = answers.answers(model.answers(one))
             trial.sees(not answers.REFUSALS & set(said), f"a line of {path.stem} is refused")
 
 
@@ -95,12 +92,12 @@ def asked_of(has: Needs) -> list[bytes]:
             for path, needs in classes.standard().items() if not needs.lacks(has)]
 
 
-def is_alike(trial: Trial, has: Needs, *words: Any) -> None:
+def is_alike(trial: Trial, has: Needs, *words: Word) -> None:
     """Sees that the machine of fixed sizes, with choices, answers all scripts that it can be asked
     as the model does; they come one after the other, and each begins with a machine."""
     scripts = asked_of(has)
     ran = trial.run(sys.executable, "-B", FIXED, *words, text=b"\n".join(scripts) + b"\n")
-    wanted = b"".join(map(generated.model.answers, scripts))
+    wanted = b"".join(map(model.answers, scripts))
     trial.sees(scripts and ran.output == wanted and not ran.status,
                f"fixed-machine.py {words} answers a standard script otherwise: {ran.errors}")
 
@@ -132,15 +129,14 @@ def left_out(has: Needs) -> str:
 
 def only_standard(trial: Trial) -> None:
     """suite/compare --only-standard, with machines of several sizes and deliveries."""
-    bridge = [sys.executable, "-B", FIXED]
-    for has, *options in (
-            (classes.Needs(SIZES, "", 8), "--machine", "2 7 255 96"),
-            (classes.Needs((1, 7, 255, 96), "", 8), "--machine", "1 7 255 96"),
-            (classes.Needs((1, 7, 255, 96), "direct", 8), "--machine", "1 7 255 96", "--delivery",
-             "direct"),
-            (classes.Needs(SIZES, "", 3), "--machine", "2 7 255 96", "--priority-bits", 3)):
+    for sizes, delivery, bits in ((SIZES, "", 8), ((1, 7, 255, 96), "", 8),
+                                  ((1, 7, 255, 96), "direct", 8), (SIZES, "", 3)):
+        has = classes.Needs(sizes, delivery, bits)
+        options = [*["--delivery", delivery] * bool(delivery),
+                   *["--priority-bits", f"{bits}"] * (bits < 8)]
         trial.prints(0, [left_out(has) + "\n", f"{len(asked_of(has))} scripts same, 0 differ\n"],
-                     COMPARE, "--only-standard", *options, "--", *bridge)
+                     COMPARE, "--only-standard", "--machine", " ".join(map(str, sizes)), *options,
+                     "--", sys.executable, "-B", FIXED)
     trial.prints(0, ["2 scripts same, 0 differ\n", "little of an IMSIC was looked at; of these"
                      " scripts: sireg in 1, no mireg, stopei in 1, no mtopei, no csrrs, no csrrc,"
                      " no guest file\n"],

@@ -5,13 +5,16 @@ header of the library for C."""
 
 from __future__ import annotations
 
-import sys
+import contextlib
+import io
 from collections.abc import Callable
-from pathlib import Path
+from functools import partial
 from types import ModuleType
-from typing import TYPE_CHECKING, Any
+from typing import TYPE_CHECKING, Protocol
+from unittest import mock
 
-from lemdwab.documents import believed, claims, functions, header, statements
+from lemdwab.documents import (believed, claims, definitions, functions, header, site_documents,
+                               statements)
 
 if TYPE_CHECKING:
     from lemdwab.commands.tools import Trial
@@ -58,7 +61,7 @@ class Tree:
 
     def __init__(self, trial: Trial) -> None:
         self.trial, self.folder = trial, trial.folder / "words"
-        self.stood: dict[tuple[ModuleType, str], Callable[..., Any] | Path] = {}
+        self.stood: dict[tuple[ModuleType, str], object] = {}
 
     def __enter__(self) -> Tree:
         files = {"crates/bits/src/lib.rt": SOURCE, PAGE: WORDS}
@@ -88,9 +91,8 @@ class Tree:
     @staticmethod
     def forget() -> None:
         """Forgets what was read before a file changed."""
-        for cached in (claims.pages, claims.claims, claims.told_of, functions.source_lines,
-                       functions.exported):
-            cached.cache_clear()
+        forget(claims.pages, claims.claims, claims.told_of, functions.source_lines,
+               functions.exported)
 
     def told(self) -> list[str]:
         """Gives what is told of the tree."""
@@ -105,7 +107,8 @@ class Tree:
     def accepted(self, *words: str) -> int:
         """Accepts functions, and gives the status."""
         self.forget()
-        return quiet(claims.accept, list(words))
+        with contextlib.redirect_stdout(io.StringIO()):
+            return claims.accept(list(words))
 
     def plant(self, name: str, *changes: tuple[str, str]) -> list[str]:
         """Changes a file, and gives what is told then; the file is as before after it."""
@@ -122,30 +125,24 @@ class Tree:
         return found
 
 
-def quiet(call: Callable[..., Any], *given: list[str]) -> int:
-    """Calls what prints, without what it prints."""
-    stood, sys.stdout = sys.stdout, Silence()
-    try:
-        return call(*given)
-    finally:
-        sys.stdout = stood
+class Cached(Protocol):
+    """A function that keeps what it gave."""
+
+    def cache_clear(self) -> None:
+        """Forgets that."""
 
 
-class Silence:
-    """Where nothing is written."""
-
-    def write(self, text: str) -> None:
-        """Takes a text."""
-
-    def flush(self) -> None:
-        """Has nothing to hand on."""
+def forget(*every: Cached) -> None:
+    """Has functions forget what they keep."""
+    for cached in every:
+        cached.cache_clear()
 
 
 RT = "crates/bits/src/lib.rt"
 FEW, SAID = ("result ≤ most }", "result ≤ 64 }"), ("at most as many as", "as many as")
 NEW = ("        ensures few", "        ensures least { 0 ≤ result }\n        ensures few")
 # What is planted into which file, and what has to be told of each; nothing of the last ones.
-PLANTS = [
+PLANTS: list[tuple[str, list[tuple[str, str]], list[str]]] = [
     (RT, [FEW], ["bits Bits::count few: the statement changed, its sentence did not"]),
     (RT, [("most < 64", "most < 32")],
      ["bits Bits::count few: the statement changed, its sentence did not",
@@ -212,17 +209,16 @@ def accepted_claims(trial: Trial) -> None:
 def shows_before(trial: Trial) -> None:
     """The statement that was accepted, as a commit has it, and none where no commit has it."""
     said = {"log": "c1\n", "grep": "c1:crates/bits/src/lib.rt\n"}
-    real = claims.git
     with Tree(trial) as tree:
         tree.accepted("count", "none_is_lost")
         key = ("bits", "Bits::count", "few")
         accepted = claims.ledger()[key]
         for text, wanted in ((SOURCE, "c1"), (SOURCE.replace(*FEW), "")):
-            claims.git = lambda command, *_, text=text: {**said, "show": text}[command]
-            found, commit = claims.before(key, accepted)
+            told = {**said, "show": text}
+            with mock.patch.object(claims, "git", lambda command, *_: told[command]):
+                found, commit = claims.before(key, accepted)
             trial.sees(commit == wanted and (FEW[0] in found) == bool(wanted),
                        f"of the statement before is said {found!r}, at {commit!r}")
-        claims.git = real
 
 
 def statements_drift(trial: Trial) -> None:
@@ -241,35 +237,38 @@ def statements_drift(trial: Trial) -> None:
         trial.sees(not tree.told(), f"of pages made anew is told {tree.told()}")
 
 
-def told_beliefs(trial: Trial, *said: str, placed: Callable[..., Any] = believed.placed,
-                 proved: Callable[..., Any] = believed.proved) -> None:
+def placed_without(left: tuple[str, ...], kind: str) -> list[tuple[str, ...]]:
+    """Lists what stands in the order with a mark, but for one row."""
+    return [at for at in definitions.placed(kind) if left not in (at, at[2:])]
+
+
+def told_beliefs(trial: Trial, *said: str,
+                 placed: Callable[[str], list[tuple[str, ...]]] = definitions.placed,
+                 proved: Callable[[], site_documents.Rows] = site_documents.proved) -> None:
     """Sees that of an order of definitions, and of what carries README's sentences, this is
     told."""
-    stood = believed.placed, believed.proved
-    believed.placed, believed.proved = placed, proved
-    for cached in (believed.shown, believed.passed):
-        cached.cache_clear()
-    found = list(believed.drifts())
-    believed.placed, believed.proved = stood
+    forget(believed.shown, believed.passed)
+    with mock.patch.multiple(believed, placed=placed, proved=proved):
+        found = list(believed.drifts())
     trial.sees(bool(found) == bool(said) and all(any(s in line for line in found) for s in said),
                f"{said} is not told: {found[:3]}")
 
 
 def lacks_beliefs(trial: Trial) -> None:
     """What README's sentences rest on, taken out of part I of docs/DEFINITIONS.md."""
-    real, rows = believed.placed, believed.proved()
+    rows = site_documents.proved()
     told_beliefs(trial)
     for left, said in ((("aia_model", "Script"), "lacks"), (("plans_rules", "Safe"), "lacks"),
                        (("aia_c", "Codes"), "'The model is also a library', by"),
                        (("aia_word", "src/nosuch.rt"), ""),
                        (("aia_model", "src/answer.rt", "Answer"), "Answer of aia_model src/answer"),
                        (("aia_replay", "Stands"), "aia_replay Stands, which")):
-        told_beliefs(trial, *[said] * bool(said), placed=lambda kind, left=left: [
-            at for at in real(kind) if left not in (at, at[2:])])
+        told_beliefs(trial, *[said] * bool(said), placed=partial(placed_without, left))
     words = next(iter(rows))
-    for other, said in (({**rows, words: [("aia_laws", "nosuch")]}, "which is not there"),
-                        (dict(list(rows.items())[1:]), "has nothing that carries")):
-        told_beliefs(trial, said, proved=lambda other=other: other)
+    wrong: site_documents.Rows = {**rows, words: [("aia_laws", "nosuch")]}
+    told_beliefs(trial, "which is not there", proved=lambda: wrong)
+    less = dict(list(rows.items())[1:])
+    told_beliefs(trial, "has nothing that carries", proved=lambda: less)
 
 
 # What is planted into the header of the library for C, and what has to be told of it.
@@ -295,14 +294,13 @@ HEADERS = [
 
 def header_drifts(trial: Trial) -> None:
     """The header of the library for C, with something changed in it."""
-    stood, text = header.read, header.read()
+    text = header.read()
     trial.sees(not list(header.drifts()), f"of the header is told {list(header.drifts())}")
     for old, new, said in HEADERS:
         trial.sees(old in text, f"the header has no {old!r}, where a fault was to be planted")
-        header.read = lambda old=old, new=new: text.replace(old, new, 1)
-        found = list(header.drifts())
+        with mock.patch.object(header, "read", return_value=text.replace(old, new, 1)):
+            found = list(header.drifts())
         trial.sees(any(said in line for line in found), f"of {new!r} is told {found}")
-    header.read = stood
     for given, wanted in (("&mut [u8]", ["uint8_t *at", "size_t room"]), ("Global", []),
                           ("&[u8]", ["const uint8_t *at", "size_t length"]),
                           ("u32", ["uint32_t at"]), ("&mut Handle", ["struct aia **at"])):

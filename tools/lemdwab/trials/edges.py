@@ -9,25 +9,13 @@ import stat
 import sys
 from collections.abc import Iterator
 from pathlib import Path
-from typing import TYPE_CHECKING, Any
+from typing import TYPE_CHECKING
 
 from lemdwab import answers
-from lemdwab.running import TOP
+from lemdwab.running import TOP, sure
 
 if TYPE_CHECKING:
-    from lemdwab.commands.tools import Trial
-
-if TYPE_CHECKING:
-    from lemdwab.commands.tools import Trial
-
-if TYPE_CHECKING:
-    from lemdwab.commands.tools import Trial
-
-if TYPE_CHECKING:
-    from lemdwab.commands.tools import Trial
-
-if TYPE_CHECKING:
-    from lemdwab.commands.tools import Trial
+    from lemdwab.commands.tools import Trial, Word
 
 FOLDERS = ("suite", "peers", "examples", "bench", "docs/make")
 APART = TOP / "peers/apart"
@@ -76,10 +64,10 @@ def helps(trial: Trial) -> None:
         path.chmod(0o755)
     found = list(executables())
     trial.sees(len(found) > 40, f"there are {len(found)} scripts alone")
-    path = f"PATH={folder}:{os.environ['PATH']}"
+    where = f"PATH={folder}:{os.environ['PATH']}"
     for script in found:
         for word in ("-h", "--help"):
-            ran = trial.run("env", path, f"PROGRAM={folder}/program", script, word, seconds=20)
+            ran = trial.run("env", where, f"PROGRAM={folder}/program", script, word, seconds=20)
             said = answers.shown(ran.output)
             trial.sees(ran.status == 0 and not ran.errors and len(said) > 80,
                        f"{script.relative_to(TOP)} {word} ends with {ran.status}: {ran.errors}")
@@ -88,46 +76,46 @@ def helps(trial: Trial) -> None:
     trial.sees(not noted.exists(), "help is asked for, and something is run")
 
 
-def refused_words(trial: Trial) -> Iterator[Any]:
+def refused_words(trial: Trial) -> Iterator[tuple[Path, list[list[Word]]]]:
     """Lists words that are wrong, by the tool."""
     for name in ("between-steps", "majors-table", "make", "documents", "step-numbers", "isolation",
                  "from-memory", "migrations", "no-sense", "want-of-memory", "repeats",
                  "names", "chain"):
-        yield TOP / "suite" / name, ["--x"], ["a", "b", "c"]
+        yield TOP / "suite" / name, [["--x"], ["a", "b", "c"]]
     for name in ("isolation", "from-memory", "migrations", "no-sense"):
-        yield TOP / "suite" / name, ["0"], ["x"], ["1", "x"]
+        yield TOP / "suite" / name, [["0"], ["x"], ["1", "x"]]
     for name in ("any_plans.py", "generated.py", "plans.py", "sweeps.py", "compare.py",
                  "plants_told.py", "random_scripts.py", "plants.py", "run"):
-        yield APART / name, ["--x"], ["a", "x", "y"]
-    yield APART / "plants.py", [], ["a_priority_of_0_is_kep"], ["gfault_comes_before_away", "x"]
-    yield APART / "plants_told.py", ["1", "2", "nosuch"]
+        yield APART / name, [["--x"], ["a", "x", "y"]]
+    yield APART / "plants.py", [[], ["a_priority_of_0_is_kep"], ["gfault_comes_before_away", "x"]]
+    yield APART / "plants_told.py", [["1", "2", "nosuch"]]
     for peer in ("qemu", "kvm"):
-        yield TOP / "peers" / peer / "build", [], ["/nosuch"]
-        yield TOP / "peers" / peer / "scripts.py", [], ["x", "1", "1"], ["moves", "x", "1"]
-        yield TOP / "peers" / peer / f"compare_{peer}.py", [], ["a", "b", "c", "d"]
-        yield TOP / "peers" / peer / "run", ["a", "x"], ["a", "1", "1", "1"]
-    yield TOP / "peers/qemu/bridge.py", [], ["/nosuch"], [APART / "model.py", "--x"]
-    yield TOP / "peers/replay_known.py", [], ["x", "y", "z"], ["kvm", NO_PROGRAM, "x"]
-    yield TOP / "peers/hold", [], ["x", "y", "1", "--"]
+        yield TOP / "peers" / peer / "build", [[], ["/nosuch"]]
+        yield TOP / "peers" / peer / "scripts.py", [[], ["x", "1", "1"], ["moves", "x", "1"]]
+        yield TOP / "peers" / peer / f"compare_{peer}.py", [[], ["a", "b", "c", "d"]]
+        yield TOP / "peers" / peer / "run", [["a", "x"], ["a", "1", "1", "1"]]
+    yield TOP / "peers/qemu/bridge.py", [[], ["/nosuch"], [APART / "model.py", "--x"]]
+    yield TOP / "peers/replay_known.py", [[], ["x", "y", "z"], ["kvm", NO_PROGRAM, "x"]]
+    yield TOP / "peers/hold", [[], ["x", "y", "1", "--"]]
     linux = TOP / "peers/linux"
     for name in ("build", "kernel/edit.py", "traces.py", "convert.py", "hold.py", "moves.py"):
-        yield linux / name, [], ["/nosuch"]
-    yield linux / "record", [], ["/nosuch", "x"]
-    yield linux / "run", ["--x"], ["a", "b"], ["--held"], ["--held", "/nosuch"]
+        yield linux / name, [[], ["/nosuch"]]
+    yield linux / "record", [[], ["/nosuch", "x"]]
+    yield linux / "run", [["--x"], ["a", "b"], ["--held"], ["--held", "/nosuch"]]
     for name in ("check", "plans/check", "hypervisors/check", "check-library"):
-        yield TOP / "examples" / name, ["--x"], ["a", "b"]
-    yield TOP / "examples/migrate", [], ["0"], ["a", "b"]
-    yield TOP / "examples/library.py", [], ["a"], [NO_PROGRAM, "x"]
-    yield TOP / "examples/lockstep.py", ["a", "b"], [NO_PROGRAM]
-    yield TOP / "examples/fixed-machine.py", ["nosuch"]
-    yield TOP / "bench/run", ["x"], ["0"], ["1", "2"]
-    yield TOP / "bench/scripts", [], ["--x"], ["/nosuch"], [trial.folder, "nosuch"]
-    yield TOP / "bench/plot", ["--x"], ["a", "b"]
+        yield TOP / "examples" / name, [["--x"], ["a", "b"]]
+    yield TOP / "examples/migrate", [[], ["0"], ["a", "b"]]
+    yield TOP / "examples/library.py", [[], ["a"], [NO_PROGRAM, "x"]]
+    yield TOP / "examples/lockstep.py", [["a", "b"], [NO_PROGRAM]]
+    yield TOP / "examples/fixed-machine.py", [["nosuch"]]
+    yield TOP / "bench/run", [["x"], ["0"], ["1", "2"]]
+    yield TOP / "bench/scripts", [[], ["--x"], ["/nosuch"], [trial.folder, "nosuch"]]
+    yield TOP / "bench/plot", [["--x"], ["a", "b"]]
 
 
 def words_are_refused(trial: Trial) -> None:
     """Wrong words, and files that are not there: status 2, and a message on standard error."""
-    for tool, *cases in refused_words(trial):
+    for tool, cases in refused_words(trial):
         for words in cases:
             ran = trial.run("env", f"PROGRAM={trial.program}", tool, *words, seconds=30)
             trial.sees(ran.status == 2 and ran.errors and not ran.output,
@@ -141,7 +129,7 @@ def words_are_refused(trial: Trial) -> None:
 
 def reasons(trial: Trial) -> None:
     """Where words are wrong a tool says what is, in few lines, and no more of its help."""
-    script = TOP / "examples/claim.script"
+    script = str(TOP / "examples/claim.script")
     for words, said in (
             (["suite/random", "7"], "SEED and COUNT are wanted, and not 1 word"),
             (["suite/gen-script", "7"], "COUNT and SEED are wanted, and not 1 word"),
@@ -156,7 +144,7 @@ def reasons(trial: Trial) -> None:
             (["examples/lockstep.py", "a", "b"], "one PROGRAM at most is wanted, and not 2 words")):
         ran, name = trial.run(TOP / words[0], *words[1:]), words[0].rpartition("/")[2]
         trial.sees(ran.status == 2 and ran.errors == f"{name}: {said}\n{name} -h says more",
-                   f"{' '.join(map(str, words))} says {ran.errors}")
+                   f"{' '.join(words)} says {ran.errors}")
     for words, said in ((["statuses", NO_PROGRAM], f"statuses: there is no program {NO_PROGRAM}"),
                         (["c-library", "/nosuch"], "c-library: there is no folder /nosuch"),
                         (["documents", "mak"],
@@ -176,8 +164,8 @@ def reasons(trial: Trial) -> None:
         ran = trial.run("env", "-u", "PLANS", TOP / "suite" / words[0], *words[1:])
         trial.sees(ran.status == 2 and ran.errors.splitlines()[:1] == [said],
                    f"{' '.join(words)} says {ran.errors}")
-    said = trial.run(TOP / "examples/migrate", "x", "1").errors.splitlines()
-    trial.sees(said[-1].startswith("migrate: the numbers of a VM"), f"migrate x 1 says {said}")
+    lines = trial.run(TOP / "examples/migrate", "x", "1").errors.splitlines()
+    trial.sees(lines[-1].startswith("migrate: the numbers of a VM"), f"migrate x 1 says {lines}")
     for tool in ("examples/fixed-machine.py", "peers/apart/model.py"):
         said = answers.shown(trial.run(TOP / tool, "-h").output)
         trial.sees(" with status 2 " in said or " with 2 " in said, f"{tool} -h says no 2")
@@ -193,7 +181,7 @@ def judges_nothing(trial: Trial) -> None:
         given = [one] if tool == "hypervisors/check" else []
         ran = trial.run("env", f"PROGRAM={one}", TOP / "examples" / tool, *given)
         trial.sees(ran.status == 2 and not ran.output and "check: could not look: " in ran.errors,
-                   f"{tool} with {one.name} ends with {ran.status}: {ran.output}")
+                   f"{tool} with {one.name} ends with {ran.status}: {ran.output!r}")
 
 
 def without_toolchain(trial: Trial) -> None:
@@ -204,7 +192,7 @@ def without_toolchain(trial: Trial) -> None:
     for tool in ("suite/isolation", "suite/from-memory", "suite/migrations", "suite/no-sense",
                  "suite/statuses", "examples/check", "examples/plans/check", "peers/apart/run",
                  "suite/compare"):
-        words = [TOP / "examples/claim.script", "--", "cat"] if tool == "suite/compare" else []
+        words = f"{TOP}/examples/claim.script -- cat".split() if tool == "suite/compare" else []
         ran = trial.run("env", "-u", "PROGRAM", path, TOP / tool, *words)
         trial.sees(ran.status == 2 and "PROGRAM=" in ran.errors,
                    f"{tool} without a program ends with {ran.status}: {ran.errors}")
@@ -220,7 +208,8 @@ def could_not_look(trial: Trial) -> None:
                                              "check")]
     own += [here / "check", here / "plans/check"]
     own.append(TOP / "suite/tools")
-    cases = [["env", f"PROGRAM={no}", tool] for tool in own for no in (NO_PROGRAM, TOP / "VERSION")]
+    cases: list[list[Word]] = [["env", f"PROGRAM={no}", tool]
+                               for tool in own for no in (NO_PROGRAM, TOP / "VERSION")]
     unseen = program(trial, "unseen", "grep -v -e '^#' -e '^$' | sed 's/.*/-/'")
     cases += [["env", f"PROGRAM={one}", TOP / "suite" / tool, "1"]
               for one in (shutil.which("false"), shutil.which("true"), unseen)
@@ -237,7 +226,7 @@ def could_not_look(trial: Trial) -> None:
               [TOP / "suite/c-library", "/nosuch"]]
     for name in ("compare.py", "sweeps.py", "plans.py", "any_plans.py"):
         cases.append([APART / name, NO_PROGRAM, "1", "1"])
-    cases.append([APART / "any_plans.py", shutil.which("true"), "1", "1"])
+    cases.append([APART / "any_plans.py", sure(shutil.which("true")), "1", "1"])
     for words in cases:
         ran = trial.run(*words)
         trial.sees(ran.status == 2 and ran.errors and "Traceback" not in ran.errors,
@@ -254,26 +243,27 @@ def same_and_different(trial: Trial) -> None:
     cuts = planted(trial, "an_odd_select_number_reads_0")
     lets = planted(trial, "a_threshold_lets_itself_through")
     plans = program(trial, "plans", "cat > /dev/null; echo accepted")
-    for tool, wrong, *words in (
-            (suite / "from-memory", claims, 32),
-            (suite / "migrations", joins, 32), (suite / "no-sense", all_bad, 2000),
-            (here / "check", lets), (here / "plans/check", plans),
-            (suite / "check", lets, "-k", "claim")):
-        for one, status in ((right, 0), (wrong, 1)):
+    cases: list[tuple[Path, Path, list[Word]]] = [
+        (suite / "from-memory", claims, [32]),
+        (suite / "migrations", joins, [32]), (suite / "no-sense", all_bad, [2000]),
+        (here / "check", lets, []), (here / "plans/check", plans, []),
+        (suite / "check", lets, ["-k", "claim"])]
+    for tool, wrong, words in cases:
+        for one, status in ((right, 0), (str(wrong), 1)):
             given = [one, "replay"] if tool.name == "check" and words else []
             ran = trial.run("env", f"PROGRAM={one}", tool, *words, *given)
-            trial.sees(ran.status == status, f"{tool.name} over {one.name if status else one} ends"
-                       f" with {ran.status}: {ran.errors[-80:]!r}")
+            trial.sees(ran.status == status, f"{tool.name} over {one} ends with {ran.status}:"
+                       f" {ran.errors[-80:]!r}")
     for leak, status in ((0, 0), (1, 1)):
         trial.sees(trial.run(suite / "isolation", 3, leak, seconds=400).status == status,
                    f"isolation with the leak {leak}")
     plant = ("--plant", "a_claim_clears_a_level_source")
-    for words, status in ((["1", "4"], 0), (["1", "40", *plant], 1)):
-        ran = trial.run(APART / "compare.py", right, *words)
-        trial.sees(ran.status == status, f"compare.py {words} ends with {ran.status}")
-    for one, status in ((right, 0), (cuts, 1)):
+    for numbers, status in ((["1", "4"], 0), (["1", "40", *plant], 1)):
+        ran = trial.run(APART / "compare.py", right, *numbers)
+        trial.sees(ran.status == status, f"compare.py {numbers} ends with {ran.status}")
+    for one, status in ((right, 0), (str(cuts), 1)):
         trial.sees(trial.run(APART / "sweeps.py", one, 1, 1).status == status, "sweeps.py")
-    for one, status in ((right, 0), (plans, 1)):
+    for one, status in ((right, 0), (str(plans), 1)):
         trial.sees(trial.run(APART / "plans.py", one, 1, 20).status == status, "plans.py")
     trial.sees(trial.run(here / "hypervisors/check", plans).status == 1, "hypervisors/check")
     trial.prints(0, ["no number of a step stands outside the plans\n"], suite / "step-numbers")
@@ -291,12 +281,12 @@ def short_of_time(trial: Trial, name: str, seconds: str) -> Path:
 def locksteps(trial: Trial) -> None:
     """examples/lockstep.py, and lockstep.c where there is a compiler, with programs that end before
     their time, or close their output: status 2 and a message, and never a traceback."""
-    tools, hasty = [[TOP / "examples/lockstep.py"]], [short_of_time(trial, "lockstep.py", " = 60")]
+    tools, hasty = [TOP / "examples/lockstep.py"], [short_of_time(trial, "lockstep.py", " = 60")]
     hasty[0].chmod(0o755)
     if shutil.which("cc"):
         made = trial.folder / "lockstep"
         trial.run("cc", "-std=c11", "-o", made, TOP / "examples/lockstep.c")
-        tools.append([made])
+        tools.append(made)
         hasty.append(trial.folder / "hasty")
         trial.run("cc", "-std=c11", "-o", hasty[1], short_of_time(trial, "lockstep.c", " 60"))
     hangs = program(trial, "hangs", "exec sleep 100")
@@ -308,12 +298,12 @@ def locksteps(trial: Trial) -> None:
         ends = program(trial, f"ends-{name}", lines)
         for tool in tools:
             for _ in range(20 if name == "true" else 2):
-                ran = trial.run(*tool, ends, seconds=20)
-                if name == "killed" and tool[0].suffix == ".py":
+                ran = trial.run(tool, ends, seconds=20)
+                if name == "killed" and tool.suffix == ".py":
                     trial.sees("the model was killed by signal 9 (SIGKILL)" in ran.errors,
                                f"lockstep.py names no signal: {ran.errors}")
                 trial.sees(ran.status == status and len(ran.errors.splitlines()) == 1,
-                           f"{tool[0].name} {name} ends with {ran.status}: {ran.errors[:80]!r}")
+                           f"{tool.name} {name} ends with {ran.status}: {ran.errors[:80]!r}")
 
 
 PARTS = (helps, words_are_refused, reasons, judges_nothing, without_toolchain, could_not_look,

@@ -12,17 +12,11 @@ from pathlib import Path
 from typing import TYPE_CHECKING
 
 from lemdwab import answers, hunting
-from lemdwab.apart import generated
-from lemdwab.running import TOP
+from lemdwab.apart import model
+from lemdwab.running import TOP, sure
 
 if TYPE_CHECKING:
-    from lemdwab.commands.tools import Trial
-
-if TYPE_CHECKING:
-    from lemdwab.commands.tools import Trial
-
-if TYPE_CHECKING:
-    from lemdwab.commands.tools import Trial
+    from lemdwab.commands.tools import Trial, Word
 
 HUNT, RANDOM, APART = TOP / "suite/hunt", TOP / "suite/random", TOP / "peers/apart"
 COMPARE = TOP / "suite/compare"
@@ -81,7 +75,7 @@ def hunts(trial: Trial) -> None:
     trial.prints(0, ["30 scripts same, by the numbers 1 to 30\n"], HUNT, "--scripts", 30, "--jobs",
                  2, trial.program, "replay")
     finds_plant(trial, "sip_is_answered_from_memory", "--into", left)
-    differs = generated.model.answers(left.read_bytes()) != trial.run(
+    differs = model.answers(left.read_bytes()) != trial.run(
         APART / "plants.py", "sip_is_answered_from_memory", text=left.read_bytes()).output
     trial.sees(differs, "what hunt wrote is answered the same")
     trial.prints(1, ["shrunk to 1 line,", "(nothing)", "the answer to line 1 is missing: "], HUNT,
@@ -211,8 +205,8 @@ def hunts_words(trial: Trial) -> None:
     ran = trial.run(HUNT, "bash", "-c", "echo ok; kill -SEGV $$")
     trial.sees(ran.status == 2 and not ran.output and "over an empty script" in ran.errors
                and "SIGSEGV" in ran.errors, f"hunt over a command that crashes: {ran}")
-    for jobs, forms in ((1, ("--refused", 0, "--only", "st,h")), (2, ())):
-        ran = trial.run(HUNT, "--scripts", 2, *forms, "--jobs", jobs,
+    for jobs, forms in ((1, "--refused 0 --only st,h"), (2, "")):
+        ran = trial.run(HUNT, "--scripts", 2, *forms.split(), "--jobs", jobs,
                         command(trial, "dash", '{ print "-" }'))
         trial.sees(ran.status == 2 and not ran.output and ran.errors.startswith(
             "hunt: nothing was compared: the command answered - to every line"),
@@ -220,15 +214,15 @@ def hunts_words(trial: Trial) -> None:
     takes = trial.file("takes", f"#!/bin/sh\nexec '{trial.program}' replay\n")
     takes.chmod(0o755)
     known = trial.file("known", "h 7 * | * | * | no such hart\nh * | a | b | one\n")
-    short = ("--scripts", "2", "--lines", "40")
-    for words, said in (
-            ([*short, takes, "--jobs", "2"], ["hunt: --jobs stands behind the command, and so goes"
-                                              " to it; options of hunt come first"]),
-            ([*short, "--", takes, "--jobs=2"], []),
-            ([*short, "--only", "st,h", "--without", "st 0xnosuch,h * hgeip", "--known", known,
-              takes], ["hunt: --without st 0xnosuch: no line of the first 2 scripts fits it",
-                       "hunt: --known h 7 *: no line of the first 2 scripts fits it"])):
-        ran = trial.run(HUNT, *words)
+    cases: list[tuple[list[Word], list[str]]] = [
+        ([takes, "--jobs", "2"], ["hunt: --jobs stands behind the command, and so goes to it;"
+                                  " options of hunt come first"]),
+        (["--", takes, "--jobs=2"], []),
+        (["--only", "st,h", "--without", "st 0xnosuch,h * hgeip", "--known", known, takes],
+         ["hunt: --without st 0xnosuch: no line of the first 2 scripts fits it",
+          "hunt: --known h 7 *: no line of the first 2 scripts fits it"])]
+    for words, said in cases:
+        ran = trial.run(HUNT, "--scripts", "2", "--lines", "40", *words)
         trial.sees(ran.status == 0 and ran.errors.splitlines() == said, f"hunt {words}: {ran}")
     # The first of many scripts differs: of one that fits no pattern nothing is known.
     ran = trial.run(HUNT, "--lines", "2", "--without", "st 0xnosuch", "head", "-n", "0")
@@ -253,10 +247,11 @@ def hunts_first(trial: Trial) -> None:
     notes.chmod(0o755)
     into = trial.file("full.script", "as it was\n")
     free = trial.folder / "free.script"
-    for status, words in ((2, ["/nosuch/command"]), (2, [notes]), (2, [into]),
-                          (2, ["bash", "-c", "nosuch-command"]),
-                          (2, ["--into", "/nosuch/file", "true"]),
-                          (2, ["--into", trial.folder, "true"]), (1, ["echo", "READY"])):
+    cases: list[tuple[int, list[Word]]] = [
+        (2, ["/nosuch/command"]), (2, [notes]), (2, [into]), (2, ["bash", "-c", "nosuch-command"]),
+        (2, ["--into", "/nosuch/file", "true"]), (2, ["--into", trial.folder, "true"]),
+        (1, ["echo", "READY"])]
+    for status, words in cases:
         ran = trial.run("env", f"PROGRAM={model}", HUNT, *words)
         trial.sees(ran.status == status and not mark.exists(),
                    f"hunt {words} ends with {ran.status}, and asks for the model: {mark.exists()}")
@@ -299,7 +294,7 @@ def hunts_stopped(trial: Trial) -> None:
                    and errors == f"hunt: stopped by {each.name}: no script that differs was found"
                    " so far\n".encode() and not list(folder.iterdir()),
                    f"hunt --jobs 3, stopped by {each.name}, ends with {tool.returncode}, leaves"
-                   f" {alive} of {started}, and says {errors}")
+                   f" {alive} of {started}, and says {errors!r}")
 
 
 def hunts_stopped_later(trial: Trial) -> None:
@@ -309,15 +304,15 @@ def hunts_stopped_later(trial: Trial) -> None:
     slow.chmod(0o755)
     folder = trial.folder / "stopped"
     folder.mkdir()
-    for at, (each, *words) in enumerate(((signal.SIGTERM,), (signal.SIGINT, "--into", "into"))):
+    for each, words in ((signal.SIGTERM, ""), (signal.SIGINT, "--into into")):
         tool = subprocess.Popen(
-            [HUNT, "--lines", "60", *words, slow], cwd=folder, stdout=subprocess.PIPE,
+            [HUNT, "--lines", "60", *words.split(), slow], cwd=folder, stdout=subprocess.PIPE,
             stderr=subprocess.PIPE, env={**os.environ, "PROGRAM": str(trial.program)},
             start_new_session=True,
             preexec_fn=lambda: signal.signal(signal.SIGINT, signal.SIG_DFL))
         try:
             # It says which script differs before it runs that again.
-            tool.stdout.readline()
+            sure(tool.stdout).readline()
             time.sleep(0.5)
             os.killpg(tool.pid, each)
             _, errors = tool.communicate(timeout=20)
@@ -327,7 +322,8 @@ def hunts_stopped_later(trial: Trial) -> None:
         lines = len(answers.lines(path.read_bytes())) if path.exists() else 0
         trial.sees(tool.returncode == 128 + each and lines and errors.decode() ==
                    f"hunt: stopped by {each.name}: what is left so far, {lines} lines, stands in"
-                   f" {path.name}\n", f"hunt stopped {at}: {tool.returncode}, {lines}, {errors}")
+                   f" {path.name}\n", f"hunt stopped by {each.name}: {tool.returncode}, {lines},"
+                   f" {errors!r}")
 
 
 def hunts_signals(trial: Trial) -> None:

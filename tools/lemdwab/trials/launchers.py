@@ -11,9 +11,9 @@ import signal
 import subprocess
 import time
 from pathlib import Path
-from typing import TYPE_CHECKING, Any
+from typing import TYPE_CHECKING
 
-from lemdwab.running import TOP
+from lemdwab.running import TOP, sure
 from lemdwab.trials.hunts import is_alive
 
 if TYPE_CHECKING:
@@ -144,7 +144,7 @@ def launchers_speak(trial: Trial) -> None:
         for word in ("--version", "-V"):
             ran = tree.run(launcher, word)
             trial.sees(ran.output.decode() == f"{launcher} {version}\n" and not ran.status,
-                       f"{launcher} {word} prints {ran.output}")
+                       f"{launcher} {word} prints {ran.output!r}")
     said = tree.run("plans", "--help").output.decode()
     trial.sees("env -C crates/plans rt try -- judge < PLANS\n" in said and "18 minutes" in said,
                "plans --help does not say how a plan is judged without a proof")
@@ -168,7 +168,7 @@ def versions_agree(trial: Trial) -> None:
     trial.sees(f"#define AIA_VERSION {number}\n" in header, "AIA_VERSION of include/aia.h")
     trial.sees(re.search(rf"VERSION: u32 = {number:_};", library), "VERSION of aia_c")
     changes = (TOP / "CHANGELOG.md").read_text(encoding="utf-8")
-    trial.sees(re.search(r"(?m)^## (\S+)", changes).group(1) == f"{major}.{minor}.{patch}",
+    trial.sees(sure(re.search(r"(?m)^## (\S+)", changes))[1] == f"{major}.{minor}.{patch}",
                "the first version of CHANGELOG.md")
 
 
@@ -253,7 +253,7 @@ def launchers_say_statuses(trial: Trial) -> None:
                        f"{launcher} of status {status} ends with {ran.status}: {ran.errors!r}")
 
 
-def ended(tree: Tree, each: Any, pid: Path) -> tuple[int, bool]:
+def ended(tree: Tree, each: signal.Signals, pid: Path) -> tuple[int, bool]:
     """Starts ./aia replay in a tree, tells it to end once a process has said its number, and gives
     its status and whether that process is still there."""
     pid.unlink(missing_ok=True)
@@ -270,7 +270,7 @@ def ended(tree: Tree, each: Any, pid: Path) -> tuple[int, bool]:
     else:
         tool.send_signal(each)
     status = tool.wait(20)
-    tool.stdin.close()
+    sure(tool.stdin).close()
     time.sleep(0.1)
     return status, is_alive(int(pid.read_text(encoding="ascii")))
 

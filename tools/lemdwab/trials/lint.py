@@ -7,14 +7,14 @@ import os
 import random
 import re
 from collections.abc import Callable
-from typing import TYPE_CHECKING, Any
+from typing import TYPE_CHECKING
 
 from lemdwab import answers, linting, linting_plans, running
 from lemdwab.apart import plans, reading
 from lemdwab.running import TOP
 
 if TYPE_CHECKING:
-    from lemdwab.commands.tools import Trial
+    from lemdwab.commands.tools import Trial, Word
     from lemdwab.linting import Fault
     from lemdwab.running import Workers
 
@@ -86,7 +86,7 @@ def audit_line(draw: random.Random) -> bytes:
     return draw.choice(plans.OF_A_WORD).encode() + b" " + spelled(draw, draw.randrange(AUDIT_WIDTH))
 
 
-def judge_line(draw: random.Random, names: Any) -> bytes:
+def judge_line(draw: random.Random, names: dict[str, tuple[str, ...]]) -> bytes:
     """Gives a line of a plan for `judge` that spells something, whatever is declared."""
     name = draw.choice(list(names))
     words = [name]
@@ -110,7 +110,7 @@ def broken(draw: random.Random, text: bytes) -> bytes:
     words, at = text.split(b" "), draw.randrange(len(text) + 1)
     one = draw.randrange(len(words))
     front, rest = text[:at], text[at:]
-    other = {
+    other: dict[str, Callable[[], bytes]] = {
         "capitals": lambda: front + rest.upper(),
         "a capital": lambda: front + rest[:1].upper() + rest[1:],
         "tab": lambda: text.replace(b" ", b"\t", 1),
@@ -140,7 +140,7 @@ def broken(draw: random.Random, text: bytes) -> bytes:
     return draw.choice(list(other.values()))().replace(b"\n", b" ")
 
 
-def some_line(draw: random.Random, line: Callable[..., Any], share: float) -> bytes:
+def some_line(draw: random.Random, line: Callable[[random.Random], bytes], share: float) -> bytes:
     """Gives a line that is good or, of a share, broken once or twice."""
     text = line(draw)
     for _ in range((draw.random() < share) + (draw.random() < share / 4)):
@@ -156,7 +156,7 @@ class Tally:
     def __init__(self, language: str) -> None:
         self.language, self.lines, self.bad, self.differ = language, 0, 0, 0
 
-    def see(self, text: bytes, mine: Any, its: Any) -> None:
+    def see(self, text: bytes, mine: object, its: object) -> None:
         """Sees whether lint and the program say the same of a text."""
         if mine != its:
             self.differ += 1
@@ -230,14 +230,15 @@ def compare_judged(workers: Workers, program: str, draw: random.Random, count: i
                    tally: Tally) -> None:
     """Compares plans for `judge`, each by its first line that is bad, if it has one."""
     while tally.lines < count:
-        texts = []
+        texts: list[bytes] = []
         while len(texts) < min(PIECE // 5, count - tally.lines):
             texts += a_plan(draw)
-        reader, wanted = linting_plans.Judged(), []
+        reader = linting_plans.Judged()
+        wanted: list[tuple[int, str | None]] = []
         for number, text in enumerate(texts, 1):
             was_bad, fault = reader.is_bad, reader.fault(text)
-            said = linting_plans.said_of(text)
-            if isinstance(said, linting_plans.Said) and said.name == "plan":
+            line = linting_plans.said_of(text)
+            if isinstance(line, linting_plans.Said) and line.name == "plan":
                 wanted.append((number, None))
             elif fault and not was_bad:
                 wanted[-1] = (number, f"bad line {number}")
@@ -367,7 +368,7 @@ PLAN_CASES = (
     ("post #" + "x" * 123, 129, "a line of 129 bytes"), ("tak pending 0", 1, "unknown word tak"),
 )
 # What has to be so where a reason is given, of the text from the column on and of its first word.
-HOLDS = {
+HOLDS: dict[str, Callable[[bytes, bytes], object]] = {
     "a tab": lambda rest, word: rest[:1] == b"\t",
     "a CR": lambda rest, word: rest[:1] == b"\r",
     "a byte that": lambda rest, word: not 32 <= rest[0] < 127,
@@ -395,16 +396,16 @@ HOLDS = {
 }
 
 
-def holds(text: bytes, fault: Fault) -> bool | re.Match[str]:
+def holds(text: bytes, fault: Fault) -> bool:
     """Says whether the reason that is given of a line of a script is true of it."""
     rest = text[fault.column - 1:]
     word = rest.split(b" ")[0]
     if len(text) > 128 or fault.column > 128:
-        return len(text) > 128 and re.match(r"a (comment|line) of \d+ bytes", fault.reason)
+        return len(text) > 128 and bool(re.match(r"a (comment|line) of \d+ bytes", fault.reason))
     if "is below 2^32" in fault.reason:
-        return reading.number(word) is not None and reading.number(word) >= 1 << 32
+        return (reading.number(word) or 0) >= 1 << 32
     if "is 0 or 1" in fault.reason:
-        return reading.number(word) is not None and reading.number(word) > 1
+        return (reading.number(word) or 0) > 1
     if "is a number" in fault.reason:
         return not re.fullmatch(rb"[0-9]+|0x[0-9a-f]+", word)
     if "is no CSR of" in fault.reason:
@@ -432,15 +433,15 @@ def lints_by_reasons(trial: Trial) -> None:
                    and fault.reason.startswith(reason), f"of {text[-40:]!r} lint says {fault}")
     draw = random.Random("reasons")
     for _ in range(20000):
-        text = some_line(draw, script_line, 0.8)
-        fault = linting.script_fault(text)
-        if fault and not holds(text, fault):
-            trial.sees(False, f"of {text} lint says {fault}")
+        line = some_line(draw, script_line, 0.8)
+        fault = linting.script_fault(line)
+        if fault and not holds(line, fault):
+            trial.sees(False, f"of {line!r} lint says {fault}")
     plan = linting.Audit(1)
     trial.sees([number for number in range(1, 516) if plan.fault(b"fence")] == [513],
                "the steps of a plan for audit that are too many")
-    plan = linting_plans.Judged()
-    said = [plan.fault(text) for text in (b"fre", b"route 0", b"pst", b"plan", b"route 0", b"plan")]
+    plans = linting_plans.Judged()
+    said = [plans.fault(one) for one in (b"fre", b"route 0", b"pst", b"plan", b"route 0", b"plan")]
     trial.sees([fault and fault.column for fault in said] == [1, None, 1, None, 7, None],
                f"of two plans in a file lint says {said}")
 
@@ -497,9 +498,11 @@ def lints_files(trial: Trial) -> None:
     trial.prints(0, ["0 bad"], LINT, "--words", 4, plan)
     ran_ = trial.run(LINT, "-", text=b"wire 1 1\nwire 1 2\n")
     trial.sees(ran_.status == 1 and ran_.output.startswith(b"-:2:8: L of"), f"lint - says {ran_}")
-    for status, *words in ((2,), (2, "/nosuch"), (2, "--language", "x", bad), (2, "try"),
-                           (2, "--words", 3, bad), (2, bad, "--words", 4),
-                           (2, "try", 1, 1, "x"), (2, "--x"), (0, "--help")):
+    cases: list[tuple[int, list[Word]]] = [
+        (2, []), (2, ["/nosuch"]), (2, ["--language", "x", bad]), (2, ["try"]),
+        (2, ["--words", 3, bad]), (2, [bad, "--words", 4]), (2, ["try", 1, 1, "x"]),
+        (2, ["--x"]), (0, ["--help"])]
+    for status, words in cases:
         ended = trial.run(LINT, *words)
         trial.sees(ended.status == status and bool(ended.errors) == (status == 2),
                    f"lint {words} ends with {ended.status}: {ended.errors}")
@@ -514,9 +517,9 @@ def lints_much(trial: Trial) -> None:
                and not any(": a script, " in line for line in said),
                f"lint README.md prints {said[-3:]}")
     many = trial.file("many.script", "machine 1 0 63 1\n" * 30 + "wire 1 2\n" * 25)
-    said = trial.prints(1, [f"{many}: and 5 more lines that are bad\n",
+    told = trial.prints(1, [f"{many}: and 5 more lines that are bad\n",
                             f"{many}: a script, 55 lines, 25 bad\n"], LINT, many)
-    trial.sees(said.count("\n") == 22, f"lint of 25 bad lines prints {said.count(chr(10))}")
+    trial.sees(told.count("\n") == 22, f"lint of 25 bad lines prints {told.count(chr(10))}")
     for tool in (f"{LINT} {many} {many} {many}", f"{TOP}/suite/compare --only-standard -k claim --"
                  " true", f"{TOP}/suite/gen-script 50000 1"):
         ran = trial.run("bash", "-c", f"{tool} | (exec <&-; sleep 1); echo ${{PIPESTATUS[0]}}")
@@ -543,8 +546,8 @@ def lints_declarations(trial: Trial) -> None:
                                ("producer routed\nplan\nfresh\n", 0, [":2:1: warning: ",
                                                                       "no `producer`"])):
         path = trial.file("declares.plan", text)
-        for options in ([], ["--language", "judge"]):
-            trial.prints(status, said, LINT, *options, path)
+        trial.prints(status, said, LINT, path)
+        trial.prints(status, said, LINT, "--language", "judge", path)
     path = trial.file("declares.plan", "producer routed\nmemory\nlook 0\nplan\n")
     shown = trial.prints(0, ["0 bad"], LINT, "--language", "judge", path)
     trial.sees("warning" not in shown, f"lint warns of what is declared: {shown}")

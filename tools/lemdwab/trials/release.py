@@ -7,7 +7,7 @@ import io
 import shutil
 import tarfile
 from collections.abc import Iterator
-from typing import TYPE_CHECKING, Any
+from typing import TYPE_CHECKING
 
 from lemdwab import installed, released
 from lemdwab.running import TOP
@@ -68,7 +68,7 @@ def release_refuses(trial: Trial) -> None:
                f"release --dirty ends with {ran.status}: {ran.errors}")
 
 
-def sees_only(trial: Trial, faults: Iterator[Any], *wanted: str) -> None:
+def sees_only(trial: Trial, faults: Iterator[str], *wanted: str) -> None:
     """Sees that what is found is just this, in this order."""
     found = list(faults)
     trial.sees(len(found) == len(wanted) and all(map(lambda a, b: b in a, found, wanted)),
@@ -117,10 +117,11 @@ def release_files(trial: Trial) -> None:
     if not shutil.which("cc"):
         return
     script = trial.file("exported", "AIA_1 { global: aia_*; local: *; };\n")
-    for text, name, wanted in (
-            (CALLS, "libaia.so.1", []), (CALLS, "libaia.so", ["is called otherwise"]),
-            (CALLS + "int aia_more(void) { return 0; }\n", "libaia.so.1", ["disagree on aia_more"]),
-            (CALLS.splitlines()[0], "libaia.so.1", ["disagree on aia_close"])):
+    cases: list[tuple[str, str, list[str]]] = [
+        (CALLS, "libaia.so.1", []), (CALLS, "libaia.so", ["is called otherwise"]),
+        (CALLS + "int aia_more(void) { return 0; }\n", "libaia.so.1", ["disagree on aia_more"]),
+        (CALLS.splitlines()[0], "libaia.so.1", ["disagree on aia_close"])]
+    for text, name, wanted in cases:
         source = trial.file("library.c", text)
         trial.run("cc", "-shared", "-fPIC", f"-Wl,-soname,{name}", f"-Wl,--version-script={script}",
                   source, "-o", tree / "lib/libaia.so.1")

@@ -5,16 +5,21 @@ from __future__ import annotations
 
 import shutil
 import sys
-from collections.abc import Callable
+from collections.abc import Callable, Iterable
 from pathlib import Path
-from typing import TYPE_CHECKING, Any
+from typing import TYPE_CHECKING
+from unittest import mock
 
 from lemdwab import siting
-from lemdwab.running import TOP
+from lemdwab.documents import site_documents
+from lemdwab.running import TOP, sure
 
 if TYPE_CHECKING:
-    from lemdwab.commands.tools import Trial
+    from lemdwab.commands.tools import Trial, Word
+    from lemdwab.running import Workers
 
+# What looks at a site, and lists what is wrong there.
+Check = Callable[[siting.Pages], Iterable[str]]
 SITE, MAKER = TOP / "suite/site", TOP / "docs/make/site"
 LAW, SCRIPT = "laws/aia_laws/no_notice_is_lost.html", "definitions/aia_model/Script.html"
 # What the makers need of a path; without pandoc and a browser.
@@ -30,7 +35,7 @@ def without(trial: Trial) -> str:
         folder.mkdir()
         for command in COMMANDS:
             found = sys.executable if command == "python3" else shutil.which(command)
-            (folder / command).symlink_to(found)
+            (folder / command).symlink_to(sure(found))
     return f"PATH={folder}"
 
 
@@ -39,15 +44,18 @@ def refuses_to_make(trial: Trial) -> None:
     full, new = trial.folder / "full", trial.folder / "new"
     full.mkdir()
     (full / "file").touch()
-    for said, words in (("pandoc is missing", ["env", without(trial), MAKER, new]),
-                        ("pandoc is missing", ["env", without(trial), SITE]),
-                        ("FOLDER", [MAKER]), ("FOLDER", [MAKER, new, new]),
-                        ("there is no site in", [SITE, full]), ("FOLDER", [SITE, new, new])):
+    cases: list[tuple[str, list[Word]]] = [
+        ("pandoc is missing", ["env", without(trial), MAKER, new]),
+        ("pandoc is missing", ["env", without(trial), SITE]),
+        ("FOLDER", [MAKER]), ("FOLDER", [MAKER, new, new]),
+        ("there is no site in", [SITE, full]), ("FOLDER", [SITE, new, new])]
+    for said, words in cases:
         ran = trial.run(*words)
         trial.sees(ran.status == 2 and said in ran.errors and not new.exists(),
                    f"{words[-2:]} ends with {ran.status}: {ran.errors[-80:]}")
     if shutil.which("pandoc"):
-        for folder, said in ((full, "is no empty folder"), ("/nosuch/folder", "there is no folder"),
+        for folder, said in ((full, "is no empty folder"),
+                             (Path("/nosuch/folder"), "there is no folder"),
                              (TOP / "VERSION", "is no empty folder")):
             ran = trial.run(MAKER, folder)
             trial.sees(ran.status == 2 and said in ran.errors,
@@ -60,12 +68,12 @@ class Planted:
     def __init__(self, trial: Trial, folder: Path) -> None:
         self.trial, self.site = trial, siting.Pages(folder)
 
-    def looks(self, *checks: Callable[..., Any]) -> list[str]:
+    def looks(self, *checks: Check) -> list[str]:
         """Gives what checks say of the site as it stands."""
         self.site.seen = self.site.reached()
         return [line for check in checks for line in check(self.site)]
 
-    def tells(self, said: str, place: str, old: str, new: str, *checks: Any) -> None:
+    def tells(self, said: str, place: str, old: str, new: str, *checks: Check) -> None:
         """Plants other text into a page, and sees that checks tell it."""
         path = self.site.folder / place
         text = path.read_text(encoding="utf-8")
@@ -78,7 +86,7 @@ class Planted:
         path.write_text(text, encoding="utf-8")
         self.site.read(place)
 
-    def lacks(self, said: str, place: str, *checks: Any) -> None:
+    def lacks(self, said: str, place: str, *checks: Check) -> None:
         """Takes a page away, and sees that checks tell it."""
         page = self.site.pages.pop(place)
         self.site.files.discard(place)
@@ -88,9 +96,9 @@ class Planted:
         self.site.files.add(place)
 
 
-def plants(planted: Planted, workers: running.Workers) -> None:
+def plants(planted: Planted, workers: Workers) -> None:
     """Plants a fault of each kind."""
-    def sliders(site: siting.Pages) -> Any:
+    def sliders(site: siting.Pages) -> Iterable[str]:
         """Looks at the sliders of a site."""
         return siting.sliders(site, workers)
     planted.tells("docs/PROMISE.html, which is not there", "docs/README.html",
@@ -119,17 +127,15 @@ def plants(planted: Planted, workers: running.Workers) -> None:
 def rows_are_missed(planted: Planted) -> None:
     """A sentence of README without its row, a row without its sentence, and one that names no
     law."""
-    real = siting.site_documents.proved
-    rows = real()
+    rows = site_documents.proved()
     words = next(iter(rows))
     other = dict(list(rows.items())[1:])
     for wrong, said in ((other, "has no row, or two, of README's"),
                         (rows | {"No such sentence": []}, "and README no such sentence"),
                         (rows | {words: [("aia_laws", "no_such_law")]}, "which is not there")):
-        siting.site_documents.proved = lambda wrong=wrong: wrong
-        found = planted.looks(siting.laws)
+        with mock.patch.object(site_documents, "proved", return_value=wrong):
+            found = planted.looks(siting.laws)
         planted.trial.sees(any(said in line for line in found), f"not told: {said}: {found[:3]}")
-    siting.site_documents.proved = real
 
 
 def is_out_of_reach(planted: Planted) -> None:

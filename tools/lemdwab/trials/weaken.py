@@ -196,7 +196,7 @@ def weaken_is_bounded(trial: Trial) -> None:
     trial.sees(not tree.given(), "weaken begins a check though the minutes are over")
     ran = tree.run("low", "is_low", before=("timeout", "--preserve-status", "-s", "TERM", "6"))
     trial.sees(ran.status == 128 + signal.SIGTERM and NAMES[5].encode() not in ran.output,
-               f"weaken, stopped by a signal, ends with {ran.status}: {ran.output}")
+               f"weaken, stopped by a signal, ends with {ran.status}: {ran.output!r}")
     tree.sees_no_rt()
 
 

@@ -130,7 +130,9 @@ def wider_tells(trial: Trial) -> None:
     tree = Tree(trial, "untried")
     tree.plant("fine", "is_bad", "is_gone", "is_killed", "is_silent")
     tree.plant("has_no_place", crate="high", old="nosuch")
-    for gone in (["low/is_gone: refused: (only because a proof file names it): proofs/x\n"], []):
+    gones: list[list[str]] = [
+        ["low/is_gone: refused: (only because a proof file names it): proofs/x\n"], []]
+    for gone in gones:
         tree.sees(2, ["low/is_bad: not tried: BAD EDIT: the prover cannot read", *gone,
                       "low/is_killed: not tried: NOT TRIED: its check was killed",
                       "low/is_silent: not tried: rt ended with status 1 and said nothing of it:"
@@ -157,7 +159,7 @@ def wider_is_bounded(trial: Trial) -> None:
     trial.sees(not tree.edits(), "wider begins a call though the minutes are over")
     ran = tree.run(before=("timeout", "--preserve-status", "-s", "TERM", "5"))
     trial.sees(ran.status == 128 + signal.SIGTERM and b"takes_long" not in ran.output,
-               f"wider, stopped by a signal, ends with {ran.status}: {ran.output}")
+               f"wider, stopped by a signal, ends with {ran.status}: {ran.output!r}")
     tree.sees_no_rt()
 
 
@@ -175,14 +177,14 @@ def wider_refuses_words(trial: Trial) -> None:
 def planted_bugs(trial: Trial) -> None:
     """Edits that can be made, and that can't, as suite/documents tells them apart."""
     once, twice = ("pub fn least_one", "pub fn other"), ("None", "Some")
-    for is_made, file, *pairs in ((True, "src/bits.rt", once),
-                                  (True, "src/bits.rt", once, ("pub fn other", "")),
-                                  (False, "src/bits.rt"), (False, "src/bits.rt", twice),
-                                  (False, "src/bits.rt", ("nosuch text", "x")),
-                                  (False, "src/bits.rt", once, once), (False, "src", once),
-                                  (False, "data/bits.rt", once), (False, "src/nosuch.rt", once),
-                                  (False, "src/bits.rt", once[:1] * 2), (False, "", once)):
-        why = strength.misfit("aia_word", [(file, *pair) for pair in pairs])
+    cases: list[tuple[bool, str, list[tuple[str, str]]]] = [
+        (True, "src/bits.rt", [once]), (True, "src/bits.rt", [once, ("pub fn other", "")]),
+        (False, "src/bits.rt", []), (False, "src/bits.rt", [twice]),
+        (False, "src/bits.rt", [("nosuch text", "x")]), (False, "src/bits.rt", [once, once]),
+        (False, "src", [once]), (False, "data/bits.rt", [once]), (False, "src/nosuch.rt", [once]),
+        (False, "src/bits.rt", [(once[0], once[0])]), (False, "", [once])]
+    for is_made, file, pairs in cases:
+        why = strength.misfit("aia_word", [(file, old, new) for old, new in pairs])
         trial.sees(bool(why) != is_made, f"of an edit of {file!r}, {pairs}, is said {why!r}")
     read = strength.changes("file: a\nold: b\nnew: c\nold:  d\nnew:\nfile: e\nold: f\nnew:  g\n")
     trial.sees(read == (("a", "b", "c"), ("a", " d", ""), ("e", "f", " g")),
