@@ -4,6 +4,7 @@ from __future__ import annotations
 
 import re
 import subprocess
+from pathlib import Path
 from collections.abc import Callable, Iterable, Iterator
 from functools import cache
 
