@@ -15,10 +15,15 @@ from __future__ import annotations
 import random
 import re
 import subprocess
-from collections.abc import Iterator
-from typing import Any
+from collections.abc import Callable, Iterator
 
 from lemdwab.apart import words as command_line
+
+# A step, by its words and numbers; and an identity, by its word and its number there.
+Step = tuple[int | str, ...]
+Bit = tuple[int, int]
+# Which identities are pending, and which are enabled, at the start.
+Start = tuple[tuple[int, ...], tuple[int, ...]]
 
 
 class Setting:
@@ -40,56 +45,55 @@ class Setting:
         return out + ['notices unset'] * self.unset
 
 
-def both_sets(words: int, verb: str) -> list[tuple[str, str, int]]:
+def both_sets(words: int, verb: str) -> list[Step]:
     return [(verb, bank, w) for w in range(words) for bank in ('pending', 'enabled')]
 
 
-def hypervisors(words: int) -> Iterator[tuple[Setting, list[tuple[int | str, ...]]]]:
+def hypervisors(words: int) -> Iterator[tuple[Setting, list[Step]]]:
     """The plans from which random ones are made, each with its setting."""
-    lead = [('route', 0), ('fence', 0), ('route', 1), ('fence', 1)]
-    core = [(v, b, w) for b in ('pending', 'enabled') for w in range(words)
-            for v in ('take', 'join')]
-    zeroed = [('zero', 'new', 'delivery'), ('zero', 'new', 'threshold')]
+    lead: list[Step] = [('route', 0), ('fence', 0), ('route', 1), ('fence', 1)]
+    core: list[Step] = [(v, b, w) for b in ('pending', 'enabled') for w in range(words)
+                        for v in ('take', 'join')]
+    zeroed: list[Step] = [('zero', 'new', 'delivery'), ('zero', 'new', 'threshold')]
     zeroed += [('zero', 'new', b, w) for w in range(words) for b in ('pending', 'enabled')]
-    swapped = [('take', 'delivery'), ('take', 'threshold')] + both_sets(words, 'take')
+    swapped: list[Step] = [('take', 'delivery'), ('take', 'threshold'), *both_sets(words, 'take')]
     joined = both_sets(words, 'join')
-    put = [('put', 'threshold'), ('put', 'delivery')]
+    put: list[Step] = [('put', 'threshold'), ('put', 'delivery')]
     routed, host = ['routed', 'routed'], ['switched', 'routed']
     yield (Setting(routed, words, True, True, False, 'old', 'hand', True),
-           [('take', 'delivery'), ('write', 'notice')] + lead + core
-           + [('look', w) for w in range(words)] + [('take', 'threshold'), ('post',), ('free',)])
-    yield Setting(routed, words, True, False, False, 'hand', 'new'), lead + core + put
+           [('take', 'delivery'), ('write', 'notice'), *lead, *core,
+            *(('look', w) for w in range(words)), ('take', 'threshold'), ('post',), ('free',)])
+    yield (Setting(routed, words, True, False, False, 'hand', 'new'), [*lead, *core, *put])
     yield (Setting(routed, words, True, False, False, 'old', 'new'),
-           [('take', 'delivery')] + lead + core + [('take', 'threshold')] + put + [('free',)])
-    kvm = [('route', 1), ('fence', 1), ('switch', 0)]
+           [('take', 'delivery'), *lead, *core, ('take', 'threshold'), *put, ('free',)])
+    kvm: list[Step] = [('route', 1), ('fence', 1), ('switch', 0)]
     yield (Setting(host, words, False, False, False, 'old', 'new'),
-           zeroed + kvm + swapped + joined + put)
+           [*zeroed, *kvm, *swapped, *joined, *put])
     yield (Setting(host, words, False, False, False, 'old', 'new'),
-           zeroed + kvm + swapped + [('free',)] + joined + put)
-    copied = [('copy', 'delivery'), ('copy', 'threshold')] + both_sets(words, 'copy')
-    cleared = [('zero', 'old', 'delivery'), ('zero', 'old', 'threshold')]
+           [*zeroed, *kvm, *swapped, ('free',), *joined, *put])
+    copied: list[Step] = [('copy', 'delivery'), ('copy', 'threshold'), *both_sets(words, 'copy')]
+    cleared: list[Step] = [('zero', 'old', 'delivery'), ('zero', 'old', 'threshold')]
     cleared += [('zero', 'old', b, w) for w in range(words) for b in ('pending', 'enabled')]
     yield (Setting(host, words, False, False, False, 'old', 'new', False, True),
-           zeroed + kvm + copied + cleared + joined + put + [('free',)])
+           [*zeroed, *kvm, *copied, *cleared, *joined, *put, ('free',)])
     yield (Setting(host, words, True, False, False, 'hand', 'new', False, True),
-           kvm + copied[2:] + joined + cleared + put + [('free',)])
+           [*kvm, *copied[2:], *joined, *cleared, *put, ('free',)])
     yield (Setting(host, words, True, True, False, 'old', 'hand', False, True),
-           copied[:2] + kvm + copied[2:] + joined + cleared + [('tell',), ('free',)])
+           [*copied[:2], *kvm, *copied[2:], *joined, *cleared, ('tell',), ('free',)])
     yield (Setting(host, words, True, True, True, 'old', 'new'),
-           [('switch', 0), ('route', 1), ('fence', 1)] + swapped
-           + [('put', 'delivery'), ('put', 'threshold')] + joined + [('tell',), ('free',)])
+           [('switch', 0), ('route', 1), ('fence', 1), *swapped, ('put', 'delivery'),
+            ('put', 'threshold'), *joined, ('tell',), ('free',)])
     yield (Setting(host, words, True, True, False, 'old', 'hand'),
-           kvm + swapped + joined + [('untell',)] + [('look', w) for w in range(words)]
-           + [('post',), ('free',)])
+           [*kvm, *swapped, *joined, ('untell',), *(('look', w) for w in range(words)), ('post',),
+            ('free',)])
     yield (Setting(host, words, True, True, True, 'old', 'new', True),
-           [('switch', 0), ('route', 1), ('fence', 1)] + swapped
-           + [('put', 'delivery'), ('put', 'threshold')] + joined
-           + [('write', 'notice'), ('tell',), ('free',)])
+           [('switch', 0), ('route', 1), ('fence', 1), *swapped, ('put', 'delivery'),
+            ('put', 'threshold'), *joined, ('write', 'notice'), ('tell',), ('free',)])
 
 
-def all_steps(setting: Setting) -> list[tuple[int | str, ...]]:
+def all_steps(setting: Setting) -> list[Step]:
     """Every step that a plan of a setting may have."""
-    out = [('post',), ('tell',), ('untell',), ('write', 'notice'), ('free',)]
+    out: list[Step] = [('post',), ('tell',), ('untell',), ('write', 'notice'), ('free',)]
     for p in range(len(setting.producers)):
         out += [('route', p), ('fence', p), ('switch', p)]
     for w in range(setting.words):
@@ -103,8 +107,7 @@ def all_steps(setting: Setting) -> list[tuple[int | str, ...]]:
     return out
 
 
-def edited(setting: Setting, plan: list[tuple[int | str, ...]],
-           rng: random.Random) -> list[tuple[int | str, ...]]:
+def edited(setting: Setting, plan: list[Step], rng: random.Random) -> list[Step]:
     """A plan with one to three steps taken out, moved, added or replaced."""
     plan = list(plan)
     for _ in range(rng.choice((1, 1, 2, 3))):
@@ -127,22 +130,25 @@ class Machine:
     def __init__(self, setting: Setting, pending: tuple[int, ...],
                  enabled: tuple[int, ...]) -> None:
         self.s = setting
-        left = set() if setting.fresh else {(w, 7) for w in range(setting.words)}
-        every = lambda ids: {(w, i) for w in range(setting.words) for i in ids}
-        self.old = {'pending': every(pending), 'enabled': every(enabled)}
+        left = self.every(() if setting.fresh else (7,))
+        self.old = {'pending': self.every(pending), 'enabled': self.every(enabled)}
         self.new = {'pending': set(left), 'enabled': set(left)}
-        self.hand = {'pending': set(), 'enabled': set()}
-        self.due = every(pending)
-        self.first_enabled = every(enabled)
+        self.hand: dict[str, set[Bit]] = {'pending': set(), 'enabled': set()}
+        self.due = self.every(pending)
+        self.first_enabled = self.every(enabled)
         self.number = {'old': {'threshold': 66, 'delivery': 67},
                        'hand': {'threshold': 77, 'delivery': 78},
                        'new': {'threshold': 1, 'delivery': 0}}
         self.number[setting.start] = {'threshold': 9, 'delivery': 1}
         self.written = ['old'] * len(setting.producers)
         self.force = ['old'] * len(setting.producers)
-        self.flights: list[Any] = []
+        self.flights: list[tuple[int, str, Bit]] = []
         self.freed = self.strayed = self.seen = self.told = False
         self.notices_reach_the_host = not setting.unset
+
+    def every(self, numbers: tuple[int, ...]) -> set[Bit]:
+        """The identities of these numbers in each word."""
+        return {(w, number) for w in range(self.s.words) for number in numbers}
 
     def lets_out(self, identity: int) -> bool:
         if not self.s.heeds:
@@ -155,7 +161,7 @@ class Machine:
         both = self.new['pending'] & self.new['enabled']
         return any(w == word and self.lets_out(i) for w, i in both)
 
-    def land(self, place: str, what: str) -> None:
+    def land(self, place: str, what: Bit) -> None:
         if place == 'old':
             self.strayed |= self.freed
             self.old['pending'].add(what)
@@ -165,10 +171,10 @@ class Machine:
             self.new['pending'].add(what)
         self.due.add(what)
 
-    def store(self, producer: Any, by_written: bool, what: Any) -> None:
+    def store(self, producer: int, by_written: bool, what: Bit) -> None:
         self.land((self.written if by_written else self.force)[producer], what)
 
-    def send(self, producer: Any, by_written: bool, what: Any) -> None:
+    def send(self, producer: int, by_written: bool, what: Bit) -> None:
         route = (self.written if by_written else self.force)[producer]
         self.flights.append((producer, route, what))
 
@@ -177,8 +183,8 @@ class Machine:
             _, place, what = self.flights.pop(0)
             self.land(place, what)
 
-    def step(self, step: tuple[int | str, ...]) -> None:
-        getattr(self, 'do_' + step[0])(*step[1:])
+    def step(self, step: Step) -> None:
+        getattr(self, f'do_{step[0]}')(*step[1:])
 
     def do_route(self, p: int) -> None:
         self.written[p] = 'new'
@@ -194,7 +200,7 @@ class Machine:
         self.force[p] = self.written[p]
 
     @staticmethod
-    def of_word(bits: set[tuple[int, int]], word: int) -> set[tuple[int, int]]:
+    def of_word(bits: set[Bit], word: int) -> set[Bit]:
         return {b for b in bits if b[0] == word}
 
     def do_zero(self, place: str, what: str, word: int | None = None) -> None:
@@ -267,28 +273,41 @@ class Machine:
     def is_bad(self) -> bool:
         """Whether a run that ends so loses, doubles, or leaves something behind, or untold."""
         return (self.new['pending'] != self.due or self.new['enabled'] != self.first_enabled
-                or self.old['pending'] or self.old['enabled'] or self.strayed
+                or bool(self.old['pending'] or self.old['enabled']) or self.strayed
                 or self.number[self.s.end] != {'threshold': 9, 'delivery': 1}
                 or 'old' in self.written or 'old' in self.force
                 or any(place == 'old' for _, place, _ in self.flights)
                 or self.leaves_numbers() or (self.s.memory and self.is_untold()))
 
 
-def is_bad_run(setting: Setting, plan: list[tuple[int | str, ...]],
-               start: tuple[tuple[int], tuple[int, int, int]], events: list[Any]) -> bool:
+# What happens behind so many steps.
+Event = tuple[int, Callable[[Machine], None]]
+
+
+def stored(producer: int, by_written: bool, what: Bit) -> Callable[[Machine], None]:
+    """A store of a producer, by its written route or by that in force."""
+    return lambda machine: machine.store(producer, by_written, what)
+
+
+def sent(producer: int, by_written: bool, what: Bit) -> Callable[[Machine], None]:
+    """A store that is sent so, and lands later."""
+    return lambda machine: machine.send(producer, by_written, what)
+
+
+def is_bad_run(setting: Setting, plan: list[Step], start: Start, events: list[Event]) -> bool:
     """Whether the run with these events, each with so many steps before it, is bad."""
     return is_bad_end(Machine(setting, *start), plan, events)
 
 
-def is_bad_end(machine: Machine, plan: list[tuple[int | str, ...]], events: list[Any]) -> bool:
+def is_bad_end(machine: Machine, plan: list[Step], events: list[Event]) -> bool:
     """Whether a machine ends badly after the steps of a plan with these events between them."""
     run(machine, plan, events)
     return machine.is_bad()
 
 
-def run(machine: Machine, plan: list[tuple[int | str, ...]], events: list[Any]) -> None:
+def run(machine: Machine, plan: list[Step], events: list[Event]) -> None:
     """Makes the steps of a plan on a machine, with these events between them."""
-    for at, step in enumerate(list(plan) + [None]):
+    for at, step in enumerate([*plan, None]):
         for before, act in events:
             if before == at:
                 act(machine)
@@ -296,7 +315,7 @@ def run(machine: Machine, plan: list[tuple[int | str, ...]], events: list[Any]) 
             machine.step(step)
 
 
-def runs(setting: Setting, plan: list[tuple[int | str, ...]]) -> Iterator[list[Any]]:
+def runs(setting: Setting, plan: list[Step]) -> Iterator[list[Event]]:
     """The events of every run that is tried: none, one store, one in flight."""
     yield []
     for p, kind in enumerate(setting.producers):
@@ -304,17 +323,17 @@ def runs(setting: Setting, plan: list[tuple[int | str, ...]]) -> Iterator[list[A
             for by_written in (False, True):
                 for w in range(setting.words):
                     for identity in (3, 4):
-                        yield [(at, lambda m, a=(p, by_written, (w, identity)): m.store(*a))]
+                        yield [(at, stored(p, by_written, (w, identity)))]
                     if kind == 'routed':
-                        send = (at, lambda m, a=(p, by_written, (w, 3)): m.send(*a))
+                        send = (at, sent(p, by_written, (w, 3)))
                         yield [send]
                         if at == 0:
                             for landing in range(at, len(plan) + 1):
-                                yield [send, (landing, lambda m: m.land_first())]
+                                yield [send, (landing, Machine.land_first)]
 
 
-def has_bad_run(setting: Setting, plan: list[tuple[int | str, ...]]) -> bool:
-    starts = (((2,), (0, 1, 3)), ((0, 2), (0, 1, 3)))
+def has_bad_run(setting: Setting, plan: list[Step]) -> bool:
+    starts: tuple[Start, ...] = (((2,), (0, 1, 3)), ((0, 2), (0, 1, 3)))
     return any(is_bad_run(setting, plan, start, events)
                for start in starts for events in runs(setting, plan))
 
@@ -343,13 +362,13 @@ FATES = {
 AS_IT_WAS = {'threshold': 9, 'delivery': 1}
 
 
-def empties(step: tuple[int | str, ...], bank: str, word: int) -> bool:
+def empties(step: Step, bank: str, word: int) -> bool:
     """Whether a step leaves nothing of a word in the old place."""
     return step in (('take', bank, word), ('zero', 'old', bank, word))
 
 
-def comes_so(machine: Machine, plan: list[tuple[int | str, ...]], first_line: int, rule: str,
-             bank: str, what: tuple[int, int], producer: int | None, said: str) -> bool:
+def comes_so(machine: Machine, plan: list[Step], first_line: int, rule: str,
+             bank: str, what: Bit, producer: int | None, said: str) -> bool:
     """Whether what a run says of its end is so, and shows that the rule is broken."""
     wanted = machine.due if bank == 'pending' else machine.first_enabled
     in_old, in_new = what in machine.old[bank], what in machine.new[bank]
@@ -380,7 +399,7 @@ def comes_so(machine: Machine, plan: list[tuple[int | str, ...]], first_line: in
     return bool(fate == 'strayed' and rule == 'freeing' and machine.strayed)
 
 
-def is_bad_shown(setting: Setting, plan: list[tuple[int | str, ...]], first_line: int,
+def is_bad_shown(setting: Setting, plan: list[Step], first_line: int,
                  text: str, rule: str) -> bool:
     """Whether a run that a program shows, of a plan whose first step is on a line, is one, and is
     bad as it says."""
@@ -402,21 +421,21 @@ def is_bad_shown(setting: Setting, plan: list[tuple[int | str, ...]], first_line
     def before(line: str | None) -> int:
         return int(line) - first_line + 1 if line else 0
 
-    events: list[Any] = []
+    events: list[Event] = []
     producer = None
     if found['storer']:
         producer = int(found['storer'])
         written = found['route'] == 'written route'
-        events.append((before(found['behind']), lambda m: m.store(producer, written, what)))
+        events.append((before(found['behind']), stored(producer, written, what)))
     if found['sender']:
         producer = int(found['sender'])
         if setting.producers[producer] != 'routed':
             return False
-        events.append((before(found['sent']), lambda m: m.send(producer, False, what)))
-        events.append((before(found['landing']), lambda m: m.land_first()))
+        events.append((before(found['sent']), sent(producer, False, what)))
+        events.append((before(found['landing']), Machine.land_first))
     run(machine, plan, events)
     fate = found['fate'][2:]
-    is_bad = bool(machine.is_bad())
+    is_bad = machine.is_bad()
     return is_bad and comes_so(machine, plan, first_line, rule, bank, what, producer, fate)
 
 
@@ -434,10 +453,17 @@ NONE = re.compile(r'  run: none was found among those that are tried'
                   r'(; the rule may ask for more than that the host is told)?')
 
 
-def is_untold_shown(setting: Any, plan: Any, first_line: int, text: str) -> bool:
+def is_spot(words: str | None, name: str) -> bool:
+    """Whether the words of a place, where they stand, are those of a place of this name."""
+    return (words or '').startswith(name)
+
+
+def is_untold_shown(setting: Setting, plan: list[Step], first_line: int, text: str) -> bool:
     """Whether a run that a program shows, of a plan whose first step is on a line, is one, and
     leaves the host untold."""
     found = UNTOLD.fullmatch(text)
+    if not found:
+        return False
     identity, there, storer, behind, route, numbers, delivery, threshold = found.groups()
     what = (int(identity) // 64, int(identity) % 64)
     if bool(numbers) != setting.heeds or what[0] >= setting.words:
@@ -449,20 +475,19 @@ def is_untold_shown(setting: Any, plan: Any, first_line: int, text: str) -> bool
         machine.old['pending'].add(what)
         machine.due.add(what)
     for name in ('old', 'hand', 'new'):
-        is_spot = lambda words: (words or '').startswith(name)
-        machine.number[name] = {'threshold': 0 if is_spot(threshold) else 1,
-                                'delivery': int(is_spot(delivery))}
-    events = []
+        machine.number[name] = {'threshold': 0 if is_spot(threshold, name) else 1,
+                                'delivery': int(is_spot(delivery, name))}
+    events: list[Event] = []
     if storer:
         if int(storer) >= len(setting.producers):
             return False
         before = int(behind) - first_line + 1 if behind else 0
-        events.append((before, lambda m: m.store(int(storer), route == 'written route', what)))
+        events.append((before, stored(int(storer), route == 'written route', what)))
     run(machine, plan, events)
     return machine.is_untold() and all(what in machine.new[bank] for bank in ('pending', 'enabled'))
 
 
-def shown_of(setting: Setting, plan: list[tuple[int | str, ...]], first_line: int, verdict: str,
+def shown_of(setting: Setting, plan: list[Step], first_line: int, verdict: str,
              text: str) -> str:
     """What is shown of a plan: a run that is what its verdict asks for, or is not; or that none was
     found."""
@@ -477,8 +502,7 @@ def shown_of(setting: Setting, plan: list[tuple[int | str, ...]], first_line: in
     return 'shown' if is_right else 'wrongly shown'
 
 
-def verdicts(program: str,
-             plans: list[tuple[Setting, list[tuple[int | str, ...]]]]) -> list[tuple[str, str]]:
+def verdicts(program: str, plans: list[tuple[Setting, list[Step]]]) -> list[tuple[str, str]]:
     """What a program answers of each plan: the first two words, and what is shown."""
     text, firsts, line = [], [], 1
     for setting, plan in plans:
@@ -489,7 +513,7 @@ def verdicts(program: str,
                           text=True)
     if done.returncode not in (0, 1):  # 1 where it refuses a plan
         command_line.fail(f'{program} ended with status {done.returncode}')
-    answers = []
+    answers: list[tuple[str, str]] = []
     for answer in done.stdout.splitlines():
         if answer.startswith(' '):
             setting, plan = plans[len(answers) - 1]
@@ -504,11 +528,12 @@ def verdicts(program: str,
 
 
 def main() -> int:
-    program, count, seed = command_line.given(
+    program, *numbers = command_line.given(
         __doc__, lambda given: len(given) == 3 and command_line.are_numbers(given[1:]))
-    count, rng = int(count), random.Random(int(seed))
+    count, seed = map(int, numbers)
+    rng = random.Random(seed)
     seeds = [list(hypervisors(words)) for words in (1, 2)]
-    tally = {}
+    tally: dict[tuple[str, str, str], int] = {}
     for begin in range(0, count, 500):
         plans = []
         for _ in range(min(500, count - begin)):
