@@ -74,7 +74,7 @@ class Planted:
         return [line for check in checks for line in check(self.site)]
 
     def tells(self, said: str, place: str, old: str, new: str, *checks: Check) -> None:
-        """Plants other text into a page, wherever the old one stands, and sees that checks tell it."""
+        """Plants other text into a page wherever the old one stands, and sees that it is told."""
         path = self.site.folder / place
         text = path.read_text(encoding="utf-8")
         self.trial.sees(old in text, f"{place} has no {old!r}, where a fault was to be planted")
