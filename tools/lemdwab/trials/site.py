@@ -74,11 +74,11 @@ class Planted:
         return [line for check in checks for line in check(self.site)]
 
     def tells(self, said: str, place: str, old: str, new: str, *checks: Check) -> None:
-        """Plants other text into a page, and sees that checks tell it."""
+        """Plants other text into a page wherever the old one stands, and sees that it is told."""
         path = self.site.folder / place
         text = path.read_text(encoding="utf-8")
         self.trial.sees(old in text, f"{place} has no {old!r}, where a fault was to be planted")
-        path.write_text(text.replace(old, new, 1), encoding="utf-8")
+        path.write_text(text.replace(old, new), encoding="utf-8")
         self.site.read(place)
         found = self.looks(*checks)
         self.trial.sees(any(said in line for line in found),
