@@ -247,7 +247,7 @@ class Machine:
         self.told |= any(self.out(w) for w in range(self.s.words))
 
     def do_untell(self) -> None:
-        self.told = self.seen
+        self.told = self.told and self.seen
 
     def do_write(self, what: str) -> None:
         self.notices_reach_the_host = True
