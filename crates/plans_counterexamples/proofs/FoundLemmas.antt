@@ -77,7 +77,8 @@ none_upto run terms plan before lands is (suc k) within =
     (none_upto run terms plan before lands is k (omega (arith, within))))
 
 unsent_upto : (run : Run) (terms : Terms) (plan : List AnyStep) (k : ℕ) → IsUnsent run k (trace_upto run terms plan k)
-unsent_upto run terms plan k before lands is here = none_upto run terms plan before lands is k (let same = eqb-true before k here in omega (arith, same))
+unsent_upto run terms plan k before lands is here = none_upto run terms plan before lands is k
+    (let same = eqb-true before k here in omega (arith, same))
 
 -- ---- a whole run
 

@@ -292,7 +292,8 @@ extra_can producers terms run k may = by_extra run.extra may
         let is = routed_is (slice_get producers run.case.producer) e in
         all-append (CanHappen (setting_of producers terms)) (if nat_eq before k then Sends run.case.producer AsInForce run.case.identity ∷ [] else [])
         (if nat_eq lands k then Lands 0 ∷ [] else [])
-        (one_store (nat_eq before k) (Sends run.case.producer AsInForce run.case.identity) (slice_get_within producers run.case.producer Routed is, is))
+        (one_store (nat_eq before k) (Sends run.case.producer AsInForce run.case.identity)
+        (slice_get_within producers run.case.producer Routed is, is))
         (one_store (nat_eq lands k) (Lands 0) tt)
 
 step_can : (d : Setting) (o : Option AnyStep) → AllByRecursion (CanHappen d) (elim o [ None ↦ [] | Some x ↦ Does x ∷ [] ])

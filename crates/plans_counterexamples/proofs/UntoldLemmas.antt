@@ -75,7 +75,7 @@ seen_after producers terms u x w z v = v.seen ∙ or_nothing w.seen
 
 told_after : (producers : List RouteKind) (terms : Terms) (u : UntoldRun) (x : AnyStep) (w : Watch) (z : AnyMachine)
     → u.identity / 64 < terms.words → IsWatched u w z → (stepped (setting_of producers terms) x z).told ≡ watch_told terms u.identity x w
-told_after producers terms u steps.Untell w z inside v = v.seen
+told_after producers terms u steps.Untell w z inside v = ap₂ (λ a b. a && b) v.told v.seen
 told_after producers terms u steps.Post w z inside v = ap₂ (λ a b. a || b) v.told v.seen
 told_after producers terms u steps.Tell w z inside v = ap₂ (λ a b. a || b) v.told (any_same producers terms u w z inside v)
 told_after producers terms u (steps.Fence p) w z inside v = ap (λ (y : AnyMachine). y.told) (fenced (setting_of producers terms) p z v.flights)

@@ -225,7 +225,7 @@ watch_tells terms identity step w = false
 -- Whether the host was told after a step.
 abbrev pub watch_told : Terms → ℕ → AnyStep → Watch → Bool
 watch_told terms identity step w = elim (untells step) [
-  | true ↦ w.seen
+  | true ↦ w.told && w.seen
   | false ↦ w.told || watch_tells terms identity step w
 ]
 

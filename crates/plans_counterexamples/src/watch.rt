@@ -135,7 +135,7 @@ impl Watch {
         ensures { result ≡ watch_told terms identity step self }
     {
         if untells(step) {
-            self.seen
+            self.told && self.seen
         } else {
             self.told || self.tells(terms, identity, step)
         }

@@ -71,7 +71,8 @@ pub taken_is : (t : Table) (producers : List RouteKind) (done : Done) → Stands
     (λ w. not (any_old (setting_of producers t.terms) Pending w done)) t.terms.words
 taken_is t producers done v =
     ap (all_below (is_taken_at t.words.items)) v.width
-    ∙ all_below_same _ _ t.terms.words (λ w low. ap (λ (o : Option Word). elim o [ None ↦ false | Some word ↦ not (spots_any_old word.pending.spots) ])
+    ∙ all_below_same _ _ t.terms.words (λ w low. ap
+    (λ (o : Option Word). elim o [ None ↦ false | Some word ↦ not (spots_any_old word.pending.spots) ])
     (v.words w low))
 
 pub kept_is : (t : Table) (producers : List RouteKind) (done : Done) → Stands t producers done
@@ -93,7 +94,8 @@ pub blank_is : (t : Table) (producers : List RouteKind) (done : Done) → Stands
     ≡ all_below (λ w. is_blank (setting_of producers t.terms) Pending w done && is_blank (setting_of producers t.terms) Enabled w done) t.terms.words
 blank_is t producers done v =
     ap (all_below (is_blank_at t.words.items)) v.width
-    ∙ all_below_same _ _ t.terms.words (λ w low. ap (λ (o : Option Word). elim o [ None ↦ false | Some word ↦ word.pending.blank && word.enabled.blank ])
+    ∙ all_below_same _ _ t.terms.words (λ w low. ap
+    (λ (o : Option Word). elim o [ None ↦ false | Some word ↦ word.pending.blank && word.enabled.blank ])
     (v.words w low))
 
 pub shut_is : (t : Table) (producers : List RouteKind) (done : Done) → Stands t producers done

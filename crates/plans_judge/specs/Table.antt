@@ -140,8 +140,8 @@ word_first is_fresh = record {
 abbrev pub word_settled : Bool → Flags → Flags → Bool
 word_settled ready pending enabled = flags_there pending && (flags_there enabled && ready)
 
--- Whether a word was looked at, is settled since, and nobody may have stored into it since, with one
--- step more.
+-- Whether a word was looked at, is settled since, and nobody may have stored into it since, with
+-- one step more.
 abbrev pub seen_after : Bool → Bool → AnyStep → ℕ → Word → Bool
 seen_after settled reached x w word = (looks w x || word.seen) && (settled && not reached)
 
@@ -156,7 +156,7 @@ looked_after settled x w word = (looks w x || looked_by x word) && settled
 -- Whether it was told of by a step, or before it and that is not taken back.
 abbrev pub told_by : AnyStep → Word → Bool
 told_by x word = elim (untells x) [
-  | true ↦ word.seen
+  | true ↦ word.reported && word.seen
   | false ↦ (posts x && word.looked) || (tells x || word.reported)
 ]
 

@@ -28,7 +28,8 @@ pub(crate) struct Word {
     /// and nobody may have stored into it since.
     pub(crate) seen: bool,
 
-    /// It was looked at, and all that was so but for the stores; what they tell may be taken back.
+    /// It was looked at, and all that was so but for the stores. Behind an `untell` that counts only
+    /// if nobody may have stored since the look.
     pub(crate) looked: bool,
 
     /// It was told of, or posted after such a look, if there was reason to, and all that was so then
@@ -159,7 +160,7 @@ impl Word {
         ensures { result ≡ told_by step self }
     {
         if untells(step) {
-            self.seen
+            self.reported && self.seen
         } else {
             posts(step) && self.looked || tells(step) || self.reported
         }

@@ -134,7 +134,8 @@ reached_none d Enabled e = false≢true e
 
 pub reached_new : (d : Setting) (s : WhichSet) (w : ℕ) (done : Done) → is_reached d s done ≡ true → only_new d s w done ≡ true
 reached_new d s w [] e = absurd (reached_none d s e)
-reached_new d s w (x ∷ done) e = or_right (brought (empties s w x) (lifts s w x) (fills s w x) (blanks s w x) (may_stand d s w done) false false true) _ e
+reached_new d s w (x ∷ done) e = or_right (brought (empties s w x) (lifts s w x) (fills s w x) (blanks s w x)
+    (may_stand d s w done) false false true) _ e
 
 -- ---- nothing due is nowhere
 

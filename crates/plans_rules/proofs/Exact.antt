@@ -48,7 +48,8 @@ stands_next : (d : Setting) (x : AnyStep) (done : Done) (rest : List AnyStep) (s
     → ((p j : ℕ) → IsRouted d p → is_fenced p (x ∷ done) ≡ false → Flying d (x ∷ done) rest p j) → may_stand d s (i / 64) (x ∷ done) o h n ≡ true
     → At d rest s i true o n h
 stands_next d x done rest s i o h n v plain flying may =
-    elim (or_cases (brought (empties s (i / 64) x) (lifts s (i / 64) x) (fills s (i / 64) x) (blanks s (i / 64) x) (may_stand d s (i / 64) done) o h n)
+    elim (or_cases (brought (empties s (i / 64) x) (lifts s (i / 64) x) (fills s (i / 64) x) (blanks s (i / 64) x)
+    (may_stand d s (i / 64) done) o h n)
     _ may) [
       | inl brought_there ↦ (let from = came (empties s (i / 64) x) (lifts s (i / 64) x) (fills s (i / 64) x) (blanks s (i / 64) x)
           (may_stand d s (i / 64) done) o h n brought_there in
@@ -469,17 +470,18 @@ begin : (d : Setting) (plan : List AnyStep) → IsSafe d plan → Witness d [] p
 begin d plan safe = record {
   plain = λ i. begin_plain d plan i safe;
   flying = λ p i routed e. sent d [] plan p i routed refl (begin_plain d plan i safe);
-  stands = λ s i o h n may. (let there = begun_there o h n may in at_is d plan s i true _ _ _ _ _ _ (sym there.0) (sym there.2) (sym there.1) (record {
-    start = beginning d (names s i) nothing;
-    z = beginning d (names s i) nothing;
-    live = from_start d plan _ safe (it_begins d (names s i) nothing (λ e s i. refl));
-    flights = refl;
-    base = λ e. one_there s i;
-    due = λ e. one_there s i;
-    old = one_there s i;
-    new = refl;
-    hand = refl;
-  }));
+  stands = λ s i o h n may. (let there = begun_there o h n may in at_is d plan s i true _ _ _ _ _ _ (sym there.0)
+      (sym there.2) (sym there.1) (record {
+        start = beginning d (names s i) nothing;
+        z = beginning d (names s i) nothing;
+        live = from_start d plan _ safe (it_begins d (names s i) nothing (λ e s i. refl));
+        flights = refl;
+        base = λ e. one_there s i;
+        due = λ e. one_there s i;
+        old = one_there s i;
+        new = refl;
+        hand = refl;
+      }));
   dirty = λ s i e. record {
     start = beginning d nothing (names s i);
     z = beginning d nothing (names s i);

@@ -3,8 +3,8 @@ use Rattle.std.proofs.Common.{true, false, [], ◌∷◌, refl}
 use Rattle.plans_rules.specs.declared.setting.NumberSpot.TheVariants.{InNew}
 use Rattle.plans_rules.specs.declared.rule.Rule.TheVariants.{Routes, Words, Blank, Numbers, Freeing}
 use Rattle.plans_rules.specs.Plans.{kvm_leave, kvm_arrive, kvm_shift, kvm_leave_with, kvm_arrive_with, kvm_shift_with, entry_led, kvm_producers, with_devices, kvm_moves, kvm_leaves}
-use Rattle.plans_rules.specs.Rows.{widths, AreAccepted, BreakAlone, LeaveUntold, plainly, with_numbers, to_memory, unset, heeded, all_moved, break_routes, break_words, break_blank, break_numbers, break_freeing, break_freeing_with_numbers, looked_early, looked_first, posted_first, told_early, looked_last, written_late, written_last, told_shut, shut_again, copied_again, taken_back}
-use Rattle.plans_rules.proofs.Untold.{looked_early_leaves_untold, looked_first_leaves_untold, posted_first_leaves_untold, told_early_leaves_untold, untold_leaves_untold, looked_last_leaves_untold, written_late_leaves_untold, written_last_leaves_untold, told_shut_leaves_untold, shut_again_leaves_untold, copied_again_leaves_untold, taken_back_leaves_untold}
+use Rattle.plans_rules.specs.Rows.{widths, AreAccepted, BreakAlone, LeaveUntold, plainly, with_numbers, to_memory, unset, heeded, all_moved, break_routes, break_words, break_blank, break_numbers, break_freeing, break_freeing_with_numbers, looked_early, looked_first, posted_first, told_early, looked_last, written_late, written_last, told_shut, shut_again, copied_again, taken_back, unstored, unposted}
+use Rattle.plans_rules.proofs.Untold.{looked_early_leaves_untold, looked_first_leaves_untold, posted_first_leaves_untold, told_early_leaves_untold, untold_leaves_untold, looked_last_leaves_untold, written_late_leaves_untold, written_last_leaves_untold, told_shut_leaves_untold, shut_again_leaves_untold, copied_again_leaves_untold, taken_back_leaves_untold, unposted_leaves_untold}
 
 pub kvm_leave_rows : AreAccepted widths (kvm_leaves kvm_producers) kvm_leave
 kvm_leave_rows = (refl, (refl, (refl, (refl, (refl, (refl, tt))))))
@@ -60,3 +60,6 @@ copied_rows = (refl, copied_again_leaves_untold, tt)
 
 pub taken_rows : LeaveUntold to_memory (taken_back ∷ [])
 taken_rows = (refl, taken_back_leaves_untold, tt)
+
+pub unposted_rows : LeaveUntold unstored (unposted ∷ [])
+unposted_rows = (refl, unposted_leaves_untold, tt)

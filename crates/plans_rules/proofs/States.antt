@@ -381,7 +381,8 @@ unshut_law : (m was : Bool) (value : ℕ) → value ≡ worth (not was) → (if 
 unshut_law true was value e = refl
 unshut_law false was value e = e
 
-unshut_number : (d : Setting) (x : AnyStep) (done : Done) (z : AnyMachine) (n : Number) → LandsNone x z → z.old_number n ≡ worth (not (was_shut n done))
+unshut_number : (d : Setting) (x : AnyStep) (done : Done) (z : AnyMachine) (n : Number) → LandsNone x z
+    → z.old_number n ≡ worth (not (was_shut n done))
     → (stepped d x z).old_number n ≡ worth (not (was_shut n (x ∷ done)))
 unshut_number d (TakeNumber m) done z n e v = unshut_law (same_number m n) (was_shut n done) (z.old_number n) v
 unshut_number d (ZeroNumber Old m) done z n e v = unshut_law (same_number m n) (was_shut n done) (z.old_number n) v

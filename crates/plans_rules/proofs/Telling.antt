@@ -72,7 +72,7 @@ seen_calm d w (x ∷ done) e = not_true _ (and_right (is_settled d w (x ∷ done
 -- what was told by one step more
 abbrev reported_by : Setting → ℕ → AnyStep → Done → Bool
 reported_by d w x done = elim (untells x) [
-  | true ↦ is_seen d w done
+  | true ↦ is_reported d w done && is_seen d w done
   | false ↦ (posts x && is_looked d w done) || (tells x || is_reported d w done)
 ]
 
@@ -214,7 +214,8 @@ fly_noted d start done f z may v = record {
 noted_all : (d : Setting) (start : AnyMachine) (done : Done) (fs : List AnyFlight) (z : AnyMachine) → AllFly d done fs → Both d start done z
     → Both d start done (all_landed d fs z)
 noted_all d start done [] z all v = v
-noted_all d start done (f ∷ later) z (first, others) v = noted_all d start done later (flight_landed d f z) others (fly_noted d start done f z first v)
+noted_all d start done (f ∷ later) z (first, others) v = noted_all d start done later (flight_landed d f z) others
+    (fly_noted d start done f z first v)
 
 noted_one : (d : Setting) (start : AnyMachine) (done : Done) (z : AnyMachine) (fs : List AnyFlight) (k : ℕ) → AllFly d done fs
     → Both d start done z → Both d start done (one_landed d (slice_get fs k) z)
@@ -285,7 +286,7 @@ seen_stays d (ZeroNumber Old n) z is none e = e
 seen_stays d (ZeroNumber New n) z is none e = e
 seen_stays d x z is none e = e
 
--- what a look saw stays seen, and is told where what was told is taken back
+-- what a look saw stays seen, and what was told is not taken back then
 look_stays : (d : Setting) (x : AnyStep) (z : AnyMachine) → IsNoFence x → z.seen ≡ true → (stepped d x z).seen ≡ true
 look_stays d (Fence p) z is e = absurd is
 look_stays d (Look w) z is e = or_left z.seen _ e
@@ -295,9 +296,9 @@ look_stays d (ZeroNumber Old n) z is e = e
 look_stays d (ZeroNumber New n) z is e = e
 look_stays d x z is e = e
 
-untold_now : (d : Setting) (x : AnyStep) (z : AnyMachine) → untells x ≡ true → z.seen ≡ true → (stepped d x z).told ≡ true
-untold_now d Untell z m e = e
-untold_now d x z m e = absurd (false≢true m)
+untold_now : (d : Setting) (x : AnyStep) (z : AnyMachine) → untells x ≡ true → z.told ≡ true → z.seen ≡ true → (stepped d x z).told ≡ true
+untold_now d Untell z m e saw = and_of z.told z.seen e saw
+untold_now d x z m e saw = absurd (false≢true m)
 
 -- where notices go is written once and for all
 noticed_stays : (d : Setting) (done : Done) (x : AnyStep) (z : AnyMachine) → IsNoFence x → (is_noticed d done ≡ true → z.noticed ≡ true)
@@ -352,12 +353,14 @@ notes d start done x z is w v = record {
         | inl now ↦ or_right (stepped d x z).told _
             (look_now d x z i now (out_there d start (x ∷ done) (stepped d x z) i w (looked_settled d (i / 64) (x ∷ done) e) due))
         | inr before ↦ elim (either_cases (untells x) _ _ before) [
-          | inl back ↦ or_left (stepped d x z).told _ (untold_now d x z back.0 (v.seen i back.1 (due_before d start x z i is due)))
+          | inl back ↦ or_right (stepped d x z).told _ (look_stays d x z is (v.seen i back.1 (due_before d start x z i is due)))
           | inr on ↦ seen_stays d x z is on.0 (v.looked i on.1 (due_before d start x z i is due))
         ]
       ];
   reported = λ i inside e due. elim (either_cases (untells x) _ _ (and_left (reported_by d (i / 64) x done) _ e)) [
-    | inl back ↦ untold_now d x z back.0 (v.seen i back.1 (due_before d start x z i is due))
+    | inl back ↦ untold_now d x z back.0
+        (v.reported i inside (and_left (is_reported d (i / 64) done) _ back.1) (due_before d start x z i is due))
+        (v.seen i (and_right (is_reported d (i / 64) done) _ back.1) (due_before d start x z i is due))
     | inr on ↦ elim (or_cases (posts x && is_looked d (i / 64) done) _ on.1) [
       | inl now ↦ posted_now d x z (and_left (posts x) _ now) (v.looked i (and_right (posts x) _ now) (due_before d start x z i is due))
       | inr later ↦ elim (or_cases (tells x) _ later) [
@@ -374,7 +377,8 @@ notes d start done x z is w v = record {
 notes_fence : (d : Setting) (start : AnyMachine) (done : Done) (p : ℕ) (z : AnyMachine) → Invariant d start done z → Noted d start done z
     → Noted d start (Fence p ∷ done) (stepped d (Fence p) z)
 notes_fence d start done p z w v =
-    let u = (noted_all d start done (flights_of p z.flights) z (of_all (Flies d done) p z.flights w.flights) (record { kept = w; noted = v })).noted in
+    let u = (noted_all d start done (flights_of p z.flights) z (of_all (Flies d done) p z.flights w.flights)
+    (record { kept = w; noted = v })).noted in
     record {
       seen = λ i e. u.seen i (and_left (is_seen d (i / 64) done) _ e);
       looked = λ i e. u.looked i (and_left (is_looked d (i / 64) done) _ e);
@@ -403,13 +407,16 @@ hears d start done (Does x ∷ later) z can guards w v =
     hears d start (x ∷ done) later (stepped d x z) can.1 (λ rule. and_right (lets rule d x done) _ (guards rule)) after
     (notes_any d start done x z w after v)
 hears d start done (Stores p by x ∷ later) z can guards w v =
-    hears d start done later _ can.1 guards (between d start done (Stores p by x) z tt can.0 w) (noted_between d start done (Stores p by x) z tt can.0 w v)
+    hears d start done later _ can.1 guards (between d start done (Stores p by x) z tt can.0 w)
+    (noted_between d start done (Stores p by x) z tt can.0 w v)
 hears d start done (Sends p by x ∷ later) z can guards w v =
-    hears d start done later _ can.1 guards (between d start done (Sends p by x) z tt can.0 w) (noted_between d start done (Sends p by x) z tt can.0 w v)
+    hears d start done later _ can.1 guards (between d start done (Sends p by x) z tt can.0 w)
+    (noted_between d start done (Sends p by x) z tt can.0 w v)
 hears d start done (Lands k ∷ later) z can guards w v =
     hears d start done later _ can.1 guards (between d start done (Lands k) z tt can.0 w) (noted_between d start done (Lands k) z tt can.0 w v)
 hears d start done (Refetches p ∷ later) z can guards w v =
-    hears d start done later _ can.1 guards (between d start done (Refetches p) z tt can.0 w) (noted_between d start done (Refetches p) z tt can.0 w v)
+    hears d start done later _ can.1 guards (between d start done (Refetches p) z tt can.0 w)
+    (noted_between d start done (Refetches p) z tt can.0 w v)
 
 noted_start : (d : Setting) (z : AnyMachine) → IsStartOfAny d z → Noted d z [] z
 noted_start d z is = record {

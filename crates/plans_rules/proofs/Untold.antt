@@ -17,7 +17,7 @@ use Rattle.plans_rules.specs.Machine.By.{Written, InForce}
 use Rattle.plans_rules.specs.Machine.AnyHappening.{Does, Stores, Sends, Lands, Refetches}
 use Rattle.plans_rules.specs.Safe.{CanHappen, IsStartOfAny, IsTold}
 use Rattle.plans_rules.specs.Plans.{kvm_producers, kvm_leaves, put_numbers}
-use Rattle.plans_rules.specs.Rows.{to_memory, unset, heeded, all_moved, numbers_taken, looked_early, looked_first, posted_first, told_early, looked_last, written_late, written_last, told_shut, shut_again, shut_in_the_end, copied_again, taken_back, kvm_told_early}
+use Rattle.plans_rules.specs.Rows.{to_memory, unset, heeded, all_moved, numbers_taken, looked_early, looked_first, posted_first, told_early, looked_last, written_late, written_last, told_shut, shut_again, shut_in_the_end, copied_again, taken_back, unstored, unposted, kvm_told_early}
 
 abbrev if_pending : WhichSet → Bool → Bool → Bool
 if_pending Pending a b = a
@@ -128,9 +128,9 @@ told_shut_leaves_untold = untold_by (heeded InNew) told_shut
 
 pub copied_again_leaves_untold : IsTold to_memory copied_again → ⊥
 copied_again_leaves_untold = untold_by to_memory copied_again
-    (Does (Route 0) ∷ Does (Fence 0) ∷ Does (Copy Pending 0) ∷ Does (Join Pending 0) ∷ Does (Copy Enabled 0) ∷ Does (Join Enabled 0) ∷ Does Tell ∷ Does
-    (Zero New Enabled 0) ∷ Stores 0 InForce 1 ∷ Does (Copy Enabled 0) ∷ Does (Join Enabled 0) ∷ Does (Zero Old Pending 0) ∷ Does
-    (Zero Old Enabled 0) ∷ []) refl refl
+    (Does (Route 0) ∷ Does (Fence 0) ∷ Does (Copy Pending 0) ∷ Does (Join Pending 0) ∷ Does (Copy Enabled 0) ∷ Does (Join Enabled 0)
+    ∷ Does Tell ∷ Does (Zero New Enabled 0) ∷ Stores 0 InForce 1 ∷ Does (Copy Enabled 0) ∷ Does (Join Enabled 0)
+    ∷ Does (Zero Old Pending 0) ∷ Does (Zero Old Enabled 0) ∷ []) refl refl
     (tt, (tt, (tt, (tt, (tt, (tt, (tt, (tt, (omega arith, (tt, (tt, (tt, (tt, tt))))))))))))) refl refl
 
 pub taken_back_leaves_untold : IsTold to_memory taken_back → ⊥
@@ -138,6 +138,37 @@ taken_back_leaves_untold = untold_by to_memory taken_back
     (Does (Route 0) ∷ Does (Fence 0) ∷ Does (Take Pending 0) ∷ Does (Join Pending 0) ∷ Does (Take Enabled 0) ∷ Does (Join Enabled 0) ∷ Does
     (Look 0) ∷ Stores 0 InForce 1 ∷ Does Post ∷ Does Untell ∷ []) refl refl
     (tt, (tt, (tt, (tt, (tt, (tt, (tt, (omega arith, (tt, (tt, tt)))))))))) refl refl
+
+-- In the old place 1 is pending and enabled, and nothing else.
+abbrev standing : AnyMachine
+standing = record (start true nothing) {
+  old = λ s i. nat_eq i 1;
+  due = λ s i. nat_eq i 1;
+}
+
+stands_first : IsStartOfAny unstored standing
+stands_first = record {
+  written = λ p declared. refl;
+  in_force = λ p declared. refl;
+  flights = tt;
+  due = λ s i. refl;
+  hand = λ s i. refl;
+  fresh = λ e s i. refl;
+  freed = refl;
+  strayed = refl;
+  noticed = λ e. e;
+}
+
+abbrev unposted_run : List AnyHappening
+unposted_run = Does (Take Pending 0) ∷ Does (Join Pending 0) ∷ Does (Take Enabled 0) ∷ Does (Join Enabled 0) ∷ Does (Look 0) ∷ Does Untell ∷ []
+
+pub unposted_leaves_untold : IsTold unstored unposted → ⊥
+unposted_leaves_untold told =
+    false≢true (sym untold ∙ told standing unposted_run stands_first
+    (record { steps = refl; others = (tt, (tt, (tt, (tt, (tt, (tt, tt)))))) }) 1 (omega arith) refl)
+  where
+    untold : (all_happened unstored unposted_run standing).told ≡ false
+    untold = refl
 
 pub kvm_told_early_leaves_untold : IsTold (kvm_leaves kvm_producers 1) kvm_told_early → ⊥
 kvm_told_early_leaves_untold = untold_by (kvm_leaves kvm_producers 1) kvm_told_early

@@ -182,7 +182,7 @@ stepped d (PutNumber n) z = record z {
 stepped d (Look w) z = record z { seen = z.seen || word_stands_out d z.new z.new_number w }
 stepped d Post z = record z { told = z.told || z.seen }
 stepped d Tell z = record z { told = z.told || any_stands_out d z.new z.new_number }
-stepped d Untell z = record z { told = z.seen }
+stepped d Untell z = record z { told = z.told && z.seen }
 stepped d WriteNotice z = record z { noticed = true }
 stepped d Free z = record z { freed = true; strayed = z.strayed || z.freed }
 

@@ -249,9 +249,13 @@ taken_back_first = all_moved ++ Untell ∷ Look 0 ∷ Post ∷ []
 abbrev pub unstored : Setting
 unstored = record to_memory { producers = [] }
 
--- Where nobody stores, it looks, and takes back what was told unless it saw something.
+-- Where nobody stores, it looks and posts, and takes back what was told unless it saw something.
 abbrev pub only_looked : List AnyStep
-only_looked = pending_moved ++ enables_moved ++ Look 0 ∷ Untell ∷ []
+only_looked = pending_moved ++ enables_moved ++ Look 0 ∷ Post ∷ Untell ∷ []
+
+-- It does not post what it saw.
+abbrev pub unposted : List AnyStep
+unposted = pending_moved ++ enables_moved ++ Look 0 ∷ Untell ∷ []
 
 -- ---- where the rule on notices asks for more
 

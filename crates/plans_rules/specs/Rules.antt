@@ -285,8 +285,8 @@ abbrev pub is_noticed : Setting → Done → Bool
 is_noticed d [] = d.notices_go
 is_noticed d (x ∷ done) = writes_notice x || is_noticed d done
 
--- All of a word of both sets stands in the new place, what is heeded is there, and notices go to the
--- host.
+-- All of a word of both sets stands in the new place, what is heeded is there, and notices go to
+-- the host.
 abbrev pub is_settled : Setting → ℕ → Done → Bool
 is_settled d w done =
     is_there d Pending w done
@@ -299,21 +299,21 @@ is_seen d w (x ∷ done) =
     (looks w x || is_seen d w done)
     && (is_settled d w (x ∷ done) && not (is_reached d Pending (x ∷ done)))
 
--- A word was looked at, and was settled then and since. What stores tell after the look may be
--- taken back.
+-- A word was looked at, and settled then and since. Behind an `untell` that counts only if nobody
+-- may have stored since the look.
 abbrev pub is_looked : Setting → ℕ → Done → Bool
 is_looked d w [] = false
 is_looked d w (x ∷ done) =
     (looks w x || elim (untells x) [ true ↦ is_seen d w done | false ↦ is_looked d w done ])
     && is_settled d w (x ∷ done)
 
--- A word was told of, or posted after such a look, and was settled then and since. What was told is
--- taken back unless a look saw it.
+-- A word was told of, or posted after such a look, and settled then and since. Behind an `untell`
+-- that counts only if a look saw the word before, and nobody may have stored since that look.
 abbrev pub is_reported : Setting → ℕ → Done → Bool
 is_reported d w [] = false
 is_reported d w (x ∷ done) =
     elim (untells x) [
-      | true ↦ is_seen d w done
+      | true ↦ is_reported d w done && is_seen d w done
       | false ↦ (posts x && is_looked d w done) || (tells x || is_reported d w done)
     ]
     && is_settled d w (x ∷ done)

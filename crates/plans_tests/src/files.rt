@@ -45,7 +45,7 @@ fn one_that_looks_early_leaves_what_is_pending_untold(rt: HostRuntime) -> Result
         found.text.as_slice()
             == b"refused notice in the end\n  run: identity 1 is enabled in the old place at the \
 start, and pending there; in the end it is pending and enabled in the new place, and the host was \
-not told\n"
+not told, or that was taken back\n"
                 .as_slice()
     );
     Ok(())
@@ -63,7 +63,7 @@ fn one_that_tells_once_leaves_a_store_untold(rt: HostRuntime) -> Result<(), Fail
         found.text.as_slice()
             == b"refused notice in the end\n  run: identity 1 is enabled in the old place at the \
 start; producer 0 stores it behind line 7 by its route in force; in the end it is pending and \
-enabled in the new place, and the host was not told\n"
+enabled in the new place, and the host was not told, or that was taken back\n"
                 .as_slice()
     );
     Ok(())
@@ -76,7 +76,7 @@ fence 0\ntake pending 0\njoin pending 0\ntake enabled 0\njoin enabled 0\n";
 /// What is answered of such a plan with a store behind line 12 that nobody is told of.
 const UNTOLD_BEHIND_LINE_12: &[u8] = b"refused notice in the end\n  run: identity 1 is enabled in \
 the old place at the start; producer 0 stores it behind line 12 by its route in force; in the end \
-it is pending and enabled in the new place, and the host was not told\n";
+it is pending and enabled in the new place, and the host was not told, or that was taken back\n";
 
 /// Tells whether such a plan that goes on by other steps is answered so.
 fn is_answered(alloc: Global, steps: &[u8], answer: &[u8]) -> Result<bool, AllocError> {
@@ -122,7 +122,7 @@ fn a_threshold_that_is_put_late_lets_through_untold(rt: HostRuntime) -> Result<(
             == b"refused notice in the end\n  run: identity 1 is enabled in the old place at the \
 start, and pending there; at the start delivery is 1 in the old place and 0 elsewhere, and the \
 threshold is 0 in the old place and 1 elsewhere; in the end it is pending, enabled and let through \
-in the new place, and the host was not told\n"
+in the new place, and the host was not told, or that was taken back\n"
                 .as_slice()
     );
     Ok(())
@@ -180,7 +180,8 @@ fn what_has_come_is_heeded_in_memory_alone(rt: HostRuntime) -> Result<(), Fail> 
             == b"accepted\nrefused notice in the end\n  run: identity 1 is \
 enabled in the old place at the start, and pending there; at the start delivery is 1 in the old \
 place and 0 elsewhere, and the threshold is 0 in the old place and 1 elsewhere; in the end it is \
-pending, enabled and let through in the new place, and the host was not told\n"
+pending, enabled and let through in the new place, and the host was not told, or that was \
+taken back\n"
                 .as_slice()
     );
     Ok(())
@@ -206,7 +207,7 @@ fn copies_may_be_told_of_before_the_old_place_is_zeroed(rt: HostRuntime) -> Resu
     again.extend_from_slice(ZEROED)?;
     let untold = b"refused notice in the end\n  run: identity 1 is enabled in the old place at the \
 start; producer 0 stores it behind line 12 by its route in force; in the end it is pending and \
-enabled in the new place, and the host was not told\n";
+enabled in the new place, and the host was not told, or that was taken back\n";
     let is_untold = answers_so(rt.alloc(), &again, untold)?;
     assert!(rt; is_untold);
     Ok(())
@@ -220,7 +221,7 @@ fn what_a_store_tells_is_lost_where_it_is_taken_back(rt: HostRuntime) -> Result<
     file.extend_from_slice(b"look 0\npost\nuntell\n")?;
     let untold = b"refused notice in the end\n  run: identity 1 is enabled in the old place at the \
 start; producer 0 stores it behind line 14 by its route in force; in the end it is pending and \
-enabled in the new place, and the host was not told\n";
+enabled in the new place, and the host was not told, or that was taken back\n";
     let is_lost = answers_so(rt.alloc(), &file, untold)?;
     assert!(rt; is_lost);
     file.extend_from_slice(b"look 0\npost\n")?;

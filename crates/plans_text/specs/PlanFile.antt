@@ -298,9 +298,10 @@ abbrev pub untold_end_text : Bool → UntoldRun → Text
 untold_end_text true run =
     delivery_text run.delivery ++ (threshold_text run.threshold
     ++ (codes "; in the end it is pending, enabled and let through in the new place"
-    ++ codes ", and the host was not told"))
+    ++ codes ", and the host was not told, or that was taken back"))
 untold_end_text false run =
-    codes "; in the end it is pending and enabled in the new place, and the host was not told"
+    codes "; in the end it is pending and enabled in the new place"
+    ++ codes ", and the host was not told, or that was taken back"
 
 -- How the run shown for an untold host begins.
 abbrev pub untold_begin_text : UntoldRun → Text

@@ -78,7 +78,7 @@ fn push_let_through(out: &mut Vec<u8>, run: UntoldRun) -> Result<(), AllocError>
     push_threshold(out, run.threshold)?;
     out.extend_from_slice(
         b"; in the end it is pending, enabled and let through in the new place, \
-and the host was not told",
+and the host was not told, or that was taken back",
     )
 }
 
@@ -90,7 +90,8 @@ fn push_end(out: &mut Vec<u8>, heeds: bool, run: UntoldRun) -> Result<(), AllocE
         return push_let_through(out, run);
     }
     out.extend_from_slice(
-        b"; in the end it is pending and enabled in the new place, and the host was not told",
+        b"; in the end it is pending and enabled in the new place, \
+and the host was not told, or that was taken back",
     )
 }
 

@@ -253,7 +253,7 @@ class Machine:
         self.told |= any(self.out(w) for w in range(self.s.words))
 
     def do_untell(self) -> None:
-        self.told = self.seen
+        self.told = self.told and self.seen
 
     def do_write(self, what: str) -> None:
         self.notices_reach_the_host = True
@@ -448,7 +448,7 @@ UNTOLD = re.compile(
     r'(; at the start delivery is 1 ' + SPOT + r' and 0 elsewhere, and the threshold is '
     r'(?:1 everywhere|0 ' + SPOT + r' and 1 elsewhere))?'
     r'; in the end it is pending(?:, enabled and let through| and enabled) in the new place,'
-    r' and the host was not told')
+    r' and the host was not told, or that was taken back')
 NONE = re.compile(r'  run: none was found among those that are tried'
                   r'(; the rule may ask for more than that the host is told)?')
 

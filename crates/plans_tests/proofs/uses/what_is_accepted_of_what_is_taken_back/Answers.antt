@@ -9,3 +9,6 @@ returns-clause-late c = ap (λ rules. length rules) c.what_was_told_is_taken_bac
 
 pub returns-clause-unstored : goal.returns-clause-unstored
 returns-clause-unstored c = λ refused. sym c.what_was_told_is_taken_back_first.ensures.unstored ∙ refused
+
+pub returns-clause-unposted : goal.returns-clause-unposted
+returns-clause-unposted c = ap (λ rules. length rules) c.what_was_told_is_taken_back_first.ensures.unposted.0
