@@ -27,7 +27,8 @@
  * - malloc, realloc and free come from one allocator.
  *
  * Memory is taken by aia_open, and by the line that makes the machine, alone. No call prints, calls
- * back or ends the program. They need some 10 KiB of stack.
+ * back or ends the program. aia_open, and what makes the machine, need some 200 KiB of stack, every
+ * other call 50 KiB at most.
  */
 #ifndef AIA_H
 #define AIA_H
