@@ -537,6 +537,20 @@ def patient() -> Iterator[str]:
             yield f"the documents of {folder} have {count} words, and may have {limit}"
 
 
+def shaped() -> Iterator[str]:
+    """Sees that no row of a table is torn, and that no line of prose is wider than 100 columns."""
+    for name in documents():
+        in_code = False
+        for at, line in enumerate(read(name).splitlines(), 1):
+            in_code ^= line.startswith("```")
+            if in_code or name == "docs/DEFINITIONS.md" or "/statements-" in name:
+                continue
+            if line.startswith("|") and not line.endswith("|"):
+                yield f"{name}:{at}: this row of a table has no end"
+            elif not line.startswith("|") and len(line) > 100 and " " in line[:100].strip():
+                yield f"{name}:{at}: this line has {len(line)} columns, and may have 100"
+
+
 def alone() -> Iterator[str]:
     """Sees that README, REFERENCE and PROMISES share no sentence."""
     seen: dict[str, str] = {}
@@ -552,5 +566,5 @@ def alone() -> Iterator[str]:
 def drifts() -> Iterator[str]:
     """Says each place where a document is not in step."""
     for check in (lines, answers, statuses, places, plans, told_plans, crates, promised, shown,
-                  tried, linked, patient, alone):
+                  tried, linked, patient, shaped, alone):
         yield from check()
