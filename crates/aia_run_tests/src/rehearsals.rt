@@ -90,7 +90,7 @@ fn who_is(fabric: &Fabric) -> Option<Who>
 }
 
 /// Stores a value for it by a device, and the one after the next by another virtual hart.
-#[tactic(auto, using(aia_rehearsal::proofs::SameMachine::stored_same, aia_rehearsal::proofs::SameMachine::same_again))]
+#[tactic(auto, using(aia_move_values::proofs::WayFrames::stored_machine, aia_move_values::proofs::WayFences::same_then))]
 fn stores(fabric: &mut Fabric, value: u32)
     requires { value < 60 }
     ensures { SameMachine fabric.old fabric.new }
