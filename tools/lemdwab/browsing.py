@@ -1,8 +1,10 @@
-"""A browser without a window, told what to do over a pipe, as suite/site looks at pages with it."""
+"""A browser without a window, told what to do over a pipe, as lemdwab.clicking looks at pages with
+it."""
 
 from __future__ import annotations
 
 import base64
+import contextlib
 import fcntl
 import json
 import os
@@ -10,20 +12,27 @@ import selectors
 import shutil
 import subprocess
 import time
-from collections.abc import Callable, Iterator
+from collections.abc import Callable
 from pathlib import Path
 from typing import Any
 
 from lemdwab import running
 
 NAMES = ("chromium", "chromium-browser", "google-chrome")
-# How long one page may take, in seconds, and how many bytes it may say.
+# How long one answer may take, in seconds, and how many bytes it may have.
 LONGEST, MOST = 30, 1 << 26
+ENDED = "the browser ended before its time"
 # Numbers of the pipe's ends in the browser: it reads 3 and writes 4.
 OPTIONS = ("--headless=new", "--remote-debugging-pipe", "--disable-gpu", "--no-first-run",
            "--disable-extensions", "--disable-dev-shm-usage", "--hide-scrollbars",
-           "--disable-background-networking", "--disable-component-update")
+           "--disable-background-networking", "--disable-component-update",
+           "--disable-breakpad", "--disable-crash-reporter")
+# What says where programs keep what they leave behind.
+PLACES = ("HOME", "TMPDIR", "XDG_CONFIG_HOME", "XDG_CACHE_HOME", "XDG_DATA_HOME",
+          "XDG_RUNTIME_DIR")
 FAR = 20
+# How long it may take to end, in seconds.
+CLOSING = 5
 
 
 def installed() -> str | None:
@@ -32,22 +41,25 @@ def installed() -> str | None:
 
 
 class Browser:
-    """A browser with one page."""
+    """A browser with one page, that keeps what it writes in a folder, and has so many seconds."""
 
-    def __init__(self, program: str, folder: Path) -> None:
+    def __init__(self, program: str, folder: Path, seconds: int) -> None:
+        self.seconds, self.ends = seconds, time.monotonic() + seconds
         commands, reports = os.pipe(), os.pipe()
         self.said, self.number = bytearray(), 0
         self.thrown: list[str] = []
         self.asked: list[str] = []
         theirs = [fcntl.fcntl(end, fcntl.F_DUPFD, FAR) for end in (commands[0], reports[1])]
-        options = [*OPTIONS, f"--user-data-dir={folder}"]
+        options = [*OPTIONS, f"--user-data-dir={folder / 'profile'}"]
+        folder.mkdir(parents=True, exist_ok=True)
+        places = dict.fromkeys(PLACES, str(folder))
         if os.geteuid() == 0:
             # For root there is no sandbox; the pages are the site's own.
             options.append("--no-sandbox")
         self.process = subprocess.Popen(
             ["bash", "-c", f'exec "$@" 3<&{theirs[0]} 4>&{theirs[1]}', "bash", program, *options],
             stdin=subprocess.DEVNULL, stdout=subprocess.DEVNULL, stderr=subprocess.DEVNULL,
-            pass_fds=theirs, start_new_session=True)
+            pass_fds=theirs, start_new_session=True, env={**os.environ, **places})
         with running.State.lock:
             running.State.running.add(self.process)
         for end in (commands[0], reports[1], *theirs):
@@ -63,6 +75,12 @@ class Browser:
         return self
 
     def __exit__(self, *_: object) -> None:
+        # What it ends itself it also takes away.
+        with contextlib.suppress(OSError):
+            self.session, self.ends = None, time.monotonic() + CLOSING
+            self.does("Browser.close")
+        with contextlib.suppress(subprocess.TimeoutExpired):
+            self.process.wait(CLOSING)
         running.kill([self.process])
         self.process.wait()
         with running.State.lock:
@@ -76,7 +94,10 @@ class Browser:
         words = {"id": self.number, "method": method, "params": how}
         if self.session:
             words["sessionId"] = self.session
-        os.write(self.to, json.dumps(words).encode() + b"\0")
+        try:
+            os.write(self.to, json.dumps(words).encode() + b"\0")
+        except BrokenPipeError:
+            raise OSError(ENDED) from None
         answer = self.until(lambda one: one.get("id") == self.number)
         if "error" in answer:
             raise OSError(f"the browser refuses {method}: {answer['error'].get('message')}")
@@ -84,7 +105,7 @@ class Browser:
 
     def until(self, is_it: Callable[[dict[str, Any]], bool]) -> dict[str, Any]:
         """Reads what the browser says until something is said; gives that."""
-        deadline = time.monotonic() + LONGEST
+        deadline = min(time.monotonic() + LONGEST, self.ends)
         while True:
             one = self.message(deadline)
             method, params = one.get("method"), one.get("params", {})
@@ -101,10 +122,13 @@ class Browser:
             waits.register(self.of, selectors.EVENT_READ)
             while b"\0" not in self.said:
                 if not waits.select(max(0, deadline - time.monotonic())):
-                    raise OSError("the browser took too long")
+                    is_one = deadline < self.ends
+                    raise OSError(f"the browser took more than {LONGEST} seconds for one answer"
+                                  if is_one else f"the browser took more than {self.seconds}"
+                                  " seconds, which is all that it has")
                 piece = os.read(self.of, 1 << 16)
                 if not piece or len(self.said) > MOST:
-                    raise OSError("the browser ended")
+                    raise OSError(ENDED)
                 self.said.extend(piece)
         text, _, rest = bytes(self.said).partition(b"\0")
         self.said = bytearray(rest)
@@ -126,11 +150,28 @@ class Browser:
             self.thrown.append(f"{answer['exceptionDetails'].get('text')} of {expression[:60]}")
         return answer["result"].get("value")
 
-    def clicks(self, selector: str) -> Any:
-        """Clicks on the first thing that a selector finds, where it is seen; gives whether there is
-        one."""
-        return self.says("(() => { const one = document.querySelector(" + json.dumps(selector)
-                         + "); if (one) one.click(); return one !== null; })()")
+    def presses(self, selector: str) -> bool:
+        """Presses the mouse on the first thing that a selector finds, where it stands on the page
+        and nothing covers it; gives whether it could."""
+        at = self.says("(() => { const one = document.querySelector(" + json.dumps(selector) + """);
+          if (!one) return null;
+          one.scrollIntoView({block: 'center', behavior: 'instant'});
+          const box = [...one.getClientRects()].find((part) => part.width && part.height);
+          if (!box) return null;
+          const at = [box.x + box.width / 2, box.y + box.height / 2];
+          return one.contains(document.elementFromPoint(...at)) ? at : null; })()""")
+        for kind in ("mousePressed", "mouseReleased") if at else ():
+            self.does("Input.dispatchMouseEvent", type=kind, x=at[0], y=at[1], button="left",
+                      clickCount=1)
+        return at is not None
+
+    def leads(self, selector: str) -> bool:
+        """Presses the mouse on a link to another page, and waits until that is there; gives whether
+        it could."""
+        if not self.presses(selector):
+            return False
+        self.until(lambda one: one.get("method") == "Page.loadEventFired")
+        return True
 
     def sized(self, width: int, height: int, is_dark: bool = False) -> None:
         """Gives the window a size, and its colors."""
@@ -143,76 +184,3 @@ class Browser:
     def picture(self, path: Path) -> None:
         """Writes what is seen as a picture."""
         path.write_bytes(base64.b64decode(self.does("Page.captureScreenshot")["data"]))
-
-
-# ---- the pages of the site that are opened
-
-def start_page(browser: Browser, folder: Path, site_laws_page: str) -> Iterator[str]:
-    """Opens the start page, and goes by links to a law of README."""
-    browser.opens((folder / "index.html").as_uri())
-    wanted = "document.querySelector('sup.laws a[href=\"" + site_laws_page + "\"]') !== null"
-    if not browser.says(wanted):
-        yield f"the start page shows no link to {site_laws_page}"
-        return
-    browser.clicks(f'sup.laws a[href="{site_laws_page}"]')
-    browser.until(lambda one: one.get("method") == "Page.loadEventFired")
-    at = browser.says("location.pathname + location.hash")
-    if not at.endswith(site_laws_page):
-        yield f"a click on a law on the start page leads to {at}"
-
-
-def walked_down(browser: Browser, address: str) -> Iterator[str]:
-    """Unfolds a tree by clicks down to a leaf; says where that fails."""
-    browser.opens(address)
-    steps = browser.says("""(() => {
-      let at = document.querySelector('.tree'), steps = 0;
-      for (;;) {
-        const fold = at.querySelector(':scope > li > details');
-        if (!fold) break;
-        if (!fold.open) fold.querySelector('summary').click();
-        if (!fold.open || fold.querySelector('summary').offsetHeight === 0) return -1;
-        steps += 1;
-        const inner = fold.querySelector(':scope > ul');
-        if (!inner) return steps;
-        at = inner;
-      }
-      return at.querySelector(':scope > .leaves, :scope > .again') ? steps : -2;
-    })()""")
-    if not isinstance(steps, int) or steps < 1:
-        yield f"{address} does not unfold down to a leaf: {steps}"
-
-
-def slid(browser: Browser, address: str, data: Any) -> Iterator[str]:
-    """Moves a slider by its button and by itself; says where it shows another answer."""
-    browser.opens(address)
-    at = "Number(document.getElementById('slide').value)"
-    shown = "document.getElementById('answer').textContent"
-    if browser.says(shown) != data[0][2]:
-        yield f"{address} begins with {browser.says(shown)}"
-    for number in range(1, min(6, len(data))):
-        browser.clicks("#on")
-        if browser.says(at) != number or browser.says(shown) != data[number][2]:
-            yield f"{address} shows {browser.says(shown)} after {number} clicks"
-            return
-    left = browser.says("document.querySelector('.veil').style.left")
-    browser.says("(() => { const one = document.getElementById('slide'); one.value = one.max;"
-                 " one.dispatchEvent(new Event('input')); })()")
-    if browser.says(shown) != data[-1][2]:
-        yield f"{address} ends with {browser.says(shown)}"
-    if browser.says("document.querySelector('.veil').style.left") == left:
-        yield f"{address} draws no more of its picture at its end"
-
-
-def fits(browser: Browser, address: str, name: str) -> Iterator[str]:
-    """Says where a page is wider than a small screen, or looks the same in the dark."""
-    browser.sized(360, 740)
-    browser.opens(address)
-    width = browser.says("document.documentElement.scrollWidth")
-    if width > 360:
-        yield f"{name} is {width} pixels wide where the screen has 360"
-    color = "getComputedStyle(document.body).backgroundColor"
-    light = browser.says(color)
-    browser.sized(360, 740, is_dark=True)
-    if browser.says(color) == light:
-        yield f"{name} has one background in light and in the dark"
-    browser.sized(1100, 800)

@@ -275,23 +275,30 @@ def data_of(page: Page) -> list[list[int | str]] | None:
     return json.loads(found[1]) if found else None
 
 
+def answered(path: Path, workers: Workers) -> list[list[int | str]]:
+    """Gives the lines of an example that have an answer, as the program answers them now: each with
+    its number, its text and the answer; nothing where it fails."""
+    command, _ = site_scripts.answering()
+    script = path.read_bytes()
+    ran = workers.submit(running.run, command, script, site_scripts.LONGEST,
+                         answers.most_output(script)).result()
+    running.check_started(ran, command)
+    lines, said = answers.lines(script), answers.answers(ran.output)
+    if ran.fault() or len(lines) != len(said):
+        return []
+    return [[line.number, line.text, one] for line, one in zip(lines, said)]
+
+
 def sliders(site: Pages, workers: Workers) -> Iterator[str]:
     """Says which slider does not show what answers the program gives to the example."""
-    command, _ = site_scripts.answering()
     for path in site_scripts.examples():
         page = site.pages.get(f"moves/{path.stem}.html")
         data = data_of(page) if page else None
         if not data:
             yield f"{path.name} has no slider"
             continue
-        script = path.read_bytes()
-        ran = workers.submit(running.run, command, script, site_scripts.LONGEST,
-                             answers.most_output(script)).result()
-        running.check_started(ran, command)
-        lines, said = answers.lines(script), answers.answers(ran.output)
-        wanted = [[line.number, line.text, one] for line, one in zip(lines, said)]
-        shown = [slide[:3] for slide in data]
-        if ran.fault() or shown != wanted or len(lines) != len(said):
+        wanted, shown = answered(path, workers), [slide[:3] for slide in data]
+        if shown != wanted:
             at = next((a for a, b in zip(shown, wanted) if a != b), shown[-1])
             yield f"the slider of {path.name} is not what the program answers, first at {at}"
 

@@ -7,33 +7,32 @@ start page to each page, each law, and what carries each sentence of README's 'W
 (docs/make/proved.txt); that each module, law and public call stands there as in its source; that
 the tree of each law and of the theorem ends, and leaves out nothing that its lines name; and that
 the sliders show what the program answers. The program is that of the
-variable PROGRAM, or without one peers/apart/model.py, as the site has it. Where chromium is
-installed it opens the start page, the theorem, a law, the names and a slider, and clicks; without
-it, it says that this was not looked at.
+variable PROGRAM, or without one peers/apart/model.py, as the site has it.
 
-Prints a line for each thing that is wrong, and how many are. Takes one to two minutes. Ends with
-status 1 where something is wrong, 2 where it could not look: words are wrong, or a package is
-missing. Needs Python 3.10 or later, git, and pandoc.
+Where chromium is installed all this is looked at in it too, without a window: each page is opened,
+its links are followed to a place, and its tree is unfolded by clicks down to its ends; a press of
+the mouse on the start page has to lead to each law and clause that carries a sentence of README;
+each slider is moved over all its lines, and shows what the program answers; six pages fit a small
+screen, in light and dark; no script fails, and nothing outside the site is asked for. Where it is
+not installed it says so. The browser has ten minutes, and what it writes is taken away.
+
+Prints a line for each thing that is wrong, how much was looked at in the browser, and how many
+things are wrong. Takes two to four minutes. Ends with status 1 where something is wrong, 2 where it
+could not look: words are wrong, a package is missing, or the browser ends or takes too long. Needs
+Python 3.10 or later, git, and pandoc; Debian has chromium too.
 """
 
 from __future__ import annotations
 
 import tempfile
-from collections.abc import Iterator
 from pathlib import Path
-from typing import TYPE_CHECKING
 
-from lemdwab import browsing, running, siting
+from lemdwab import browsing, clicking, running, siting
 from lemdwab.running import TOP
-
-if TYPE_CHECKING:
-    from lemdwab.siting import Pages
 
 MAKER = TOP / "docs/make/site"
 # How long the site may take to be made, in seconds.
 LONGEST = 300
-LAW, SLIDER = "laws/aia_laws/no_notice_is_lost.html", "moves/stores-in-flight.html"
-CLAUSE = f"{LAW}#no_notice_is_lost.sent"
 
 
 def made(workers: running.Workers, folder: Path) -> Path:
@@ -42,25 +41,6 @@ def made(workers: running.Workers, folder: Path) -> Path:
     if ran.stopped or ran.status:
         running.fail(ran.errors.removeprefix("site: ") or ran.fault())
     return folder
-
-
-def opened(site: Pages, program: str, folder: Path) -> Iterator[str]:
-    """Says what is wrong in a browser."""
-    with browsing.Browser(program, folder) as browser:
-        browser.sized(1100, 800)
-        first = site.folder.resolve()
-        yield from browsing.start_page(browser, first, CLAUSE)
-        for place in (LAW, "theorem.html"):
-            yield from browsing.walked_down(browser, (first / place).as_uri())
-        yield from browsing.slid(browser, (first / SLIDER).as_uri(),
-                                 siting.data_of(site.pages[SLIDER]))
-        for place in ("index.html", "theorem.html", LAW, SLIDER, "names.html", "peers.html"):
-            yield from browsing.fits(browser, (first / place).as_uri(), place)
-        for words in browser.thrown:
-            yield f"a script of the site fails: {words}"
-        for address in browser.asked:
-            if not address.startswith(("file:", "about:", "data:")):
-                yield f"a page asks for {address}"
 
 
 def main() -> int:
@@ -74,7 +54,9 @@ def main() -> int:
         found = siting.faults(site, workers)
         program = browsing.installed()
         if program:
-            found["browser"] = list(opened(site, program, Path(own) / "browser"))
+            more, counts = clicking.faults(site, program, Path(own) / "browser", workers)
+            found |= {f"{kind} in the browser": lines for kind, lines in more.items()}
+            print("in the browser: " + ", ".join(f"{n} {what}" for what, n in counts.items()))
         else:
             print("chromium is not installed: no page was opened in a browser")
         wrong = siting.tell(found)

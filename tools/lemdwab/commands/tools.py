@@ -1,6 +1,6 @@
 """tools: tries the tools of suite and of examples, the launchers, and where ./release refuses.
 
-    tools                     each of them, in some seven minutes
+    tools                     each of them, in some nine minutes
     tools PART..              these parts alone, and says of each how long it took:
         code       that each script in Python compiles
         words      wrong words, the words of docs/REFERENCE.md, output that can't be written
@@ -31,12 +31,12 @@
 
 The program is that of the variable PROGRAM, else ./aia of this repository, which is proved and
 built first where it is older than its sources: an hour and more the first time. In `compare`,
-`hunt` and hunts peers/apart/model.py can stand for it. `code`, `lint`, `draw`, `rows`, `wider`,
-`weaken` and `documents` need no program.
+`hunt`, `site` and hunts peers/apart/model.py can stand for it. `code`, `lint`, `draw`, `rows`,
+`wider`, `weaken` and `documents` need no program.
 
 Prints a line for each thing that is not as it should be, and at the end how many are. Ends with
 status 1 where one is not, 2 where words are wrong or there is no such program. Needs Python 3.10 or
-later, and tries with `shellcheck`, `cc` and `pandoc` what needs them, where they are.
+later, and tries with `shellcheck`, `cc`, `pandoc` and `chromium` what needs them, where they are.
 """
 
 from __future__ import annotations
@@ -522,7 +522,7 @@ PARTS = {
 }
 WITHOUT_PROGRAM = {"code", "lint", "draw", "rows", "wider", "weaken", "documents"}
 # For which the model apart serves too.
-BY_MODEL = {"compare", "hunt", "hunts"}
+BY_MODEL = {"compare", "hunt", "hunts", "site"}
 
 
 def program_for(workers: Workers, words: list[str]) -> str:

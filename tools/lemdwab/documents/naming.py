@@ -19,7 +19,8 @@ DEFINED = re.compile(
 ITEM = re.compile(r"(pub )?(?:pub\([a-z]+\) )?(?:enum|struct|const|trait) (\w+)")
 MEMBER = re.compile(r"^  (?:pub )?((?:[^\s:()]+ )+): ?")
 MEMBER_LINE = re.compile(r"(?m)^  (?:pub )?((?:[^\s:()]+ )+):")
-RUST_MEMBER = re.compile(r"^    (?:pub |ghost )?([A-Za-z]\w*)(?:: |,|\(| \{|$)")
+RUST_MEMBER = re.compile(
+    r"^    (?:pub(?:\([a-z]+\))? |ghost )?([A-Za-z]\w*)(?:: |,|\(| \{|$)")
 TOKEN = re.compile(r"(?P<comment>--[^\n]*|//[^\n]*)|(?P<text>\"(?:\\.|[^\"\\])*\")"
                    r"|(?P<name>[^\W\d][\w']*(?:(?:\.|::)[\w']+)*)|(?P<number>\d\w*(?:\.\d+)?)"
                    r"|(?P<sign>\[\]|[^\w\s(){}\[\],;.\"'`]+)")

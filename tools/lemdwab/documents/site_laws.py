@@ -72,12 +72,12 @@ def comments() -> list[str]:
 def contract(page: str, one: Function, names: tuple[str, ...] = ()) -> str:
     """Gives the words and the contract of a function with links, and an anchor for each clause; of
     what it ensures only the clauses of these names, if there are any."""
-    begins = {clause.first: clause for clause in one.clauses()}
+    begins = places_of(one)
     hidden = set()
     for clause in one.clauses():
         if names and clause.name not in names and clause.kind != "requires":
             hidden |= set(range(clause.first, clause.last + 1))
-    first = min(begins, default=len(one.text))
+    first = min((clause.first for clause in one.clauses()), default=len(one.text))
     lines = dedented(one.text)
     found = []
     for at, line in enumerate(lines):
@@ -89,6 +89,15 @@ def contract(page: str, one: Function, names: tuple[str, ...] = ()) -> str:
     html = linked_code(text, meaning(one), page).split("\n")
     of = anchor_of(one)
     return "\n".join(clause_mark(begins.get(at), of, part) for (at, _), part in zip(found, html))
+
+
+def places_of(one: Function) -> dict[int, Clause]:
+    """Gives the lines that get an anchor, each with its clause: of clauses of one name the first
+    that ensures something, or else the first."""
+    found: dict[str, Clause] = {}
+    for clause in sorted(reversed(one.clauses()), key=lambda each: each.kind != "requires"):
+        found[clause.name] = clause
+    return {clause.first: clause for clause in found.values()}
 
 
 def clause_mark(clause: Clause | None, of: str, html: str) -> str:
@@ -214,6 +223,7 @@ def listed(site: Site, page: str, title: str, note: str,
     """Writes a list of functions, by chapters and crates; the first chapter is unfolded where it
     has a heading."""
     body = [f"<h1>{title}</h1>", f'<p class="note">{note}</p>']
+    seen: set[str] = set()
     for heading, of_crates in chapters.items():
         body += [f"<h2>{heading}</h2>"] if heading else []
         is_open = " open" if heading == next(iter(chapters)) != "" else ""
@@ -221,8 +231,10 @@ def listed(site: Site, page: str, title: str, note: str,
             rows = "".join(
                 f"<li>{link(page, place_of(one), escape(one.called()))}"
                 f" <small>{escape(first_sentence(one.comment))}</small></li>" for one in own)
-            body.append(f'<details{is_open} id="{crate}"><summary>{crate} <small>{len(own)}'
-                        f"</small></summary><ul>{rows}</ul></details>")
+            name = "" if crate in seen else f' id="{crate}"'
+            seen.add(crate)
+            body.append(f"<details{is_open}{name}><summary>{crate} <small>{len(own)}</small>"
+                        f"</summary><ul>{rows}</ul></details>")
     site.write(page, title, "\n".join(body))
 
 

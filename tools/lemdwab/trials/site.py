@@ -3,6 +3,7 @@ then has faults planted, each of which has to be told."""
 
 from __future__ import annotations
 
+import os
 import shutil
 import sys
 from collections.abc import Callable, Iterable
@@ -10,7 +11,7 @@ from pathlib import Path
 from typing import TYPE_CHECKING
 from unittest import mock
 
-from lemdwab import siting
+from lemdwab import browsing, clicking, siting
 from lemdwab.documents import carried
 from lemdwab.running import TOP, sure
 
@@ -147,6 +148,57 @@ def is_out_of_reach(planted: Planted) -> None:
     del planted.site.pages["alone.html"]
 
 
+# What is planted for the browser: into which file, which text for which, and what is to be told.
+ENDS = "stays as it is"
+SEEN_IN_A_BROWSER = [
+    ("site.js", "", "", ENDS),
+    ("site.js", 'say("answer", answer)', 'say("answer", text)', "shows what the program does not"),
+    ("site.js", "go(Number(slide.value) + 1)", "go(slide.max)", "after a press on #on"),
+    ("site.js", "veil.style.left = `${edge}px`;", "", "draws no more of its picture at its end"),
+    ("site.css", "", "sup.laws { display: none }\n", "no press on the start page leads to"),
+    ("site.css", "", "main { width: 900px }\n", "pixels wide where the screen has 360"),
+    ("index.html", f'href="{LAW}#no_notice_is_lost.sent"', f'href="{LAW}"', "no press on the"),
+    (LAW, 'id="no_notice_is_lost.sent"', "", "is not seen behind a press"),
+    (LAW, '<li class="leaves">', "<li>", "does not unfold"),
+    (LAW, '<li class="again"><a href="#t', '<li class="again"><a href="#u', "stands nowhere in it"),
+    (LAW, "<main>", '<main><p id="twice"></p><p id="twice"></p>', "has two places twice"),
+    (LAW, "<main>", '<main><a href="nosuch.html">x</a>', "nosuch.html, which is not there"),
+    (LAW, "<main>", '<main><a href="#nosuch">x</a>', "#nosuch, and there is no such place"),
+    (LAW, "<main>", "<main><script>nosuch()</script>", "a script of the site fails"),
+]
+# The pages that are opened there.
+OPENED = ("index.html", LAW, clicking.SLIDER)
+
+
+def in_a_browser(trial: Trial, folder: Path) -> None:
+    """A site as it is made, and one with each fault that shows in a browser; and a browser that
+    ends at once. Of what the browser writes nothing is left."""
+    program = browsing.installed()
+    if not program:
+        print("chromium is not installed: no fault was looked for in a browser", flush=True)
+        return
+    site = siting.Pages(folder)
+    site.pages = {place: site.pages[place] for place in OPENED}
+    with mock.patch.object(clicking, "FITTING", ("index.html",)):
+        for place, old, new, said in SEEN_IN_A_BROWSER:
+            path = folder / place
+            text = path.read_text(encoding="utf-8")
+            trial.sees(old in text, f"{place} has no {old!r}, where a fault was to be planted")
+            path.write_text(text.replace(old, new) if old else text + new, encoding="utf-8")
+            found, _ = clicking.faults(site, program, trial.folder / "browser", trial.workers)
+            path.write_text(text, encoding="utf-8")
+            lines = [line for of in found.values() for line in of]
+            trial.sees(not lines if said == ENDS else any(said in line for line in lines),
+                       f"in a browser {new!r} in {place} is not told: {lines[:3]}")
+    fake = trial.folder / "fake"
+    fake.mkdir()
+    (fake / "chromium").write_text("#!/bin/sh\nexit 0\n", encoding="utf-8")
+    (fake / "chromium").chmod(0o755)
+    ran = trial.run("env", f"PATH={fake}:{os.environ['PATH']}", SITE, folder, seconds=LONGEST)
+    trial.sees(ran.status == 2 and "the browser ended" in ran.errors,
+               f"with a browser that ends at once suite/site ends with {ran.status}: {ran.errors}")
+
+
 def tells_faults(trial: Trial) -> None:
     """A site as it is made is right, and each fault that is planted in it is told."""
     if not shutil.which("pandoc"):
@@ -163,6 +215,7 @@ def tells_faults(trial: Trial) -> None:
     plants(planted, trial.workers)
     rows_are_missed(planted)
     is_out_of_reach(planted)
+    in_a_browser(trial, folder)
     (folder / "docs/PROMISES.html").unlink()
     ran = trial.run("env", without(trial), SITE, folder, seconds=LONGEST)
     said = ran.output.decode()
