@@ -1,25 +1,23 @@
 -- What the making of a VM leaves, and what it is answered.
-use Rattle.aia_vcpu.specs.declared.access.Access.TheVariants.{TakePending, TakeEnables}
 use Rattle.aia_fabric_values.specs.declared.flying.Flying.{Flying}
 use Rattle.aia_model.specs.Flight.{flight}
 use Rattle.aia_model.specs.ReachOf.{in_force_of}
 use Rattle.aia_vcpu.specs.Routes.{MayReach}
 use Rattle.aia_model.proofs.ReachLemmas.{reach_step, in_force_may}
-use Rattle.std.proofs.Common.{◌≡◌, Option, ℕ, zero, suc, ◌+◌, ◌*◌, ◌/◌, ◌%◌, ◌^◌, ◌<◌, ◌≤◌, Bool, true, false, not, ◌&&◌, ◌||◌, nat_eq, nat_lt, nat_le, List, length, map, get_or, replicate, [], ◌∷◌, ◌++◌, None, ◌⊎◌, inl, inr, refl, sym, ap, subst, ◌∙◌, arith, length-append, append_assoc}
+use Rattle.std.proofs.Common.{◌≡◌, Option, ℕ, zero, suc, ◌+◌, ◌*◌, ◌/◌, ◌%◌, ◌^◌, ◌<◌, ◌≤◌, Bool, true, false, not, ◌&&◌, ◌||◌, nat_eq, nat_lt, List, length, map, get_or, replicate, [], ◌∷◌, ◌++◌, None, ◌⊎◌, inl, inr, refl, sym, ap, subst, ◌∙◌, arith, length-append, append_assoc}
 use Rattle.std.specs.Prelude.{count_ones}
 use Rattle.std.specs.Int.{is_in_range}
 use Rattle.std.proofs.Math.ListN.{get_or-append}
 use Rattle.std.proofs.lemmas.List.{length-replicate, replicate-append-replicate}
-use Rattle.std.proofs.lemmas.Bool.{cases_Bool, cases_eq, cases_lt, cond-true, cond-false, lt-ltb, le-ltb, ltb-true, false≢true}
+use Rattle.std.proofs.lemmas.Bool.{cases_Bool, cases_lt, cond-true, cond-false, lt-ltb, le-ltb, ltb-true, false≢true}
 use Rattle.std.proofs.lemmas.Bool.Decides.{nat_tests}
-use Rattle.aia_regs.specs.declared.limits.TheConstants.{IDENTITIES, VCPUS, SLOTS, MASK_ONES, ENTRIES, FILE_WORDS}
+use Rattle.aia_regs.specs.declared.limits.TheConstants.{VCPUS, MASK_ONES, ENTRIES}
 use Rattle.aia_word.specs.Packed.{ones}
-use Rattle.aia_word.specs.Sets.{has_bit}
 use Rattle.aia_regs.specs.AddressMap.{slot_address}
 use Rattle.aia_file.specs.InterruptFile.{InterruptFile, empty_file}
 use Rattle.aia_file.specs.FileState.{shown}
-use Rattle.aia_file.specs.Imsic.{ImsicState, IsThere, file_at}
-use Rattle.aia_file.specs.Mrif.{mrif_in, set_at, pending_place, enable_place}
+use Rattle.aia_file.specs.Imsic.{ImsicState, file_at}
+use Rattle.aia_file.specs.Mrif.{mrif_in}
 use Rattle.aia_file.proofs.SlotLemmas.{one_bit}
 use Rattle.aia_entry.specs.declared.entry.Entry.TheVariants as entries
 use Rattle.aia_entry.specs.Format.{mrif_word, notice_word}
@@ -32,8 +30,7 @@ use Rattle.aia_vcpu.specs.Vms.{Vcpu, vcpu_of, is_vcpu_in, vm_in, vcpus_in, slot_
 use Rattle.aia_vcpu.specs.Home.{holds}
 use Rattle.aia_vcpu.specs.declared.rest.Rest.TheVariants.{Parked}
 use Rattle.aia_vcpu.specs.Home.Home.{InMemory}
-use Rattle.aia_vcpu.specs.Plans.{is_last_made}
-use Rattle.aia_vcpu.proofs.VmLemmas.{numbered, slot_below, vm_stays, slot_stays, vm_new, slot_new, vcpus_more, vm_past, old_or_new}
+use Rattle.aia_vcpu.proofs.VmLemmas.{slot_below, vm_stays, slot_stays, vm_new, slot_new, vcpus_more, vm_past, old_or_new}
 use Rattle.aia_vcpu.proofs.AllLemmas.{any_vcpu, some_vcpu, no_vcpu, of_none}
 use Rattle.aia_vcpu_places.specs.Places.{Places, leads_to, entry_word, second_word}
 use Rattle.aia_vcpu_places.specs.Holds.{Holds}
@@ -45,7 +42,6 @@ use Rattle.aia_fabric_values.specs.Making.{MakesVm, notice_page, entry_word_plac
 use Rattle.aia_fabric_values.specs.Whole.{IsWhole}
 use Rattle.aia_fabric_values.specs.Changes.{spot_of}
 use Rattle.aia_move_values.specs.Views.{places_of}
-use Rattle.aia_move_values.specs.Move.{Moving, mover, MoveFits}
 use Rattle.aia_move_values.specs.PlanState.{moving_of}
 use Rattle.aia_move_values.proofs.WayMade.{pending_stays, enabled_stays, places_made, fits_made}
 use Rattle.aia_move_values.specs.Plan.{IsInPhase}
@@ -75,7 +71,7 @@ use Rattle.aia_hyp_values.specs.Core.{VcpuRecord}
 use Rattle.aia_hyp_values.specs.Core.{CoreState, no_kept, no_record, record_of, home_in, hand_in}
 use Rattle.aia_hyp_values.specs.HostFiles.{host_spot, select_place}
 use Rattle.aia_hyp_values.specs.Stands.{flying_of, PlanStands, VcpuStands, StandsForSome, is_held, CoreStands, CoreTakes}
-use Rattle.aia_hyp_values.proofs.VcpuLemmas.{SameFor, IsHeld, same_view, select_is, majors_is}
+use Rattle.aia_hyp_values.proofs.VcpuLemmas.{IsHeld, select_is, majors_is}
 use Rattle.aia_hyp_values.proofs.StandsLemmas.{Becomes, none_passes, stands_after, keeps_by, built_as}
 use Rattle.aia_hyp_values.proofs.EventLemmas.{as_it_was, taken, refused}
 

@@ -9,7 +9,6 @@ use Rattle.std.proofs.lemmas.List.{get_or_past}
 use Rattle.std.proofs.lemmas.Option.{slice_get-map}
 use Rattle.aia_regs.specs.declared.limits.TheConstants.{HARTS, SLOTS, IDENTITIES, PASSES}
 use Rattle.aia_file.specs.Imsic.{IsThere}
-use Rattle.aia_file.specs.InterruptFile.{is_greatest_identity}
 use Rattle.aia_entry.specs.declared.entry.Entry.{Entry}
 use Rattle.aia_entry.specs.declared.entry.Entry.TheVariants.{NotValid}
 use Rattle.aia_entry.specs.Tables.{TableState, no_table, entry_in_force}

@@ -1,23 +1,20 @@
 -- A plan that begins knows all that is known of its virtual hart at rest, and as it ends all is
 -- known of that one at rest again.
-use Rattle.std.proofs.Common.{◌≡◌, ℕ, ◌+◌, ◌/◌, Bool, true, false, Option, Some, None, inl, inr, refl, sym, ap, ◌∙◌, subst}
+use Rattle.std.proofs.Common.{◌≡◌, ℕ, ◌+◌, ◌/◌, Bool, true, false, Option, Some, None, inl, inr, refl, sym, ◌∙◌, subst}
 use Rattle.std.proofs.lemmas.Bool.{false≢true}
-use Rattle.std.proofs.lemmas.Bool.Decides.{nat_tests}
 use Rattle.aia_file.specs.InterruptFile.{InterruptFile}
 use Rattle.aia_file.specs.Imsic.{IsThere}
 use Rattle.aia_vcpu.specs.declared.place.GuestPlace.{GuestPlace}
 use Rattle.aia_vcpu.specs.declared.rest.Rest.{Rest}
 use Rattle.aia_vcpu.specs.declared.access.Access.{Access}
 use Rattle.aia_vcpu.specs.declared.access.Access.TheVariants.{TakePending, TakeEnables}
-use Rattle.aia_vcpu.specs.Home.{Home, Way, is_moving, at_first, ended, holds, left}
+use Rattle.aia_vcpu.specs.Home.{Home, Way, at_first, ended, holds}
 use Rattle.aia_vcpu.specs.Home.Home.{InMemory, Resident, OnWay}
 use Rattle.aia_vcpu.specs.Home.Way.{Outward, Inward, Across}
 use Rattle.aia_vcpu.specs.Plans.{is_last_made}
-use Rattle.aia_vcpu.specs.BySteps.{own_file, next_file}
 use Rattle.aia_vcpu.specs.Routes.{origin, reach_stepped, MayReach}
 use Rattle.aia_vcpu.proofs.HomeLemmas.{own_is_held, next_is_held, either_file}
 use Rattle.aia_vcpu_places.specs.Holds.{Holds, Hand, IsWithin, IsEmpty}
-use Rattle.aia_vcpu_places.specs.Places.{Places}
 use Rattle.aia_vcpu_places.specs.Stores.{AreApart}
 use Rattle.aia_vcpu_places.proofs.MoveEnds.{leave_begins, shift_begins, arrive_begins}
 use Rattle.aia_fabric_values.specs.declared.at.At.TheVariants.{File}
@@ -31,8 +28,7 @@ use Rattle.aia_move_values.specs.Move.{Moving, mover, width, MoveFits, Ends}
 use Rattle.aia_move_values.specs.PlanState.{PlanState, moving_of}
 use Rattle.aia_move_values.specs.Plan.{IsInPhase, begun, empty_hand, kept_hand}
 use Rattle.aia_move_values.specs.Targets.{TargetMap}
-use Rattle.aia_move_values.specs.Touches.{SameMachine, sends}
-use Rattle.aia_move_values.specs.Knows.{Knows}
+use Rattle.aia_move_values.specs.Touches.{sends}
 use Rattle.aia_move_values.specs.Ways.{KnowsWays, KnowsTargets, KnowsAll, NothingLeadsTo}
 use Rattle.aia_move_values.specs.Happenings.{KnowsAtRest}
 use Rattle.aia_move_values.proofs.MachineLemmas.{machine_touched}

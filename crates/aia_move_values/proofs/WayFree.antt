@@ -1,14 +1,11 @@
 -- What happens leaves free a guest file to which nothing leads, if no move that steps holds it; and
 -- nothing leads to any as a machine is made.
-use Rattle.std.proofs.Common.{◌≡◌, ◌≢◌, ℕ, zero, suc, ◌+◌, ◌%◌, ◌<◌, ◌≤◌, Bool, true, false, nat_eq, List, [], ◌∷◌, ◌++◌, length, Option, Some, None, inl, inr, refl, sym, ap, ◌∙◌, subst, arith}
-use Rattle.std.specs.Prelude.{remove, slice_get, slice_index_or}
-use Rattle.std.proofs.lemmas.Bool.{cases_Bool, cond-true, cond-false, ne_eqb, eq-eqb, false≢true}
+use Rattle.std.proofs.Common.{◌≡◌, ◌≢◌, ℕ, zero, suc, ◌+◌, ◌%◌, Bool, true, false, nat_eq, List, [], ◌∷◌, ◌++◌, length, Option, Some, None, inl, inr, refl, sym, ap, ◌∙◌, subst, arith}
+use Rattle.std.specs.Prelude.{remove, slice_get}
+use Rattle.std.proofs.lemmas.Bool.{cases_Bool, cond-true, cond-false, ne_eqb, false≢true}
 use Rattle.std.proofs.lemmas.Bool.Decides.{nat_tests}
-use Rattle.std.proofs.lemmas.List.{get_or_past}
 use Rattle.aia_regs.specs.declared.address_map.TheConstants.{PAGE}
-use Rattle.aia_regs.specs.declared.limits.TheConstants.{VCPUS}
 use Rattle.aia_file.specs.InterruptFile.{InterruptFile}
-use Rattle.aia_file.specs.declared.spot.Spot.TheVariants.{GuestFile}
 use Rattle.aia_file.specs.Imsic.{with_file, file_at}
 use Rattle.aia_entry.specs.declared.entry.Entry.{Entry}
 use Rattle.aia_entry.specs.declared.entry.Entry.TheVariants.{Basic, Mrif, NotValid, Custom, Misconfigured}
@@ -31,16 +28,15 @@ use Rattle.aia_fabric_values.specs.declared.at.At.{At}
 use Rattle.aia_fabric_values.specs.declared.at.At.TheVariants.{File, Slot}
 use Rattle.aia_fabric_values.specs.declared.flying.Flying.{Flying}
 use Rattle.aia_fabric_values.specs.declared.stage.Stage.{Stage}
-use Rattle.aia_fabric_values.specs.World.{World, OnlyStores, flight_of, stage_of, no_stage}
+use Rattle.aia_fabric_values.specs.World.{World, OnlyStores, flight_of, stage_of}
 use Rattle.aia_fabric_values.specs.Whole.{IsWhole}
 use Rattle.aia_fabric_values.specs.Making.{IsNew, MakesVm}
 use Rattle.aia_fabric_values.specs.Changes.{spot_of, with_fence}
 use Rattle.aia_fabric_values.specs.Flights.{Sends, Lands, LandsOldest, Fences, with_flight}
-use Rattle.aia_fabric_values.specs.Stores.{Reaches}
 use Rattle.aia_fabric_values.proofs.FrameLemmas.{by_parts, entry_rest, reaches_rest, record_rest, stores_rest}
 use Rattle.aia_move_values.specs.Move.{Moving, mover, width, MakesNext}
 use Rattle.aia_move_values.specs.PlanState.{PlanState, moving_of}
-use Rattle.aia_move_values.specs.Touches.{SameMachine, Touches, sends}
+use Rattle.aia_move_values.specs.Touches.{SameMachine, sends}
 use Rattle.aia_move_values.specs.Landings.{LandsFirst}
 use Rattle.aia_move_values.specs.Knows.{Knows}
 use Rattle.aia_move_values.specs.Ways.{led_by_entry, led_by_record, leads_here, entry_of, written_of, NothingLeadsTo}
@@ -53,12 +49,11 @@ use Rattle.aia_move_values.proofs.TouchLemmas.{step_touches}
 use Rattle.aia_move_values.proofs.WayLemmas.{led_same, recorded_same}
 use Rattle.aia_move_values.proofs.WayFrames.{KeepsRoutes, KeepsWords, words_same, entry_words, route_words, record_words, stored_machine, routes_stored, taken_was, sent_is, flight_set}
 use Rattle.aia_move_values.proofs.WayFences.{as_written, others_kept, no_vcpu}
-use Rattle.aia_move_values.proofs.WayMoves.{RoutesApart, routes_then, kept_by_touch, touched_flights, fence_step}
+use Rattle.aia_move_values.proofs.WayMoves.{routes_then, kept_by_touch, touched_flights, fence_step}
 use Rattle.aia_move_values.proofs.WayMade.{Since, entries_since, written_since, named_since, flight_since, led_made}
 use Rattle.aia_move_values.proofs.WayMade.Since.{AsBefore, ToNewSlot, Nowhere}
 
 -- ---- the routes are as they were
-
 
 module _ (w u : World) (at : At) (same : SameMachine w u) (free : NothingLeadsTo w at) where
   free_by : ((g : Vcpu) → KeepsRoutes w u g)

@@ -1,17 +1,16 @@
 -- What the making of a VM leaves: the places of each virtual hart that was there, and all ways by
 -- which stores come, but those of the new ones, which lead to slots of their own.
-use Rattle.std.proofs.Common.{◌≡◌, ℕ, zero, suc, ◌+◌, ◌/◌, ◌%◌, ◌<◌, ◌≤◌, true, false, ◌&&◌, nat_eq, nat_lt, nat_le, List, [], ◌∷◌, ◌++◌, length, get_or, Option, Some, None, ◌⊎◌, inl, inr, refl, sym, ap, ◌∙◌, subst, arith}
+use Rattle.std.proofs.Common.{◌≡◌, ℕ, zero, suc, ◌+◌, ◌/◌, ◌%◌, ◌<◌, ◌≤◌, true, false, ◌&&◌, nat_lt, nat_le, List, [], ◌∷◌, ◌++◌, length, get_or, Option, Some, None, ◌⊎◌, inl, inr, refl, sym, ap, ◌∙◌, subst, arith}
 use Rattle.std.specs.Prelude.{slice_get, slice_index_or}
 use Rattle.std.specs.Option.{option_map}
 use Rattle.std.proofs.Math.ListN.{get_or-append}
-use Rattle.std.proofs.lemmas.Bool.{cases_Bool, cases_eq, cases_lt, cond-true, cond-false, lt-ltb, ne_eqb, false≢true}
+use Rattle.std.proofs.lemmas.Bool.{cases_Bool, cases_eq, cases_lt, cond-true, cond-false, lt-ltb}
 use Rattle.std.proofs.lemmas.Bool.Decides.{nat_tests}
 use Rattle.std.proofs.lemmas.List.{get_or_past}
 use Rattle.aia_word.specs.Sets.{has_bit}
-use Rattle.aia_regs.specs.declared.limits.TheConstants.{HARTS, VCPUS, SLOTS, FILE_WORDS, IDENTITIES, ENTRIES}
+use Rattle.aia_regs.specs.declared.limits.TheConstants.{HARTS, SLOTS, FILE_WORDS, IDENTITIES, ENTRIES}
 use Rattle.aia_regs.specs.AddressMap.{slot_address}
 use Rattle.aia_file.specs.Imsic.{ImsicState, IsThere}
-use Rattle.aia_file.specs.InterruptFile.{InterruptFile}
 use Rattle.aia_file.specs.Mrif.{mrif_in, set_at, pending_place, enable_place}
 use Rattle.aia_entry.specs.declared.entry.Entry.{Entry}
 use Rattle.aia_entry.specs.declared.entry.Entry.TheVariants.{Basic, Mrif, NotValid, Custom, Misconfigured}
@@ -24,7 +23,7 @@ use Rattle.aia_vcpu.specs.Vms.{Vcpu, vcpu_of, is_vcpu_in, vm_in, vcpus_in, slot_
 use Rattle.aia_vcpu.specs.Home.{Home}
 use Rattle.aia_vcpu.specs.BySteps.{own_file, next_file}
 use Rattle.aia_vcpu.specs.Plans.{is_last_made}
-use Rattle.aia_vcpu.proofs.VmLemmas.{slot_below, vm_stays, slot_stays, vm_new, slot_new, old_or_new}
+use Rattle.aia_vcpu.proofs.VmLemmas.{vm_stays, slot_stays, vm_new, slot_new, old_or_new}
 use Rattle.aia_vcpu_places.specs.Places.{leads_to, entry_word, second_word}
 use Rattle.aia_vcpu_places.proofs.EntryLemmas.{entry_back}
 use Rattle.aia_fabric_values.specs.declared.at.At.{At}
@@ -226,8 +225,11 @@ module _ (w u : World) (vm : Vm) (whole : IsWhole w) (after : IsWhole u) (made :
       → ((is_vcpu_in w.vms g ≡ true) × (led_by_entry u (written_of u g) ≡ led_by_entry w (written_of w g)))
       ⊎ (led_by_entry u (written_of u g) ≡ Some (Slot (vcpus_in w.vms + g.vcpu)))
   written_since g there = elim (old_or_new w.vms vm g (ap (λ vms. is_vcpu_in vms g) (sym made.vms) ∙ there)) [
-    | inl old ↦ inl (old.1, led_made (written_of u g) ∙ ap (led_by_entry w)
-        (λ k. decoded (first_word w u vm whole made g old.1 k) (later_word w u vm whole made g old.1 k)))
+    | inl old ↦ inl (
+      old.1,
+      led_made (written_of u g) ∙ ap (led_by_entry w)
+          (λ k. decoded (first_word w u vm whole made g old.1 k) (later_word w u vm whole made g old.1 k)),
+    )
     | inr new ↦ inr (written_new g new.0 new.1)
   ]
 
@@ -236,8 +238,11 @@ module _ (w u : World) (vm : Vm) (whole : IsWhole w) (after : IsWhole u) (made :
       → ((is_vcpu_in w.vms g ≡ true) × (led_by_record u g (named (stage_of u g)) ≡ led_by_record w g (named (stage_of w g))))
       ⊎ (led_by_record u g (named (stage_of u g)) ≡ Some (Slot (vcpus_in w.vms + g.vcpu)))
   named_since named none g there = elim (old_or_new w.vms vm g (ap (λ vms. is_vcpu_in vms g) (sym made.vms) ∙ there)) [
-    | inl old ↦ inl (old.1, recorded_made g old.1 (named (stage_of u g))
-        ∙ ap (λ (s : Stage). led_by_record w g (named s)) (stage_made w u vm whole made g old.1))
+    | inl old ↦ inl (
+      old.1,
+      recorded_made g old.1 (named (stage_of u g))
+          ∙ ap (λ (s : Stage). led_by_record w g (named s)) (stage_made w u vm whole made g old.1),
+    )
     | inr new ↦ inr (named_new g new.0 new.1 (named (stage_of u g)) (ap named (no_stage_yet g new.0 new.1) ∙ none))
   ]
 

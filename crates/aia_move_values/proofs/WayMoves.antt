@@ -28,7 +28,7 @@ use Rattle.aia_vcpu_places.proofs.EntryLemmas.{entry_back}
 use Rattle.aia_fabric_values.specs.declared.stage.Stage.{Stage}
 use Rattle.aia_fabric_values.specs.World.{World, OnlyStores, flight_of, stage_of, no_stage}
 use Rattle.aia_fabric_values.specs.Whole.{IsWhole}
-use Rattle.aia_fabric_values.specs.Changes.{spot_of, with_fence}
+use Rattle.aia_fabric_values.specs.Changes.{spot_of}
 use Rattle.aia_fabric_values.specs.Flights.{Fences}
 use Rattle.aia_fabric_values.specs.SlotAccess.{DoneInSlot}
 use Rattle.aia_fabric_values.proofs.FrameLemmas.{by_parts}

@@ -1,15 +1,14 @@
 -- What happens beside its own doings leaves known what is known of a virtual hart at rest; and the
 -- making of a VM what is known of one that is moved.
-use Rattle.std.proofs.Common.{◌≡◌, ◌≢◌, ℕ, ◌+◌, ◌/◌, ◌%◌, ◌<◌, ◌≤◌, Bool, true, false, if◌then◌else◌, nat_eq, Option, Some, None, ◌⊎◌, inl, inr, refl, sym, ap, ◌∙◌, subst, arith}
-use Rattle.std.specs.Prelude.{slice_index_or}
-use Rattle.std.proofs.lemmas.Bool.{cases_Bool, eqb-true, ne_eqb, false≢true}
+use Rattle.std.proofs.Common.{◌≡◌, ◌≢◌, ℕ, ◌+◌, ◌/◌, ◌≤◌, Bool, true, false, if◌then◌else◌, Option, Some, None, ◌⊎◌, inl, inr, refl, sym, ap, ◌∙◌, subst, arith}
+use Rattle.std.proofs.lemmas.Bool.{eqb-true, ne_eqb, false≢true}
 use Rattle.aia_file.specs.InterruptFile.{InterruptFile}
 use Rattle.aia_file.specs.declared.spot.Spot.{Spot}
 use Rattle.aia_file.specs.declared.spot.Spot.TheVariants.{GuestFile}
-use Rattle.aia_file.specs.Imsic.{IsThere, file_at, with_file}
+use Rattle.aia_file.specs.Imsic.{IsThere}
 use Rattle.aia_vcpu.specs.declared.place.GuestPlace.{GuestPlace}
 use Rattle.aia_vcpu.specs.declared.vm.Vm.{Vm}
-use Rattle.aia_vcpu.specs.Vms.{Vcpu, is_vcpu, is_vcpu_in, vcpus_in, slot_of, notice_hart, notice_identity}
+use Rattle.aia_vcpu.specs.Vms.{Vcpu, is_vcpu, is_vcpu_in, vcpus_in, slot_of}
 use Rattle.aia_vcpu.specs.Home.{Home, holds, is_moving, rests_in_memory}
 use Rattle.aia_vcpu.specs.Home.Home.{InMemory, Resident, OnWay}
 use Rattle.aia_vcpu.specs.Routes.{origin, entry_names, MayLand}
@@ -31,7 +30,7 @@ use Rattle.aia_move_values.specs.Views.{places_of}
 use Rattle.aia_move_values.specs.Move.{Moving, mover, width}
 use Rattle.aia_move_values.specs.PlanState.{PlanState, moving_of}
 use Rattle.aia_move_values.specs.Targets.{TargetMap}
-use Rattle.aia_move_values.specs.Ways.{led_by_record, leads_here, KnowsWays, KnowsAll, landed_if, landed_flight}
+use Rattle.aia_move_values.specs.Ways.{led_by_record, leads_here, KnowsAll, landed_if, landed_flight}
 use Rattle.aia_move_values.specs.Happenings.{OthersNameNothing, Happening, KnowsAtRest, IsOfOthers, file_after}
 use Rattle.aia_move_values.specs.Happenings.Happening.{DeviceStores, PeerStores, StoreIsSent, StoreLands, StoreIsTaken, MsiLands, MsiIsRelayed, EntryIsRead, EntryIsFenced, SlotIsReached, FileIsReached, MoveSteps, VmIsMade}
 use Rattle.aia_move_values.proofs.KnowsLemmas.{knows_by, lands_knows, InPhase}
