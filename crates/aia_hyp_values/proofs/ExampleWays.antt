@@ -37,7 +37,7 @@ use Rattle.aia_model.proofs.HistoryLemmas.{after_happens}
 use Rattle.aia_model.proofs.PassesStandLemmas.{passes_stand}
 use Rattle.aia_vcpu.specs.Home.{is_moving}
 use Rattle.aia_vcpu.specs.Home.Home.{Resident}
-use Rattle.aia_move_values.specs.Happenings.{KnowsAtRest}
+use Rattle.aia_move_values.specs.WorldChanges.{KnowsAtRest}
 use Rattle.aia_hyp_values.specs.Passes.{own_passes}
 use Rattle.aia_hyp_values.specs.Example.{leaver, stayer, leaving_history, earlier_lines, leave_lines, leaving_core, stayer_file, example_files, leave_under_way, leave_plan, sent_to_leaver, sent_to_stayer, example_world, flying_world, example_targets, leaver_interrupts, stayer_at_rest}
 use Rattle.aia_hyp_values.specs.Targets.{TargetsStand}
@@ -189,4 +189,4 @@ stayer_home = sym (leaving_stands.vcpus stayer refl).same_home
 pub stayer_rests : KnowsAtRest example_world example_targets stayer_at_rest (guest_file leaving_history stayer)
 stayer_rests = rest_in_core leaving_core example_targets leaving_history stayer stayer_at_rest leaving_happens
     (record { core = leaving_stands; targets = example_targets_stand }) leaving_whole refl (ap is_moving stayer_home)
-    (record { own = refl; same_home = sym stayer_home; slot = refl; notice = refl; passes = sym none_passed; hand = refl })
+    (record { own = refl; same_home = sym stayer_home; slot = refl; notice = refl; passes = sym none_passed }) refl

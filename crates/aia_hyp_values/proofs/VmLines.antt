@@ -166,7 +166,8 @@ old_stands : (x y : CoreState) (h : History) (vm : Vm) (g : Vcpu) → HasMade x 
 old_stands x y h vm g c low there =
     let p = c.stands.vcpus g there in
     let same = old_record x y h vm g c low there in
-    let shows = places_made x.world y.world vm c.whole c.makes g (subst (λ (vs : List Vm). is_vcpu_in vs g ≡ true) (sym c.stands.vms) there) (home h g) in
+    let shows = places_made x.world y.world vm c.whole c.makes g (subst (λ (vs : List Vm). is_vcpu_in vs g ≡ true) (sym c.stands.vms) there) (home h
+    g) in
     let slot = slot_stays (vms_of h) vm g low in
     let hart : notice_hart (vms_of h ++ vm ∷ []) g ≡ notice_hart (vms_of h) g = ap (λ (v : Vm). v.notice_hart) (vm_stays (vms_of h) vm g.vm low) in
     record {

@@ -34,7 +34,7 @@ use Rattle.aia_fabric_values.specs.Changes.{spot_of}
 use Rattle.aia_fabric_values.proofs.WholeLemmas.{notice_hart_there}
 use Rattle.aia_move_values.specs.declared.who.Pass as plans
 use Rattle.aia_move_values.specs.Views.{places_of}
-use Rattle.aia_move_values.specs.Happenings.{KnowsAtRest}
+use Rattle.aia_move_values.specs.WorldChanges.{KnowsAtRest}
 use Rattle.aia_move_values.specs.Move.{Moving, mover, width, place_at}
 use Rattle.aia_move_values.specs.PlanState.{PlanState, moving_of}
 use Rattle.aia_move_values.specs.Targets.{TargetMap, pass_count, pass_in}
@@ -57,8 +57,8 @@ use Rattle.aia_model.proofs.ReachLemmas.{in_force_may}
 use Rattle.aia_model.proofs.OwnPassLemmas.{IsOwn, own_is}
 use Rattle.aia_model.proofs.PassesStandLemmas.{passes_stand}
 use Rattle.aia_hyp_values.specs.declared.vcpu.Stay.TheVariants as stays
-use Rattle.aia_hyp_values.specs.Core.{CoreState, record_of}
-use Rattle.aia_hyp_values.specs.Moves.{KnowsIts, IsOf}
+use Rattle.aia_hyp_values.specs.Core.{CoreState, record_of, hand_in}
+use Rattle.aia_hyp_values.specs.Moves.{KnowsIts, IsToldOf}
 use Rattle.aia_hyp_values.specs.Passes.{own_passes, HasItsPasses}
 use Rattle.aia_hyp_values.specs.Stands.{CoreStands, flying_of}
 use Rattle.aia_hyp_values.specs.Targets.{TargetsStand, StandsWith}
@@ -68,16 +68,8 @@ use Rattle.aia_hyp_values.proofs.VcpuLemmas.{IsHeld}
 use Rattle.aia_hyp_values.proofs.OwnPasses.{own_nth, own_length, own_all}
 use Rattle.aia_file.proofs.SizeLemmas.{few_identities}
 
--- of whom it is said, as the core keeps it: one that is moved, or at rest
-pub record IsIts (x : CoreState) (h : History) (g : Vcpu) (m : Moving) : Type 0 where
-  pub own : mover m ≡ g
-  pub same_home : m.home ≡ home h g
-  pub slot : m.who.found.slot ≡ slot_of (vms_of h) g
-  pub notice : m.who.found.notice ≡ notice_hart (vms_of h) g
-  pub passes : m.who.passes.items ≡ own_passes 0 g (passes_of h)
-
 module _ (x : CoreState) (h : History) (g : Vcpu) (m : Moving) (stands : CoreStands x h) (whole : IsWhole x.world) (there : has_vcpu h g ≡ true)
-    (its : IsIts x h g m) where
+    (its : IsToldOf h g m) where
   -- ---- places
 
   same_home : m.home ≡ home h g
@@ -290,7 +282,7 @@ module _ (x : CoreState) (h : History) (g : Vcpu) (plan : PlanState) (stands : C
   knows_its : KnowsIts x h g plan
   knows_its = knows x h g plan stands there was
 
-  its_own : IsIts x h g (moving_of plan)
+  its_own : IsToldOf h g (moving_of plan)
   its_own = record {
     own = knows_its.own;
     same_home = knows_its.same_home;
@@ -313,10 +305,10 @@ module _ (x : CoreState) (h : History) (g : Vcpu) (plan : PlanState) (stands : C
 -- ---- one at rest
 
 pub rest_in_core : (x : CoreState) (map : TargetMap) (h : History) (g : Vcpu) (m : Moving) → IsHistory h → StandsWith x map h → IsWhole x.world
-    → has_vcpu h g ≡ true → is_moving (home h g) ≡ false → IsOf x h g m → KnowsAtRest x.world map m (guest_file h g)
-rest_in_core x map h g m good stands whole there rests of =
+    → has_vcpu h g ≡ true → is_moving (home h g) ≡ false → IsToldOf h g m → m.hand ≡ hand_in (record_of x g).stay
+    → KnowsAtRest x.world map m (guest_file h g)
+rest_in_core x map h g m good stands whole there rests of hand =
     let core = stands.core in
-    let its : IsIts x h g m = record { own = of.own; same_home = of.same_home; slot = of.slot; notice = of.notice; passes = of.passes } in
     let held = (core.vcpus g there).holds in
     let own_held : (p : GuestPlace) → holds p m.home ≡ true → IsThere x.world.imsic (spot_of p) =
     λ p holding. core.held g p there (ap (holds p) (sym of.same_home) ∙ holding) in
@@ -339,12 +331,12 @@ rest_in_core x map h g m good stands whole there rests of =
         reach = same_reach k;
         shows = places_of x.world (sym of.own k) (sym of.same_home k);
         there = sym of.same_home k;
-        hand = sym of.hand k;
+        hand = sym hand k;
         file = guest_file h g;
         saw = a_look_saw h g;
       }) held);
-      ways = ways_in_core x h g m core whole there its;
-      targets = targets_in_core x h g m core whole there its map good stands.targets;
+      ways = ways_in_core x h g m core whole there of;
+      targets = targets_in_core x h g m core whole there of map good stands.targets;
     }
   where
     none_made : (words : ℕ) (there : Home) (access : Access) → is_moving there ≡ false → is_last_made words there access ≡ false

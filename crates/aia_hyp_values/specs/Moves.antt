@@ -45,7 +45,7 @@ use Rattle.aia_model.specs.declared.want.Want.TheVariants as wants
 use Rattle.aia_hyp_values.specs.Core.{Stay}
 use Rattle.aia_hyp_values.specs.declared.vcpu.Stay.TheVariants as stays
 use Rattle.aia_hyp_values.specs.Passes.{own_passes}
-use Rattle.aia_hyp_values.specs.Core.{CoreState, record_of, home_in, hand_in, parked_at}
+use Rattle.aia_hyp_values.specs.Core.{CoreState, record_of, home_in, parked_at}
 use Rattle.aia_hyp_values.specs.Stands.{CoreStands}
 use Rattle.aia_hyp_values.specs.Passes.{StepsAim}
 
@@ -200,15 +200,14 @@ pub record KnowsIts (x : CoreState) (h : History) (g : Vcpu) (plan : PlanState) 
   pub same_home : (moving_of plan).home ≡ home h g
   pub knows : Knows x.world plan (in_force_of h g) (guest_file h g) (a_look_saw h g)
 
--- What a plan would be told of a virtual hart as the core keeps it: who it is, with what is passed
--- to it, where it is, and what is kept of it.
-pub record IsOf (x : CoreState) (h : History) (g : Vcpu) (m : Moving) : Type 0 where
+-- What a plan is told of a virtual hart is as a history has it: who it is, with what is passed to
+-- it, and where it is.
+pub record IsToldOf (h : History) (g : Vcpu) (m : Moving) : Type 0 where
   pub own : mover m ≡ g
   pub same_home : m.home ≡ home h g
   pub slot : m.who.found.slot ≡ slot_of (vms_of h) g
   pub notice : m.who.found.notice ≡ notice_hart (vms_of h) g
   pub passes : m.who.passes.items ≡ own_passes 0 g (passes_of h)
-  pub hand : m.hand ≡ hand_in (record_of x g).stay
 
 -- What a step in place makes of where a virtual hart is, and of the world: what its plan makes;
 -- nothing, where it has none.

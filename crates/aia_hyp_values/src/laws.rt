@@ -27,13 +27,13 @@ ghost use Rattle.aia_model.specs.GuestFile.{guest_file};
 ghost use Rattle.aia_model.specs.Notice.{a_look_saw};
 ghost use Rattle.aia_move_values.specs.Targets.{TargetMap};
 ghost use Rattle.aia_move_values.specs.Move.{Moving};
-ghost use Rattle.aia_move_values.specs.Happenings.{KnowsAtRest};
+ghost use Rattle.aia_move_values.specs.WorldChanges.{KnowsAtRest};
 ghost use Rattle.aia_move_values.specs.Ways.{KnowsWays, KnowsAll, OldPlaceIsShut};
 ghost use Rattle.aia_file.specs.InterruptFile.{landed};
 ghost use Rattle.aia_hyp_values.specs.Targets.{TargetsStand, StandsWith, LeavesTheAplic};
 ghost use Rattle.aia_model.specs.Vms.{vms_of, has_vm, has_vcpu};
 ghost use Rattle.aia_model.specs.Refusal.{refusal};
-ghost use Rattle.aia_hyp_values.specs.Moves.{KnowsIts, IsOf};
+ghost use Rattle.aia_hyp_values.specs.Moves.{KnowsIts, IsToldOf};
 ghost use Rattle.aia_model.specs.ReachOf.{in_force_of, sent_into};
 ghost use Rattle.aia_model.specs.Flight.{Sending, flying};
 ghost use Rattle.aia_model.specs.GuestFile.{sent_to};
@@ -44,7 +44,7 @@ ghost use Rattle.aia_model.specs.Passes.{passes_of};
 ghost use Rattle.aia_model.specs.HomeOf.{home};
 ghost use Rattle.aia_model.specs.Answer.{msi_taken, after_lines};
 ghost use Rattle.aia_move_values.specs.PlanState.{PlanState, moving_of};
-ghost use Rattle.aia_hyp_values.specs.Core.{CoreState, record_of};
+ghost use Rattle.aia_hyp_values.specs.Core.{CoreState, record_of, hand_in};
 ghost use Rattle.aia_hyp_values.specs.Stands.{CoreStands, CoreTakes, CoreHears, MayPass, line_served};
 ghost use Rattle.aia_hyp_values.specs.Example.{stayer, leaver, the_pass, so_far, leaving_history, earlier_lines, leave_lines, stayer_file, leaver_file, leaving_core, leave_under_way, leave_plan, example_world, flying_world, example_targets, leaver_interrupts, stayer_at_rest};
 
@@ -172,7 +172,8 @@ pub fn a_plan_in_a_core_knows_all()
 pub fn all_is_known_of_who_is_at_rest_in_a_core()
     ensures { (x : CoreState) (map : TargetMap) (h : History) (g : Vcpu) (m : Moving)
         → IsHistory h → StandsWith x map h → IsWhole x.world → has_vcpu h g ≡ true
-        → is_moving (home h g) ≡ false → IsOf x h g m
+        → is_moving (home h g) ≡ false → IsToldOf h g m
+        → m.hand ≡ hand_in (record_of x g).stay
         → KnowsAtRest x.world map m (guest_file h g) }
 {}
 

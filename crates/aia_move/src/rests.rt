@@ -23,7 +23,7 @@ ghost use Rattle.aia_move_values.specs.PlanState.{PlanState, moving_of};
 ghost use Rattle.aia_move_values.specs.Plan.{IsInPhase, begun, empty_hand, kept_hand};
 ghost use Rattle.aia_move_values.specs.Targets.{TargetMap};
 ghost use Rattle.aia_move_values.specs.Ways.{KnowsAll, NothingLeadsTo};
-ghost use Rattle.aia_move_values.specs.Happenings.{OthersNameNothing, Happening, KnowsAtRest, IsOfOthers, IsElsewhere, file_after};
+ghost use Rattle.aia_move_values.specs.WorldChanges.{OthersNameNothing, WorldChange, KnowsAtRest, IsOfOthers, IsElsewhere, file_after};
 
 /// A plan that begins knows all, where all is known of its virtual hart at rest, and the guest file
 /// to which it moves, if there is one, is empty and nothing leads there. As it ends all is known of
@@ -64,24 +64,25 @@ pub fn a_plan_begins_and_ends_with_what_is_known_at_rest()
 pub fn what_happens_leaves_known_what_is_known()
     ensures at_rest { (w u : World) (map : TargetMap) (m : Moving) (file : InterruptFile)
         → IsWhole w → IsWithin w.n (width w) file → KnowsAtRest w map m file
-        → (happens : Happening w u) → IsOfOthers w u m happens
-        → KnowsAtRest u map m (file_after w u m happens file) }
+        → (change : WorldChange w u) → IsOfOthers w u m change
+        → KnowsAtRest u map m (file_after w u m change file) }
     ensures made { (w u : World) (map : TargetMap) (plan : PlanState) (reach : Option GuestPlace)
         (file : InterruptFile) (saw : Bool) (vm : Vm) → IsWhole w → IsWhole u → MakesVm w u vm
-        → OthersNameNothing w → KnowsAll w map plan reach file saw → KnowsAll u map plan reach file saw }
+        → OthersNameNothing w → KnowsAll w map plan reach file saw
+        → KnowsAll u map plan reach file saw }
 {}
 
 /// Nothing leads to a guest file as the machine is made, and to one to which nothing leads nothing
-/// comes to lead, but by a move that holds it. Nor does a record of a virtual hart that is not there
-/// name a file, then and ever.
+/// comes to lead, but by a move that holds it. Nor does a record of a virtual hart that is not
+/// there name a file, as the machine is made and whatever happens.
 pub fn nothing_comes_to_lead_to_a_free_file()
     ensures new { (w : World) (harts guests n : ℕ) (p : GuestPlace) → IsNew w harts guests n
         → NothingLeadsTo w (File (spot_of p)) }
     ensures stays { (w u : World) (p : GuestPlace) → IsWhole w
-        → NothingLeadsTo w (File (spot_of p)) → (happens : Happening w u)
-        → IsElsewhere w u p happens → NothingLeadsTo u (File (spot_of p)) }
+        → NothingLeadsTo w (File (spot_of p)) → (change : WorldChange w u)
+        → IsElsewhere w u p change → NothingLeadsTo u (File (spot_of p)) }
     ensures new_records { (w : World) (harts guests n : ℕ) → IsNew w harts guests n
         → OthersNameNothing w }
-    ensures records { (w u : World) → IsWhole w → OthersNameNothing w → Happening w u
+    ensures records { (w u : World) → IsWhole w → OthersNameNothing w → WorldChange w u
         → OthersNameNothing u }
 {}

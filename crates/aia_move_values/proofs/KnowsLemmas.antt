@@ -100,7 +100,8 @@ Lands w u g None offset value = StoresInSlot w u (Some (slot_of w.vms g)) (Super
 held_there : (w : World) (m : Moving) → MoveFits w m → (p : GuestPlace) → holds p m.home ≡ true → IsThere w.imsic (spot_of p)
 held_there w m fits p held = elim (either_file p m.home held) [ inl own ↦ fits.own p own | inr next ↦ fits.next p next ]
 
-module _ (w u : World) (Q : ℕ → Type 0) (m : Moving) (reach : Option GuestPlace) (file : InterruptFile) (saw : Bool) (offset value : ℕ) (whole : IsWhole w)
+module _ (w u : World) (Q : ℕ → Type 0) (m : Moving) (reach : Option GuestPlace) (file : InterruptFile) (saw : Bool) (offset value : ℕ) (whole :
+    IsWhole w)
     (apart : AreApart m.home) (within : IsWithin w.n (width w) file) (knows : KnowsPlaces Q w m reach file saw) where
   -- it shows in its places
   by_outcome : (became : Stored) → NoticedBy became (with_store w (slot_of w.vms (mover m)) offset value) u
@@ -165,7 +166,8 @@ module _ (w u : World) (Q : ℕ → Type 0) (m : Moving) (reach : Option GuestPl
       lands_knows reach may (entry_lands reach may (subst (λ (r : Route). Reaches r w u offset value) route reaches))
 
 -- one that was in flight, where the entry led as it was sent
-pub flight_knows : (w u : World) (Q : ℕ → Type 0) (m : Moving) (reach place : Option GuestPlace) (file : InterruptFile) (saw : Bool) (offset value : ℕ)
+pub flight_knows : (w u : World) (Q : ℕ → Type 0) (m : Moving) (reach place : Option GuestPlace) (file : InterruptFile) (saw : Bool) (offset value :
+    ℕ)
     → IsWhole w → AreApart m.home → IsWithin w.n (width w) file → KnowsPlaces Q w m reach file saw
     → MayReach m.home place → ReachesBy (leads_to m.who.found.slot m.who.found.notice place) w u
     offset value → KnowsPlaces Q u m reach (landed offset value file) saw
@@ -206,7 +208,8 @@ others_know w u Q m reach file saw g place knows there other t elsewhere =
     (others_stay w u g (mover m) place m.home there knows.fits.there (λ e. other (sym e)) t
     (λ p held. (held_there w m knows.fits p held, elsewhere p held))) knows.holds
 
-pub host_knows : (w u : World) (Q : ℕ → Type 0) (m : Moving) (reach : Option GuestPlace) (file : InterruptFile) (saw : Bool) (spot : Spot) (offset value : ℕ)
+pub host_knows : (w u : World) (Q : ℕ → Type 0) (m : Moving) (reach : Option GuestPlace) (file : InterruptFile) (saw : Bool) (spot : Spot) (offset
+    value : ℕ)
     → KnowsPlaces Q w m reach file saw
     → IsThere w.imsic spot → ((p : GuestPlace) → spot ≢ spot_of p) → StoresIn w u spot offset value → KnowsPlaces Q u m reach file saw
 host_knows w u Q m reach file saw spot offset value knows here no_guest s =

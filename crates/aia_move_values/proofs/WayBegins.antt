@@ -30,7 +30,7 @@ use Rattle.aia_move_values.specs.Plan.{IsInPhase, begun, empty_hand, kept_hand}
 use Rattle.aia_move_values.specs.Targets.{TargetMap}
 use Rattle.aia_move_values.specs.Touches.{sends}
 use Rattle.aia_move_values.specs.Ways.{KnowsWays, KnowsTargets, KnowsAll, NothingLeadsTo}
-use Rattle.aia_move_values.specs.Happenings.{KnowsAtRest}
+use Rattle.aia_move_values.specs.WorldChanges.{KnowsAtRest}
 use Rattle.aia_move_values.proofs.MachineLemmas.{machine_touched}
 use Rattle.aia_move_values.proofs.MoveKept.{ends_kept}
 use Rattle.aia_move_values.proofs.StepLemmas.{fits_still}
@@ -50,7 +50,8 @@ module _ (w : World) (map : TargetMap) (plan : PlanState) (who : Who) (hand : Ha
     places = record {
       fits = fits;
       phase = phase;
-      holds = subst (λ (m : Moving). Holds (width w) m.who.found.slot m.who.found.notice reach (places_of w (mover m) m.home) m.home m.hand file false)
+      holds = subst (λ (m : Moving). Holds (width w) m.who.found.slot m.who.found.notice reach (places_of w (mover m) m.home) m.home m.hand file
+          false)
           (sym is) held;
     };
     ways = subst (λ (m : Moving). KnowsWays w m) (sym is) ways;
@@ -63,7 +64,8 @@ module _ (w : World) (map : TargetMap) (plan : PlanState) (who : Who) (hand : Ha
   pub leave_all : (p : GuestPlace) → KnowsAtRest w map (rest_of (Resident p)) file → moving_of plan ≡ begun who (Outward p) empty_hand
       → KnowsAll w map plan (Some p) file false
   leave_all p rest is = begun_all (Outward p) empty_hand (Some p) is
-      (leave_begins 0 (width w) who.found.slot who.found.notice (Some p) (places_of w (mover (rest_of (Resident p))) (Resident p)) hand empty_hand file
+      (leave_begins 0 (width w) who.found.slot who.found.notice (Some p) (places_of w (mover (rest_of (Resident p))) (Resident p)) hand empty_hand
+      file
       false p refl rest.holds)
       (ways.leave_begins w who hand empty_hand p rest.ways) (begun_targets map who hand empty_hand (Resident p) (Outward p) refl refl rest.targets)
 
@@ -80,7 +82,8 @@ module _ (w : World) (map : TargetMap) (plan : PlanState) (who : Who) (hand : Ha
   pub shift_all : (p to : GuestPlace) → KnowsAtRest w map (rest_of (Resident p)) file → NothingLeadsTo w (File (spot_of to))
       → IsEmpty (file_in w (Some to)) → moving_of plan ≡ begun who (Across p to) empty_hand → KnowsAll w map plan (Some p) file false
   shift_all p to rest free empty is = begun_all (Across p to) empty_hand (Some p) is
-      (shift_begins 0 (width w) who.found.slot who.found.notice (Some p) (places_of w (mover (rest_of (Resident p))) (Resident p)) hand empty_hand file
+      (shift_begins 0 (width w) who.found.slot who.found.notice (Some p) (places_of w (mover (rest_of (Resident p))) (Resident p)) hand empty_hand
+      file
       false p to (places_of w (mover (rest_of (Resident p))) (OnWay (Across p to) at_first)) refl empty rest.holds)
       (ways.shift_begins w who hand empty_hand p to free rest.ways)
       (begun_targets map who hand empty_hand (Resident p) (Across p to) refl refl rest.targets)
@@ -130,7 +133,8 @@ ends_at_rest w u map plan reach file saw hand whole two within all ends =
     record {
       rests = not_moving m.home;
       fits = fits_still w u t same fits_then;
-      holds = subst (λ n. Holds ((n + 1) / 64) t.who.found.slot t.who.found.notice (origin t.home) (places_of u (mover t) t.home) t.home hand file false)
+      holds = subst (λ n. Holds ((n + 1) / 64) t.who.found.slot t.who.found.notice (origin t.home) (places_of u (mover t) t.home) t.home hand file
+          false)
           (sym same.n)
           (subst (λ (place : Option GuestPlace). Holds (width w) t.who.found.slot t.who.found.notice place (places_of u (mover t) t.home) t.home hand
           file false) (one_reach m.home (reach_stepped m.home reach) held.routes.may) held);

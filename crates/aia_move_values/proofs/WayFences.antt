@@ -79,7 +79,8 @@ module _ (w : World) (g : Vcpu) (map : TargetMap) (Q : ℕ → Type 0) (m : Movi
   ways_fetched = record {
     entries = λ x led. elim (cases_Bool (is_vcpu x g)) [
       | inl is ↦ let same = same_vcpu x g is in
-          same ∙ all.ways.written g there (ap (λ e. leads_here m (led_by_entry w e)) (sym (ap (entry_of fetched) same ∙ as_written w g whole there)) ∙ led)
+          same ∙ all.ways.written g there (ap (λ e. leads_here m (led_by_entry w e)) (sym (ap (entry_of fetched) same
+          ∙ as_written w g whole there)) ∙ led)
       | inr none ↦ all.ways.entries x (ap (λ e. leads_here m (led_by_entry w e)) (sym (others_kept w g x (no_vcpu x g none))) ∙ led)
     ];
     written = all.ways.written;
@@ -180,7 +181,8 @@ flight_within n words w m (s ∷ later) file within = flight_within n words w m 
     (here_within n words (leads_here m (led_by_entry w s.entry)) s.offset s.value file within)
 
 -- so many have landed, of which the others are left
-record LandedSo (w u : World) (map : TargetMap) (Q : ℕ → Type 0) (m : Moving) (reach : Option GuestPlace) (file : InterruptFile) (saw : Bool) (vm count : ℕ)
+record LandedSo (w u : World) (map : TargetMap) (Q : ℕ → Type 0) (m : Moving) (reach : Option GuestPlace) (file : InterruptFile) (saw : Bool) (vm
+    count : ℕ)
     : Type 0 where
   came : List Flying
   left : List Flying
@@ -251,7 +253,8 @@ module _ (w : World) (map : TargetMap) (Q : ℕ → Type 0) (m : Moving) (reach 
 
 -- ---- a fence
 
-pub fenced_all : (w u : World) (g : Vcpu) (map : TargetMap) (Q : ℕ → Type 0) (m : Moving) (reach : Option GuestPlace) (file : InterruptFile) (saw : Bool)
+pub fenced_all : (w u : World) (g : Vcpu) (map : TargetMap) (Q : ℕ → Type 0) (m : Moving) (reach : Option GuestPlace) (file : InterruptFile) (saw :
+    Bool)
     → IsWhole w → AreApart m.home → IsWithin w.n (width w) file → is_vcpu_in w.vms g ≡ true → KnowsSo Q w map m reach file saw
     → Fences w u g.vm g.vcpu
     → KnowsSo Q u map m (reach_fetched (is_vcpu (mover m) g) m reach)

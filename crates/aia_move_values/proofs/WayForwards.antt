@@ -19,7 +19,8 @@ use Rattle.aia_move_values.specs.Targets.{TargetMap, pass_count}
 use Rattle.aia_move_values.proofs.KnowsLemmas.{lands_knows}
 use Rattle.aia_move_values.proofs.WayFrames.{KnowsSo, words_same, record_words, stored_ways}
 
-module _ (w u : World) (map : TargetMap) (Q : ℕ → Type 0) (m : Moving) (reach : Option GuestPlace) (file : InterruptFile) (saw : Bool) (whole : IsWhole w)
+module _ (w u : World) (map : TargetMap) (Q : ℕ → Type 0) (m : Moving) (reach : Option GuestPlace) (file : InterruptFile) (saw : Bool) (whole :
+    IsWhole w)
     (apart : AreApart m.home) (within : IsWithin w.n (width w) file) (all : KnowsSo Q w map m reach file saw) (r : ℕ)
     (low : r < pass_count m.who) where
   may : MayLand (width w) m.home (pass_reaches r m.home)

@@ -40,8 +40,8 @@ use Rattle.aia_move_values.specs.Touches.{SameMachine, sends}
 use Rattle.aia_move_values.specs.Landings.{LandsFirst}
 use Rattle.aia_move_values.specs.Knows.{Knows}
 use Rattle.aia_move_values.specs.Ways.{led_by_entry, led_by_record, leads_here, entry_of, written_of, NothingLeadsTo}
-use Rattle.aia_move_values.specs.Happenings.{OthersNameNothing, Happening, IsElsewhere}
-use Rattle.aia_move_values.specs.Happenings.Happening.{DeviceStores, PeerStores, StoreIsSent, StoreLands, StoreIsTaken, MsiLands, MsiIsRelayed, EntryIsRead, EntryIsFenced, SlotIsReached, FileIsReached, MoveSteps, VmIsMade}
+use Rattle.aia_move_values.specs.WorldChanges.{OthersNameNothing, WorldChange, IsElsewhere}
+use Rattle.aia_move_values.specs.WorldChanges.WorldChange.{DeviceStores, PeerStores, StoreIsSent, StoreLands, StoreIsTaken, MsiLands, MsiIsRelayed, EntryIsRead, EntryIsFenced, SlotIsReached, FileIsReached, MoveSteps, VmIsMade}
 use Rattle.aia_move_values.proofs.LandingLemmas.{same_landed}
 use Rattle.aia_move_values.proofs.MachineLemmas.{machine_touched}
 use Rattle.aia_move_values.proofs.SlotViews.{done_entry_words}
@@ -99,7 +99,8 @@ module _ (w : World) (at : At) (free : NothingLeadsTo w at) where
         | inr other ↦ free.flights x k s (ap (λ xs. slice_get xs k) (sym other) ∙ is_sent)
       ])
 
-  sent_along : (u : World) (g : Vcpu) (offset value : ℕ) (e : Entry) → e ≡ entry_of w g → Sends (leads_by e) w u g.vm offset value → NothingLeadsTo u at
+  sent_along : (u : World) (g : Vcpu) (offset value : ℕ) (e : Entry) → e ≡ entry_of w g → Sends (leads_by e) w u g.vm offset value
+      → NothingLeadsTo u at
   sent_along u g offset value (Basic page) is sends = subst (λ (x : World). NothingLeadsTo x at) (sym sends) (sent_on g offset value (Basic page) is)
   sent_along u g offset value (Mrif addr page identity) is sends =
       subst (λ (x : World). NothingLeadsTo x at) (sym sends) (sent_on g offset value (Mrif addr page identity) is)
@@ -131,7 +132,8 @@ all_landed_free (suc count) w u at v free (mid, before, whole, l) = landed_free 
 
 -- ---- an entry is read again, or fenced
 
-read_free : (w : World) (g : Vcpu) (at : At) → IsWhole w → is_vcpu_in w.vms g ≡ true → NothingLeadsTo w at → NothingLeadsTo (with_fence w g.vm g.vcpu) at
+read_free : (w : World) (g : Vcpu) (at : At) → IsWhole w → is_vcpu_in w.vms g ≡ true → NothingLeadsTo w at
+    → NothingLeadsTo (with_fence w g.vm g.vcpu) at
 read_free w g at whole there free = record {
   entries = λ x e. elim (cases_Bool (is_vcpu x g)) [
     | inl is ↦ free.written g there (ap (led_by_entry w)
@@ -251,7 +253,7 @@ module _ (w u : World) (p : GuestPlace) (vm : Vm) (whole : IsWhole w) (after : I
 
 -- ---- all of it
 
-pub free_on : (w u : World) (p : GuestPlace) → IsWhole w → NothingLeadsTo w (File (spot_of p)) → (h : Happening w u) → IsElsewhere w u p h
+pub free_on : (w u : World) (p : GuestPlace) → IsWhole w → NothingLeadsTo w (File (spot_of p)) → (h : WorldChange w u) → IsElsewhere w u p h
     → NothingLeadsTo u (File (spot_of p))
 free_on w u p whole free (DeviceStores v addr value s) other =
     let r = route_of (table_of w.tables v) addr in

@@ -39,7 +39,8 @@ route_leads w NotValid = refl
 route_leads w Custom = refl
 route_leads w Misconfigured = refl
 
-module _ (w u : World) (map : TargetMap) (Q : ℕ → Type 0) (m : Moving) (reach : Option GuestPlace) (file : InterruptFile) (saw : Bool) (whole : IsWhole w)
+module _ (w u : World) (map : TargetMap) (Q : ℕ → Type 0) (m : Moving) (reach : Option GuestPlace) (file : InterruptFile) (saw : Bool) (whole :
+    IsWhole w)
     (apart : AreApart m.home) (within : IsWithin w.n (width w) file) (all : KnowsSo Q w map m reach file saw) where
   -- a store that is led elsewhere, and one that is led here
   elsewhere : OnlyStores w u → KeepsWords w u → places_of u (mover m) m.home ≡ places_of w (mover m) m.home → KnowsSo Q u map m reach file saw
@@ -201,7 +202,8 @@ module _ (w : World) (map : TargetMap) (Q : ℕ → Type 0) (m : Moving) (reach 
   ]
 
 -- one lands, and is in flight no more
-pub landed_all : (w u : World) (map : TargetMap) (Q : ℕ → Type 0) (m : Moving) (reach : Option GuestPlace) (file : InterruptFile) (saw : Bool) → IsWhole w
+pub landed_all : (w u : World) (map : TargetMap) (Q : ℕ → Type 0) (m : Moving) (reach : Option GuestPlace) (file : InterruptFile) (saw : Bool)
+    → IsWhole w
     → AreApart m.home → IsWithin w.n (width w) file → KnowsSo Q w map m reach file saw → (v k : ℕ) (l : Lands w u v k)
     → KnowsSo Q u map m reach (landed_if (leads_here m (led_by_entry w l.store.entry)) l.store.offset l.store.value file) saw
 landed_all w u map Q m reach file saw whole apart within all v k l =

@@ -39,7 +39,7 @@ use Rattle.aia_fabric_values.proofs.WholeLemmas.{vcpu_entry, notice_hart_there}
 use Rattle.aia_move_values.specs.Views.{places_of}
 use Rattle.aia_move_values.specs.Move.{Moving, mover, MoveFits}
 use Rattle.aia_move_values.specs.Ways.{led_by_entry, led_by_record, entry_of, written_of}
-use Rattle.aia_move_values.specs.Happenings.{OthersNameNothing}
+use Rattle.aia_move_values.specs.WorldChanges.{OthersNameNothing}
 use Rattle.aia_move_values.proofs.ViewLemmas.{slot_low}
 
 -- ---- slots, whose words stay
@@ -189,7 +189,8 @@ module _ (w u : World) (vm : Vm) (whole : IsWhole w) (after : IsWhole u) (made :
         let q : ℕ = vcpus_in w.vms + g.vcpu in
         let place : entry_word_place g.vm g.vcpu ≡ entry_word_place (length w.tables) g.vcpu =
         ap (λ v. entry_word_place v g.vcpu) (of_new ∙ sym whole.tables) in
-        let first : get_or u.memory (entry_word_place g.vm g.vcpu) 0 ≡ entry_word q None = ap (λ p. get_or u.memory p 0) place ∙ made.word0 g.vcpu low in
+        let first : get_or u.memory (entry_word_place g.vm g.vcpu) 0 ≡ entry_word q None = ap (λ p. get_or u.memory p 0) place
+        ∙ made.word0 g.vcpu low in
         let later : get_or u.memory (entry_word_place g.vm g.vcpu + 1) 0 ≡ second_word q vm.notice_hart =
         ap (λ p. get_or u.memory (p + 1) 0) place ∙ made.word1 g.vcpu low in
         let says : written_of u g ≡ leads_to q vm.notice_hart None =

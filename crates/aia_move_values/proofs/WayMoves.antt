@@ -299,7 +299,8 @@ module _ (w : World) (me : Moving) (other : PlanState) (led : Option GuestPlace)
       let held = ends_kept w u o whole knows.fits two led theirs seen hand (record { step = step; last = last }) fine knows.holds in
       after_step w u me o whole files same knows.fits slots_apart (ended o.home) (reach_stepped o.home led) (ended_held o.home) held.routes
 
-module _ (w : World) (map : TargetMap) (Q : ℕ → Type 0) (me : Moving) (other : PlanState) (reach led : Option GuestPlace) (file theirs : InterruptFile) (saw seen : Bool)
+module _ (w : World) (map : TargetMap) (Q : ℕ → Type 0) (me : Moving) (other : PlanState) (reach led : Option GuestPlace) (file theirs :
+    InterruptFile) (saw seen : Bool)
     (whole : IsWhole w) (apart : AreApart me.home) (two : AreApart (moving_of other).home) (within : IsWithin w.n (width w) file)
     (fine : IsWithin w.n (width w) theirs) (all : KnowsSo Q w map me reach file saw) (knows : Knows w other led theirs seen)
     (two_harts : mover (moving_of other) ≢ mover me)
@@ -308,7 +309,8 @@ module _ (w : World) (map : TargetMap) (Q : ℕ → Type 0) (me : Moving) (other
   it = moving_of other
 
   slots_apart : nat_eq it.who.found.slot me.who.found.slot ≡ false
-  slots_apart = ne_eqb it.who.found.slot me.who.found.slot (λ e. two_harts (same_slot w.vms (mover it) (mover me) knows.fits.there all.places.fits.there
+  slots_apart = ne_eqb it.who.found.slot me.who.found.slot (λ e. two_harts (same_slot w.vms (mover it) (mover me) knows.fits.there
+      all.places.fits.there
       (sym knows.fits.slot ∙ e ∙ all.places.fits.slot)))
 
   -- not the fence of its entry

@@ -21,8 +21,8 @@ use Rattle.aia_move_values.specs.Move.{Moving, mover, MoveFits, MakesNext}
 use Rattle.aia_move_values.specs.PlanState.{moving_of}
 use Rattle.aia_move_values.specs.Touches.{sends}
 use Rattle.aia_move_values.specs.Landings.{LandsFirst}
-use Rattle.aia_move_values.specs.Happenings.{OthersNameNothing, Happening}
-use Rattle.aia_move_values.specs.Happenings.Happening.{DeviceStores, PeerStores, StoreIsSent, StoreLands, StoreIsTaken, MsiLands, MsiIsRelayed, EntryIsRead, EntryIsFenced, SlotIsReached, FileIsReached, MoveSteps, VmIsMade}
+use Rattle.aia_move_values.specs.WorldChanges.{OthersNameNothing, WorldChange}
+use Rattle.aia_move_values.specs.WorldChanges.WorldChange.{DeviceStores, PeerStores, StoreIsSent, StoreLands, StoreIsTaken, MsiLands, MsiIsRelayed, EntryIsRead, EntryIsFenced, SlotIsReached, FileIsReached, MoveSteps, VmIsMade}
 use Rattle.aia_move_values.proofs.TouchLemmas.{step_touches}
 use Rattle.aia_move_values.proofs.MachineLemmas.{machine_touched}
 use Rattle.aia_move_values.proofs.WayMoves.{fence_step}
@@ -84,7 +84,7 @@ stepped w landed u o hand whole fits first step none = by_fence (is_at_fence o.h
     by_fence true at = same_on w u (fenced w u o.who.found.vm o.who.found.vcpu (fence_step w landed u o hand first step at)) none
     by_fence false at = written (subst (λ (x : World). MakesNext x o u hand) (first.other at) step)
 
-pub records_on : (w u : World) → IsWhole w → OthersNameNothing w → Happening w u → OthersNameNothing u
+pub records_on : (w u : World) → IsWhole w → OthersNameNothing w → WorldChange w u → OthersNameNothing u
 records_on w u whole none (DeviceStores v addr value s) =
     same_on w u (stored w u (reaches_rest (route_of (table_of w.tables v) addr) w u (addr % PAGE) value s)) none
 records_on w u whole none (PeerStores g value there s) = same_on w u (stored w u (record_rest (stage_of w g).in_force w u g value s)) none

@@ -31,8 +31,8 @@ use Rattle.aia_move_values.specs.Move.{Moving, mover, width}
 use Rattle.aia_move_values.specs.PlanState.{PlanState, moving_of}
 use Rattle.aia_move_values.specs.Targets.{TargetMap}
 use Rattle.aia_move_values.specs.Ways.{led_by_record, leads_here, KnowsAll, landed_if, landed_flight}
-use Rattle.aia_move_values.specs.Happenings.{OthersNameNothing, Happening, KnowsAtRest, IsOfOthers, file_after}
-use Rattle.aia_move_values.specs.Happenings.Happening.{DeviceStores, PeerStores, StoreIsSent, StoreLands, StoreIsTaken, MsiLands, MsiIsRelayed, EntryIsRead, EntryIsFenced, SlotIsReached, FileIsReached, MoveSteps, VmIsMade}
+use Rattle.aia_move_values.specs.WorldChanges.{OthersNameNothing, WorldChange, KnowsAtRest, IsOfOthers, file_after}
+use Rattle.aia_move_values.specs.WorldChanges.WorldChange.{DeviceStores, PeerStores, StoreIsSent, StoreLands, StoreIsTaken, MsiLands, MsiIsRelayed, EntryIsRead, EntryIsFenced, SlotIsReached, FileIsReached, MoveSteps, VmIsMade}
 use Rattle.aia_move_values.proofs.KnowsLemmas.{knows_by, lands_knows, InPhase}
 use Rattle.aia_move_values.proofs.WayLemmas.{record_elsewhere}
 use Rattle.aia_move_values.proofs.WayFrames.{KnowsSo, words_same, record_words, stored_machine, stored_ways, so_of, all_of}
@@ -183,9 +183,11 @@ module _ (w u : World) (map : TargetMap) (m : Moving) (file : InterruptFile) (wh
         targets = all.targets;
       })
 
-  pub rests_on : (h : Happening w u) → IsOfOthers w u m h → KnowsAtRest u map m (file_after w u m h file)
-  rests_on (DeviceStores v addr value s) others = at_rest _ (device_all w u map NoMore m (origin m.home) file false whole apart within so v addr value s)
-  rests_on (PeerStores g value there s) others = at_rest _ (peer_all w u map NoMore m (origin m.home) file false whole apart within so g value there s)
+  pub rests_on : (h : WorldChange w u) → IsOfOthers w u m h → KnowsAtRest u map m (file_after w u m h file)
+  rests_on (DeviceStores v addr value s) others = at_rest _ (device_all w u map NoMore m (origin m.home) file false whole apart within so v addr
+      value s)
+  rests_on (PeerStores g value there s) others = at_rest _ (peer_all w u map NoMore m (origin m.home) file false whole apart within so g value there
+      s)
   rests_on (StoreIsSent v addr value s) others = at_rest file (sent_all w map NoMore m (origin m.home) file false so u v addr value s)
   rests_on (StoreLands v k l) others = at_rest _ (landed_all w u map NoMore m (origin m.home) file false whole apart within so v k l)
   rests_on (StoreIsTaken v k e) others = at_rest file (taken_all w map NoMore m (origin m.home) file false so u v k e)
@@ -194,7 +196,8 @@ module _ (w u : World) (map : TargetMap) (m : Moving) (file : InterruptFile) (wh
   rests_on (EntryIsRead g there e) others = at_rest file (subst (λ (x : World). KnowsSo NoMore x map m (origin m.home) file false) (sym e)
       (subst (λ (reach : Option GuestPlace). KnowsSo NoMore (with_fence w g.vm g.vcpu) map m reach file false) (fetched (is_vcpu (mover m) g))
       (fetched_all w g map NoMore m (origin m.home) file false whole there so)))
-  rests_on (EntryIsFenced g there f) others = at_rest _ (subst (λ (reach : Option GuestPlace). KnowsSo NoMore u map m reach (landed_flight w m (flight_of w g.vm) file) false)
+  rests_on (EntryIsFenced g there f) others = at_rest _ (subst (λ (reach : Option GuestPlace). KnowsSo NoMore u map m reach (landed_flight w m
+      (flight_of w g.vm) file) false)
       (fetched (is_vcpu (mover m) g)) (fenced_all w u g map NoMore m (origin m.home) file false whole apart within there so f))
   rests_on (SlotIsReached q threshold deed low done) others =
       at_rest file (slot_all w u map NoMore m (origin m.home) file false so q threshold deed low others done)

@@ -23,7 +23,8 @@ returns-clause-landed c = λ w u map plan reach file saw whole apart within all 
 
 pub returns-clause-forwarded : goal.returns-clause-forwarded
 returns-clause-forwarded c = λ w u map plan reach file saw whole apart within all r low p offset value leads s. all_of u map plan _ _ saw
-    (forward_all w u map (InPhase plan) (moving_of plan) reach file saw whole apart within (so_of w map plan reach file saw all) r low p offset value leads s)
+    (forward_all w u map (InPhase plan) (moving_of plan) reach file saw whole apart within (so_of w map plan reach file saw all) r low p offset
+    value leads s)
 
 pub returns-clause-relayed : goal.returns-clause-relayed
 returns-clause-relayed c = λ w u map plan reach file saw whole apart within all r low value leads s. all_of u map plan _ _ saw

@@ -43,35 +43,35 @@ OthersNameNothing w =
 -- fenced; something is done about a slot as a file, or about a file; a move makes its next step,
 -- its last one too; a VM is made, where no record names a file but those of the virtual harts that
 -- were there.
-pub data Happening (w u : World) : Type 0 where
+pub data WorldChange (w u : World) : Type 0 where
   DeviceStores : (v addr value : ℕ)
-      → Reaches (route_of (table_of w.tables v) addr) w u (addr % PAGE) value → Happening w u
+      → Reaches (route_of (table_of w.tables v) addr) w u (addr % PAGE) value → WorldChange w u
   PeerStores : (g : Vcpu) (value : ℕ) → is_vcpu_in w.vms g ≡ true
-      → ReachesByRecord (stage_of w g).in_force w u g value → Happening w u
+      → ReachesByRecord (stage_of w g).in_force w u g value → WorldChange w u
   StoreIsSent : (v addr value : ℕ)
-      → Sends (route_of (table_of w.tables v) addr) w u v (addr % PAGE) value → Happening w u
-  StoreLands : (v k : ℕ) → Lands w u v k → Happening w u
-  StoreIsTaken : (v k : ℕ) → u ≡ with_flight w v (remove (flight_of w v) k) → Happening w u
+      → Sends (route_of (table_of w.tables v) addr) w u v (addr % PAGE) value → WorldChange w u
+  StoreLands : (v k : ℕ) → Lands w u v k → WorldChange w u
+  StoreIsTaken : (v k : ℕ) → u ≡ with_flight w v (remove (flight_of w v) k) → WorldChange w u
   MsiLands : (p : GuestPlace) (offset value : ℕ) → IsThere w.imsic (spot_of p)
-      → StoresIn w u (spot_of p) offset value → Happening w u
+      → StoresIn w u (spot_of p) offset value → WorldChange w u
   MsiIsRelayed : (g : Vcpu) (value : ℕ) → is_vcpu_in w.vms g ≡ true
-      → ReachesByRecord None w u g value → Happening w u
+      → ReachesByRecord None w u g value → WorldChange w u
   EntryIsRead : (g : Vcpu) → is_vcpu_in w.vms g ≡ true → u ≡ with_fence w g.vm g.vcpu
-      → Happening w u
-  EntryIsFenced : (g : Vcpu) → is_vcpu_in w.vms g ≡ true → Fences w u g.vm g.vcpu → Happening w u
+      → WorldChange w u
+  EntryIsFenced : (g : Vcpu) → is_vcpu_in w.vms g ≡ true → Fences w u g.vm g.vcpu → WorldChange w u
   SlotIsReached : (q threshold : ℕ) (deed : InterruptFile → InterruptFile) → q < VCPUS
-      → DoneInSlot w u q threshold deed → Happening w u
+      → DoneInSlot w u q threshold deed → WorldChange w u
   FileIsReached : (spot : Spot) → IsThere w.imsic spot
       → u ≡ record w {
         imsic = with_file w.imsic spot (file_at u.imsic spot);
         notices = u.notices;
-      } → Happening w u
+      } → WorldChange w u
   MoveSteps : (other : PlanState) (led : Option GuestPlace) (theirs : InterruptFile) (seen : Bool)
       (landed : World) (hand : Hand) → AreApart (moving_of other).home
       → IsWithin w.n (width w) theirs → Knows w other led theirs seen
       → LandsFirst w (moving_of other) landed → MakesNext landed (moving_of other) u hand
-      → Happening w u
-  VmIsMade : (vm : Vm) → IsWhole u → MakesVm w u vm → OthersNameNothing w → Happening w u
+      → WorldChange w u
+  VmIsMade : (vm : Vm) → IsWhole u → MakesVm w u vm → OthersNameNothing w → WorldChange w u
 
 -- ---- at rest
 
@@ -89,7 +89,7 @@ pub record KnowsAtRest (w : World) (map : TargetMap) (m : Moving) (file : Interr
 -- What happens is none of its own doings: a slot or a file that is reached is not one of its
 -- places, a move that steps is that of another virtual hart, and of other files. What is given on to
 -- its slot comes while its interrupts rest in memory.
-abbrev pub IsOfOthers : (w u : World) → Moving → Happening w u → Type 0
+abbrev pub IsOfOthers : (w u : World) → Moving → WorldChange w u → Type 0
 IsOfOthers w u m (SlotIsReached q threshold deed low done) = q ≢ m.who.found.slot
 IsOfOthers w u m (FileIsReached spot there changed) =
     (p : GuestPlace) → holds p m.home ≡ true → spot ≢ spot_of p
@@ -98,11 +98,11 @@ IsOfOthers w u m (MsiIsRelayed g value there relayed) =
 IsOfOthers w u m (MoveSteps other led theirs seen landed hand apart within knows first step) =
     (mover (moving_of other) ≢ mover m)
     × ((p : GuestPlace) → holds p m.home ≡ true → holds p (moving_of other).home ≡ false)
-IsOfOthers w u m happening = Unit {0}
+IsOfOthers w u m change = Unit {0}
 
 -- What becomes of its interrupt file: what is led to one of its places lands there, all else leaves
 -- it as it is.
-abbrev pub file_after : (w u : World) → Moving → Happening w u → InterruptFile → InterruptFile
+abbrev pub file_after : (w u : World) → Moving → WorldChange w u → InterruptFile → InterruptFile
 file_after w u m (DeviceStores v addr value reaches) file =
     landed_if (leads_here m (led_by_route w (route_of (table_of w.tables v) addr))) (addr % PAGE)
     value file
@@ -119,12 +119,12 @@ file_after w u m (EntryIsFenced g there fences) file = landed_flight w m (flight
 file_after w u m (MoveSteps other led theirs seen landed hand apart within knows first step)
     file =
     landed_before w (moving_of other) m file
-file_after w u m happening file = file
+file_after w u m change file = file
 
 -- ---- a guest file that nobody has
 
 -- What happens is no step of a move that holds a guest file.
-abbrev pub IsElsewhere : (w u : World) → GuestPlace → Happening w u → Type 0
+abbrev pub IsElsewhere : (w u : World) → GuestPlace → WorldChange w u → Type 0
 IsElsewhere w u p (MoveSteps other led theirs seen landed hand apart within knows first step) =
     holds p (moving_of other).home ≡ false
-IsElsewhere w u p happening = Unit {0}
+IsElsewhere w u p change = Unit {0}
