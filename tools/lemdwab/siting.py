@@ -13,8 +13,8 @@ from typing import TYPE_CHECKING
 from urllib.parse import unquote
 
 from lemdwab import answers, running
-from lemdwab.documents import site_documents, site_laws, site_scripts
-from lemdwab.documents.antt import all_modules, module_path
+from lemdwab.documents import carried, site_documents, site_laws, site_scripts
+from lemdwab.documents.antt import USES, all_modules, module_path
 from lemdwab.documents.functions import dedented
 from lemdwab.documents.naming import spec_page
 
@@ -113,7 +113,7 @@ def out_of_reach(site: Pages) -> Iterator[str]:
 def laws(site: Pages) -> Iterator[str]:
     """Says which sentence of README has no law, and which law is not reached from the start
     page."""
-    claims, rows = site_documents.claims(), site_documents.proved()
+    claims, rows = site_documents.claims(), carried.proved()
     for sentence in claims:
         if not site_documents.carriers(sentence):
             yield f"docs/make/proved.txt has no row, or two, of README's '{sentence[:70]}'"
@@ -126,7 +126,7 @@ def laws(site: Pages) -> Iterator[str]:
                 yield f"docs/make/proved.txt names {' '.join(reference)}, which is not there"
             else:
                 yield from stands(site, leads[0], f"README's law {leads[1]}")
-    for one in site_laws.all_functions():
+    for one in carried.all_functions():
         if one.is_law:
             yield from stands(site, site_laws.place_of(one), f"the law {one.name} of {one.crate}")
 
@@ -166,14 +166,14 @@ def whole_modules(site: Pages) -> Iterator[str]:
         page = site.pages.get(spec_page(crate, module))
         there = {line for block in shown_lines(page) for line in block.split("\n")} if page else ()
         for line in module_path(crate, module).read_text(encoding="utf-8").split("\n"):
-            if line and not line.startswith(("--", "use ")) and line.rstrip() not in there:
+            if line and not line.startswith(("--", *USES)) and line.rstrip() not in there:
                 yield f"{spec_page(crate, module)} does not show the line {line}"
 
 
 def whole_contracts(site: Pages) -> Iterator[str]:
     """Says which law or public call does not stand in the site as in its source."""
     shown = {}
-    for one in site_laws.all_functions():
+    for one in carried.all_functions():
         place = site_laws.place_of(one).partition("#")[0]
         if place in site.pages and place not in shown:
             shown[place] = set(shown_lines(site.pages[place]))

@@ -9,6 +9,7 @@ from pathlib import Path
 from lemdwab.running import TOP
 
 HEAD = re.compile(r"(?:abbrev |unfoldable |inductive )*pub (?:data |record )?(\S+)")
+USES = ("use ", "pub use ")
 
 
 class Group:
@@ -41,13 +42,13 @@ def all_modules() -> list[tuple[str, str]]:
 def read_module(crate: str, module: str) -> tuple[list[str], list[Group], list[str]]:
     """Gives (comment of the module, groups, lines of `use`)."""
     lines = module_path(crate, module).read_text(encoding="utf-8").split("\n")
-    uses = [line for line in lines if line.startswith("use ")]
+    uses = [line.removeprefix("pub ") for line in lines if line.startswith(USES)]
     head = []
     while lines and lines[0].startswith("--") and not lines[0].startswith("-- ----"):
         head.append(lines.pop(0)[2:].removeprefix(" "))
     groups, comment = [], []
     for line in lines:
-        if line.startswith("use "):
+        if line.startswith(USES):
             continue
         if line.startswith("--"):
             comment.append(line)
@@ -69,23 +70,13 @@ def read_module(crate: str, module: str) -> tuple[list[str], list[Group], list[s
     return head, [g for g in groups if g.code or g.comment], uses
 
 
-def imports(uses: list[str]) -> list[tuple[str, str, str, list[str]]]:
-    """Lists what a module imports of the repository, as (crate, module or src/file.rt, names)."""
-    found = []
-    for use in uses:
-        match = re.match(r"use Rattle\.((?:aia|plans)\w*)\.specs\.(.*)", use)
-        if not match:
-            continue
-        crate, rest = match.groups()
-        names = re.findall(r"[^\s,{}]+", rest.split(".{", 1)[1]) if ".{" in rest else []
-        path = rest.split(".{")[0].split(" as ")[0].split(".")
-        if path[-1] == "TheVariants":
-            path.pop()
-        if path[0] == "declared":
-            found.append((crate, f"src/{'/'.join(path[1:-1])}.rt", path[-1], names))
-        else:
-            found.append((crate, path[0], path[-1], names))
-    return found
+def prose(comment: list[str]) -> list[str]:
+    """Gives a comment as lines of a document, a heading within a module as a bold line."""
+    lines = []
+    for line in comment:
+        heading = re.match(r"-- ---- (.*)", line)
+        lines.append(f"**{heading.group(1).strip()}**\n" if heading else line[2:].removeprefix(" "))
+    return lines
 
 
 def read_item(crate: str, file: str, name: str) -> list[str]:

@@ -1,116 +1,96 @@
-"""Sees that part I of docs/DEFINITIONS.md has all that README's sentences on what is proved rest
-on.
+"""Sees that part I of docs/DEFINITIONS.md has what README's sentences on what is proved, and the
+calls of the library for C, rest on (lemdwab.documents.carried), and nothing else.
 
-docs/make/proved.txt says which laws, clauses and definitions carry a sentence; of the library for
-C, which README says is proved call by call, each of its calls and laws does. All definitions that
-these name, and that those name in turn, down to names of libraries, have to stand in part I. Where
-it says in words what a module has (`@passed` in docs/make/definitions.order) they need not.
+It reads the document as it stands. What stands there under one comment with a definition on which
+something rests may stand there too.
 """
 
 from __future__ import annotations
 
+import re
 from collections.abc import Iterator, Sequence
-from functools import cache
-from typing import TYPE_CHECKING
 
-from lemdwab.documents.definitions import FULL, ITEM, PASSED, placed
-from lemdwab.documents.naming import all_definitions, rests_on
-from lemdwab.documents.site_documents import claims, leads_to, proved
-from lemdwab.documents.site_laws import HEADLINE, all_functions, keys_in
+from lemdwab.documents import carried
+from lemdwab.documents.antt import read_module
+from lemdwab.documents.carried import all_carriers, below, goes_on, is_rested_on, rested_on
+from lemdwab.documents.definitions import TARGET, first_lines
+from lemdwab.documents.naming import DEFINED, ITEM, all_definitions, rests_on
+from lemdwab.documents.site_documents import claims, leads_to
 
-if TYPE_CHECKING:
-    from lemdwab.documents.naming import Definition
-
-# The crate of which README says that it is proved call by call, and how that sentence begins.
-LIBRARY, ALSO = "aia_c", "The model is also a library"
 WHERE = "part I of docs/DEFINITIONS.md"
+# A heading of a module, or of items of a file.
+HEADING = re.compile(r"### .*?(\S+) \(\[`(\w+)`(?:, (\S+))?\]\(")
 
 
-@cache
-def shown() -> set[tuple[str, ...]]:
-    """Lists what part I shows: modules as (crate, module), items of src/ as (crate, file, name)."""
-    items = {(crate, file, name) for crate, file, *names in placed(ITEM) for name in names}
-    return items | set(placed(FULL))
-
-
-def is_shown(one: Definition) -> bool:
-    """Says whether part I shows a definition, or an item of src/."""
-    of_item = (one.name,) if one.is_item else ()
-    return (one.crate, one.module, *of_item) in shown()
-
-
-@cache
-def passed() -> set[tuple[str, str, str]]:
-    """Lists the modules that are said in words where a crate names them, as (crate, crate of the
-    module, module)."""
-    return {(crate, of, module) for crate, _, of, module in placed(PASSED)}
-
-
-def goes_on(crate: str, key: str) -> bool:
-    """Says whether what a crate names by a key has to stand in part I itself."""
-    one = all_definitions().get(key)
-    return one is not None and (crate, one.crate, one.module) not in passed()
-
-
-def below(crate: str, keys: Sequence[str]) -> list[str]:
-    """Lists the definitions that keys named in a crate rest on, themselves among them."""
-    found, open_ = [], [key for key in keys if goes_on(crate, key)]
-    while open_:
-        if (key := open_.pop()) not in found:
-            found.append(key)
-            own = all_definitions()[key].crate
-            open_ += [other for other in rests_on(key) if goes_on(own, other)]
+def shown(text: str) -> list[str]:
+    """Lists the keys of the definitions and items that part I of the document has with their
+    text."""
+    found, place, in_code = [], "", False
+    for line in first_lines(text):
+        in_code ^= line.startswith("```")
+        heading = HEADING.match(line)
+        if heading and not in_code:
+            module, crate, file = heading.groups()
+            place = f"{crate} {file or module}"
+        elif in_code:
+            one = ITEM.match(line) if "src/" in place else DEFINED.match(line)
+            found += [f"{place} {one[2]}"] if one else []
     return found
 
 
-def carried_by(reference: tuple[str, ...]) -> tuple[str, list[str]]:
-    """Gives the crate and the keys of what a reference of docs/make/proved.txt names."""
-    if reference == ("theorem",):
-        reference = (*HEADLINE[:2], *HEADLINE[2])
-    crate, name, *names = reference
-    keys = [key for one in all_functions() if (one.crate, one.called()) == (crate, name)
-            for key in keys_in(one, tuple(names))]
-    key = " ".join(reference)
-    return crate, keys or [key] * (key in all_definitions())
-
-
-def lacking(what: str, crate: str, keys: Sequence[str]) -> Iterator[str]:
+def lacking(what: str, keys: Sequence[str], there: set[str]) -> Iterator[str]:
     """Says which definitions of those that something rests on part I does not show."""
-    for key in sorted(below(crate, keys)):
+    for key in sorted(keys):
         one = all_definitions()[key]
         for other in rests_on(key):
             if other.startswith("?"):
                 yield f"{key} names {other[2:]}, of which nobody knows where it is defined"
-        if not is_shown(one):
+        if key not in there:
             yield f"{what} rests on {one.name} of {one.crate} {one.module}, which {WHERE} lacks"
 
 
 def of_sentences() -> Iterator[str]:
-    """Says what part I lacks of what carries README's sentences, and which sentence nothing
-    carries."""
+    """Says which sentence of README nothing carries, and which reference names nothing."""
     for sentence in claims():
-        if not any(sentence.removeprefix("- ").startswith(words) for words in proved()):
+        if not any(sentence.removeprefix("- ").startswith(words) for words in carried.proved()):
             yield f"README.md: docs/make/proved.txt has nothing that carries '{sentence[:40]}'"
-    for words, references in proved().items():
+    for references in carried.proved().values():
         for reference in references:
             if not leads_to(reference):
                 yield f"docs/make/proved.txt names {' '.join(reference)}, which is not there"
-            what = f"README's '{words}', by {' '.join(reference)},"
-            yield from lacking(what, *carried_by(reference))
 
 
-def of_library() -> Iterator[str]:
-    """Says what part I lacks of what the calls of the library for C say."""
-    for one in all_functions():
-        if one.crate == LIBRARY and (one.is_law or one.name.startswith("aia_")):
-            yield from lacking(f"README's '{ALSO}', by {one.called()},", LIBRARY, keys_in(one))
+def with_neighbours() -> set[str]:
+    """Gives what is rested on, and what stands under one comment with that."""
+    found = set(rested_on())
+    for crate, module in {tuple(key.split()[:2]) for key in rested_on()}:
+        if not module.startswith("src/"):
+            found |= {f"{crate} {module} {name}" for group in read_module(crate, module)[1]
+                      if is_rested_on(crate, module, group) for name in group.names()}
+    return found
+
+
+def amiss(text: str) -> Iterator[str]:
+    """Says what part I lacks, and what it shows though nothing rests on it."""
+    listed = shown(text)
+    there, wanted = set(listed), with_neighbours()
+    for what, crate, keys in all_carriers():
+        yield from lacking(what, sorted(below(crate, keys)), there)
+    for key in sorted(there & wanted):
+        own = key.split()[0]
+        yield from lacking(key, [other for other in rests_on(key) if goes_on(own, other)], there)
+    for key in sorted(there - wanted):
+        yield f"{WHERE} shows {key}, and nothing that README says rests on it"
+    for key in sorted(key for key in there if listed.count(key) > 1):
+        yield f"{WHERE} shows {key} {listed.count(key)} times"
 
 
 def drifts() -> Iterator[str]:
-    """Says each definition that part I lacks, once, with what first rests on it."""
+    """Says each definition that part I lacks, once, with what first rests on it, and each that it
+    has too much."""
     seen = set()
-    for line in [*of_sentences(), *of_library()]:
-        lacked = line.partition(" rests on ")[2] or line
+    for line in [*of_sentences(), *amiss(TARGET.read_text(encoding="utf-8"))]:
+        lacked = line.partition(" rests on ")[2] if line.endswith(" lacks") else line
         if lacked not in seen:
             yield line
         seen.add(lacked)

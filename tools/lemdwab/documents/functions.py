@@ -106,6 +106,11 @@ def is_seen(crate: str, file: str, name: str) -> bool:
     return name in names or not module or module.split("::")[0] in modules
 
 
+def is_for_c(line: str) -> bool:
+    """Says whether a function with this first line is a call for C, which sees it in any module."""
+    return line.startswith('pub extern "C" fn ')
+
+
 def head_end(lines: list[str], at: int) -> int:
     """Gives the line after the last one of a function's words and contract: where its body begins,
     or, of a function of a trait, after its end."""
@@ -156,7 +161,7 @@ def functions_in(crate: str, file: str, lines: list[str]) -> list[Function]:
         found.append(Function(
             crate, file, at + 1, owner, head[1], tuple(comment_above(lines, at)), tuple(text),
             not owner and head[1] in laws,
-            is_public and is_seen(crate, file, owner or head[1])))
+            is_public and (is_for_c(line) or is_seen(crate, file, owner or head[1]))))
     return found
 
 

@@ -22,6 +22,7 @@ from typing import TYPE_CHECKING
 
 from lemdwab import running
 from lemdwab.documents import site_definitions, site_documents, site_laws, site_pages, site_scripts
+from lemdwab.documents.carried import all_functions, keys_in
 from lemdwab.running import TOP
 
 if TYPE_CHECKING:
@@ -49,8 +50,7 @@ def made() -> Site:
                            site_laws.headline_words()])
     site_documents.make(site)
     site_laws.make(site)
-    functions = [(one, site_laws.place_of(one), site_laws.keys_in(one))
-                 for one in site_laws.all_functions()]
+    functions = [(one, site_laws.place_of(one), keys_in(one)) for one in all_functions()]
     site_definitions.make(site, functions)
     with running.Workers(1) as workers:
         site_scripts.make_examples(site, workers)

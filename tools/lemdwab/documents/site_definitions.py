@@ -4,16 +4,19 @@ definitions by chapters, and an index of names."""
 from __future__ import annotations
 
 from collections.abc import Callable, Iterator, Sequence
+from functools import partial
 from html import escape
 from typing import TYPE_CHECKING
 
-from lemdwab.documents.antt import all_modules, read_module
-from lemdwab.documents.definitions import (CONTENTS, FULL, ITEM as PLACED_ITEM, PASSED, TABLE,
-                                           order_lines, prose)
+from lemdwab.documents.antt import all_modules, prose, read_module
+from lemdwab.documents.carried import in_parts
+from lemdwab.documents.definitions import COUNT, OTHERS_OF, TARGET, count_in
 from lemdwab.documents.markdown import anchor
 from lemdwab.documents.naming import (all_definitions, blocks, code_page, crates, defined,
                                       item_blocks, items, meaning_of, meaning_of_file,
                                       meaning_of_module, rests_on, spec_page)
+from lemdwab.documents.order import (CONTENTS, FULL, ITEM as PLACED_ITEM, OTHERS, PASSED, TABLE,
+                                     order_lines)
 from lemdwab.documents.site_pages import (Prose, first_sentence, link, linked_code, pandoc,
                                           shown_file)
 
@@ -131,15 +134,28 @@ def items_page(site: Site, crate: str, namers: dict[str, list[str | tuple[str, s
 
 # ---- by chapters
 
-def folded(crate: str, module: str) -> str:
-    """Gives a module as one line that unfolds: what its comment says, and its names."""
+def folded(crate: str, module: str, names: Sequence[str], words: str = "") -> str:
+    """Gives some names of a module as one line that unfolds, with words before its name: what its
+    comment says, and the names."""
     head = read_module(crate, module)[0]
     page = spec_page(crate, module)
-    names = ", ".join(link(DEFINITIONS, one.place, escape(one.name))
-                      for one in defined(crate, module))
-    return (f'<details class="module" id="{anchor(f"{module} ({crate})")}"><summary>'
-            f"{link(DEFINITIONS, page, module)} <small>{crate}: {escape(first_sentence(head))}"
-            f"</small></summary>{Prose.of(chr(10).join(head))}<p>{names}</p></details>")
+    own = ", ".join(link(DEFINITIONS, one.place, escape(one.name))
+                    for one in defined(crate, module) if one.name in names)
+    return (f'<details class="module" id="{anchor(f"{words}{module} ({crate})")}"><summary>'
+            f"{link(DEFINITIONS, page, words + module)} <small>{crate}:"
+            f" {escape(first_sentence(head))}</small></summary>"
+            f"{Prose.of(chr(10).join(head))}<p>{own}</p></details>")
+
+
+def folded_whole(crate: str, module: str) -> str:
+    """Gives a module of part II."""
+    return folded(crate, module, [one.name for one in defined(crate, module)])
+
+
+def folded_part(crate: str, module: str, at: int, words: str = "") -> str:
+    """Gives what part I has of a module, or what it leaves out."""
+    return folded(crate, module, [name for group in in_parts(crate, module)[at]
+                                  for name in group.names()], words)
 
 
 def placed_items(crate: str, file: str, *names: str) -> str:
@@ -155,7 +171,9 @@ def by_chapters(site: Site) -> None:
     body: list[str] = []
     text: list[str] = []
     gives: list[tuple[str, Callable[..., str]]] = [
-        (TABLE, folded), (FULL, folded), (PLACED_ITEM, placed_items)]
+        (TABLE, folded_whole), (FULL, partial(folded_part, at=0)), (PLACED_ITEM, placed_items),
+        (OTHERS, partial(folded_part, at=1, words=OTHERS_OF))]
+    count = count_in(TARGET.read_text(encoding="utf-8"))
 
     def said() -> None:
         html = pandoc("\n".join(text)) if "".join(text).strip() else ""
@@ -170,7 +188,7 @@ def by_chapters(site: Site) -> None:
                 break
         else:
             if not line.startswith(PASSED) and line != CONTENTS:
-                text.append(line)
+                text.append(line.replace(COUNT, f"{count:,}"))
     said()
     code = ", ".join(link(DEFINITIONS, code_page(crate), crate) for crate in crates()
                      if items(crate))

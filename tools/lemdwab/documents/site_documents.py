@@ -8,24 +8,23 @@ from collections.abc import Iterator
 from html import escape, unescape
 from typing import TYPE_CHECKING
 
+from lemdwab.documents import carried
+from lemdwab.documents.carried import all_functions
 from lemdwab.documents.markdown import documents, read, section
 from lemdwab.documents.naming import all_definitions
 from lemdwab.documents.site_definitions import DEFINITIONS
-from lemdwab.documents.site_laws import THEOREM, all_functions, anchor_of, place_of
+from lemdwab.documents.site_laws import THEOREM, anchor_of, place_of
 from lemdwab.documents.site_pages import document_page, link, pandoc
 from lemdwab.running import TOP
 
 if TYPE_CHECKING:
     from lemdwab.documents.site_pages import Site
 
-PROVED = TOP / "docs/make/proved.txt"
 README, HEADING = "README.md", "What is proved"
 # What follows the sentences that something carries.
 PAST = "**What it does not say"
 PLAIN = ("LICENSE", "NOTICE")
 MARK = "the-laws-of-sentence-{}-stand-here"
-# Of the first words of a sentence the references that carry it, each in its words.
-Rows = dict[str, list[tuple[str, ...]]]
 
 
 def plain(text: str) -> str:
@@ -60,22 +59,9 @@ def joined(pieces: list[str]) -> list[str]:
     return found
 
 
-def proved() -> Rows:
-    """Gives what docs/make/proved.txt says: of the first words of a sentence, which laws, clauses
-    and definitions carry it, each as the words of a reference."""
-    found: Rows = {}
-    now: list[tuple[str, ...]] = []
-    for line in PROVED.read_text(encoding="utf-8").split("\n"):
-        if line.startswith(" "):
-            now.append(tuple(line.split()))
-        elif line and not line.startswith("#"):
-            now = found.setdefault(line, [])
-    return found
-
-
 def carriers(sentence: str) -> list[tuple[str, ...]]:
     """Gives the references of a sentence; nothing where none is named."""
-    rows = [rest for words, rest in proved().items()
+    rows = [rest for words, rest in carried.proved().items()
             if sentence.removeprefix("- ").startswith(words)]
     return rows[0] if len(rows) == 1 else []
 

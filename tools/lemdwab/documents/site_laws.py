@@ -9,17 +9,17 @@ from functools import cache
 from html import escape
 from typing import TYPE_CHECKING
 
-from lemdwab.documents.definitions import prose
-from lemdwab.documents.functions import dedented, functions, source_files
-from lemdwab.documents.naming import (all_definitions, by_name, crates, inside, keys_of,
-                                      meaning_of_file, named, rests_on, with_generics)
+from lemdwab.documents.antt import prose
+from lemdwab.documents.carried import HEADLINE, all_functions, keys_in, meaning
+from lemdwab.documents.functions import dedented
+from lemdwab.documents.naming import all_definitions, rests_on
 from lemdwab.documents.site_definitions import code_of, library_words
 from lemdwab.documents.site_pages import Prose, first_sentence, link, linked_code
 from lemdwab.running import TOP
 
 if TYPE_CHECKING:
     from lemdwab.documents.functions import Clause, Function
-    from lemdwab.documents.naming import Definition, Meaning
+    from lemdwab.documents.naming import Definition
     from lemdwab.documents.site_pages import Site
 
 LAWS, CALLS, THEOREM = "laws/index.html", "calls/index.html", "theorem.html"
@@ -34,15 +34,6 @@ OF_LAWS = ("Functions that do nothing, whose clauses were proved of the definiti
            " comment alone: where others bound it, they stand on the page.")
 OF_CALLS = ("What each crate offers to others, with the clauses of its contract. Beside a name"
             " stands the first sentence of its comment alone.")
-HEADLINE = ("aia_replay", "run", ("done", "all"))
-
-
-@cache
-def all_functions() -> list[Function]:
-    """Lists the laws of all crates, and the public functions that have clauses."""
-    return [one for crate in crates() for file in source_files(crate)
-            for one in functions(crate, file)
-            if one.clauses() and (one.is_law or one.is_public)]
 
 
 def is_worked(one: Function) -> bool:
@@ -78,34 +69,13 @@ def comments() -> list[str]:
     return ["\n".join(one.comment) for one in all_functions()]
 
 
-@cache
-def meaning(one: Function) -> Meaning:
-    """Gives what the names of a function mean: one of a trait may name what that has."""
-    found = with_generics(meaning_of_file(one.crate, one.file), "\n".join(one.text))
-    owner = by_name(one.crate).get(one.owner)
-    if owner and owner.lines[0].startswith("pub trait"):
-        found.names = inside(owner) | found.names
-    return found
-
-
-@cache
-def keys_in(one: Function, names: tuple[str, ...] = ()) -> tuple[str, ...]:
-    """Gives the keys of what the clauses of a function name, of all or of those of these names."""
-    found = []
-    for clause in one.clauses():
-        if not names or clause.name in names:
-            text = "\n".join(one.text[clause.first:clause.last + 1])
-            found += [leads for _, _, leads in named(text, meaning(one))]
-    return keys_of(found)
-
-
 def contract(page: str, one: Function, names: tuple[str, ...] = ()) -> str:
     """Gives the words and the contract of a function with links, and an anchor for each clause; of
-    clauses only those of these names, if there are any."""
+    what it ensures only the clauses of these names, if there are any."""
     begins = {clause.first: clause for clause in one.clauses()}
     hidden = set()
     for clause in one.clauses():
-        if names and clause.name not in names:
+        if names and clause.name not in names and clause.kind != "requires":
             hidden |= set(range(clause.first, clause.last + 1))
     first = min(begins, default=len(one.text))
     lines = dedented(one.text)

@@ -13,7 +13,7 @@ from types import ModuleType
 from typing import TYPE_CHECKING, Protocol
 from unittest import mock
 
-from lemdwab.documents import (believed, claims, definitions, functions, header, site_documents,
+from lemdwab.documents import (believed, carried, claims, definitions, functions, header, order,
                                statements)
 
 if TYPE_CHECKING:
@@ -239,36 +239,77 @@ def statements_drift(trial: Trial) -> None:
 
 def placed_without(left: tuple[str, ...], kind: str) -> list[tuple[str, ...]]:
     """Lists what stands in the order with a mark, but for one row."""
-    return [at for at in definitions.placed(kind) if left not in (at, at[2:])]
+    return [at for at in order.placed(kind) if left not in (at, at[2:])]
 
 
-def told_beliefs(trial: Trial, *said: str,
-                 placed: Callable[[str], list[tuple[str, ...]]] = definitions.placed,
-                 proved: Callable[[], site_documents.Rows] = site_documents.proved) -> None:
-    """Sees that of an order of definitions, and of what carries README's sentences, this is
-    told."""
-    forget(believed.shown, believed.passed)
-    with mock.patch.multiple(believed, placed=placed, proved=proved):
-        found = list(believed.drifts())
+def placed_with(more: tuple[str, ...], of: str, kind: str) -> list[tuple[str, ...]]:
+    """Lists what stands in the order with a mark, and one row more of one mark."""
+    return [*order.placed(kind), *([more] if kind == of else [])]
+
+
+def told(trial: Trial, what: str, found: list[str], *said: str) -> None:
+    """Sees that this is told of what was planted, and nothing where nothing is to be told."""
     trial.sees(bool(found) == bool(said) and all(any(s in line for line in found) for s in said),
-               f"{said} is not told: {found[:3]}")
+               f"of {what} is not told {said}: {found[:3]}")
+
+
+def put(module: str, name: str) -> str:
+    """Gives what ends part I with a definition of a module more."""
+    return f"\n### {module} ([`aia_model`](..))\n```text\nabbrev pub {name} : A\n```\n# II. "
+
+
+# What is planted into part I of docs/DEFINITIONS.md, as (old, new) where the old text stands first,
+# and what has to be told of it; nothing of the neighbour of what is rested on.
+SECOND, IDLE = "\n# II. ", "shows aia_model Notice with_notice, and nothing"
+BELIEFS: list[tuple[str, str, list[str]]] = [
+    ("", "", []),
+    ("abbrev pub answers : ", "abbrev answered : ", ["answers of aia_model Script, which"]),
+    ("pub enum Answer {", "enum Answers {", ["Answer of aia_model src/answer.rt, which"]),
+    ("abbrev pub op_of : ", "abbrev ops : ", ["the library's aia_csr rests on op_of of aia_c"]),
+    ("abbrev pub is_stage_closed : ", "closed : ", []),
+    (SECOND, put("Notice", "with_notice"), [IDLE]),
+    (SECOND, put("Script", "answers"), ["shows aia_model Script answers 2 times"]),
+]
 
 
 def lacks_beliefs(trial: Trial) -> None:
-    """What README's sentences rest on, taken out of part I of docs/DEFINITIONS.md."""
-    rows = site_documents.proved()
-    told_beliefs(trial)
-    for left, said in ((("aia_model", "Script"), "lacks"), (("plans_rules", "Safe"), "lacks"),
-                       (("aia_c", "Codes"), "'The model is also a library', by"),
-                       (("aia_word", "src/nosuch.rt"), ""),
-                       (("aia_model", "src/answer.rt", "Answer"), "Answer of aia_model src/answer"),
-                       (("aia_replay", "Stands"), "aia_replay Stands, which")):
-        told_beliefs(trial, *[said] * bool(said), placed=partial(placed_without, left))
+    """What README's sentences rest on, taken out of part I of docs/DEFINITIONS.md, and what nothing
+    rests on, put into it."""
+    text = definitions.TARGET.read_text(encoding="utf-8")
+    for old, new, said in BELIEFS:
+        trial.sees(old in text, f"the definitions have no {old!r}, where a fault was to be planted")
+        told(trial, f"{old!r} as {new!r}", list(believed.amiss(text.replace(old, new, 1))), *said)
+    rows = carried.proved()
     words = next(iter(rows))
-    wrong: site_documents.Rows = {**rows, words: [("aia_laws", "nosuch")]}
-    told_beliefs(trial, "which is not there", proved=lambda: wrong)
-    less = dict(list(rows.items())[1:])
-    told_beliefs(trial, "has nothing that carries", proved=lambda: less)
+    wrong: carried.Rows = {**rows, words: [("aia_laws", "nosuch")]}
+    for other, line in ((wrong, "which is not there"),
+                        (dict(list(rows.items())[1:]), "has nothing that carries")):
+        with mock.patch.object(carried, "proved", return_value=other):
+            told(trial, f"other rows of {words}", list(believed.of_sentences()), line)
+    forget(carried.passed, carried.rested_on)
+    with mock.patch.object(carried, "placed", partial(placed_without, ("aia_replay", "Stands"))):
+        told(trial, "a module that is not passed", list(believed.amiss(text)),
+             "aia_replay Stands, which")
+    forget(carried.passed, carried.rested_on)
+
+
+def misplaces(trial: Trial) -> None:
+    """An order of definitions in which a module lacks or stands where it may not, and a part I that
+    is too long."""
+    notice, safe = ("aia_model", "Notice"), ("aia_plan", "Safe")
+    cases: list[tuple[Callable[[str], list[tuple[str, ...]]], list[str]]] = [
+        (order.placed, []),
+        (partial(placed_without, notice), ["aia_model/specs/Notice.antt stands nowhere"]),
+        (partial(placed_with, safe, order.FULL),
+         ["aia_plan Safe 2 times", "aia_plan Safe in part I, and nothing rests on it"]),
+        (partial(placed_with, notice, order.OTHERS), ["Notice 2 times, and needs them 1 times"]),
+        (partial(placed_with, safe, order.OTHERS), ["Safe 1 times, and needs them 0 times"]),
+        (partial(placed_with, ("aia_plan", "Nosuch"), order.TABLE), ["Nosuch, which is not"])]
+    for placed, said in cases:
+        with mock.patch.object(definitions, "placed", placed):
+            told(trial, "an order", list(definitions.unplaced()), *said)
+    with mock.patch.object(definitions, "MOST_LINES", 100):
+        told(trial, "a long part I", list(definitions.drifts()), "lines, and may have 100")
 
 
 # What is planted into the header of the library for C, and what has to be told of it.
@@ -308,4 +349,4 @@ def header_drifts(trial: Trial) -> None:
 
 
 PARTS = (told_claims, accepted_claims, shows_before, statements_drift, lacks_beliefs,
-         header_drifts)
+         misplaces, header_drifts)

@@ -11,7 +11,7 @@ from typing import TYPE_CHECKING
 from unittest import mock
 
 from lemdwab import siting
-from lemdwab.documents import site_documents
+from lemdwab.documents import carried
 from lemdwab.running import TOP, sure
 
 if TYPE_CHECKING:
@@ -127,13 +127,13 @@ def plants(planted: Planted, workers: Workers) -> None:
 def rows_are_missed(planted: Planted) -> None:
     """A sentence of README without its row, a row without its sentence, and one that names no
     law."""
-    rows = site_documents.proved()
+    rows = carried.proved()
     words = next(iter(rows))
     other = dict(list(rows.items())[1:])
     for wrong, said in ((other, "has no row, or two, of README's"),
                         (rows | {"No such sentence": []}, "and README no such sentence"),
                         (rows | {words: [("aia_laws", "no_such_law")]}, "which is not there")):
-        with mock.patch.object(site_documents, "proved", return_value=wrong):
+        with mock.patch.object(carried, "proved", return_value=wrong):
             found = planted.looks(siting.laws)
         planted.trial.sees(any(said in line for line in found), f"not told: {said}: {found[:3]}")
 
