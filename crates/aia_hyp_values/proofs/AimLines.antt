@@ -1,18 +1,18 @@
 -- A step of a move that aims a passed source, in a core that stands for a history.
 use Rattle.std.proofs.Common.{◌/◌, ◌≡◌, ℕ, ◌+◌, ◌≤◌, Bool, true, false, ◌&&◌, ◌||◌, cond, nat_eq, get_or, List, ◌∷◌, length, Some, None, inl, inr, refl, sym, ap, subst, ◌∙◌, arith}
 use Rattle.std.proofs.Math.ListN.{set}
-use Rattle.std.proofs.lemmas.Bool.{cases_Bool, cond-true, and_parts, eqb-true, ne_eqb, lt-ltb, false≢true}
+use Rattle.std.proofs.lemmas.Bool.{cases_Bool, cond-true, and_parts, eqb-true, ne_eqb, false≢true}
 use Rattle.std.proofs.lemmas.Bool.Decides.{nat_tests}
 use Rattle.std.proofs.lemmas.List.{length-set}
 use Rattle.aia_vcpu.specs.declared.place.GuestPlace.{GuestPlace}
 use Rattle.aia_vcpu.specs.Vms.{Vcpu, vcpu_of, is_vcpu, slot_of, notice_hart}
-use Rattle.aia_vcpu.specs.Home.{Home, left, led_to, holds, is_moving}
+use Rattle.aia_vcpu.specs.Home.{Home, holds, is_moving}
 use Rattle.aia_vcpu.specs.Home.Home.{OnWay}
 use Rattle.aia_vcpu.specs.Home.Way.{Outward}
 use Rattle.aia_vcpu.specs.Plans.{has_access, step_of, is_at_last, stepped}
 use Rattle.aia_vcpu.specs.declared.access.Access.TheVariants.{Look}
-use Rattle.aia_vcpu.specs.BySteps.{new_file, look_sees, look_word}
-use Rattle.aia_vcpu.specs.Aims.{aims_done, aims_step, is_aiming, aimed, pass_reaches}
+use Rattle.aia_vcpu.specs.BySteps.{look_sees, look_word}
+use Rattle.aia_vcpu.specs.Aims.{aims_step, is_aiming, aimed}
 use Rattle.aia_vcpu.proofs.HomeLemmas.{not_the_last}
 use Rattle.aia_vcpu.proofs.PassLemmas.{aim_is_no_fence}
 use Rattle.aia_vcpu_places.specs.Stores.{AreApart}

@@ -18,6 +18,9 @@ use Rattle.aia_fabric_values.specs.Flights.{Lands}
 use Rattle.aia_move_values.specs.Ways.{led_by_entry, leads_here, landed_if, KnowsAll, OldPlaceIsShut}
 use Rattle.aia_move_values.proofs.WayLemmas.{led_own}
 use Rattle.aia_move_values.proofs.WayShut.{shut}
+use Rattle.aia_move_values.specs.PlanState.{moving_of}
+use Rattle.aia_move_values.proofs.KnowsLemmas.{InPhase}
+use Rattle.aia_move_values.proofs.WayFrames.{so_of, all_of}
 use Rattle.aia_move_values.proofs.WayKnows.{sent_by, landed_all}
 use Rattle.aia_model.specs.declared.line.Line.{Line}
 use Rattle.aia_model.specs.Event.{History}
@@ -32,10 +35,14 @@ use Rattle.aia_model.specs.GuestFile.{guest_file}
 use Rattle.aia_model.specs.Notice.{a_look_saw}
 use Rattle.aia_model.proofs.HistoryLemmas.{after_happens}
 use Rattle.aia_model.proofs.PassesStandLemmas.{passes_stand}
-use Rattle.aia_hyp_values.specs.Example.{leaver, stayer, leaving_history, earlier_lines, leave_lines, leaving_core, stayer_file, example_files, leave_under_way, leave_plan, sent_to_leaver, sent_to_stayer, example_world, flying_world, example_targets, leaver_interrupts}
+use Rattle.aia_vcpu.specs.Home.{is_moving}
+use Rattle.aia_vcpu.specs.Home.Home.{Resident}
+use Rattle.aia_move_values.specs.WorldChanges.{KnowsAtRest}
+use Rattle.aia_hyp_values.specs.Passes.{own_passes}
+use Rattle.aia_hyp_values.specs.Example.{leaver, stayer, leaving_history, earlier_lines, leave_lines, leaving_core, stayer_file, example_files, leave_under_way, leave_plan, sent_to_leaver, sent_to_stayer, example_world, flying_world, example_targets, leaver_interrupts, stayer_at_rest}
 use Rattle.aia_hyp_values.specs.Targets.{TargetsStand}
 use Rattle.aia_hyp_values.proofs.ExampleLemmas.{leaving_stands, leaving_whole, leaving_lines, passed_one, leaver_reach, leaver_has, leaver_saw}
-use Rattle.aia_hyp_values.proofs.WaysInCore.{all_in_core}
+use Rattle.aia_hyp_values.proofs.WaysInCore.{all_in_core, rest_in_core}
 
 -- ---- the history is one of a script's lines
 
@@ -89,9 +96,12 @@ all_known =
 
 pub flying_known : KnowsAll flying_world example_targets leave_plan None leaver_interrupts false
 flying_known =
-    let first = sent_by example_world example_targets leave_plan None leaver_interrupts false all_known leaver 0 3 sent_to_leaver.entry refl in
-    sent_by (record example_world { flights = (sent_to_leaver ∷ []) ∷ [] }) example_targets leave_plan None leaver_interrupts false first stayer 0 5
-    sent_to_stayer.entry refl
+    let so = so_of example_world example_targets leave_plan None leaver_interrupts false all_known in
+    let first = sent_by example_world example_targets (InPhase leave_plan) (moving_of leave_plan) None leaver_interrupts false so leaver 0 3
+    sent_to_leaver.entry refl in
+    all_of flying_world example_targets leave_plan None leaver_interrupts false
+    (sent_by (record example_world { flights = (sent_to_leaver ∷ []) ∷ [] }) example_targets (InPhase leave_plan) (moving_of leave_plan) None
+    leaver_interrupts false first stayer 0 5 sent_to_stayer.entry refl)
 
 -- ---- what that gives
 
@@ -148,7 +158,9 @@ own_lands u l =
     let same : sent_to_leaver ≡ l.store = cc_first sent_to_leaver l.store l.is in
     subst (λ file. KnowsAll u example_targets leave_plan None file false)
     (ap landed_of (sym same) ∙ ap (λ b. landed_if b 0 3 leaver_interrupts) leads_to_slot)
-    (landed_all flying_world u example_targets leave_plan None leaver_interrupts false flying_whole tt interrupts_within flying_known 0 0 l)
+    (all_of u example_targets leave_plan None (landed_of l.store) false
+    (landed_all flying_world u example_targets (InPhase leave_plan) (moving_of leave_plan) None leaver_interrupts false flying_whole tt
+    interrupts_within (so_of flying_world example_targets leave_plan None leaver_interrupts false flying_known) 0 0 l))
   where
     cc_first : (a b : Flying) → ◌≡◌ {A = Option Flying} (Some a) (Some b) → a ≡ b
     cc_first a b e = cc
@@ -158,7 +170,23 @@ other_lands u l =
     let same : sent_to_stayer ≡ l.store = cc_second sent_to_stayer l.store l.is in
     subst (λ file. KnowsAll u example_targets leave_plan None file false)
     (ap landed_of (sym same) ∙ ap (λ b. landed_if b 0 5 leaver_interrupts) leads_elsewhere)
-    (landed_all flying_world u example_targets leave_plan None leaver_interrupts false flying_whole tt interrupts_within flying_known 0 1 l)
+    (all_of u example_targets leave_plan None (landed_of l.store) false
+    (landed_all flying_world u example_targets (InPhase leave_plan) (moving_of leave_plan) None leaver_interrupts false flying_whole tt
+    interrupts_within (so_of flying_world example_targets leave_plan None leaver_interrupts false flying_known) 0 1 l))
   where
     cc_second : (a b : Flying) → ◌≡◌ {A = Option Flying} (Some a) (Some b) → a ≡ b
     cc_second a b e = cc
+
+-- ---- the one at rest
+
+none_passed : own_passes 0 stayer (passes_of leaving_history) ≡ []
+unfolding passes_of
+none_passed = refl
+
+stayer_home : home leaving_history stayer ≡ Resident stayer_file
+stayer_home = sym (leaving_stands.vcpus stayer refl).same_home
+
+pub stayer_rests : KnowsAtRest example_world example_targets stayer_at_rest (guest_file leaving_history stayer)
+stayer_rests = rest_in_core leaving_core example_targets leaving_history stayer stayer_at_rest leaving_happens
+    (record { core = leaving_stands; targets = example_targets_stand }) leaving_whole refl (ap is_moving stayer_home)
+    (record { own = refl; same_home = sym stayer_home; slot = refl; notice = refl; passes = sym none_passed }) refl

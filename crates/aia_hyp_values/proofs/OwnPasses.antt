@@ -82,7 +82,7 @@ own_nth n g (x ∷ xs) r low = by_own (is_vcpu x.to g) refl r low (own_nth (suc 
         )
 
 -- each has an identity that a file may have, and a number below that of all
-own_all : (h : History) (n : ℕ) (g : Vcpu) (xs : List PassedSource) → greatest_identity_of h ≤ IDENTITIES → n + length xs ≤ PASSES
+pub own_all : (h : History) (n : ℕ) (g : Vcpu) (xs : List PassedSource) → greatest_identity_of h ≤ IDENTITIES → n + length xs ≤ PASSES
     → AllByRecursion (IsToOne h) xs → All (λ (p : plans.Pass). (p.identity ≤ IDENTITIES) × (p.number < PASSES)) (own_passes n g xs)
 own_all h n g [] most few to = λ k d low. absurd (omega (arith, low))
 own_all h n g (x ∷ xs) most few to = by_own (is_vcpu x.to g) refl (own_all h (suc n) g xs most (omega (arith, few)) to.1)

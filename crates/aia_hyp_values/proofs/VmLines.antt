@@ -1,25 +1,23 @@
 -- What the making of a VM leaves, and what it is answered.
-use Rattle.aia_vcpu.specs.declared.access.Access.TheVariants.{TakePending, TakeEnables}
 use Rattle.aia_fabric_values.specs.declared.flying.Flying.{Flying}
 use Rattle.aia_model.specs.Flight.{flight}
 use Rattle.aia_model.specs.ReachOf.{in_force_of}
 use Rattle.aia_vcpu.specs.Routes.{MayReach}
 use Rattle.aia_model.proofs.ReachLemmas.{reach_step, in_force_may}
-use Rattle.std.proofs.Common.{◌≡◌, Option, ℕ, zero, suc, ◌+◌, ◌*◌, ◌/◌, ◌%◌, ◌^◌, ◌<◌, ◌≤◌, Bool, true, false, not, ◌&&◌, ◌||◌, nat_eq, nat_lt, nat_le, List, length, map, get_or, replicate, [], ◌∷◌, ◌++◌, None, ◌⊎◌, inl, inr, refl, sym, ap, subst, ◌∙◌, arith, length-append, append_assoc}
+use Rattle.std.proofs.Common.{◌≡◌, Option, ℕ, zero, suc, ◌+◌, ◌*◌, ◌/◌, ◌%◌, ◌^◌, ◌<◌, ◌≤◌, Bool, true, false, not, ◌&&◌, ◌||◌, nat_eq, nat_lt, List, length, map, get_or, replicate, [], ◌∷◌, ◌++◌, None, ◌⊎◌, inl, inr, refl, sym, ap, subst, ◌∙◌, arith, length-append, append_assoc}
 use Rattle.std.specs.Prelude.{count_ones}
 use Rattle.std.specs.Int.{is_in_range}
 use Rattle.std.proofs.Math.ListN.{get_or-append}
 use Rattle.std.proofs.lemmas.List.{length-replicate, replicate-append-replicate}
-use Rattle.std.proofs.lemmas.Bool.{cases_Bool, cases_eq, cases_lt, cond-true, cond-false, lt-ltb, le-ltb, ltb-true, false≢true}
+use Rattle.std.proofs.lemmas.Bool.{cases_Bool, cases_lt, cond-true, cond-false, lt-ltb, le-ltb, ltb-true, false≢true}
 use Rattle.std.proofs.lemmas.Bool.Decides.{nat_tests}
-use Rattle.aia_regs.specs.declared.limits.TheConstants.{IDENTITIES, VCPUS, SLOTS, MASK_ONES, ENTRIES, FILE_WORDS}
+use Rattle.aia_regs.specs.declared.limits.TheConstants.{VCPUS, MASK_ONES, ENTRIES}
 use Rattle.aia_word.specs.Packed.{ones}
-use Rattle.aia_word.specs.Sets.{has_bit}
 use Rattle.aia_regs.specs.AddressMap.{slot_address}
 use Rattle.aia_file.specs.InterruptFile.{InterruptFile, empty_file}
 use Rattle.aia_file.specs.FileState.{shown}
-use Rattle.aia_file.specs.Imsic.{ImsicState, IsThere, file_at}
-use Rattle.aia_file.specs.Mrif.{mrif_in, set_at, pending_place, enable_place}
+use Rattle.aia_file.specs.Imsic.{ImsicState, file_at}
+use Rattle.aia_file.specs.Mrif.{mrif_in}
 use Rattle.aia_file.proofs.SlotLemmas.{one_bit}
 use Rattle.aia_entry.specs.declared.entry.Entry.TheVariants as entries
 use Rattle.aia_entry.specs.Format.{mrif_word, notice_word}
@@ -32,8 +30,7 @@ use Rattle.aia_vcpu.specs.Vms.{Vcpu, vcpu_of, is_vcpu_in, vm_in, vcpus_in, slot_
 use Rattle.aia_vcpu.specs.Home.{holds}
 use Rattle.aia_vcpu.specs.declared.rest.Rest.TheVariants.{Parked}
 use Rattle.aia_vcpu.specs.Home.Home.{InMemory}
-use Rattle.aia_vcpu.specs.Plans.{is_last_made}
-use Rattle.aia_vcpu.proofs.VmLemmas.{numbered, slot_below, vm_stays, slot_stays, vm_new, slot_new, vcpus_more, vm_past}
+use Rattle.aia_vcpu.proofs.VmLemmas.{slot_below, vm_stays, slot_stays, vm_new, slot_new, vcpus_more, vm_past, old_or_new}
 use Rattle.aia_vcpu.proofs.AllLemmas.{any_vcpu, some_vcpu, no_vcpu, of_none}
 use Rattle.aia_vcpu_places.specs.Places.{Places, leads_to, entry_word, second_word}
 use Rattle.aia_vcpu_places.specs.Holds.{Holds}
@@ -45,8 +42,8 @@ use Rattle.aia_fabric_values.specs.Making.{MakesVm, notice_page, entry_word_plac
 use Rattle.aia_fabric_values.specs.Whole.{IsWhole}
 use Rattle.aia_fabric_values.specs.Changes.{spot_of}
 use Rattle.aia_move_values.specs.Views.{places_of}
-use Rattle.aia_move_values.specs.Move.{Moving, mover, MoveFits}
 use Rattle.aia_move_values.specs.PlanState.{moving_of}
+use Rattle.aia_move_values.proofs.WayMade.{pending_stays, enabled_stays, places_made, fits_made}
 use Rattle.aia_move_values.specs.Plan.{IsInPhase}
 use Rattle.aia_model.specs.declared.answer.Answer.TheVariants.{Okay, Refused}
 use Rattle.aia_model.specs.declared.refusal.Refusal.TheVariants as words
@@ -74,49 +71,11 @@ use Rattle.aia_hyp_values.specs.Core.{VcpuRecord}
 use Rattle.aia_hyp_values.specs.Core.{CoreState, no_kept, no_record, record_of, home_in, hand_in}
 use Rattle.aia_hyp_values.specs.HostFiles.{host_spot, select_place}
 use Rattle.aia_hyp_values.specs.Stands.{flying_of, PlanStands, VcpuStands, StandsForSome, is_held, CoreStands, CoreTakes}
-use Rattle.aia_hyp_values.proofs.VcpuLemmas.{SameFor, IsHeld, same_view, select_is, majors_is}
+use Rattle.aia_hyp_values.proofs.VcpuLemmas.{IsHeld, select_is, majors_is}
 use Rattle.aia_hyp_values.proofs.StandsLemmas.{Becomes, none_passes, stands_after, keeps_by, built_as}
 use Rattle.aia_hyp_values.proofs.EventLemmas.{as_it_was, taken, refused}
 
--- ---- slots, whose words stay
-
--- a set is what its words are
-same_words : (place : ℕ → ℕ) (old new : List ℕ) → ((k : ℕ) → k < FILE_WORDS → get_or new (place k) 0 ≡ get_or old (place k) 0) → (i : ℕ)
-    → set_at place new i ≡ set_at place old i
-same_words place old new same i = elim (cases_Bool (nat_le i IDENTITIES)) [
-  | inl e ↦ let low : i ≤ IDENTITIES = grind (arith, nat_tests) in
-      ap (λ w. nat_le i IDENTITIES && has_bit w (i % 64)) (same (i / 64) (omega (arith, low)))
-  | inr e ↦ ap (λ b. b && has_bit (get_or new (place (i / 64)) 0) (i % 64)) e
-      ∙ sym (ap (λ b. b && has_bit (get_or old (place (i / 64)) 0) (i % 64)) e)
-]
-
--- the making of a VM leaves all slots
-pending_stays : (w u : World) (vm : Vm) (q i : ℕ) → MakesVm w u vm → q < SLOTS → (mrif_in u.memory q).pending i ≡ (mrif_in w.memory q).pending i
-pending_stays w u vm q i made few = same_words (pending_place q) w.memory u.memory
-    (λ k low. made.elsewhere (pending_place q k) (inl (omega (arith, few, low)))) i
-
-enabled_stays : (w u : World) (vm : Vm) (q i : ℕ) → MakesVm w u vm → q < SLOTS → (mrif_in u.memory q).enabled i ≡ (mrif_in w.memory q).enabled i
-enabled_stays w u vm q i made few = same_words (enable_place q) w.memory u.memory
-    (λ k low. made.elsewhere (enable_place q k) (inl (omega (arith, few, low)))) i
-
 -- ---- which virtual harts are there
-
--- those that were, and the new VM's
-old_or_new : (vms : List Vm) (vm : Vm) (g : Vcpu) → is_vcpu_in (vms ++ vm ∷ []) g ≡ true → ((g.vm < length vms) × (is_vcpu_in vms g ≡ true))
-    ⊎ ((g.vm ≡ length vms) × (g.vcpu < vm.vcpus))
-old_or_new vms vm g there = elim (cases_lt g.vm (length vms)) [
-  | inl low ↦ inl (low, ap (λ (v : Vm). nat_lt g.vcpu v.vcpus) (sym (vm_stays vms vm g.vm low)) ∙ there)
-  | inr past ↦ elim (cases_eq g.vm (length vms)) [
-    | inl e ↦ inr (
-      e,
-      subst (λ (v : Vm). g.vcpu < v.vcpus) (ap (vm_in (vms ++ vm ∷ [])) e ∙ vm_new vms vm)
-          (numbered (vms ++ vm ∷ []) g.vm g.vcpu there),
-    )
-    | inr ne ↦
-        let low = numbered (vms ++ vm ∷ []) g.vm g.vcpu there in
-        let none = vm_past (vms ++ vm ∷ []) g.vm (omega (arith, past, ne, length-append vms (vm ∷ []))) in absurd (omega (arith, low, none))
-  ]
-]
 
 -- who isn't there now was not there before
 not_there_before : (vms : List Vm) (vm : Vm) (g : Vcpu) → is_vcpu_in (vms ++ vm ∷ []) g ≡ false → is_vcpu_in vms g ≡ false
@@ -176,34 +135,6 @@ same_file h vm g = file_by_step (guest_deed g) (made_line vm) h
 small : (x y : CoreState) (h : History) (vm : Vm) (g : Vcpu) → HasMade x y h vm → has_vcpu h g ≡ true → g.vcpu < ENTRIES
 small x y h vm g c there = (vcpu_entry x.world g.vm g.vcpu c.whole (subst (λ (vs : List Vm). is_vcpu_in vs g ≡ true) (sym c.stands.vms) there)).2
 
-old_shows : (x y : CoreState) (h : History) (vm : Vm) (g : Vcpu) → HasMade x y h vm → g.vm < length (vms_of h) → has_vcpu h g ≡ true
-    → SameFor x.world y.world g (home h g)
-old_shows x y h vm g c low there =
-    let below = slot_below (vms_of h) g there in
-    let few = c.few in
-    let number = small x y h vm g c there in
-    let table = tables_as_vms x y h vm c in
-    let most = c.whole.few in
-    let before : slot_of x.world.vms g ≡ slot_of (vms_of h) g = ap (λ vs. slot_of vs g) c.stands.vms in
-    let slot : slot_of y.world.vms g ≡ slot_of x.world.vms g = ap (λ vs. slot_of vs g) (new_vms x y h vm c) ∙ slot_stays (vms_of h) vm g low
-    ∙ sym before in
-    let imsic : y.world.imsic ≡ x.world.imsic = ap (λ (w : World). w.imsic) c.makes.rest in
-    let q : slot_of x.world.vms g < SLOTS = omega (arith, below, few, before) in
-    record {
-      n = ap (λ (w : World). w.n) c.makes.rest;
-      files = λ p holding. ap (λ (i : ImsicState). file_at i (spot_of p)) imsic;
-      slot = ap (λ q. mrif_in y.world.memory q) slot
-          ∙ (λ k. record {
-            pending = λ i. pending_stays x.world y.world vm (slot_of x.world.vms g) i c.makes q k;
-            enabled =
-                λ i. enabled_stays x.world y.world vm (slot_of x.world.vms g) i c.makes q k;
-          });
-      word0 = c.makes.elsewhere (entry_word_place g.vm g.vcpu) (inl (omega (arith, low, number, table)));
-      word1 = c.makes.elsewhere (entry_word_place g.vm g.vcpu + 1) (inl (omega (arith, low, number, table)));
-      in_force = ap (λ (t : TableState). entry_in_force t g.vcpu) (c.makes.others g.vm (omega (arith, low, table)));
-      stage = (λ k. get_or ((c.makes.rest k).stages) (slot k) no_stage);
-    }
-
 old_record : (x y : CoreState) (h : History) (vm : Vm) (g : Vcpu) → HasMade x y h vm → g.vm < length (vms_of h) → has_vcpu h g ≡ true
     → record_of y g ≡ record_of x g
 old_record x y h vm g c low there =
@@ -215,25 +146,6 @@ old_record x y h vm g c low there =
     (omega (arith, below, before, c.stands.records))
 
 -- the plan of its move can go on
-fits_grown : (x y : CoreState) (h : History) (vm : Vm) (m : Moving) → HasMade x y h vm → (mover m).vm < length (vms_of h) → MoveFits x.world m
-    → MoveFits y.world m
-fits_grown x y h vm m c low fits =
-    let g = mover m in
-    let vms = new_vms x y h vm c in
-    let imsic : y.world.imsic ≡ x.world.imsic = ap (λ (w : World). w.imsic) c.makes.rest in
-    let stays : vm_in (vms_of h ++ vm ∷ []) g.vm ≡ vm_in (vms_of h) g.vm = vm_stays (vms_of h) vm g.vm low in
-    record {
-      there = ap (λ (vs : List Vm). is_vcpu_in vs g) vms ∙ ap (λ (v : Vm). nat_lt g.vcpu v.vcpus) stays
-          ∙ ap (λ (vs : List Vm). is_vcpu_in vs g) (sym c.stands.vms) ∙ fits.there;
-      slot = fits.slot ∙ ap (λ vs. slot_of vs g) c.stands.vms ∙ sym (slot_stays (vms_of h) vm g low) ∙ ap (λ vs. slot_of vs g) (sym vms);
-      notice = fits.notice ∙ ap (λ vs. notice_hart vs g) c.stands.vms ∙ ap (λ (v : Vm). v.notice_hart) (sym stays)
-          ∙ ap (λ vs. notice_hart vs g) (sym vms);
-      own = λ p e. subst (λ (i : ImsicState). IsThere i (spot_of p)) (sym imsic) (fits.own p e);
-      next = λ p e. subst (λ (i : ImsicState). IsThere i (spot_of p)) (sym imsic) (fits.next p e);
-      no_pending_zero = λ e. fits.no_pending_zero (sym (ap (λ (w : World). is_last_made ((w.n + 1) / 64) m.home (TakePending 0)) c.makes.rest) ∙ e);
-      no_enabled_zero = λ e. fits.no_enabled_zero (sym (ap (λ (w : World). is_last_made ((w.n + 1) / 64) m.home (TakeEnables 0)) c.makes.rest) ∙ e);
-    }
-
 none_by_vm : (h : History) (vm : Vm) → passes_of (made_line vm ∷ h) ≡ passes_of h
 unfolding passes_of
 none_by_vm h vm = refl
@@ -243,7 +155,7 @@ plan_grown : (x y : CoreState) (h : History) (vm : Vm) (g : Vcpu) (stay : Stay) 
 plan_grown x y h vm g (stays.InMemory rest kept) c low p = tt
 plan_grown x y h vm g (stays.Resident lease) c low p = tt
 plan_grown x y h vm g (stays.Moving plan) c low p = (
-  fits_grown x y h vm (moving_of plan) c (subst (λ (a : Vcpu). a.vm < length (vms_of h)) (sym p.2) low) p.0,
+  fits_made x.world y.world vm (moving_of plan) c.whole c.makes p.0,
   subst (λ (w : World). IsInPhase ((w.n + 1) / 64) plan) (sym c.makes.rest) p.1,
   p.2,
   p.3,
@@ -254,7 +166,8 @@ old_stands : (x y : CoreState) (h : History) (vm : Vm) (g : Vcpu) → HasMade x 
 old_stands x y h vm g c low there =
     let p = c.stands.vcpus g there in
     let same = old_record x y h vm g c low there in
-    let shows = same_view x.world y.world g (home h g) (old_shows x y h vm g c low there) in
+    let shows = places_made x.world y.world vm c.whole c.makes g (subst (λ (vs : List Vm). is_vcpu_in vs g ≡ true) (sym c.stands.vms) there) (home h
+    g) in
     let slot = slot_stays (vms_of h) vm g low in
     let hart : notice_hart (vms_of h ++ vm ∷ []) g ≡ notice_hart (vms_of h) g = ap (λ (v : Vm). v.notice_hart) (vm_stays (vms_of h) vm g.vm low) in
     record {
@@ -369,9 +282,9 @@ new_stands x y h vm g c last low lacks =
       }) (empty_holds (file_words h) (vcpus_in (vms_of h) + g.vcpu) vm.notice_hart y.world.n (places_of y.world g (InMemory Parked))
           (a_look_saw (made_line vm ∷ h) g) refl refl
           (λ i. ap (λ q. (mrif_in y.world.memory q).pending i) at
-          ∙ pending_stays x.world y.world vm (vcpus_in (vms_of h) + g.vcpu) i c.makes few ∙ empty.0 i)
+          ∙ pending_stays x.world y.world vm c.makes (vcpus_in (vms_of h) + g.vcpu) i few ∙ empty.0 i)
           (λ i. ap (λ q. (mrif_in y.world.memory q).enabled i) at
-          ∙ enabled_stays x.world y.world vm (vcpus_in (vms_of h) + g.vcpu) i c.makes few ∙ empty.1 i)
+          ∙ enabled_stays x.world y.world vm c.makes (vcpus_in (vms_of h) + g.vcpu) i few ∙ empty.1 i)
           (ap (λ p. get_or y.world.memory p 0) place ∙ c.makes.word0 g.vcpu low ∙ ap (λ q. mrif_word (slot_address (q + g.vcpu))) before)
           (ap (λ p. get_or y.world.memory (p + 1) 0) place ∙ c.makes.word1 g.vcpu low
           ∙ ap (λ q. notice_word (notice_page vm) (q + g.vcpu + 1)) before)
@@ -437,9 +350,9 @@ made_becomes x y h vm c =
           let before : vcpus_in (vms_of h) ≤ q = let more = vcpus_more (vms_of h) vm in omega (arith, past, more) in (
             before,
             λ k. record {
-              pending = λ i. pending_stays x.world y.world vm q i c.makes few k;
+              pending = λ i. pending_stays x.world y.world vm c.makes q i few k;
               enabled =
-                  λ i. enabled_stays x.world y.world vm q i c.makes few k;
+                  λ i. enabled_stays x.world y.world vm c.makes q i few k;
             },
             ap (λ (w : World). get_or w.stages q no_stage) c.makes.rest,
           );

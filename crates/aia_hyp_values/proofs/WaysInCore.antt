@@ -1,7 +1,7 @@
 -- In a core that stands for a history, with targets that stand for it, the plan of each virtual hart
 -- that is moved knows all: the places, the ways that lead to them, and the targets.
-use Rattle.std.proofs.Common.{◌≡◌, ℕ, ◌+◌, ◌<◌, ◌≤◌, true, false, List, length, take, slice_index_or, Option, Some, None, inl, inr, refl, sym, ap, subst, ◌∙◌, arith}
-use Rattle.std.specs.Prelude.{slice_get, map}
+use Rattle.std.proofs.Common.{◌≡◌, ℕ, ◌+◌, ◌/◌, ◌<◌, ◌≤◌, Bool, true, false, List, length, take, slice_index_or, Option, Some, None, inl, inr, refl, sym, ap, subst, ◌∙◌, arith}
+use Rattle.std.specs.Prelude.{slice_get, map, All}
 use Rattle.std.specs.Option.{option_map}
 use Rattle.std.proofs.lemmas.Bool.{cases_Bool, eqb-true, false≢true}
 use Rattle.std.proofs.lemmas.Bool.Decides.{nat_tests}
@@ -9,25 +9,33 @@ use Rattle.std.proofs.lemmas.List.{get_or_past}
 use Rattle.std.proofs.lemmas.Option.{slice_get-map}
 use Rattle.aia_regs.specs.declared.limits.TheConstants.{HARTS, SLOTS, IDENTITIES, PASSES}
 use Rattle.aia_file.specs.Imsic.{IsThere}
-use Rattle.aia_file.specs.InterruptFile.{is_greatest_identity}
 use Rattle.aia_entry.specs.declared.entry.Entry.{Entry}
 use Rattle.aia_entry.specs.declared.entry.Entry.TheVariants.{NotValid}
 use Rattle.aia_entry.specs.Tables.{TableState, no_table, entry_in_force}
 use Rattle.aia_vcpu.specs.declared.place.GuestPlace.{GuestPlace}
 use Rattle.aia_vcpu.specs.declared.vm.Vm.{Vm}
 use Rattle.aia_vcpu.specs.Vms.{Vcpu, is_vcpu_in, slot_of, notice_hart}
-use Rattle.aia_vcpu.specs.Home.{Home, holds}
-use Rattle.aia_vcpu.specs.Routes.{MayReach, entry_names, stage_names, peers_reach, is_written, is_stage_written}
+use Rattle.aia_vcpu.specs.declared.access.Access.{Access}
+use Rattle.aia_vcpu.specs.declared.access.Access.TheVariants.{TakePending, TakeEnables}
+use Rattle.aia_vcpu.specs.Home.{Home, holds, is_moving}
+use Rattle.aia_vcpu.specs.Home.Home.{InMemory, Resident, OnWay}
+use Rattle.aia_vcpu.specs.Plans.{is_last_made}
+use Rattle.aia_vcpu.specs.Routes.{origin, MayReach, entry_names, stage_names, peers_reach, is_written, is_stage_written}
 use Rattle.aia_vcpu.specs.Aims.{pass_reaches, target_to, AreAimed}
+use Rattle.aia_vcpu.proofs.HomeLemmas.{own_is_held, next_is_held}
 use Rattle.aia_vcpu.proofs.VmLemmas.{same_slot, same_vcpu}
-use Rattle.aia_vcpu_places.specs.Places.{IsInMap, leads_to}
+use Rattle.aia_vcpu_places.specs.Holds.{Holds, Hand}
+use Rattle.aia_file.specs.InterruptFile.{InterruptFile}
+use Rattle.aia_vcpu_places.specs.Places.{Places, IsInMap, leads_to}
 use Rattle.aia_fabric_values.specs.declared.flying.Flying.{Flying}
 use Rattle.aia_fabric_values.specs.World.{flight_of, stage_of}
 use Rattle.aia_fabric_values.specs.Whole.{IsWhole}
 use Rattle.aia_fabric_values.specs.Changes.{spot_of}
 use Rattle.aia_fabric_values.proofs.WholeLemmas.{notice_hart_there}
 use Rattle.aia_move_values.specs.declared.who.Pass as plans
-use Rattle.aia_move_values.specs.Move.{Moving, mover, place_at}
+use Rattle.aia_move_values.specs.Views.{places_of}
+use Rattle.aia_move_values.specs.WorldChanges.{KnowsAtRest}
+use Rattle.aia_move_values.specs.Move.{Moving, mover, width, place_at}
 use Rattle.aia_move_values.specs.PlanState.{PlanState, moving_of}
 use Rattle.aia_move_values.specs.Targets.{TargetMap, pass_count, pass_in}
 use Rattle.aia_move_values.specs.Targets as targets
@@ -35,7 +43,7 @@ use Rattle.aia_move_values.specs.Ways.{led_by_entry, led_by_record, entry_of, wr
 use Rattle.aia_move_values.proofs.ViewLemmas.{slot_low}
 use Rattle.aia_move_values.proofs.WayLemmas.{led_own, led_recorded}
 use Rattle.aia_move_values.proofs.WayMoves.{route_held, words_say}
-use Rattle.aia_model.specs.Event.{History, greatest_identity_of}
+use Rattle.aia_model.specs.Event.{History, file_words, greatest_identity_of}
 use Rattle.aia_model.specs.Vms.{vms_of, has_vm, has_vcpu}
 use Rattle.aia_model.specs.Flight.{Sending, flight}
 use Rattle.aia_model.specs.GuestFile.{sent_to, guest_file}
@@ -45,34 +53,30 @@ use Rattle.aia_model.specs.Notice.{a_look_saw}
 use Rattle.aia_model.specs.Histories.{IsHistory}
 use Rattle.aia_model.specs.Passes.{PassedSource, passes_of, nth_pass, passes_to, passes_for, pass_of, own_pass, rank_of}
 use Rattle.aia_model.proofs.FlightLemmas.{all_at}
+use Rattle.aia_model.proofs.ReachLemmas.{in_force_may}
 use Rattle.aia_model.proofs.OwnPassLemmas.{IsOwn, own_is}
 use Rattle.aia_model.proofs.PassesStandLemmas.{passes_stand}
 use Rattle.aia_hyp_values.specs.declared.vcpu.Stay.TheVariants as stays
-use Rattle.aia_hyp_values.specs.Core.{CoreState, record_of}
-use Rattle.aia_hyp_values.specs.Moves.{KnowsIts}
+use Rattle.aia_hyp_values.specs.Core.{CoreState, record_of, hand_in}
+use Rattle.aia_hyp_values.specs.Moves.{KnowsIts, IsToldOf}
 use Rattle.aia_hyp_values.specs.Passes.{own_passes, HasItsPasses}
 use Rattle.aia_hyp_values.specs.Stands.{CoreStands, flying_of}
-use Rattle.aia_hyp_values.specs.Targets.{TargetsStand}
+use Rattle.aia_hyp_values.specs.Targets.{TargetsStand, StandsWith}
 use Rattle.aia_hyp_values.proofs.GuestStores.{devices_held, flying_held, peers_held}
 use Rattle.aia_hyp_values.proofs.MoveLines.{knows}
-use Rattle.aia_hyp_values.proofs.OwnPasses.{own_nth, own_length, are_passes}
+use Rattle.aia_hyp_values.proofs.VcpuLemmas.{IsHeld}
+use Rattle.aia_hyp_values.proofs.OwnPasses.{own_nth, own_length, own_all}
 use Rattle.aia_file.proofs.SizeLemmas.{few_identities}
 
-module _ (x : CoreState) (h : History) (g : Vcpu) (plan : PlanState) (stands : CoreStands x h) (whole : IsWhole x.world)
-    (there : has_vcpu h g ≡ true) (was : (record_of x g).stay ≡ stays.Moving plan) where
-  abbrev m : Moving
-  m = moving_of plan
-
-  its : KnowsIts x h g plan
-  its = knows x h g plan stands there was
-
+module _ (x : CoreState) (h : History) (g : Vcpu) (m : Moving) (stands : CoreStands x h) (whole : IsWhole x.world) (there : has_vcpu h g ≡ true)
+    (its : IsToldOf h g m) where
   -- ---- places
 
   same_home : m.home ≡ home h g
   same_home = its.same_home
 
   same_slots : m.who.found.slot ≡ slot_of (vms_of h) g
-  same_slots = its.knows.fits.slot ∙ (λ k. slot_of (stands.vms k) (its.own k))
+  same_slots = its.slot
 
   in_world : (y : Vcpu) → has_vcpu h y ≡ true → is_vcpu_in x.world.vms y ≡ true
   in_world y inside = ap (λ vms. is_vcpu_in vms y) stands.vms ∙ inside
@@ -196,7 +200,7 @@ module _ (x : CoreState) (h : History) (g : Vcpu) (plan : PlanState) (stands : C
       }
     where
       same_notices : m.who.found.notice ≡ notice_hart (vms_of h) g
-      same_notices = its.knows.fits.notice ∙ (λ k. notice_hart (stands.vms k) (its.own k))
+      same_notices = its.notice
 
   pub ways_in_core : KnowsWays x.world m
   ways_in_core = record { entries = entries_known; written = written_known; records = records_known; named = named_known; flying = flights_known }
@@ -205,7 +209,7 @@ module _ (x : CoreState) (h : History) (g : Vcpu) (plan : PlanState) (stands : C
 
   module _ (map : TargetMap) (good : IsHistory h) (told : TargetsStand map h) where
     has_passes : m.who.passes.items ≡ own_passes 0 g (passes_of h)
-    has_passes = subst (HasItsPasses (passes_of h) g) was (stands.vcpus g there).passes
+    has_passes = its.passes
 
     count : pass_count m.who ≡ passes_for h g
     count = ap (λ (xs : List plans.Pass). length xs) has_passes ∙ own_length 0 g (passes_of h)
@@ -241,7 +245,9 @@ module _ (x : CoreState) (h : History) (g : Vcpu) (plan : PlanState) (stands : C
 
     pub targets_in_core : KnowsTargets map m
     targets_in_core = record {
-      passes = are_passes x h g plan stands there was most few_passes;
+      passes = subst (All (λ (p : plans.Pass). (p.identity ≤ IDENTITIES) × (p.number < PASSES))) (sym has_passes)
+          (own_all h 0 g (passes_of h) most (omega (arith, few_passes, ap (λ (xs : List PassedSource). length xs) stands.passes.same))
+          stands.passes.to_one);
       come = subst (λ n. AreAimed n m.home) (sym count) (subst (AreAimed (passes_for h g)) (sym same_home) (stands.passes.aimed g));
       once = λ r s low_r low_s e.
           let a = rth r low_r in
@@ -267,7 +273,93 @@ module _ (x : CoreState) (h : History) (g : Vcpu) (plan : PlanState) (stands : C
         few_passes = let small = (passes_stand h good).few in omega (arith, small, ap (λ (xs : List PassedSource). length xs) stands.passes.same)
 
         same_notice : {y : Vcpu} → y ≡ g → notice_hart (vms_of h) y ≡ m.who.found.notice
-        same_notice is = ap (notice_hart (vms_of h)) is ∙ sym (its.knows.fits.notice ∙ (λ k. notice_hart (stands.vms k) (its.own k)))
+        same_notice is = ap (notice_hart (vms_of h)) is ∙ sym its.notice
 
-    pub all_in_core : KnowsAll x.world map plan (in_force_of h g) (guest_file h g) (a_look_saw h g)
-    all_in_core = record { places = its.knows; ways = ways_in_core; targets = targets_in_core }
+-- ---- one that is moved
+
+module _ (x : CoreState) (h : History) (g : Vcpu) (plan : PlanState) (stands : CoreStands x h) (whole : IsWhole x.world)
+    (there : has_vcpu h g ≡ true) (was : (record_of x g).stay ≡ stays.Moving plan) where
+  knows_its : KnowsIts x h g plan
+  knows_its = knows x h g plan stands there was
+
+  its_own : IsToldOf h g (moving_of plan)
+  its_own = record {
+    own = knows_its.own;
+    same_home = knows_its.same_home;
+    slot = knows_its.knows.fits.slot ∙ (λ k. slot_of (stands.vms k) (knows_its.own k));
+    notice = knows_its.knows.fits.notice ∙ (λ k. notice_hart (stands.vms k) (knows_its.own k));
+    passes = subst (HasItsPasses (passes_of h) g) was (stands.vcpus g there).passes;
+  }
+
+  pub plan_ways : KnowsWays x.world (moving_of plan)
+  plan_ways = ways_in_core x h g (moving_of plan) stands whole there its_own
+
+  pub all_in_core : (map : TargetMap) → IsHistory h → TargetsStand map h
+      → KnowsAll x.world map plan (in_force_of h g) (guest_file h g) (a_look_saw h g)
+  all_in_core map good told = record {
+    places = knows_its.knows;
+    ways = plan_ways;
+    targets = targets_in_core x h g (moving_of plan) stands whole there its_own map good told;
+  }
+
+-- ---- one at rest
+
+pub rest_in_core : (x : CoreState) (map : TargetMap) (h : History) (g : Vcpu) (m : Moving) → IsHistory h → StandsWith x map h → IsWhole x.world
+    → has_vcpu h g ≡ true → is_moving (home h g) ≡ false → IsToldOf h g m → m.hand ≡ hand_in (record_of x g).stay
+    → KnowsAtRest x.world map m (guest_file h g)
+rest_in_core x map h g m good stands whole there rests of hand =
+    let core = stands.core in
+    let held = (core.vcpus g there).holds in
+    let own_held : (p : GuestPlace) → holds p m.home ≡ true → IsThere x.world.imsic (spot_of p) =
+    λ p holding. core.held g p there (ap (holds p) (sym of.same_home) ∙ holding) in
+    let resting : is_moving m.home ≡ false = ap is_moving of.same_home ∙ rests in
+    record {
+      rests = resting;
+      fits = record {
+        there = ap (λ vms. is_vcpu_in vms (mover m)) core.vms ∙ ap (is_vcpu_in (vms_of h)) of.own ∙ there;
+        slot = of.slot ∙ (λ k. slot_of (sym core.vms k) (sym of.own k));
+        notice = of.notice ∙ (λ k. notice_hart (sym core.vms k) (sym of.own k));
+        own = λ p e. own_held p (own_is_held m.home p e);
+        next = λ p e. own_held p (next_is_held m.home p e);
+        no_pending_zero = λ e. absurd (false≢true (sym (none_made (width x.world) m.home (TakePending 0) resting) ∙ e));
+        no_enabled_zero = λ e. absurd (false≢true (sym (none_made (width x.world) m.home (TakeEnables 0) resting) ∙ e));
+      };
+      holds = at_rest m.home resting (a_look_saw h g) (subst IsHeld (λ k. record {
+        words = same_words k;
+        slot = sym of.slot k;
+        hart = sym of.notice k;
+        reach = same_reach k;
+        shows = places_of x.world (sym of.own k) (sym of.same_home k);
+        there = sym of.same_home k;
+        hand = sym hand k;
+        file = guest_file h g;
+        saw = a_look_saw h g;
+      }) held);
+      ways = ways_in_core x h g m core whole there of;
+      targets = targets_in_core x h g m core whole there of map good stands.targets;
+    }
+  where
+    none_made : (words : ℕ) (there : Home) (access : Access) → is_moving there ≡ false → is_last_made words there access ≡ false
+    none_made words (InMemory rest) access resting = refl
+    none_made words (Resident p) access resting = refl
+    none_made words (OnWay way at) access resting = absurd (cc)
+
+    -- at rest it is of no matter what a look saw
+    at_rest : {words q hart : ℕ} {reach : Option GuestPlace} {v : Places} {hand : Hand} {file : InterruptFile} (home : Home) → is_moving home ≡ false
+        → (saw : Bool) → Holds words q hart reach v home hand file saw → Holds words q hart reach v home hand file false
+    at_rest (InMemory rest) resting saw held = record { sets = held.sets; numbers = held.numbers; routes = held.routes; looks = refl }
+    at_rest (Resident p) resting saw held = record { sets = held.sets; numbers = held.numbers; routes = held.routes; looks = refl }
+    at_rest (OnWay way at) resting saw held = absurd (cc)
+
+    one_reach : (home : Home) → is_moving home ≡ false → (place : Option GuestPlace) → MayReach home place → place ≡ origin home
+    one_reach (InMemory rest) resting place (inl old) = old.0
+    one_reach (InMemory rest) resting place (inr new) = absurd (false≢true new.1)
+    one_reach (Resident p) resting place (inl old) = old.0
+    one_reach (Resident p) resting place (inr new) = absurd (false≢true new.1)
+    one_reach (OnWay way at) resting place may = absurd (cc)
+
+    same_reach : in_force_of h g ≡ origin m.home
+    same_reach = one_reach (home h g) rests (in_force_of h g) (in_force_may h g) ∙ ap origin (sym of.same_home)
+
+    same_words : file_words h ≡ width x.world
+    same_words = ap (λ n. (n + 1) / 64) (sym stands.core.greatest)

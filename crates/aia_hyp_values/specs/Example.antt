@@ -15,7 +15,7 @@ use Rattle.aia_entry.specs.Tables.{TableState}
 use Rattle.aia_vcpu.specs.declared.place.GuestPlace.{GuestPlace}
 use Rattle.aia_vcpu.specs.Vms.{Vcpu, vcpu_of}
 use Rattle.aia_vcpu.specs.Home.{Progress}
-use Rattle.aia_vcpu.specs.Home.Home.{OnWay}
+use Rattle.aia_vcpu.specs.Home.Home.{Resident, OnWay}
 use Rattle.aia_vcpu.specs.Home.Way.{Outward}
 use Rattle.aia_vcpu.specs.Phases.Phase.{DrainPhase}
 use Rattle.aia_major.specs.Kept.{kept_at_first}
@@ -244,4 +244,15 @@ leaver_interrupts = record {
   enabled = λ i. nat_eq 1 i;
   threshold = 0;
   delivery = 1;
+}
+
+-- The other one, at rest in its guest file; no source is passed to it.
+abbrev pub stayer_at_rest : Moving
+stayer_at_rest = record {
+  who = record {
+    found = record { vm = 0; vcpu = 0; slot = 0; notice = 0 };
+    passes = record { items = [] };
+  };
+  home = Resident stayer_file;
+  hand = record { word = 0; delivery = 0; threshold = 0; seen = false };
 }

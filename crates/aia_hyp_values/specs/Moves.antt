@@ -2,7 +2,7 @@
 use Rattle.std.specs.Prelude.{◌≡◌, ℕ, ◌+◌, ◌-◌, ◌<◌, ◌≤◌, Bool, true, false, if◌then◌else◌, ◌∷◌, Option, Some, None, Result, Ok, Err}
 use Rattle.aia_vcpu.specs.declared.place.GuestPlace.{GuestPlace}
 use Rattle.aia_vcpu.specs.declared.rest.Rest.TheVariants.{Parked}
-use Rattle.aia_vcpu.specs.Vms.{Vcpu, vcpu_of}
+use Rattle.aia_vcpu.specs.Vms.{Vcpu, vcpu_of, slot_of, notice_hart}
 use Rattle.aia_vcpu.specs.Aims.{aims_done}
 use Rattle.aia_vcpu.specs.Home.{Home, is_moving, old_end, new_end}
 use Rattle.aia_vcpu.specs.Plans.{is_at_last, plan_steps}
@@ -23,7 +23,8 @@ use Rattle.aia_model.specs.ReachOf.{in_force_of}
 use Rattle.aia_model.specs.HomeOf.{home, guest_place}
 use Rattle.aia_model.specs.Refusal.{refusal}
 use Rattle.aia_model.specs.Answer.{answer, steps_of, step_taken}
-use Rattle.aia_model.specs.Passes.{passes_to, passes_for}
+use Rattle.aia_model.specs.Vms.{vms_of}
+use Rattle.aia_model.specs.Passes.{passes_of, passes_to, passes_for}
 use Rattle.aia_move_values.specs.Targets.{PassAim, next_aim}
 use Rattle.aia_move_values.specs.declared.who.KeptNumbers.{KeptNumbers}
 use Rattle.aia_move_values.specs.declared.who.Who.{Who}
@@ -43,6 +44,7 @@ use Rattle.aia_model.specs.declared.want.Want.{Want}
 use Rattle.aia_model.specs.declared.want.Want.TheVariants as wants
 use Rattle.aia_hyp_values.specs.Core.{Stay}
 use Rattle.aia_hyp_values.specs.declared.vcpu.Stay.TheVariants as stays
+use Rattle.aia_hyp_values.specs.Passes.{own_passes}
 use Rattle.aia_hyp_values.specs.Core.{CoreState, record_of, home_in, parked_at}
 use Rattle.aia_hyp_values.specs.Stands.{CoreStands}
 use Rattle.aia_hyp_values.specs.Passes.{StepsAim}
@@ -197,6 +199,15 @@ pub record KnowsIts (x : CoreState) (h : History) (g : Vcpu) (plan : PlanState) 
   pub own : mover (moving_of plan) ≡ g
   pub same_home : (moving_of plan).home ≡ home h g
   pub knows : Knows x.world plan (in_force_of h g) (guest_file h g) (a_look_saw h g)
+
+-- What a plan is told of a virtual hart is as a history has it: who it is, with what is passed to
+-- it, and where it is.
+pub record IsToldOf (h : History) (g : Vcpu) (m : Moving) : Type 0 where
+  pub own : mover m ≡ g
+  pub same_home : m.home ≡ home h g
+  pub slot : m.who.found.slot ≡ slot_of (vms_of h) g
+  pub notice : m.who.found.notice ≡ notice_hart (vms_of h) g
+  pub passes : m.who.passes.items ≡ own_passes 0 g (passes_of h)
 
 -- What a step in place makes of where a virtual hart is, and of the world: what its plan makes;
 -- nothing, where it has none.

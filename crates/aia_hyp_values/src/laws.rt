@@ -5,7 +5,7 @@ ghost use Rattle.std.specs.Prelude.{◌≡◌, ◌≢◌, ◌⊎◌, ℕ, ◌%�
 ghost use Rattle.aia_file.specs.Imsic.{IsThere};
 ghost use Rattle.aia_vcpu.specs.declared.place.GuestPlace.{GuestPlace};
 ghost use Rattle.aia_vcpu.specs.Vms.{Vcpu, slot_of, notice_hart};
-ghost use Rattle.aia_vcpu.specs.Home.{holds};
+ghost use Rattle.aia_vcpu.specs.Home.{holds, is_moving};
 ghost use Rattle.aia_vcpu.specs.Home.Home.{Resident, OnWay};
 ghost use Rattle.aia_vcpu.specs.Home.Way.{Outward};
 ghost use Rattle.aia_vcpu.specs.Routes.{peers_reach};
@@ -26,12 +26,14 @@ ghost use Rattle.aia_model.specs.Aim.{aimed_by};
 ghost use Rattle.aia_model.specs.GuestFile.{guest_file};
 ghost use Rattle.aia_model.specs.Notice.{a_look_saw};
 ghost use Rattle.aia_move_values.specs.Targets.{TargetMap};
+ghost use Rattle.aia_move_values.specs.Move.{Moving};
+ghost use Rattle.aia_move_values.specs.WorldChanges.{KnowsAtRest};
 ghost use Rattle.aia_move_values.specs.Ways.{KnowsWays, KnowsAll, OldPlaceIsShut};
 ghost use Rattle.aia_file.specs.InterruptFile.{landed};
 ghost use Rattle.aia_hyp_values.specs.Targets.{TargetsStand, StandsWith, LeavesTheAplic};
 ghost use Rattle.aia_model.specs.Vms.{vms_of, has_vm, has_vcpu};
 ghost use Rattle.aia_model.specs.Refusal.{refusal};
-ghost use Rattle.aia_hyp_values.specs.Moves.{KnowsIts};
+ghost use Rattle.aia_hyp_values.specs.Moves.{KnowsIts, IsToldOf};
 ghost use Rattle.aia_model.specs.ReachOf.{in_force_of, sent_into};
 ghost use Rattle.aia_model.specs.Flight.{Sending, flying};
 ghost use Rattle.aia_model.specs.GuestFile.{sent_to};
@@ -42,9 +44,9 @@ ghost use Rattle.aia_model.specs.Passes.{passes_of};
 ghost use Rattle.aia_model.specs.HomeOf.{home};
 ghost use Rattle.aia_model.specs.Answer.{msi_taken, after_lines};
 ghost use Rattle.aia_move_values.specs.PlanState.{PlanState, moving_of};
-ghost use Rattle.aia_hyp_values.specs.Core.{CoreState, record_of};
+ghost use Rattle.aia_hyp_values.specs.Core.{CoreState, record_of, hand_in};
 ghost use Rattle.aia_hyp_values.specs.Stands.{CoreStands, CoreTakes, CoreHears, MayPass, line_served};
-ghost use Rattle.aia_hyp_values.specs.Example.{stayer, leaver, the_pass, so_far, leaving_history, earlier_lines, leave_lines, stayer_file, leaver_file, leaving_core, leave_under_way, leave_plan, flying_world, example_targets, leaver_interrupts};
+ghost use Rattle.aia_hyp_values.specs.Example.{stayer, leaver, the_pass, so_far, leaving_history, earlier_lines, leave_lines, stayer_file, leaver_file, leaving_core, leave_under_way, leave_plan, example_world, flying_world, example_targets, leaver_interrupts, stayer_at_rest};
 
 use crate::vcpu::Stay;
 use aia_model::{Answer, Line, Msi};
@@ -165,11 +167,22 @@ pub fn a_plan_in_a_core_knows_all()
         → KnowsAll x.world map plan (in_force_of h g) (guest_file h g) (a_look_saw h g) }
 {}
 
+/// In a core that stands for a history, with targets that stand for it, all is known of each
+/// virtual hart that is not moved: of its places, the ways that lead there, and the targets.
+pub fn all_is_known_of_who_is_at_rest_in_a_core()
+    ensures { (x : CoreState) (map : TargetMap) (h : History) (g : Vcpu) (m : Moving)
+        → IsHistory h → StandsWith x map h → IsWhole x.world → has_vcpu h g ≡ true
+        → is_moving (home h g) ≡ false → IsToldOf h g m
+        → m.hand ≡ hand_in (record_of x g).stay
+        → KnowsAtRest x.world map m (guest_file h g) }
+{}
+
 /// A plan in the middle of a leave that knows all, in a world with two stores in flight, one for
 /// its virtual hart and one for another one, and with a passed source: what is promised of plans
 /// that know all is not promised of none. The targets stand for the history that leads there.
 /// Nothing leads to the guest file that is left; the first of these stores lands in the interrupt
-/// file, and the second one leaves it as it is.
+/// file, and the second one leaves it as it is. All is known of the other virtual hart too, which
+/// is at rest.
 pub fn a_plan_knows_all_in_the_middle_of_a_leave()
     ensures knows { KnowsAll flying_world example_targets leave_plan None leaver_interrupts false }
     ensures targets { TargetsStand example_targets leaving_history }
@@ -178,4 +191,6 @@ pub fn a_plan_knows_all_in_the_middle_of_a_leave()
         → KnowsAll u example_targets leave_plan None (landed 0 3 leaver_interrupts) false }
     ensures other { (u : World) → Lands flying_world u 0 1
         → KnowsAll u example_targets leave_plan None leaver_interrupts false }
+    ensures rests { KnowsAtRest example_world example_targets stayer_at_rest
+        (guest_file leaving_history stayer) }
 {}

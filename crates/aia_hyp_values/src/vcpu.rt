@@ -89,6 +89,7 @@ impl<P> Default for VcpuRecord<P> {
 
     ghost is_default = { λ r. r ≡ no_record };
 
+    /// Makes the record of a virtual hart as it is made; arrays of bounded size need one.
     fn default() -> VcpuRecord<P> {
         VcpuRecord::new()
     }

@@ -8,6 +8,7 @@ pub mod laws;
 mod moves;
 pub mod phase;
 mod plan;
+pub mod rests;
 mod targets;
 pub mod ways;
 

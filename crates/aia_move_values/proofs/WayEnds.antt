@@ -88,7 +88,7 @@ rest_reach r (OnWay (Across from to) at) moves = rw (none_below r) refl
 rest_reach r (InMemory rest) moves = absurd (cc)
 rest_reach r (Resident p) moves = absurd (cc)
 
-not_moving : (there : Home) → is_moving (ended there) ≡ false
+pub not_moving : (there : Home) → is_moving (ended there) ≡ false
 not_moving (OnWay (Outward from) at) = refl
 not_moving (OnWay (Inward to) at) = refl
 not_moving (OnWay (Across from to) at) = refl
@@ -107,7 +107,7 @@ ends_all w u map plan reach file saw hand whole two within all ends =
     let same = machine_touched (sends ends.step.access m.hand) w u m touches in
     let held = ends_kept w u m whole fits two reach file saw hand ends within all.places.holds in
     let there = at_rest m.home has.moves in
-    let ways = ways_stepped (sends ends.step.access m.hand) w u plan m fits touches all.ways
+    let ways = ways_stepped (sends ends.step.access m.hand) w u m m fits touches all.ways
     (record { entry = λ led. refl; written = λ led. refl; in_force = λ led. refl; named = λ led. refl }) in
     let closed = drain_closed (width w) m.home has.moves (le_test (begins (width w) m.home DrainPhase) (steps_done m.home) has.come) in
     let own = leads_to m.who.found.slot m.who.found.notice in

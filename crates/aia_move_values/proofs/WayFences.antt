@@ -14,6 +14,8 @@ use Rattle.aia_entry.specs.Format.{decoded}
 use Rattle.aia_entry.proofs.TableLemmas.{fenced_elsewhere}
 use Rattle.aia_vcpu.specs.declared.place.GuestPlace.{GuestPlace}
 use Rattle.aia_vcpu.specs.Vms.{Vcpu, vcpu_of, is_vcpu, is_vcpu_in}
+use Rattle.aia_vcpu.specs.declared.rest.Rest.TheVariants.{Parked}
+use Rattle.aia_vcpu.specs.Home.Home.{InMemory}
 use Rattle.aia_vcpu.specs.Routes.{entry_names}
 use Rattle.aia_vcpu.proofs.VmLemmas.{same_vcpu}
 use Rattle.aia_vcpu_places.specs.Holds.{Holds, IsWithin}
@@ -30,20 +32,17 @@ use Rattle.aia_fabric_values.proofs.FrameLemmas.{entry_rest}
 use Rattle.aia_fabric_values.proofs.WholeLemmas.{vcpu_entry}
 use Rattle.aia_move_values.specs.Views.{places_of}
 use Rattle.aia_move_values.specs.Move.{Moving, mover, width}
-use Rattle.aia_move_values.specs.PlanState.{PlanState, moving_of}
 use Rattle.aia_move_values.specs.Targets.{TargetMap}
 use Rattle.aia_move_values.specs.Touches.{SameMachine}
-use Rattle.aia_move_values.specs.Knows.{Knows}
-use Rattle.aia_move_values.specs.Ways.{led_by_entry, entry_of, written_of, leads_here, KnowsWays, KnowsAll, landed_if, reach_fetched}
+use Rattle.aia_move_values.specs.Ways.{led_by_entry, entry_of, written_of, leads_here, KnowsWays, landed_if, reach_fetched}
 use Rattle.aia_move_values.specs.Ways as ways
-use Rattle.aia_move_values.proofs.KnowsLemmas.{knows_by}
+use Rattle.aia_move_values.proofs.KnowsLemmas.{KnowsPlaces, knows_by}
 use Rattle.aia_move_values.proofs.LandingLemmas.{same_landed}
-use Rattle.aia_move_values.proofs.MachineLemmas.{phase_still}
 use Rattle.aia_move_values.proofs.StepLemmas.{fits_still}
 use Rattle.aia_move_values.proofs.MoveKept.{files_fit, slot_few, notice_low}
 use Rattle.aia_move_values.proofs.ViewLemmas.{fence-places}
 use Rattle.aia_move_values.proofs.WayLemmas.{led_same}
-use Rattle.aia_move_values.proofs.WayFrames.{stored_machine}
+use Rattle.aia_move_values.proofs.WayFrames.{KnowsSo, stored_machine}
 use Rattle.aia_move_values.proofs.WayKnows.{landed_all}
 
 -- ---- virtual harts
@@ -62,29 +61,27 @@ no_vcpu g h none same = false≢true (sym none ∙ ap (λ (x : Vcpu). is_vcpu x 
 
 -- ---- an entry is read again
 
-module _ (w : World) (g : Vcpu) (map : TargetMap) (plan : PlanState) (reach : Option GuestPlace) (file : InterruptFile) (saw : Bool)
-    (whole : IsWhole w) (there : is_vcpu_in w.vms g ≡ true) (all : KnowsAll w map plan reach file saw) where
-  abbrev m : Moving
-  m = moving_of plan
+pub as_written : (w : World) (g : Vcpu) → IsWhole w → is_vcpu_in w.vms g ≡ true → entry_of (with_fence w g.vm g.vcpu) g ≡ written_of w g
+as_written w g whole there = ap (λ (v : Places). v.in_force) (fence-places w g (InMemory Parked) whole there)
 
+pub others_kept : (w : World) (g x : Vcpu) → x ≢ g → entry_of (with_fence w g.vm g.vcpu) x ≡ entry_of w x
+others_kept w g x other = fenced_elsewhere w.tables g.vm g.vcpu w.memory x.vm x.vcpu (apart_vcpus x g other)
+
+module _ (w : World) (g : Vcpu) (map : TargetMap) (Q : ℕ → Type 0) (m : Moving) (reach : Option GuestPlace) (file : InterruptFile) (saw : Bool)
+    (whole : IsWhole w) (there : is_vcpu_in w.vms g ≡ true) (all : KnowsSo Q w map m reach file saw) where
   abbrev fetched : World
   fetched = with_fence w g.vm g.vcpu
 
   same_machine : SameMachine w fetched
   same_machine = record { n = refl; vms = refl; harts = refl; guests = refl }
 
-  as_written : entry_of fetched g ≡ written_of w g
-  as_written = ap (λ (v : Places). v.in_force) (fence-places w g m.home whole there)
-
-  others_kept : (x : Vcpu) → x ≢ g → entry_of fetched x ≡ entry_of w x
-  others_kept x other = fenced_elsewhere w.tables g.vm g.vcpu w.memory x.vm x.vcpu (apart_vcpus x g other)
-
   ways_fetched : KnowsWays fetched m
   ways_fetched = record {
     entries = λ x led. elim (cases_Bool (is_vcpu x g)) [
       | inl is ↦ let same = same_vcpu x g is in
-          same ∙ all.ways.written g there (ap (λ e. leads_here m (led_by_entry w e)) (sym (ap (entry_of fetched) same ∙ as_written)) ∙ led)
-      | inr none ↦ all.ways.entries x (ap (λ e. leads_here m (led_by_entry w e)) (sym (others_kept x (no_vcpu x g none))) ∙ led)
+          same ∙ all.ways.written g there (ap (λ e. leads_here m (led_by_entry w e)) (sym (ap (entry_of fetched) same
+          ∙ as_written w g whole there)) ∙ led)
+      | inr none ↦ all.ways.entries x (ap (λ e. leads_here m (led_by_entry w e)) (sym (others_kept w g x (no_vcpu x g none))) ∙ led)
     ];
     written = all.ways.written;
     records = all.ways.records;
@@ -92,7 +89,7 @@ module _ (w : World) (g : Vcpu) (map : TargetMap) (plan : PlanState) (reach : Op
     flying = all.ways.flying;
   }
 
-  own_fetched : g ≡ mover m → Knows fetched plan (entry_names m.home) file saw
+  own_fetched : g ≡ mover m → KnowsPlaces Q fetched m (entry_names m.home) file saw
   own_fetched own =
       let seen : places_of fetched (mover m) m.home ≡ record (places_of w (mover m) m.home)
       { in_force = decoded (places_of w (mover m) m.home).word0 (places_of w (mover m) m.home).word1 } =
@@ -103,23 +100,23 @@ module _ (w : World) (g : Vcpu) (map : TargetMap) (plan : PlanState) (reach : Op
       (files_fit w m whole all.places.fits) (slot_few w m whole all.places.fits) (notice_low w m whole all.places.fits) all.places.holds in
       record {
         fits = fits_still w fetched m same_machine all.places.fits;
-        phase = phase_still w fetched plan same_machine all.places.phase;
+        phase = subst (λ n. Q ((n + 1) / 64)) (sym same_machine.n) all.places.phase;
         holds = subst (λ (v : Places). Holds (width w) m.who.found.slot m.who.found.notice (entry_names m.home) v m.home m.hand file saw) (sym seen)
             held;
       }
 
-  other_fetched : mover m ≢ g → Knows fetched plan reach file saw
+  other_fetched : mover m ≢ g → KnowsPlaces Q fetched m reach file saw
   other_fetched other =
-      let entry = others_kept (mover m) other in
+      let entry = others_kept w g (mover m) other in
       let seen : places_of fetched (mover m) m.home ≡ places_of w (mover m) m.home = λ k. record
       (places_of w (mover m) m.home) { in_force = entry k } in
-      knows_by w fetched plan reach saw same_machine file file all.places (places_of w (mover m) m.home) seen all.places.holds
+      knows_by w fetched Q m reach saw same_machine file file all.places (places_of w (mover m) m.home) seen all.places.holds
 
-  knows_fetched : (b : Bool) → is_vcpu (mover m) g ≡ b → Knows fetched plan (reach_fetched b m reach) file saw
+  knows_fetched : (b : Bool) → is_vcpu (mover m) g ≡ b → KnowsPlaces Q fetched m (reach_fetched b m reach) file saw
   knows_fetched true is = own_fetched (sym (same_vcpu (mover m) g is))
   knows_fetched false none = other_fetched (no_vcpu (mover m) g none)
 
-  pub fetched_all : KnowsAll fetched map plan (reach_fetched (is_vcpu (mover m) g) m reach) file saw
+  pub fetched_all : KnowsSo Q fetched map m (reach_fetched (is_vcpu (mover m) g) m reach) file saw
   fetched_all = record { places = knows_fetched (is_vcpu (mover m) g) refl; ways = ways_fetched; targets = all.targets }
 
 -- ---- what lands is within its file
@@ -184,7 +181,8 @@ flight_within n words w m (s ∷ later) file within = flight_within n words w m 
     (here_within n words (leads_here m (led_by_entry w s.entry)) s.offset s.value file within)
 
 -- so many have landed, of which the others are left
-record LandedSo (w u : World) (map : TargetMap) (plan : PlanState) (reach : Option GuestPlace) (file : InterruptFile) (saw : Bool) (vm count : ℕ)
+record LandedSo (w u : World) (map : TargetMap) (Q : ℕ → Type 0) (m : Moving) (reach : Option GuestPlace) (file : InterruptFile) (saw : Bool) (vm
+    count : ℕ)
     : Type 0 where
   came : List Flying
   left : List Flying
@@ -193,31 +191,31 @@ record LandedSo (w u : World) (map : TargetMap) (plan : PlanState) (reach : Opti
   flies : flight_of u vm ≡ left
   lists : length u.flights ≡ length w.flights
   same : SameMachine w u
-  knows : KnowsAll u map plan reach (ways.landed_flight w (moving_of plan) came file) saw
+  knows : KnowsSo Q u map m reach (ways.landed_flight w m came file) saw
 
-module _ (w : World) (map : TargetMap) (plan : PlanState) (reach : Option GuestPlace) (file : InterruptFile) (saw : Bool) (vm : ℕ)
-    (there : vm < length w.flights) (apart : AreApart (moving_of plan).home) (within : IsWithin w.n (width w) file)
-    (all : KnowsAll w map plan reach file saw) where
+module _ (w : World) (map : TargetMap) (Q : ℕ → Type 0) (m : Moving) (reach : Option GuestPlace) (file : InterruptFile) (saw : Bool) (vm : ℕ)
+    (there : vm < length w.flights) (apart : AreApart m.home) (within : IsWithin w.n (width w) file)
+    (all : KnowsSo Q w map m reach file saw) where
   first_left : (left : List Flying) (s : Flying) → slice_get left 0 ≡ Some s → (later : List Flying) × (left ≡ s ∷ later) × (remove left 0 ≡ later)
   first_left [] s e = absurd (cc)
   first_left (x ∷ later) s e = let same : x ≡ s = cc in (later, ap (λ (y : Flying). y ∷ later) same, refl)
 
-  then_lands : (u x : World) (count : ℕ) → LandedSo w u map plan reach file saw vm count → IsWhole u → Lands u x vm 0
-      → LandedSo w x map plan reach file saw vm (suc count)
+  then_lands : (u x : World) (count : ℕ) → LandedSo w u map Q m reach file saw vm count → IsWhole u → Lands u x vm 0
+      → LandedSo w x map Q m reach file saw vm (suc count)
   then_lands u x count so whole l =
       let first = first_left so.left l.store (ap (λ xs. slice_get xs 0) (sym so.flies) ∙ l.is) in
       let split : (so.came ++ l.store ∷ []) ++ first.0 ≡ flight_of w vm =
       append_assoc so.came (l.store ∷ []) first.0 ∙ ap (λ xs. so.came ++ xs) (sym first.1) ∙ so.split in
-      let inside = flight_within w.n (width w) w (moving_of plan) so.came file within in
-      let inside_u : IsWithin u.n (width u) (ways.landed_flight w (moving_of plan) so.came file) =
-      subst (λ n. IsWithin n ((n + 1) / 64) (ways.landed_flight w (moving_of plan) so.came file)) (sym so.same.n) inside in
-      let after = landed_all u x map plan reach (ways.landed_flight w (moving_of plan) so.came file) saw whole apart inside_u so.knows vm 0 l in
+      let inside = flight_within w.n (width w) w m so.came file within in
+      let inside_u : IsWithin u.n (width u) (ways.landed_flight w m so.came file) =
+      subst (λ n. IsWithin n ((n + 1) / 64) (ways.landed_flight w m so.came file)) (sym so.same.n) inside in
+      let after = landed_all u x map Q m reach (ways.landed_flight w m so.came file) saw whole apart inside_u so.knows vm 0 l in
       let same_entry = led_same w u so.same l.store.entry in
-      let is : landed_if (leads_here (moving_of plan) (led_by_entry u l.store.entry)) l.store.offset l.store.value
-      (ways.landed_flight w (moving_of plan) so.came file) ≡ ways.landed_flight w (moving_of plan) (so.came ++ l.store ∷ []) file =
-      ap (λ at. landed_if (leads_here (moving_of plan) at) l.store.offset l.store.value
-      (ways.landed_flight w (moving_of plan) so.came file)) same_entry
-      ∙ sym (one_more_lands w (moving_of plan) so.came l.store file) in
+      let is : landed_if (leads_here m (led_by_entry u l.store.entry)) l.store.offset l.store.value
+      (ways.landed_flight w m so.came file) ≡ ways.landed_flight w m (so.came ++ l.store ∷ []) file =
+      ap (λ at. landed_if (leads_here m at) l.store.offset l.store.value
+      (ways.landed_flight w m so.came file)) same_entry
+      ∙ sym (one_more_lands w m so.came l.store file) in
       record {
         came = so.came ++ l.store ∷ [];
         left = first.0;
@@ -226,11 +224,11 @@ module _ (w : World) (map : TargetMap) (plan : PlanState) (reach : Option GuestP
         flies = landed_flight u x vm 0 (omega (arith, there, so.lists)) l ∙ ap (λ xs. remove xs 0) so.flies ∙ first.2;
         lists = landed_lists u x vm 0 l ∙ so.lists;
         same = same_then w u x so.same (landed_machine u x vm 0 l);
-        knows = subst (λ (f : InterruptFile). KnowsAll x map plan reach f saw) is after;
+        knows = subst (λ (f : InterruptFile). KnowsSo Q x map m reach f saw) is after;
       }
 
-  so_many : (count : ℕ) (u : World) → LandsOldest count w u vm → LandedSo w u map plan reach file saw vm count
-  so_many zero u same = subst (λ (x : World). LandedSo w x map plan reach file saw vm 0) (sym same) (record {
+  so_many : (count : ℕ) (u : World) → LandsOldest count w u vm → LandedSo w u map Q m reach file saw vm count
+  so_many zero u same = subst (λ (x : World). LandedSo w x map Q m reach file saw vm 0) (sym same) (record {
     came = [];
     left = flight_of w vm;
     split = refl;
@@ -247,24 +245,25 @@ module _ (w : World) (map : TargetMap) (plan : PlanState) (reach : Option GuestP
   none_left came (x ∷ left) stores split size =
       absurd (omega (arith, size, ap length split, length-append came (x ∷ left)))
 
-  pub all_land : (u : World) → LandsAll w u vm → KnowsAll u map plan reach (ways.landed_flight w (moving_of plan) (flight_of w vm) file) saw
+  pub all_land : (u : World) → LandsAll w u vm → KnowsSo Q u map m reach (ways.landed_flight w m (flight_of w vm) file) saw
   all_land u lands =
       let so = so_many (length (flight_of w vm)) u lands in
-      subst (λ (xs : List Flying). KnowsAll u map plan reach (ways.landed_flight w (moving_of plan) xs file) saw)
+      subst (λ (xs : List Flying). KnowsSo Q u map m reach (ways.landed_flight w m xs file) saw)
       (none_left so.came so.left (flight_of w vm) so.split so.size) so.knows
 
 -- ---- a fence
 
-pub fenced_all : (w u : World) (g : Vcpu) (map : TargetMap) (plan : PlanState) (reach : Option GuestPlace) (file : InterruptFile) (saw : Bool)
-    → IsWhole w → AreApart (moving_of plan).home → IsWithin w.n (width w) file → is_vcpu_in w.vms g ≡ true → KnowsAll w map plan reach file saw
+pub fenced_all : (w u : World) (g : Vcpu) (map : TargetMap) (Q : ℕ → Type 0) (m : Moving) (reach : Option GuestPlace) (file : InterruptFile) (saw :
+    Bool)
+    → IsWhole w → AreApart m.home → IsWithin w.n (width w) file → is_vcpu_in w.vms g ≡ true → KnowsSo Q w map m reach file saw
     → Fences w u g.vm g.vcpu
-    → KnowsAll u map plan (reach_fetched (is_vcpu (mover (moving_of plan)) g) (moving_of plan) reach)
-    (ways.landed_flight w (moving_of plan) (flight_of w g.vm) file) saw
-fenced_all w u g map plan reach file saw whole apart within there all f =
+    → KnowsSo Q u map m (reach_fetched (is_vcpu (mover m) g) m reach)
+    (ways.landed_flight w m (flight_of w g.vm) file) saw
+fenced_all w u g map Q m reach file saw whole apart within there all f =
     let stands = (vcpu_entry w g.vm g.vcpu whole there).0 in
-    let landed = all_land w map plan reach file saw g.vm (omega (arith, stands, whole.flights)) apart within all f.landed f.lands in
+    let landed = all_land w map Q m reach file saw g.vm (omega (arith, stands, whole.flights)) apart within all f.landed f.lands in
     let same = same_landed w f.landed g.vm f.lands in
-    subst (λ (x : World). KnowsAll x map plan (reach_fetched (is_vcpu (mover (moving_of plan)) g) (moving_of plan) reach)
-    (ways.landed_flight w (moving_of plan) (flight_of w g.vm) file) saw) (sym f.fenced)
-    (fetched_all f.landed g map plan reach (ways.landed_flight w (moving_of plan) (flight_of w g.vm) file) saw f.whole
+    subst (λ (x : World). KnowsSo Q x map m (reach_fetched (is_vcpu (mover m) g) m reach)
+    (ways.landed_flight w m (flight_of w g.vm) file) saw) (sym f.fenced)
+    (fetched_all f.landed g map Q m reach (ways.landed_flight w m (flight_of w g.vm) file) saw f.whole
     (ap (λ vms. is_vcpu_in vms g) same.vms ∙ there) landed)

@@ -1,16 +1,19 @@
 -- What a change of the world leaves of the ways by which stores come, and that a plan knows them
 -- then as before.
-use Rattle.std.proofs.Common.{◌≡◌, ℕ, zero, suc, ◌+◌, ◌<◌, true, List, [], ◌∷◌, ◌++◌, length, get_or, Option, Some, None, ◌⊎◌, inl, inr, refl, sym, ap, ◌∙◌, arith}
+use Rattle.std.proofs.Common.{◌≡◌, ℕ, zero, suc, ◌+◌, ◌<◌, Bool, true, List, [], ◌∷◌, ◌++◌, length, get_or, Option, Some, None, ◌⊎◌, inl, inr, refl, sym, ap, ◌∙◌, arith}
 use Rattle.std.specs.Prelude.{remove, slice_get, slice_set, slice_index_or}
 use Rattle.std.proofs.lemmas.Bool.{cases_eq, cases_lt}
 use Rattle.std.proofs.lemmas.List.{get_or-set_same, get_or-set_other, set_past}
 use Rattle.aia_regs.specs.declared.limits.TheConstants.{VCPUS}
+use Rattle.aia_file.specs.InterruptFile.{InterruptFile}
 use Rattle.aia_file.specs.declared.spot.Spot.{Spot}
 use Rattle.aia_file.specs.declared.spot.Spot.TheVariants.{MachineFile, SupervisorFile, GuestFile, Nowhere}
 use Rattle.aia_file.specs.declared.stored.Stored.{Stored}
 use Rattle.aia_file.specs.declared.stored.Stored.TheVariants.{Discarded, Quiet, Notice}
 use Rattle.aia_entry.specs.declared.entry.Entry.{Entry}
 use Rattle.aia_entry.specs.declared.entry.Entry.TheVariants.{Basic, Mrif, NotValid, Custom, Misconfigured}
+use Rattle.aia_entry.specs.declared.table.Route.{Route}
+use Rattle.aia_entry.specs.declared.table.Route.TheVariants.{Other, Fault, To}
 use Rattle.aia_entry.specs.Format.{decoded}
 use Rattle.aia_entry.specs.Tables.{table_of, entry_in_force}
 use Rattle.aia_vcpu.specs.declared.place.GuestPlace.{GuestPlace}
@@ -24,11 +27,14 @@ use Rattle.aia_fabric_values.specs.Flights.{with_flight}
 use Rattle.aia_regs.specs.declared.limits.TheConstants.{IDENTITIES}
 use Rattle.aia_regs.specs.Request.{requested}
 use Rattle.aia_file.specs.Mrif.{mrif_in, stored}
-use Rattle.aia_fabric_values.specs.Stores.{StoresInGuestFile, NoticedAt, NoticedBy, StoresInSlot, ReachesBy, ReachesByRecord, with_store, page_spot, slot_at, named_spot}
+use Rattle.aia_fabric_values.specs.Stores.{StoresInGuestFile, NoticedAt, NoticedBy, StoresInSlot, Reaches, ReachesBy, ReachesByRecord, with_store, page_spot, slot_at, named_spot}
 use Rattle.aia_fabric_values.proofs.PlaceLemmas.{slot_begins}
 use Rattle.aia_move_values.specs.Move.{Moving}
 use Rattle.aia_move_values.specs.Touches.{SameMachine}
-use Rattle.aia_move_values.specs.Ways.{led_by_entry, led_by_record, entry_of, written_of, leads_here, IsItsFlight, KnowsWays}
+use Rattle.aia_move_values.specs.PlanState.{PlanState, moving_of}
+use Rattle.aia_move_values.specs.Targets.{TargetMap}
+use Rattle.aia_move_values.specs.Ways.{led_by_entry, led_by_record, entry_of, written_of, leads_here, IsItsFlight, KnowsWays, KnowsTargets, KnowsAll}
+use Rattle.aia_move_values.proofs.KnowsLemmas.{KnowsPlaces, InPhase, of_plan, to_plan}
 use Rattle.aia_move_values.proofs.StoreViews.{entry_words_kept}
 use Rattle.aia_move_values.proofs.ViewLemmas.{slot_low}
 use Rattle.aia_move_values.proofs.WayLemmas.{led_same, recorded_same}
@@ -170,6 +176,11 @@ module _ (w u : World) (offset value : ℕ) (whole : IsWhole w) where
   entry_words Custom same = words_same w u (ap (λ (x : World). x.memory) same)
   entry_words Misconfigured same = words_same w u (ap (λ (x : World). x.memory) same)
 
+  pub route_words : (r : Route) → Reaches r w u offset value → KeepsWords w u
+  route_words (To e) s = entry_words e s
+  route_words Other same = words_same w u (ap (λ (x : World). x.memory) same)
+  route_words (Fault e) same = words_same w u (ap (λ (x : World). x.memory) same)
+
 pub record_words : (w u : World) (g : Vcpu) (place : Option GuestPlace) (value : ℕ) → IsWhole w → is_vcpu_in w.vms g ≡ true
     → ReachesByRecord place w u g value → KeepsWords w u
 record_words w u g (Some p) value whole there s = guest_words w u 0 value whole (named_spot w.imsic p) s
@@ -180,3 +191,20 @@ record_words w u g None value whole there s = slot_words w u 0 value whole (Some
 pub stored_ways : (w u : World) (m : Moving) → OnlyStores w u → KeepsWords w u → KnowsWays w m → KnowsWays u m
 stored_ways w u m rest words knows = ways_by w u m (stored_machine w u rest) (routes_stored w u rest words)
     (λ v k s is here. knows.flying v k s (ap (λ (x : World). slice_get (flight_of x v) k) (sym rest) ∙ is) here) knows
+
+-- ---- all that is known of a virtual hart, moved or at rest
+
+pub record KnowsSo (Q : ℕ → Type 0) (w : World) (map : TargetMap) (m : Moving) (reach : Option GuestPlace) (file : InterruptFile) (saw : Bool)
+    : Type 0 where
+  pub places : KnowsPlaces Q w m reach file saw
+  pub ways : KnowsWays w m
+  pub targets : KnowsTargets map m
+
+-- of a plan
+pub so_of : (w : World) (map : TargetMap) (plan : PlanState) (reach : Option GuestPlace) (file : InterruptFile) (saw : Bool)
+    → KnowsAll w map plan reach file saw → KnowsSo (InPhase plan) w map (moving_of plan) reach file saw
+so_of w map plan reach file saw all = record { places = of_plan w plan reach file saw all.places; ways = all.ways; targets = all.targets }
+
+pub all_of : (w : World) (map : TargetMap) (plan : PlanState) (reach : Option GuestPlace) (file : InterruptFile) (saw : Bool)
+    → KnowsSo (InPhase plan) w map (moving_of plan) reach file saw → KnowsAll w map plan reach file saw
+all_of w map plan reach file saw so = record { places = to_plan w plan reach file saw so.places; ways = so.ways; targets = so.targets }

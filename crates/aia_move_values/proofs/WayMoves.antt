@@ -1,4 +1,4 @@
--- Accesses of others, and steps of other moves, keep what a plan knows.
+-- Accesses of others, and steps of other moves, keep what is known of a virtual hart.
 use Rattle.std.proofs.Common.{◌≡◌, ◌≢◌, ℕ, ◌<◌, Bool, true, false, ◌||◌, if◌then◌else◌, nat_eq, Option, Some, None, inl, inr, refl, sym, ap, ◌∙◌, subst, arith}
 use Rattle.std.specs.Prelude.{slice_get, slice_index_or}
 use Rattle.std.proofs.lemmas.Bool.{cases_Bool, ne_eqb, false≢true}
@@ -28,7 +28,7 @@ use Rattle.aia_vcpu_places.proofs.EntryLemmas.{entry_back}
 use Rattle.aia_fabric_values.specs.declared.stage.Stage.{Stage}
 use Rattle.aia_fabric_values.specs.World.{World, OnlyStores, flight_of, stage_of, no_stage}
 use Rattle.aia_fabric_values.specs.Whole.{IsWhole}
-use Rattle.aia_fabric_values.specs.Changes.{spot_of, with_fence}
+use Rattle.aia_fabric_values.specs.Changes.{spot_of}
 use Rattle.aia_fabric_values.specs.Flights.{Fences}
 use Rattle.aia_fabric_values.specs.SlotAccess.{DoneInSlot}
 use Rattle.aia_fabric_values.proofs.FrameLemmas.{by_parts}
@@ -39,7 +39,7 @@ use Rattle.aia_move_values.specs.Targets.{TargetMap}
 use Rattle.aia_move_values.specs.Touches.{SameMachine, Touches, sends}
 use Rattle.aia_move_values.specs.Landings.{LandsFirst}
 use Rattle.aia_move_values.specs.Knows.{Knows}
-use Rattle.aia_move_values.specs.Ways.{led_by_entry, led_by_record, entry_of, written_of, leads_here, KnowsWays, KnowsTargets, KnowsAll, landed_before, reach_fetched}
+use Rattle.aia_move_values.specs.Ways.{led_by_entry, led_by_record, entry_of, written_of, leads_here, KnowsWays, landed_before, reach_fetched}
 use Rattle.aia_move_values.specs.Ways as ways
 use Rattle.aia_move_values.proofs.KnowsLemmas.{knows_by}
 use Rattle.aia_move_values.proofs.MachineLemmas.{machine_touched}
@@ -47,36 +47,33 @@ use Rattle.aia_move_values.proofs.MoveKept.{files_fit, slot_few, notice_low, goe
 use Rattle.aia_move_values.proofs.SlotViews.{done_entry_words, slot_done-others}
 use Rattle.aia_move_values.proofs.TouchLemmas.{step_touches, view_stays}
 use Rattle.aia_move_values.proofs.WayLemmas.{led_own, led_recorded, led_same, recorded_same, replaced_kept}
-use Rattle.aia_move_values.proofs.WayFrames.{KeepsRoutes, words_same, stored_machine, stored_ways}
+use Rattle.aia_move_values.proofs.WayFrames.{KnowsSo, KeepsRoutes, words_same, stored_machine, stored_ways}
 use Rattle.aia_move_values.proofs.WayFences.{fenced_all, no_vcpu}
 
 -- ---- accesses of others
 
-module _ (w u : World) (map : TargetMap) (plan : PlanState) (reach : Option GuestPlace) (file : InterruptFile) (saw : Bool)
-    (all : KnowsAll w map plan reach file saw) where
-  abbrev m : Moving
-  m = moving_of plan
-
+module _ (w u : World) (map : TargetMap) (Q : ℕ → Type 0) (m : Moving) (reach : Option GuestPlace) (file : InterruptFile) (saw : Bool)
+    (all : KnowsSo Q w map m reach file saw) where
   -- a slot is reached as a file that is another one's
   pub slot_all : (q threshold : ℕ) (deed : InterruptFile → InterruptFile) → q < VCPUS → q ≢ m.who.found.slot → DoneInSlot w u q threshold deed
-      → KnowsAll u map plan reach file saw
+      → KnowsSo Q u map m reach file saw
   slot_all q threshold deed low other done =
       let rest : OnlyStores w u = by_parts w u w.imsic.files u.memory w.notices done.rest in
       let seen = slot_done-others w u q threshold deed low done (mover m) m.home (λ e. other (e ∙ sym all.places.fits.slot)) in
       record {
-        places = knows_by w u plan reach saw (stored_machine w u rest) file file all.places (places_of w (mover m) m.home) seen all.places.holds;
+        places = knows_by w u Q m reach saw (stored_machine w u rest) file file all.places (places_of w (mover m) m.home) seen all.places.holds;
         ways = stored_ways w u m rest (λ g. done_entry_words w u q threshold deed low done g.vm g.vcpu) all.ways;
         targets = all.targets;
       }
 
   -- a file changes that the move does not hold
   pub file_all : (spot : Spot) → IsThere w.imsic spot → ((p : GuestPlace) → holds p m.home ≡ true → spot ≢ spot_of p)
-      → u ≡ record w { imsic = with_file w.imsic spot (file_at u.imsic spot); notices = u.notices } → KnowsAll u map plan reach file saw
+      → u ≡ record w { imsic = with_file w.imsic spot (file_at u.imsic spot); notices = u.notices } → KnowsSo Q u map m reach file saw
   file_all spot here other is =
       let rest : OnlyStores w u = by_parts w u (with_file w.imsic spot (file_at u.imsic spot)).files w.memory u.notices is in
       let seen = replaced_kept w u m spot u.notices here other all.places.fits is in
       record {
-        places = knows_by w u plan reach saw (stored_machine w u rest) file file all.places (places_of w (mover m) m.home) seen all.places.holds;
+        places = knows_by w u Q m reach saw (stored_machine w u rest) file file all.places (places_of w (mover m) m.home) seen all.places.holds;
         ways = stored_ways w u m rest (words_same w u (ap (λ (x : World). x.memory) is)) all.ways;
         targets = all.targets;
       }
@@ -133,18 +130,15 @@ written_is w m reach whole fits routes = words_say w (mover m) m.who.found.slot 
         elim (either_file p m.home held) [ inl own ↦ fit.own p own | inr next ↦ fit.next p next ]
 
 -- its routes lead to none of a plan's places
-pub record RoutesApart (u : World) (plan : PlanState) (o : Moving) : Type 0 where
-  pub entry : leads_here (moving_of plan) (led_by_entry u (entry_of u (mover o))) ≡ false
-  pub written : leads_here (moving_of plan) (led_by_entry u (written_of u (mover o))) ≡ false
-  pub in_force : leads_here (moving_of plan) (led_by_record u (mover o) (stage_of u (mover o)).in_force) ≡ false
-  pub named : leads_here (moving_of plan) (led_by_record u (mover o) (stage_of u (mover o)).written) ≡ false
+pub record RoutesApart (u : World) (m : Moving) (o : Moving) : Type 0 where
+  pub entry : leads_here m (led_by_entry u (entry_of u (mover o))) ≡ false
+  pub written : leads_here m (led_by_entry u (written_of u (mover o))) ≡ false
+  pub in_force : leads_here m (led_by_record u (mover o) (stage_of u (mover o)).in_force) ≡ false
+  pub named : leads_here m (led_by_record u (mover o) (stage_of u (mover o)).written) ≡ false
 
-module _ (w u : World) (plan : PlanState) (o : Moving) (whole : IsWhole w) (others : (p : GuestPlace) → holds p (moving_of plan).home ≡ true
-    → holds p o.home ≡ false) (same : SameMachine w u) (fits : MoveFits w o) (slots : nat_eq o.who.found.slot (moving_of plan).who.found.slot ≡ false)
+module _ (w u : World) (it : Moving) (o : Moving) (whole : IsWhole w) (others : (p : GuestPlace) → holds p it.home ≡ true
+    → holds p o.home ≡ false) (same : SameMachine w u) (fits : MoveFits w o) (slots : nat_eq o.who.found.slot it.who.found.slot ≡ false)
   where
-    abbrev it : Moving
-    it = moving_of plan
-
     abbrev g : Vcpu
     g = mover o
 
@@ -177,7 +171,7 @@ module _ (w u : World) (plan : PlanState) (o : Moving) (whole : IsWhole w) (othe
         (omega (arith, here.0, whole.harts), omega (arith, here.2, whole.guests), here.1)
 
     after_step : (there : Home) (reach : Option GuestPlace) → ((p : GuestPlace) → holds p there ≡ true → holds p o.home ≡ true)
-        → HoldsRoutes o.who.found.slot o.who.found.notice reach (places_of u g there) there → RoutesApart u plan o
+        → HoldsRoutes o.who.found.slot o.who.found.notice reach (places_of u g there) there → RoutesApart u it o
     after_step there reach kept routes =
         let names_held : (p : GuestPlace) → entry_names there ≡ Some p → holds p o.home ≡ true =
         λ p e. kept p (route_held there (is_written there) (entry_names there) refl p e) in
@@ -210,12 +204,9 @@ kept_by_touch sent w u o x fits t there other =
 pub touched_flights : (sent : Bool) (w u : World) (o : Moving) (v : ℕ) → Touches sent w u o → flight_of u v ≡ flight_of w v
 touched_flights sent w u o v t = ap (λ (x : World). flight_of x v) t.rest
 
-module _ (sent : Bool) (w u : World) (plan : PlanState) (o : Moving) (fits : MoveFits w o) (t : Touches sent w u o)
-    (ways : KnowsWays w (moving_of plan))
+module _ (sent : Bool) (w u : World) (mine : Moving) (o : Moving) (fits : MoveFits w o) (t : Touches sent w u o)
+    (ways : KnowsWays w mine)
   where
-    abbrev mine : Moving
-    mine = moving_of plan
-
     same : SameMachine w u
     same = machine_touched sent w u o t
 
@@ -266,7 +257,7 @@ module _ (sent : Bool) (w u : World) (plan : PlanState) (o : Moving) (fits : Mov
       flying = λ v k s is led. ways.flying v k s (ap (λ xs. slice_get xs k) (sym (touched_flights sent w u o v t)) ∙ is) (was_entry s.entry led);
     }
 
-    pub by_apart : RoutesApart u plan o → RoutesKnown
+    pub by_apart : RoutesApart u mine o → RoutesKnown
     by_apart apart = record {
       entry = λ led. absurd (false≢true (sym apart.entry ∙ led));
       written = λ led. absurd (false≢true (sym apart.written ∙ led));
@@ -276,45 +267,64 @@ module _ (sent : Bool) (w u : World) (plan : PlanState) (o : Moving) (fits : Mov
 
 -- ---- a step of another move
 
-module _ (w : World) (map : TargetMap) (plan other : PlanState) (reach led : Option GuestPlace) (file theirs : InterruptFile) (saw seen : Bool)
-    (whole : IsWhole w) (apart : AreApart (moving_of plan).home) (two : AreApart (moving_of other).home) (within : IsWithin w.n (width w) file)
-    (fine : IsWithin w.n (width w) theirs) (all : KnowsAll w map plan reach file saw) (knows : Knows w other led theirs seen)
-    (two_harts : mover (moving_of other) ≢ mover (moving_of plan))
-    (files : (p : GuestPlace) → holds p (moving_of plan).home ≡ true → holds p (moving_of other).home ≡ false) where
-  abbrev me : Moving
-  me = moving_of plan
+-- it is the fence of its entry
+pub fence_step : (w landed u : World) (o : Moving) (hand : Hand) → LandsFirst w o landed → MakesNext landed o u hand → is_at_fence o.home ≡ true
+    → Fences w u o.who.found.vm o.who.found.vcpu
+fence_step w landed u o hand first step at =
+    let is : step.access ≡ Fence = is_the_fence step.access (fence_is_next (width landed) o.home step.access step.is_next ∙ at) in
+    let both = first.fence at in
+    record { landed = landed; lands = both.0; whole = both.1; fenced = subst (λ (a : Access). Makes a o landed u) is step.makes }
+  where
+    is_the_fence : (access : Access) → is_fence access ≡ true → access ≡ Fence
+    is_the_fence Fence e = refl
+    is_the_fence access e = absurd (cc)
 
+-- where its routes lead after it
+module _ (w : World) (me : Moving) (other : PlanState) (led : Option GuestPlace) (theirs : InterruptFile) (seen : Bool) (whole : IsWhole w)
+    (two : AreApart (moving_of other).home) (fine : IsWithin w.n (width w) theirs) (knows : Knows w other led theirs seen)
+    (slots_apart : nat_eq (moving_of other).who.found.slot me.who.found.slot ≡ false)
+    (files : (p : GuestPlace) → holds p me.home ≡ true → holds p (moving_of other).home ≡ false) where
   abbrev o : Moving
   o = moving_of other
 
-  slots_apart : nat_eq o.who.found.slot me.who.found.slot ≡ false
-  slots_apart = ne_eqb o.who.found.slot me.who.found.slot (λ e. two_harts (same_slot w.vms (mover o) (mover me) knows.fits.there all.places.fits.there
-      (sym knows.fits.slot ∙ e ∙ all.places.fits.slot)))
-
-  -- not the fence of its entry
-  routes_then : (u : World) (hand : Hand) (step : MakesNext w o u hand) (b : Bool) → is_at_last (width w) o.home ≡ b → RoutesApart u plan o
+  pub routes_then : (u : World) (hand : Hand) (step : MakesNext w o u hand) (b : Bool) → is_at_last (width w) o.home ≡ b → RoutesApart u me o
   routes_then u hand step false more =
       let t : Moving = record o { home = one_more o.home; hand = hand } in
       let same = machine_touched (sends step.access o.hand) w u o (step_touches w u o hand whole knows.fits step) in
       let held = goes_kept w u o whole knows.fits two led theirs seen t (record { step = step; more = more; home = refl; same_who = refl }) fine
       knows.holds in
-      after_step w u plan o whole files same knows.fits slots_apart (one_more o.home) (reach_stepped o.home led) (more_held o.home) held.routes
+      after_step w u me o whole files same knows.fits slots_apart (one_more o.home) (reach_stepped o.home led) (more_held o.home) held.routes
   routes_then u hand step true last =
       let same = machine_touched (sends step.access o.hand) w u o (step_touches w u o hand whole knows.fits step) in
       let held = ends_kept w u o whole knows.fits two led theirs seen hand (record { step = step; last = last }) fine knows.holds in
-      after_step w u plan o whole files same knows.fits slots_apart (ended o.home) (reach_stepped o.home led) (ended_held o.home) held.routes
+      after_step w u me o whole files same knows.fits slots_apart (ended o.home) (reach_stepped o.home led) (ended_held o.home) held.routes
 
-  not_fenced : (u : World) (hand : Hand) → MakesNext w o u hand → KnowsAll u map plan reach file saw
+module _ (w : World) (map : TargetMap) (Q : ℕ → Type 0) (me : Moving) (other : PlanState) (reach led : Option GuestPlace) (file theirs :
+    InterruptFile) (saw seen : Bool)
+    (whole : IsWhole w) (apart : AreApart me.home) (two : AreApart (moving_of other).home) (within : IsWithin w.n (width w) file)
+    (fine : IsWithin w.n (width w) theirs) (all : KnowsSo Q w map me reach file saw) (knows : Knows w other led theirs seen)
+    (two_harts : mover (moving_of other) ≢ mover me)
+    (files : (p : GuestPlace) → holds p me.home ≡ true → holds p (moving_of other).home ≡ false) where
+  abbrev it : Moving
+  it = moving_of other
+
+  slots_apart : nat_eq it.who.found.slot me.who.found.slot ≡ false
+  slots_apart = ne_eqb it.who.found.slot me.who.found.slot (λ e. two_harts (same_slot w.vms (mover it) (mover me) knows.fits.there
+      all.places.fits.there
+      (sym knows.fits.slot ∙ e ∙ all.places.fits.slot)))
+
+  -- not the fence of its entry
+  not_fenced : (u : World) (hand : Hand) → MakesNext w it u hand → KnowsSo Q u map me reach file saw
   not_fenced u hand step =
-      let t = step_touches w u o hand whole knows.fits step in
-      let same = machine_touched (sends step.access o.hand) w u o t in
-      let places = view_stays (sends step.access o.hand) w u o (mover me) me.home whole knows.fits t all.places.fits.there (λ e. two_harts (sym e))
+      let t = step_touches w u it hand whole knows.fits step in
+      let same = machine_touched (sends step.access it.hand) w u it t in
+      let places = view_stays (sends step.access it.hand) w u it (mover me) me.home whole knows.fits t all.places.fits.there (λ e. two_harts (sym e))
       (λ p held. (mine_there p held, files p held)) in
       record {
-        places = knows_by w u plan reach saw same file file all.places (places_of w (mover me) me.home) places all.places.holds;
-        ways = ways_stepped (sends step.access o.hand) w u plan o knows.fits t all.ways
-            (by_apart (sends step.access o.hand) w u plan o knows.fits t all.ways
-            (routes_then u hand step (is_at_last (width w) o.home) refl));
+        places = knows_by w u Q me reach saw same file file all.places (places_of w (mover me) me.home) places all.places.holds;
+        ways = ways_stepped (sends step.access it.hand) w u me it knows.fits t all.ways
+            (by_apart (sends step.access it.hand) w u me it knows.fits t all.ways
+            (routes_then w me other led theirs seen whole two fine knows slots_apart files u hand step (is_at_last (width w) it.home) refl));
         targets = all.targets;
       }
     where
@@ -322,31 +332,23 @@ module _ (w : World) (map : TargetMap) (plan other : PlanState) (reach led : Opt
       mine_there p held = elim (either_file p me.home held) [ inl own ↦ all.places.fits.own p own | inr next ↦ all.places.fits.next p next ]
 
   -- the fence of its entry
-  is_the_fence : (access : Access) → is_fence access ≡ true → access ≡ Fence
-  is_the_fence Fence e = refl
-  is_the_fence access e = absurd (cc)
-
-  fenced : (landed u : World) (hand : Hand) → LandsFirst w o landed → MakesNext landed o u hand → is_at_fence o.home ≡ true
-      → KnowsAll u map plan reach (ways.landed_flight w me (flight_of w o.who.found.vm) file) saw
+  fenced : (landed u : World) (hand : Hand) → LandsFirst w it landed → MakesNext landed it u hand → is_at_fence it.home ≡ true
+      → KnowsSo Q u map me reach (ways.landed_flight w me (flight_of w it.who.found.vm) file) saw
   fenced landed u hand first step at =
-      let is : step.access ≡ Fence = is_the_fence step.access (fence_is_next (width landed) o.home step.access step.is_next ∙ at) in
-      let made : u ≡ with_fence landed o.who.found.vm o.who.found.vcpu = subst (λ (a : Access). Makes a o landed u) is step.makes in
-      let both = first.fence at in
-      let fences : Fences w u o.who.found.vm o.who.found.vcpu =
-      record { landed = landed; lands = both.0; whole = both.1; fenced = made } in
-      let after = fenced_all w u (mover o) map plan reach file saw whole apart within knows.fits.there all fences in
-      subst (λ b. KnowsAll u map plan (reach_fetched b me reach) (ways.landed_flight w me (flight_of w o.who.found.vm) file) saw)
-      (other_one (is_vcpu (mover me) (mover o)) refl) after
+      let fences = fence_step w landed u it hand first step at in
+      let after = fenced_all w u (mover it) map Q me reach file saw whole apart within knows.fits.there all fences in
+      subst (λ b. KnowsSo Q u map me (reach_fetched b me reach) (ways.landed_flight w me (flight_of w it.who.found.vm) file) saw)
+      (other_one (is_vcpu (mover me) (mover it)) refl) after
     where
-      other_one : (b : Bool) → is_vcpu (mover me) (mover o) ≡ b → is_vcpu (mover me) (mover o) ≡ false
-      other_one true e = absurd (two_harts (sym (same_vcpu (mover me) (mover o) e)))
+      other_one : (b : Bool) → is_vcpu (mover me) (mover it) ≡ b → is_vcpu (mover me) (mover it) ≡ false
+      other_one true e = absurd (two_harts (sym (same_vcpu (mover me) (mover it) e)))
       other_one false e = e
 
-  pub other_step : (landed u : World) (hand : Hand) → LandsFirst w o landed → MakesNext landed o u hand
-      → KnowsAll u map plan reach (landed_before w o me file) saw
-  other_step landed u hand first step = by_fence (is_at_fence o.home) refl
+  pub other_step : (landed u : World) (hand : Hand) → LandsFirst w it landed → MakesNext landed it u hand
+      → KnowsSo Q u map me reach (landed_before w it me file) saw
+  other_step landed u hand first step = by_fence (is_at_fence it.home) refl
     where
-      by_fence : (b : Bool) → is_at_fence o.home ≡ b
-          → KnowsAll u map plan reach (if b then ways.landed_flight w me (flight_of w o.who.found.vm) file else file) saw
+      by_fence : (b : Bool) → is_at_fence it.home ≡ b
+          → KnowsSo Q u map me reach (if b then ways.landed_flight w me (flight_of w it.who.found.vm) file else file) saw
       by_fence true at = fenced landed u hand first step at
-      by_fence false none = not_fenced u hand (subst (λ (x : World). MakesNext x o u hand) (first.other none) step)
+      by_fence false none = not_fenced u hand (subst (λ (x : World). MakesNext x it u hand) (first.other none) step)

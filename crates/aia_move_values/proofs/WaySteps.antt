@@ -35,6 +35,8 @@ use Rattle.aia_move_values.proofs.MachineLemmas.{machine_touched}
 use Rattle.aia_move_values.proofs.MoveKept.{goes_kept, aims_kept}
 use Rattle.aia_move_values.proofs.TouchLemmas.{step_touches}
 use Rattle.aia_move_values.proofs.WayFences.{all_land, flight_within}
+use Rattle.aia_move_values.proofs.KnowsLemmas.{InPhase}
+use Rattle.aia_move_values.proofs.WayFrames.{so_of, all_of}
 use Rattle.aia_move_values.proofs.WayMoves.{ways_stepped, touched_flights}
 use Rattle.aia_move_values.proofs.WayTargets.{goes_aimed, own_aimed}
 
@@ -84,7 +86,9 @@ module _ (w : World) (map : TargetMap) (plan : PlanState) (reach : Option GuestP
 
       by_fence : (b : Bool) → is_at_fence m.home ≡ b
           → KnowsAll landed map plan reach (if b then ways.landed_flight w m (flight_of w m.who.found.vm) file else file) saw
-      by_fence true at = all_land w map plan reach file saw m.who.found.vm there apart within all landed (first.fence at).0
+      by_fence true at = all_of landed map plan reach (ways.landed_flight w m (flight_of w m.who.found.vm) file) saw
+          (all_land w map (InPhase plan) m reach file saw m.who.found.vm there apart within (so_of w map plan reach file saw all) landed
+          (first.fence at).0)
       by_fence false none = subst (λ (x : World). KnowsAll x map plan reach file saw) (sym (first.other none)) all
 
   within_first : IsWithin w.n (width w) (landed_before w m m file)
@@ -131,7 +135,7 @@ module _ (w : World) (map : TargetMap) (plan : PlanState) (reach : Option GuestP
       let touches = step_touches landed u m t.hand whole_then before.places.fits goes.step in
       let same = machine_touched (sends goes.step.access m.hand) landed u m touches in
       let held = goes_kept landed u m whole_then before.places.fits apart reach (landed_before w m m file) saw t goes inside before.places.holds in
-      let stepped = ways_stepped (sends goes.step.access m.hand) landed u plan m before.places.fits touches before.ways
+      let stepped = ways_stepped (sends goes.step.access m.hand) landed u m m before.places.fits touches before.ways
       (record { entry = λ led. refl; written = λ led. refl; in_force = λ led. refl; named = λ led. refl }) in
       record {
         places = record {

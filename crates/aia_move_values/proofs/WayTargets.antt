@@ -5,7 +5,7 @@ use Rattle.std.proofs.lemmas.Bool.{cases_eq}
 use Rattle.std.proofs.lemmas.Bool.Decides.{nat_tests}
 use Rattle.aia_vcpu.specs.declared.place.GuestPlace.{GuestPlace}
 use Rattle.aia_vcpu.specs.Home.{Home, ended, one_more}
-use Rattle.aia_vcpu.specs.Home.Home.{InMemory, Resident, OnWay}
+use Rattle.aia_vcpu.specs.Home.Home.{OnWay}
 use Rattle.aia_vcpu.specs.Plans.{is_at_last}
 use Rattle.aia_vcpu.specs.BySteps.{new_file}
 use Rattle.aia_vcpu.specs.Aims.{aims_done, is_aiming, aimed, further, pass_reaches, target_to, AreAimed}

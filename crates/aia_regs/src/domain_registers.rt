@@ -49,16 +49,18 @@ pub enum DomainReg {
     /// `target` of this source, 1 to 1023: the hart that it goes to, and its priority or identity
     /// there.
     Target(u32),
-    /// `idelivery` of the hart with this index, 0 to `LAST_CONTROL`: whether interrupts are delivered to it.
+    /// `idelivery` of the hart with this index, 0 to `LAST_CONTROL`: whether interrupts are
+    /// delivered to it.
     IDelivery(u32),
     /// `iforce` of the hart with this index, 0 to `LAST_CONTROL`: forces an interrupt.
     IForce(u32),
-    /// `ithreshold` of the hart with this index, 0 to `LAST_CONTROL`: the priority from which interrupts are
-    /// held back; 0 holds none back.
+    /// `ithreshold` of the hart with this index, 0 to `LAST_CONTROL`: the priority from which
+    /// interrupts are held back; 0 holds none back.
     IThreshold(u32),
     /// `topi` of the hart with this index, 0 to `LAST_CONTROL`: the interrupt on top.
     TopI(u32),
-    /// `claimi` of the hart with this index, 0 to `LAST_CONTROL`: the interrupt on top, which a read claims.
+    /// `claimi` of the hart with this index, 0 to `LAST_CONTROL`: the interrupt on top, which a
+    /// read claims.
     ClaimI(u32),
     /// No register: the offset is reserved, no multiple of 4, or beyond the region, which ends at
     /// 0x8000.

@@ -14,8 +14,8 @@ use crate::address_map::{
     SLOT, TABLE,
 };
 use crate::limits::{
-    ENTRIES, FILE_WORDS, FIRST_PASS_IDENTITY, GUEST_FILES, HARTS, MASK_BITS, MASK_ONES,
-    MEMORY_WORDS, PASSES, SLOTS, SOURCES, VCPUS, VM_VCPUS, VMS,
+    ENTRIES, FILE_WORDS, FIRST_PASS_IDENTITY, GUEST_FILES, HARTS, LAST_CONTROL, MASK_BITS,
+    MASK_ONES, MEMORY_WORDS, PASSES, SLOTS, SOURCES, VCPUS, VM_VCPUS, VMS,
 };
 use crate::{DomainReg, FileReg};
 
@@ -93,7 +93,8 @@ pub fn map_of_addresses()
 /// What bounds the limits of the machine, beside the map of addresses: none may be raised beyond
 /// it. Nothing is said here of stores in flight.
 ///
-/// A domain's region has 32 bytes of controls for each hart. A CSR names a guest file by 6 bits, of
+/// A domain's region has 32 bytes of controls for each hart, and ends with those of hart
+/// `LAST_CONTROL`. A CSR names a guest file by 6 bits, of
 /// which 0 is none. A slot has two words for each 64 identities, and a table one entry of 16 bytes
 /// for each number that the ones of a mask spell; a virtual hart of a VM has an entry of its own.
 /// The notices of virtual harts are identities that each hart's supervisor file has, which are 63
@@ -103,6 +104,8 @@ pub fn map_of_addresses()
 /// the number of each hart.
 pub fn bounds_of_the_limits()
     ensures harts { 0x4000 + 32 * HARTS ≤ REGION }
+    ensures controls { 0x4000 + 32 * (LAST_CONTROL + 1) ≡ REGION }
+    ensures harts_controlled { HARTS ≤ LAST_CONTROL + 1 }
     ensures guest_files { GUEST_FILES < 2 ^ 6 }
     ensures identities { 8 * (2 * FILE_WORDS) ≡ SLOT }
     ensures sources { SOURCES < 1024 }

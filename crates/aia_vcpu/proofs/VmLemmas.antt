@@ -1,6 +1,6 @@
 -- Virtual harts and their slots.
-use Rattle.std.proofs.Common.{◌≡◌, ℕ, zero, suc, ◌+◌, ◌-◌, ◌<◌, ◌≤◌, inl, inr, true, nat_eq, List, [], ◌∷◌, ◌++◌, length, take, refl, ap, ◌∙◌, arith}
-use Rattle.std.proofs.lemmas.Bool.{cases_lt, lt-ltb, eqb-true, and_parts}
+use Rattle.std.proofs.Common.{◌≡◌, ℕ, zero, suc, ◌+◌, ◌-◌, ◌<◌, ◌≤◌, ◌⊎◌, inl, inr, true, nat_eq, nat_lt, List, [], ◌∷◌, ◌++◌, length, take, length-append, refl, sym, subst, ap, ◌∙◌, arith}
+use Rattle.std.proofs.lemmas.Bool.{cases_lt, cases_eq, lt-ltb, eqb-true, and_parts}
 use Rattle.std.proofs.lemmas.Bool.Decides.{nat_tests}
 use Rattle.aia_vcpu.specs.declared.vm.Vm.{Vm}
 use Rattle.aia_vcpu.specs.Vms.{vm_in, vcpus_in, Vcpu, vcpu_of, is_vcpu, is_vcpu_in, slot_of}
@@ -86,3 +86,20 @@ pub vm_past : (vms : List Vm) (v : ℕ) → length vms ≤ v → (vm_in vms v).v
 vm_past [] v past = refl
 vm_past (first ∷ later) zero past = absurd (omega (arith, past))
 vm_past (first ∷ later) (suc v) past = vm_past later v (omega (arith, past))
+
+-- those that were, and the new VM's
+pub old_or_new : (vms : List Vm) (vm : Vm) (g : Vcpu) → is_vcpu_in (vms ++ vm ∷ []) g ≡ true → ((g.vm < length vms) × (is_vcpu_in vms g ≡ true))
+    ⊎ ((g.vm ≡ length vms) × (g.vcpu < vm.vcpus))
+old_or_new vms vm g there = elim (cases_lt g.vm (length vms)) [
+  | inl low ↦ inl (low, ap (λ (v : Vm). nat_lt g.vcpu v.vcpus) (sym (vm_stays vms vm g.vm low)) ∙ there)
+  | inr past ↦ elim (cases_eq g.vm (length vms)) [
+    | inl e ↦ inr (
+      e,
+      subst (λ (v : Vm). g.vcpu < v.vcpus) (ap (vm_in (vms ++ vm ∷ [])) e ∙ vm_new vms vm)
+          (numbered (vms ++ vm ∷ []) g.vm g.vcpu there),
+    )
+    | inr ne ↦
+        let low = numbered (vms ++ vm ∷ []) g.vm g.vcpu there in
+        let none = vm_past (vms ++ vm ∷ []) g.vm (omega (arith, past, ne, length-append vms (vm ∷ []))) in absurd (omega (arith, low, none))
+  ]
+]

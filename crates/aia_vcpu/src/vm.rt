@@ -1,7 +1,8 @@
 ghost use Rattle.std.specs.Prelude.{◌≡◌, ◌^◌, ◌<◌, true};
 ghost use Rattle.aia_vcpu.specs.Vms.{Vcpu, vcpus_in, is_vcpu_in, slot_of, notice_hart};
 
-/// A VM: what is said of it as it is made.
+/// A VM: what is said of it as it is made. The default one, with no virtual hart, is none of a
+/// machine; arrays of bounded size need one.
 #[derive(Clone, Copy, Debug, Default, PartialEq, Eq)]
 pub struct Vm {
     /// How many virtual harts it has, at least 1.

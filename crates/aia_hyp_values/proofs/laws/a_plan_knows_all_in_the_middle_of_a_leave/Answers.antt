@@ -1,4 +1,4 @@
-use Rattle.aia_hyp_values.proofs.ExampleWays.{flying_known, example_targets_stand, flying_shut, own_lands, other_lands}
+use Rattle.aia_hyp_values.proofs.ExampleWays.{flying_known, example_targets_stand, flying_shut, own_lands, other_lands, stayer_rests}
 use Rattle.aia_hyp_values.proofs.laws.a_plan_knows_all_in_the_middle_of_a_leave.Goals as goal
 
 pub returns-clause-knows : goal.returns-clause-knows
@@ -15,3 +15,6 @@ returns-clause-own c = own_lands
 
 pub returns-clause-other : goal.returns-clause-other
 returns-clause-other c = other_lands
+
+pub returns-clause-rests : goal.returns-clause-rests
+returns-clause-rests c = stayer_rests
