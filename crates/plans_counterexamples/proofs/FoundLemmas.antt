@@ -22,7 +22,7 @@ use Rattle.plans_rules.specs.Machine.{all_happened}
 use Rattle.plans_rules.proofs.BoolLaws.{and_left, and_right, or_left, or_right, or_cases}
 use Rattle.plans_counterexamples.specs.declared.trace.Case.{Case}
 use Rattle.plans_counterexamples.specs.declared.run.Run.{Run}
-use Rattle.plans_counterexamples.specs.Trace.{Follows, trace_after, trace_fenced, trace_switched, trace_turned}
+use Rattle.plans_counterexamples.specs.Trace.{Follows, trace_after, trace_fenced, trace_paused, trace_resumed, trace_switched, trace_turned}
 use Rattle.plans_counterexamples.specs.Run.{Loses, can_be, differ, fate_of, happenings, is_bad_bit, is_bad_end, is_flying_old, is_missing, run_upto, shows, start_of, trace_extra, trace_flown, trace_number, trace_sent, trace_wanted}
 use Rattle.plans_counterexamples.specs.Search.{at_most, by_producer, first_of, found_in, losing_run_of, or_else, quiet_word, scope_by, stored_ahead, stored_old, stored_word, trace_end, trace_stepped, trace_upto, tried, without_store}
 use Rattle.plans_counterexamples.proofs.RunLemmas.{IsUnsent, follows_begun, follows_end, follows_more, it_loses}
@@ -44,6 +44,16 @@ after_none c (steps.Fence q) t e = by_test (nat_eq q c.producer)
 after_none c (steps.Switch q) t e = by_test (nat_eq q c.producer)
   where
     by_test : (b : Bool) → (trace_switched b t).flight ≡ None
+    by_test true = e
+    by_test false = e
+after_none c (steps.Pause q) t e = by_test (nat_eq q c.producer)
+  where
+    by_test : (b : Bool) → (trace_paused c b t).flight ≡ None
+    by_test true = refl
+    by_test false = e
+after_none c (steps.Resume q) t e = by_test (nat_eq q c.producer)
+  where
+    by_test : (b : Bool) → (trace_resumed b t).flight ≡ None
     by_test true = e
     by_test false = e
 after_none c (steps.Zero Old s w) t e = e

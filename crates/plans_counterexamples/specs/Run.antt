@@ -23,11 +23,10 @@ use Rattle.plans_counterexamples.specs.declared.trace.StoreRoute.{StoreRoute}
 use Rattle.plans_counterexamples.specs.declared.trace.StoreRoute.TheVariants.{Written, InForce}
 use Rattle.plans_counterexamples.specs.declared.trace.Trace.{Trace}
 use Rattle.plans_counterexamples.specs.declared.run.Run.{Run}
-use Rattle.plans_counterexamples.specs.declared.run.Extra.{Extra}
 use Rattle.plans_counterexamples.specs.declared.run.Fate.{Fate}
 use Rattle.plans_counterexamples.specs.declared.run.Fate.TheVariants as fates
 use Rattle.plans_counterexamples.specs.declared.run.Extra.TheVariants as extras
-use Rattle.plans_counterexamples.specs.Trace.{trace_first, begins_old, begins_new, flights_by, trace_stored, flight_landed, worth}
+use Rattle.plans_counterexamples.specs.Trace.{trace_first, begins_old, begins_new, trace_stored, unless_paused, flight_landed, worth}
 
 -- ---- how a run begins
 
@@ -49,6 +48,7 @@ start_of d run = record {
   hand_number = λ n. worth (same_spot d.number_from InHand);
   written = λ p. Old;
   in_force = λ p. Old;
+  paused = λ p. false;
   flights = [];
   freed = false;
   strayed = false;
@@ -103,9 +103,12 @@ pub record Loses (d : Setting) (plan : List AnyStep) (run : Run) : Type 0 where
 abbrev pub trace_begun : Run → Terms → Trace
 trace_begun run terms = trace_first run.begin run.left terms
 
--- What is followed, once the store is sent, and once it has landed.
+-- What is followed, once the store is sent, unless its producer is paused, and once it has landed.
 abbrev pub trace_sent : Bool → Trace → Trace
-trace_sent comes t = elim comes [ true ↦ record t { flight = Some t.in_force } | false ↦ t ]
+trace_sent comes t = elim comes [
+  | true ↦ unless_paused t (record t { flight = Some t.in_force })
+  | false ↦ t
+]
 
 abbrev pub trace_flown : Case → Bool → Trace → Trace
 trace_flown c comes t = elim comes [

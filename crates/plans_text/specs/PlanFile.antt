@@ -136,6 +136,8 @@ abbrev pub is_known : ℕ → ℕ → AnyStep → Bool
 is_known words producers (steps.Route p) = nat_lt p producers
 is_known words producers (steps.Fence p) = nat_lt p producers
 is_known words producers (steps.Switch p) = nat_lt p producers
+is_known words producers (steps.Pause p) = nat_lt p producers
+is_known words producers (steps.Resume p) = nat_lt p producers
 is_known words producers (steps.Zero place s w) = nat_lt w words
 is_known words producers (steps.Take s w) = nat_lt w words
 is_known words producers (steps.Copy s w) = nat_lt w words
