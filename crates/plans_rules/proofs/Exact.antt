@@ -462,13 +462,13 @@ beginning d before rest = record {
   hand_number = λ n. worth (same_spot d.number_from InHand);
   written = λ p. Old;
   in_force = λ p. Old;
-  paused = λ p. false;
   flights = [];
   freed = false;
   strayed = false;
   noticed = true;
   seen = false;
   told = false;
+  paused = λ p. false;
 }
 
 it_begins : (d : Setting) (before rest : WhichSet → ℕ → Bool) → (d.is_fresh ≡ true → (s : WhichSet) (i : ℕ) → rest s i ≡ false)

@@ -1,5 +1,5 @@
 -- A plan into memory that keeps the rules tells the host.
-use Rattle.std.proofs.Common.{◌≡◌, ℕ, zero, suc, ◌/◌, ◌%◌, ◌*◌, ◌+◌, ◌<◌, Bool, true, false, not, ◌&&◌, ◌||◌, nat_eq, nat_lt, List, [], ◌∷◌, ◌⊎◌, inl, inr, refl, sym, ap, subst, ◌∙◌, arith}
+use Rattle.std.proofs.Common.{◌≡◌, ℕ, zero, suc, ◌/◌, ◌%◌, ◌*◌, ◌+◌, ◌<◌, Bool, true, false, not, ◌&&◌, ◌||◌, nat_eq, nat_lt, List, [], ◌∷◌, ◌⊎◌, inl, inr, refl, sym, ap, ap₂, subst, ◌∙◌, arith}
 use Rattle.std.specs.List.{AllByRecursion}
 use Rattle.plans_rules.specs.declared.rule.Rule.{Rule}
 use Rattle.plans_rules.specs.declared.rule.Rule.TheVariants.{Notice}
@@ -378,24 +378,35 @@ notes_landed : (d : Setting) (start : AnyMachine) (done : Done) (p : ℕ) (z : A
 notes_landed d start done p z w v =
     (noted_all d start done (flights_of p z.flights) z (of_all (Flies d done) p z.flights w.flights) (record { kept = w; noted = v })).noted
 
+-- what such a step says is noted was noted before it
+abbrev SaysLess : Setting → AnyStep → Done → Type 0
+SaysLess d x done = (w : ℕ) → (is_seen d w (x ∷ done) ≡ true → is_seen d w done ≡ true)
+    × (is_looked d w (x ∷ done) ≡ true → is_looked d w done ≡ true)
+    × (is_reported d w (x ∷ done) ≡ true → is_reported d w done ≡ true)
+
+less_of : (a b c x y z : Bool) → ((a && x) ≡ true → a ≡ true) × ((b && y) ≡ true → b ≡ true) × ((c && z) ≡ true → c ≡ true)
+less_of a b c x y z = (and_left a x, and_left b y, and_left c z)
+
+-- so what is noted once all has landed is noted behind it, whatever else it does
+noted_behind : (d : Setting) (start : AnyMachine) (x : AnyStep) (done : Done) (z u : AnyMachine) → SaysLess d x done
+    → (is_noticed d (x ∷ done) ≡ true → is_noticed d done ≡ true) → u.due ≡ z.due → u.seen ≡ z.seen → u.told ≡ z.told → u.noticed ≡ z.noticed
+    → Noted d start done u → Noted d start (x ∷ done) z
+noted_behind d start x done z u less same due seen told noticed v = record {
+  seen = λ i e out. sym seen ∙ v.seen i ((less (i / 64)).0 e) (due_in i out);
+  looked = λ i e out. sym (ap₂ (λ a b. a || b) told seen) ∙ v.looked i ((less (i / 64)).1 e) (due_in i out);
+  reported = λ i inside e out. sym told ∙ v.reported i inside ((less (i / 64)).2 e) (due_in i out);
+  noticed = λ e. sym noticed ∙ v.noticed (same e);
+}
+  where
+    due_in : (i : ℕ) → due_out d start z i ≡ true → due_out d start u i ≡ true
+    due_in i out = subst (λ sets. stands_out d sets (first_numbers d start) i ≡ true) (sym due) out
+
 notes_any : (d : Setting) (start : AnyMachine) (done : Done) (x : AnyStep) (z : AnyMachine) → Invariant d start done z
     → Invariant d start (x ∷ done) (stepped d x z) → Noted d start done z → Noted d start (x ∷ done) (stepped d x z)
 notes_any d start done (Fence p) z w after v =
-    let u = notes_landed d start done p z w v in
-    record {
-      seen = λ i e. u.seen i (and_left (is_seen d (i / 64) done) _ e);
-      looked = λ i e. u.looked i (and_left (is_looked d (i / 64) done) _ e);
-      reported = λ i inside e. u.reported i inside (and_left (is_reported d (i / 64) done) _ e);
-      noticed = u.noticed;
-    }
+    noted_behind d start (Fence p) done _ _ (λ w. less_of _ _ _ _ _ _) (λ e. e) refl refl refl refl (notes_landed d start done p z w v)
 notes_any d start done (Pause p) z w after v =
-    let u = notes_landed d start done p z w v in
-    record {
-      seen = λ i e. u.seen i (and_left (is_seen d (i / 64) done) _ e);
-      looked = λ i e. u.looked i (and_left (is_looked d (i / 64) done) _ e);
-      reported = λ i inside e. u.reported i inside (and_left (is_reported d (i / 64) done) _ e);
-      noticed = u.noticed;
-    }
+    noted_behind d start (Pause p) done _ _ (λ w. less_of _ _ _ _ _ _) (λ e. e) refl refl refl refl (notes_landed d start done p z w v)
 notes_any d start done x z w after v = notes d start done x z tt after v
 
 -- ---- a whole run

@@ -91,11 +91,24 @@ def hypervisors(words: int) -> Iterator[tuple[Setting, list[Step]]]:
             ('put', 'threshold'), *joined, ('write', 'notice'), ('tell',), ('free',)])
 
 
+    for resumed in ([('resume', 0), ('resume', 1)], []):
+        yield (Setting(host, words, True, False, False, 'old', 'new'),
+               [('pause', 0), ('pause', 1), *swapped, *both_sets(words, 'put'), *put, *kvm,
+                ('free',), *resumed])
+    yield (Setting(routed, words, True, False, False, 'old', 'new'),
+           [('switch', 0), ('pause', 0), ('pause', 1), ('switch', 1), *swapped, *joined,
+            ('resume', 1), *put, ('resume', 0)])
+    yield (Setting(host, words, True, True, False, 'old', 'hand'),
+           [*kvm, *swapped, *joined, ('pause', 0), ('pause', 1),
+            *(('look', w) for w in range(words)), ('post',), ('untell',), ('resume', 0), ('free',),
+            ('resume', 1)])
+
+
 def all_steps(setting: Setting) -> list[Step]:
     """Every step that a plan of a setting may have."""
     out: list[Step] = [('post',), ('tell',), ('untell',), ('write', 'notice'), ('free',)]
     for p in range(len(setting.producers)):
-        out += [('route', p), ('fence', p), ('switch', p)]
+        out += [(verb, p) for verb in ('route', 'fence', 'switch', 'pause', 'resume')]
     for w in range(setting.words):
         out.append(('look', w))
         for bank in ('pending', 'enabled'):
@@ -142,6 +155,7 @@ class Machine:
         self.number[setting.start] = {'threshold': 9, 'delivery': 1}
         self.written = ['old'] * len(setting.producers)
         self.force = ['old'] * len(setting.producers)
+        self.paused = [False] * len(setting.producers)
         self.flights: list[tuple[int, str, Bit]] = []
         self.freed = self.strayed = self.seen = self.told = False
         self.notices_reach_the_host = not setting.unset
@@ -172,11 +186,13 @@ class Machine:
         self.due.add(what)
 
     def store(self, producer: int, by_written: bool, what: Bit) -> None:
-        self.land((self.written if by_written else self.force)[producer], what)
+        if not self.paused[producer]:
+            self.land((self.written if by_written else self.force)[producer], what)
 
     def send(self, producer: int, by_written: bool, what: Bit) -> None:
         route = (self.written if by_written else self.force)[producer]
-        self.flights.append((producer, route, what))
+        if not self.paused[producer]:
+            self.flights.append((producer, route, what))
 
     def land_first(self) -> None:
         if self.flights:
@@ -192,12 +208,23 @@ class Machine:
     def do_switch(self, p: int) -> None:
         self.written[p] = self.force[p] = 'new'
 
-    def do_fence(self, p: int) -> None:
+    def wait_for(self, p: int) -> None:
+        """What is in flight of a producer lands."""
         for q, place, what in self.flights:
             if q == p:
                 self.land(place, what)
         self.flights = [f for f in self.flights if f[0] != p]
+
+    def do_fence(self, p: int) -> None:
+        self.wait_for(p)
         self.force[p] = self.written[p]
+
+    def do_pause(self, p: int) -> None:
+        self.wait_for(p)
+        self.paused[p] = True
+
+    def do_resume(self, p: int) -> None:
+        self.paused[p] = False
 
     @staticmethod
     def of_word(bits: set[Bit], word: int) -> set[Bit]:
