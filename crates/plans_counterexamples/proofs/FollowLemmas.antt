@@ -204,6 +204,7 @@ resume_case : (c : Case) (t : Trace) (z : AnyMachine) (b : Bool) (Q : ℕ → Bo
     → Follows c t z → Follows c (trace_resumed b t) (record z { paused = Q })
 resume_case c t z true Q e v = paused_by c t z z.flights Q false v.flights e v
 resume_case c t z false Q e v = paused_by c t z z.flights Q t.paused v.flights e v
+
 -- ---- the numbers
 
 numbered : (n m : Number) (numbers : Number → ℕ) (old value : Bool) → numbers m ≡ worth value

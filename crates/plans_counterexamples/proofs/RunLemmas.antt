@@ -29,7 +29,7 @@ use Rattle.plans_counterexamples.specs.declared.run.Run.{Run}
 use Rattle.plans_counterexamples.specs.declared.run.Extra.{Extra}
 use Rattle.plans_counterexamples.specs.declared.run.Extra.TheVariants as extras
 use Rattle.plans_counterexamples.specs.Trace.{Follows, begins_old, begins_new, flights_by, flight_landed, trace_after, trace_landed, trace_stored, unless_paused, worth}
-use Rattle.plans_counterexamples.specs.Run.{Loses, can_be, differ, extra_at, by_of, happenings, is_bad_bit, is_bad_end, is_flying_old, is_routed, one_bit, run_upto, start_of, step_at, trace_begun, trace_extra, trace_flown, trace_number, trace_sent, trace_wanted}
+use Rattle.plans_counterexamples.specs.Run.{Loses, can_be, differ, extra_at, by_of, happenings, is_bad_bit, is_bad_end, is_flying_old, is_left, is_unled, is_routed, one_bit, run_upto, start_of, step_at, trace_begun, trace_extra, trace_flown, trace_number, trace_sent, trace_wanted}
 use Rattle.plans_counterexamples.proofs.FollowLemmas.{follows_landed, follows_step}
 
 -- ---- lists of happenings
@@ -381,8 +381,18 @@ flies_old c (Some place) e all = old_new place e all.0
 pub true_false : (b : Bool) → b ≡ true → b ≡ false → ⊥
 true_false b e f = false≢true (sym f ∙ e)
 
+-- the route in force of a producer that is there leads to the old place
+unled_is : (run : Run) (producers : ℕ) (t : Trace) → is_unled run producers t ≡ true → (run.case.producer < producers) × (is_old t.in_force ≡ true)
+unled_is run producers t e = by_extra run.extra e
+  where
+    by_extra : (extra : Extra) → is_unled (record run { extra = extra }) producers t ≡ true
+        → (run.case.producer < producers) × (is_old t.in_force ≡ true)
+    by_extra extras.Nothing e = (below_is run.case.producer producers (and_left _ _ e), and_right (nat_lt run.case.producer producers) _ e)
+    by_extra (extras.Stores before route) e = absurd (false≢true e)
+    by_extra (extras.Sends before lands) e = absurd (false≢true e)
+
 ends_badly : (producers : List RouteKind) (terms : Terms) (run : Run) (t : Trace) (z : AnyMachine) → run.case.identity / 64 < terms.words
-    → Follows run.case t z → is_bad_end run terms t ≡ true
+    → Follows run.case t z → is_bad_end run (length producers) terms t ≡ true
     → IsMovedByAny (setting_of producers terms) (start_of (setting_of producers terms) run) z → ⊥
 ends_badly producers terms run t z inside v bad m = elim (or_cases (is_bad_bit run t) _ bad) [
   | inl bit ↦ elim (or_cases (differ t.new (trace_wanted run t)) t.old bit) [
@@ -394,12 +404,17 @@ ends_badly producers terms run t z inside v bad m = elim (or_cases (is_bad_bit r
         ∙ sym (ended_number run.case t z terms.number_to v) ∙ m.numbers run.case.number ∙ begun_number producers terms run terms.number_from refl)
     | inr more ↦ elim (or_cases (is_flying_old t.flight) _ more) [
       | inl flying ↦ flies_old run.case t.flight flying (subst (AllByRecursion (λ (g : AnyFlight). g.place ≡ New)) v.flights m.flights)
-      | inr reached ↦ elim (or_cases t.strayed _ reached) [
-        | inl strayed ↦ true_false t.strayed strayed (sym v.strayed ∙ m.strayed)
-        | inr left ↦
-            let there = and_right terms.is_inherited _ left in
-            zero_one (sym (m.inherited (and_left terms.is_inherited _ left) (v.freed ∙ and_left t.freed _ there) run.case.number)
-            ∙ v.old_number ∙ ap worth (and_right t.freed _ there))
+      | inr some ↦ elim (or_cases (t.strayed || is_left terms t) _ some) [
+        | inl reached ↦ elim (or_cases t.strayed _ reached) [
+          | inl strayed ↦ true_false t.strayed strayed (sym v.strayed ∙ m.strayed)
+          | inr left ↦
+              let there = and_right terms.is_inherited _ left in
+              zero_one (sym (m.inherited (and_left terms.is_inherited _ left) (v.freed ∙ and_left t.freed _ there) run.case.number)
+              ∙ v.old_number ∙ ap worth (and_right t.freed _ there))
+        ]
+        | inr unled ↦
+            let is = unled_is run (length producers) t unled in
+            old_new t.in_force is.1 (sym v.in_force ∙ m.in_force run.case.producer is.0)
       ]
     ]
   ]
@@ -407,7 +422,7 @@ ends_badly producers terms run t z inside v bad m = elim (or_cases (is_bad_bit r
 
 pub it_loses : (producers : List RouteKind) (terms : Terms) (plan : List AnyStep) (run : Run) (t : Trace) → can_be run terms producers ≡ true
     → Follows run.case t (all_happened (setting_of producers terms) (happenings plan run) (start_of (setting_of producers terms) run))
-    → is_bad_end run terms t ≡ true → Loses (setting_of producers terms) plan run
+    → is_bad_end run (length producers) terms t ≡ true → Loses (setting_of producers terms) plan run
 it_loses producers terms plan run t can v bad =
     let inside = below_is (run.case.identity / 64) terms.words (and_left _ _ can) in
     let rest = and_right (nat_lt (run.case.identity / 64) terms.words) _ can in

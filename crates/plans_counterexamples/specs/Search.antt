@@ -44,7 +44,8 @@ trace_end run terms plan = trace_extra run (length plan) (trace_upto run terms p
 -- broken.
 unfoldable pub tried : Rule → List RouteKind → Terms → List AnyStep → Run → Option Losing
 tried rule producers terms plan run =
-    if can_be run terms producers && shows rule run terms (trace_end run terms plan)
+    if can_be run terms producers
+    && shows rule run (length producers) terms (trace_end run terms plan)
     then Some (record {
       run = run;
       fate = fate_of rule plan run (length producers) (trace_end run terms plan);
@@ -141,7 +142,7 @@ one_more plan at = if nat_le (length plan) at then at else at + 1
 
 -- The first that shows it of the runs with a store of a producer into a word, which a rule that is
 -- broken with so many steps before it asks for: behind the step, or before it; before the last step
--- that lifts the word; or ahead.
+-- that lifts the word; or ahead. Then that without a store, by where the producer's route leads.
 unfoldable pub by_producer : Rule → List RouteKind → Terms → List AnyStep → ℕ → ℕ → ℕ
     → Option Losing
 by_producer rule producers terms plan word at producer =
@@ -150,7 +151,9 @@ by_producer rule producers terms plan word at producer =
     (or_else (stored_old rule producers terms plan (pending_case word producer) at)
     (or_else (stored_old rule producers terms plan (pending_case word producer)
     (last_lift plan word at))
-    (stored_ahead rule producers terms plan (pending_case word producer) at)))
+    (or_else (stored_ahead rule producers terms plan (pending_case word producer) at)
+    (tried rule producers terms plan
+    (run_of (pending_case word producer) begins.Nowhere extras.Nothing)))))
 
 -- The first of these runs of any producer.
 unfoldable pub stored_word : Rule → List RouteKind → Terms → List AnyStep → ℕ → ℕ → Option Losing

@@ -108,13 +108,7 @@ fn without_store(
 
 /// Gives how many steps at most, of so many, are done where a store of the producer comes to the old
 /// place by the route in force, or to the new one by the written route; 0 if it never does.
-fn last_by(
-    route: StoreRoute,
-    case: Case,
-    terms: Terms,
-    plan: &[AnyStep],
-    count: usize,
-) -> usize
+fn last_by(route: StoreRoute, case: Case, terms: Terms, plan: &[AnyStep], count: usize) -> usize
     requires { count ≤ length plan.now }
     ensures { result ≡ last_by route case terms plan.now count }
 {
@@ -237,7 +231,8 @@ fn one_more(plan: &[AnyStep], at: usize) -> usize
 }
 
 /// Looks for a run with a store of a producer into a word, which a rule that is broken with so many
-/// steps before it asks for. `None`: there is none.
+/// steps before it asks for, and then for that without a store, by where the producer's route leads.
+/// `None`: there is none.
 #[tactic(auto, unfolding(crate::specs::Search::by_producer))]
 fn by_producer(
     rule: Rule,
@@ -263,7 +258,10 @@ fn by_producer(
     if let Some(found) = stored_old(rule, producers, terms, plan, case, lift) {
         return Some(found);
     }
-    stored_ahead(rule, producers, terms, plan, case, at)
+    if let Some(found) = stored_ahead(rule, producers, terms, plan, case, at) {
+        return Some(found);
+    }
+    run_of(case, Begin::Nowhere, Extra::Nothing).tried(rule, producers, terms, plan)
 }
 
 /// Looks for such a run of any producer. `None`: there is none.

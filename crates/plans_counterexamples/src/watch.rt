@@ -106,13 +106,7 @@ impl Watch {
     }
 
     /// Gives what a store makes of it, as it lands in a place.
-    fn landed(
-        self,
-        terms: Terms,
-        identity: u64,
-        producer: usize,
-        place: AnyPlace,
-    ) -> Watch
+    fn landed(self, terms: Terms, identity: u64, producer: usize, place: AnyPlace) -> Watch
         ensures { result ≡ watch_landed terms identity producer place self }
     {
         let is_out = self.enabled.new && self.lets(terms, identity);

@@ -318,8 +318,7 @@ zero old pending 0\njoin pending 0\ncopy enabled 0\nput enabled 0\nzero old enab
 /// force.
 #[test]
 fn a_producer_is_paused(rt: HostRuntime) -> Result<(), Fail> {
-    let early =
-        b"fresh\nproducer routed\nnumbers old old\npause 0\ntake pending 0\nput pending 0\n\
+    let early = b"fresh\nproducer routed\nnumbers old old\npause 0\ntake pending 0\nput pending 0\n\
 take enabled 0\nput enabled 0\nroute 0\nresume 0\nfence 0\n";
     let left =
         b"refused routes in the end\n  run: identity 1 is pending nowhere at the start; producer 0 \
@@ -331,6 +330,13 @@ takes its word too early\n";
 take enabled 0\nput enabled 0\nroute 0\nfence 0\nresume 0\n";
     let is_kept = answers_so(rt.alloc(), late, b"accepted\n")?;
     assert!(rt; is_kept);
+    let never = b"fresh\nproducer routed\nnumbers old old\npause 0\ntake pending 0\nput pending 0\n\
+take enabled 0\nput enabled 0\nroute 0\n";
+    let unled =
+        b"refused routes in the end\n  run: identity 1 is pending nowhere at the start; in the end \
+the route in force of producer 0 leads to the old place still\n";
+    let is_unled = answers_so(rt.alloc(), never, unled)?;
+    assert!(rt; is_unled);
     Ok(())
 }
 

@@ -245,6 +245,9 @@ fate_text places run fates.NotTaken =
 fate_text places run (fates.TakenEarly before) =
     codes "; in the end it is in the old place, since "
     ++ (line_text places before ++ codes " takes its word too early")
+fate_text places run fates.Unled =
+    codes "; in the end the route in force of producer "
+    ++ (decimal run.case.producer ++ codes " leads to the old place still")
 fate_text places run fates.Held = codes "; in the end it is in the hand alone: it is lost"
 fate_text places run fates.Gone = codes "; in the end it is nowhere: it is lost"
 fate_text places run fates.LeftOver =

@@ -376,6 +376,7 @@ SHOWN = re.compile(
     r'(?P<fate>; .*)')
 LED = re.compile(r'in the end it is in the old place,'
                  r' where the route of producer (\d+) leads still')
+UNLED = re.compile(r'in the end the route in force of producer (\d+) leads to the old place still')
 EARLY = re.compile(r'in the end it is in the old place, since line (\d+) takes its word too early')
 LEFT = re.compile(r'in the end (threshold|delivery) is left in the old place for its next owner')
 MISPLACED = re.compile(r'in the end (threshold|delivery) is not where it has to be, as it was')
@@ -401,10 +402,13 @@ def comes_so(machine: Machine, plan: list[Step], first_line: int, rule: str,
     in_old, in_new = what in machine.old[bank], what in machine.new[bank]
     last = max((at for at, step in enumerate(plan) if empties(step, bank, what[0])), default=None)
     of_old = rule == 'routes' and bank == 'pending' or rule == 'words' and bank == 'enabled'
-    led, early, left, misplaced = (form.fullmatch(said) for form in (LED, EARLY, LEFT, MISPLACED))
+    forms = (LED, UNLED, EARLY, LEFT, MISPLACED)
+    led, unled, early, left, misplaced = (form.fullmatch(said) for form in forms)
     if led:
         return (of_old and in_old and producer is not None and int(led[1]) == producer
                 and machine.force[producer] == 'old')
+    if unled:
+        return rule == 'routes' and not in_old and machine.force[int(unled[1])] == 'old'
     if early:
         return of_old and in_old and last is not None and int(early[1]) == first_line + last
     if left:
