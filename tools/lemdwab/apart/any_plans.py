@@ -89,9 +89,8 @@ def hypervisors(words: int) -> Iterator[tuple[Setting, list[Step]]]:
     yield (Setting(host, words, True, True, True, 'old', 'new', True),
            [('switch', 0), ('route', 1), ('fence', 1), *swapped, ('put', 'delivery'),
             ('put', 'threshold'), *joined, ('write', 'notice'), ('tell',), ('free',)])
-
-
-    for resumed in ([('resume', 0), ('resume', 1)], []):
+    all_resumed: list[Step] = [('resume', 0), ('resume', 1)]
+    for resumed in (all_resumed, all_resumed[:0]):
         yield (Setting(host, words, True, False, False, 'old', 'new'),
                [('pause', 0), ('pause', 1), *swapped, *both_sets(words, 'put'), *put, *kvm,
                 ('free',), *resumed])
