@@ -6,9 +6,10 @@ every place, from several starts; and where the program shows a run, that run is
 loses something, or, of a plan that the rule on notices alone refuses, one that leaves the host
 untold. Prints how many accepted plans had a bad run, how many refused ones had none, and how many
 runs that were shown were good or missing, and ends with 1 if any was, and with 2 if the words are
-wrong or PROGRAM can't be run. A plan into memory that heeds its numbers may be refused by the rule
-on notices though no run of it leaves the host untold: none is shown then. Where notices are
-declared unset, no store tells the host before the plan writes where they go. """
+wrong or PROGRAM can't be run. A plan into memory that heeds its numbers, or leaves all producers
+paused, may be refused by the rule on notices though no run of it leaves the host untold: none is
+shown then. Where notices are declared unset, no store tells the host before the plan writes where
+they go. """
 
 from __future__ import annotations
 
@@ -572,9 +573,8 @@ def main() -> int:
         for (setting, plan), (verdict, shown) in zip(plans, verdicts(program, plans), strict=True):
             bad = has_bad_run(setting, plan)
             key = (verdict, 'a bad run' if bad else 'no bad run', shown)
-            if (setting.memory and setting.heeds
-                    and key == ('refused notice', 'no bad run', 'none found')):
-                key = ('refused notice', 'no bad run, with numbers that are heeded', 'none found')
+            if setting.memory and key == ('refused notice', 'no bad run', 'none found'):
+                key = (verdict, 'no bad run' + where_more_is_asked(setting, plan), shown)
             tally[key] = tally.get(key, 0) + 1
             if not is_right(key):
                 print(key, setting.lines(), plan)
@@ -583,13 +583,23 @@ def main() -> int:
     return 0 if all(map(is_right, tally)) else 1
 
 
+def where_more_is_asked(setting: Setting, plan: list[Step]) -> str:
+    """Says why the rule on notices may refuse a plan that tells its host; nothing if it may not."""
+    if setting.heeds:
+        return ', with numbers that are heeded'
+    machine = Machine(setting, (), ())
+    run(machine, plan, [])
+    return ', with all paused in the end' if all(machine.paused) else ''
+
+
 def is_right(key: tuple[str, str, str]) -> bool:
     """Whether a verdict, what this machine found, and what was shown agree."""
     verdict, found, shown = key
     if verdict == 'accepted':
         return (found, shown) == ('no bad run', 'none shown')
     if verdict == 'refused notice':
-        # Where numbers are heeded the rule on notices asks for more than that the host is told; and
-        # a run that is shown may begin with other numbers than those that are tried here.
+        # Where numbers are heeded, or all are paused in the end, the rule on notices asks for more
+        # than that the host is told; and a run that is shown may begin with other numbers than
+        # those that are tried here.
         return shown == 'shown' or (found.startswith('no bad run, with') and shown == 'none found')
     return verdict.startswith('refused') and (found, shown) == ('a bad run', 'shown')
