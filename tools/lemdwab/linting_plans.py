@@ -17,6 +17,7 @@ DECLARATIONS = {
 }
 STEPS = {
     "route": ("producer",), "fence": ("producer",), "switch": ("producer",),
+    "pause": ("producer",), "resume": ("producer",),
     "zero": ("place", "thing"), "take": ("thing",), "copy": ("thing",), "join": ("set",),
     "put": ("thing",), "look": ("word",), "post": (), "tell": (), "untell": (),
     "write": ("written",), "free": (),
@@ -32,6 +33,7 @@ FORMS = {
     "words": "`words N`", "producer": "`producer KIND`", "numbers": "`numbers FROM TO`",
     "notices": "`notices unset`",
     "route": "`route P`", "fence": "`fence P`", "switch": "`switch P`",
+    "pause": "`pause P`", "resume": "`resume P`",
     "zero": "`zero PLACE SET W` or `zero PLACE N`", "take": "`take SET W` or `take N`",
     "copy": "`copy SET W` or `copy N`",
     "join": "`join SET W`", "put": "`put SET W` or `put N`", "look": "`look W`",

@@ -6,12 +6,12 @@ use Rattle.plans_rules.specs.declared.step.Number.TheVariants.{Threshold, Delive
 use Rattle.plans_rules.specs.declared.step.AnyPlace.{AnyPlace}
 use Rattle.plans_rules.specs.declared.step.AnyPlace.TheVariants.{Old, New}
 use Rattle.plans_rules.specs.declared.step.AnyStep.{AnyStep}
-use Rattle.plans_rules.specs.declared.step.AnyStep.TheVariants.{Route, Fence, Switch, Zero, Take, Copy, Join, Put, ZeroNumber, TakeNumber, CopyNumber, PutNumber, Free}
+use Rattle.plans_rules.specs.declared.step.AnyStep.TheVariants.{Route, Fence, Switch, Pause, Resume, Zero, Take, Copy, Join, Put, ZeroNumber, TakeNumber, CopyNumber, PutNumber, Free}
 use Rattle.plans_rules.specs.Setting.{Setting, is_old, is_pending, same_number}
-use Rattle.plans_rules.specs.Machine.{AnyFlight, AnyMachine, landed, all_landed, flights_of, flights_beside, led_to, with_number, stepped}
+use Rattle.plans_rules.specs.Machine.{AnyFlight, AnyMachine, landed, all_landed, flights_of, flights_beside, led_to, with_paused, with_number, stepped}
 use Rattle.plans_counterexamples.specs.declared.trace.Case.{Case}
 use Rattle.plans_counterexamples.specs.declared.trace.Trace.{Trace}
-use Rattle.plans_counterexamples.specs.Trace.{Follows, names_bit, flights_by, trace_landed, trace_fenced, trace_after, worth}
+use Rattle.plans_counterexamples.specs.Trace.{Follows, names_bit, flights_by, trace_landed, trace_fenced, trace_paused, trace_resumed, trace_after, worth}
 
 -- ---- a store lands
 
@@ -34,6 +34,7 @@ follows_landed d c place t z v = record {
   hand_number = v.hand_number;
   written = v.written;
   in_force = v.in_force;
+  paused = v.paused;
   flights = v.flights;
   freed = v.freed;
   strayed = ap₂ (λ a b. a || (is_old place && b)) v.strayed v.freed;
@@ -59,6 +60,7 @@ with_others c t z fs f F place e g v = record {
   hand_number = v.hand_number;
   written = v.written;
   in_force = g;
+  paused = v.paused;
   flights = e;
   freed = v.freed;
   strayed = v.strayed;
@@ -99,6 +101,24 @@ led_here c t z p v = by_case (nat_eq p c.producer) refl
     by_case true e = ap z.written (eqb-true p c.producer e) ∙ v.written
     by_case false e = v.in_force
 
+-- the same flights, as they are followed
+with_flights : (c : Case) (t : Trace) (z : AnyMachine) → Follows c t z → Follows c t (record z { flights = flights_by c t.flight })
+with_flights c t z v = record {
+  old = v.old;
+  new = v.new;
+  hand = v.hand;
+  due = v.due;
+  old_number = v.old_number;
+  new_number = v.new_number;
+  hand_number = v.hand_number;
+  written = v.written;
+  in_force = v.in_force;
+  paused = v.paused;
+  flights = refl;
+  freed = v.freed;
+  strayed = v.strayed;
+}
+
 follows_fence : (d : Setting) (c : Case) (t : Trace) (z : AnyMachine) (p : ℕ) → Follows c t z
     → Follows c (trace_fenced c (nat_eq p c.producer) t) (stepped d (Fence p) z)
 follows_fence d c t z p v =
@@ -110,23 +130,80 @@ follows_fence d c t z p v =
     (subst (λ fs. Follows c (trace_fenced c (nat_eq p c.producer) t)
     (record (all_landed d (if nat_eq p c.producer then flights_by c t.flight else []) z)
     { flights = fs; in_force = led_to p (z.written p) z.in_force })) (sym (those_beside c p t.flight))
-    (fenced d c t z t.flight (nat_eq p c.producer) (led_to p (z.written p) z.in_force) (led_here c t z p v) (with_flights v))))
-  where
-    with_flights : Follows c t z → Follows c t (record z { flights = flights_by c t.flight })
-    with_flights v = record {
-      old = v.old;
-      new = v.new;
-      hand = v.hand;
-      due = v.due;
-      old_number = v.old_number;
-      new_number = v.new_number;
-      hand_number = v.hand_number;
-      written = v.written;
-      in_force = v.in_force;
-      flights = refl;
-      freed = v.freed;
-      strayed = v.strayed;
-    }
+    (fenced d c t z t.flight (nat_eq p c.producer) (led_to p (z.written p) z.in_force) (led_here c t z p v) (with_flights c t z v))))
+
+-- ---- a pause
+
+-- no flight, and other producers that are paused
+with_pause : (c : Case) (t : Trace) (z : AnyMachine) (Q : ℕ → Bool) (b : Bool) → Q c.producer ≡ b → Follows c t z
+    → Follows c (record t { flight = None; paused = b }) (record z { flights = []; paused = Q })
+with_pause c t z Q b g v = record {
+  old = v.old;
+  new = v.new;
+  hand = v.hand;
+  due = v.due;
+  old_number = v.old_number;
+  new_number = v.new_number;
+  hand_number = v.hand_number;
+  written = v.written;
+  in_force = v.in_force;
+  paused = g;
+  flights = refl;
+  freed = v.freed;
+  strayed = v.strayed;
+}
+
+-- the same flights, and other producers that are paused
+paused_by : (c : Case) (t : Trace) (z : AnyMachine) (fs : List AnyFlight) (Q : ℕ → Bool) (b : Bool) → fs ≡ flights_by c t.flight
+    → Q c.producer ≡ b → Follows c t z → Follows c (record t { paused = b }) (record z { flights = fs; paused = Q })
+paused_by c t z fs Q b e g v = record {
+  old = v.old;
+  new = v.new;
+  hand = v.hand;
+  due = v.due;
+  old_number = v.old_number;
+  new_number = v.new_number;
+  hand_number = v.hand_number;
+  written = v.written;
+  in_force = v.in_force;
+  paused = g;
+  flights = e;
+  freed = v.freed;
+  strayed = v.strayed;
+}
+
+paused : (d : Setting) (c : Case) (t : Trace) (z : AnyMachine) (f : Option AnyPlace) (b : Bool) (Q : ℕ → Bool)
+    → Q c.producer ≡ (if b then true else t.paused) → Follows c (record t { flight = f }) (record z { flights = flights_by c f })
+    → Follows c (trace_paused c b (record t { flight = f }))
+    (record (all_landed d (if b then flights_by c f else []) z) { flights = if b then [] else flights_by c f; paused = Q })
+paused d c t z f false Q g v =
+    paused_by c (record t { flight = f }) (record z { flights = flights_by c f }) (flights_by c f) Q t.paused refl g v
+paused d c t z None true Q g v = with_pause c (record t { flight = None }) (record z { flights = [] }) Q true g v
+paused d c t z (Some place) true Q g v =
+    with_pause c _ _ Q true g (follows_landed d c place (record t { flight = Some place })
+    (record z { flights = flights_by c (Some place) }) v)
+
+paused_here : (c : Case) (t : Trace) (z : AnyMachine) (p : ℕ) (is : Bool) → Follows c t z
+    → with_paused p is z.paused c.producer ≡ (if nat_eq p c.producer then is else t.paused)
+paused_here c t z p is v = ap (λ b. if nat_eq p c.producer then is else b) v.paused
+
+follows_pause : (d : Setting) (c : Case) (t : Trace) (z : AnyMachine) (p : ℕ) → Follows c t z
+    → Follows c (trace_paused c (nat_eq p c.producer) t) (stepped d (Pause p) z)
+follows_pause d c t z p v =
+    subst (λ fs. Follows c (trace_paused c (nat_eq p c.producer) t)
+    (record (all_landed d (flights_of p fs) z) { flights = flights_beside p fs; paused = with_paused p true z.paused })) (sym v.flights)
+    (subst (λ fs. Follows c (trace_paused c (nat_eq p c.producer) t)
+    (record (all_landed d fs z) { flights = flights_beside p (flights_by c t.flight); paused = with_paused p true z.paused }))
+    (sym (those_of c p t.flight))
+    (subst (λ fs. Follows c (trace_paused c (nat_eq p c.producer) t)
+    (record (all_landed d (if nat_eq p c.producer then flights_by c t.flight else []) z)
+    { flights = fs; paused = with_paused p true z.paused })) (sym (those_beside c p t.flight))
+    (paused d c t z t.flight (nat_eq p c.producer) (with_paused p true z.paused) (paused_here c t z p true v) (with_flights c t z v))))
+
+resume_case : (c : Case) (t : Trace) (z : AnyMachine) (b : Bool) (Q : ℕ → Bool) → Q c.producer ≡ (if b then false else t.paused)
+    → Follows c t z → Follows c (trace_resumed b t) (record z { paused = Q })
+resume_case c t z true Q e v = paused_by c t z z.flights Q false v.flights e v
+resume_case c t z false Q e v = paused_by c t z z.flights Q t.paused v.flights e v
 
 -- ---- the numbers
 
@@ -166,6 +243,7 @@ route_case c t z true W e v = record {
   hand_number = v.hand_number;
   written = e;
   in_force = v.in_force;
+  paused = v.paused;
   flights = v.flights;
   freed = v.freed;
   strayed = v.strayed;
@@ -182,6 +260,7 @@ route_case c t z false W e v = record {
   written = e
       ∙ v.written;
   in_force = v.in_force;
+  paused = v.paused;
   flights = v.flights;
   freed = v.freed;
   strayed = v.strayed;
@@ -201,6 +280,7 @@ switch_case c t z true W F e f v = record {
   hand_number = v.hand_number;
   written = e;
   in_force = f;
+  paused = v.paused;
   flights = v.flights;
   freed = v.freed;
   strayed = v.strayed;
@@ -217,6 +297,7 @@ switch_case c t z false W F e f v = record {
   written = e ∙ v.written;
   in_force = f
       ∙ v.in_force;
+  paused = v.paused;
   flights = v.flights;
   freed = v.freed;
   strayed = v.strayed;
@@ -226,6 +307,8 @@ pub follows_step : (d : Setting) (c : Case) (x : AnyStep) (t : Trace) (z : AnyMa
 follows_step d c (Route q) t z v = route_case c t z (nat_eq q c.producer) _ refl v
 follows_step d c (Switch q) t z v = switch_case c t z (nat_eq q c.producer) _ _ refl refl v
 follows_step d c (Fence q) t z v = follows_fence d c t z q v
+follows_step d c (Pause q) t z v = follows_pause d c t z q v
+follows_step d c (Resume q) t z v = resume_case c t z (nat_eq q c.producer) _ (paused_here c t z q false v) v
 follows_step d c (Zero Old s w) t z v = record {
   old = ap (λ b. not (names_bit c s w) && b) v.old;
   new = v.new;
@@ -237,6 +320,7 @@ follows_step d c (Zero Old s w) t z v = record {
   hand_number = v.hand_number;
   written = v.written;
   in_force = v.in_force;
+  paused = v.paused;
   flights = v.flights;
   freed = v.freed;
   strayed =
@@ -253,6 +337,7 @@ follows_step d c (Zero New s w) t z v = record {
   hand_number = v.hand_number;
   written = v.written;
   in_force = v.in_force;
+  paused = v.paused;
   flights = v.flights;
   freed = v.freed;
   strayed = v.strayed;
@@ -269,6 +354,7 @@ follows_step d c (Take s w) t z v = record {
   hand_number = v.hand_number;
   written = v.written;
   in_force = v.in_force;
+  paused = v.paused;
   flights = v.flights;
   freed = v.freed;
   strayed =
@@ -286,6 +372,7 @@ follows_step d c (Copy s w) t z v = record {
   hand_number = v.hand_number;
   written = v.written;
   in_force = v.in_force;
+  paused = v.paused;
   flights = v.flights;
   freed = v.freed;
   strayed =
@@ -302,6 +389,7 @@ follows_step d c (Join s w) t z v = record {
   hand_number = v.hand_number;
   written = v.written;
   in_force = v.in_force;
+  paused = v.paused;
   flights = v.flights;
   freed = v.freed;
   strayed = v.strayed;
@@ -317,6 +405,7 @@ follows_step d c (Put s w) t z v = record {
       v.hand_number;
   written = v.written;
   in_force = v.in_force;
+  paused = v.paused;
   flights = v.flights;
   freed = v.freed;
   strayed = v.strayed;
@@ -331,6 +420,7 @@ follows_step d c (ZeroNumber Old n) t z v = record {
   hand_number = v.hand_number;
   written = v.written;
   in_force = v.in_force;
+  paused = v.paused;
   flights = v.flights;
   freed = v.freed;
   strayed = ap₂ (λ a b. a || b) v.strayed v.freed;
@@ -346,6 +436,7 @@ follows_step d c (ZeroNumber New n) t z v = record {
   hand_number = v.hand_number;
   written = v.written;
   in_force = v.in_force;
+  paused = v.paused;
   flights = v.flights;
   freed = v.freed;
   strayed = v.strayed;
@@ -360,6 +451,7 @@ follows_step d c (TakeNumber n) t z v = record {
   hand_number = carried n c.number z.old_number z.hand_number t.old_number t.hand_number v.old_number v.hand_number;
   written = v.written;
   in_force = v.in_force;
+  paused = v.paused;
   flights = v.flights;
   freed = v.freed;
   strayed = ap₂ (λ a b. a || b) v.strayed v.freed;
@@ -374,6 +466,7 @@ follows_step d c (CopyNumber n) t z v = record {
   hand_number = carried n c.number z.old_number z.hand_number t.old_number t.hand_number v.old_number v.hand_number;
   written = v.written;
   in_force = v.in_force;
+  paused = v.paused;
   flights = v.flights;
   freed = v.freed;
   strayed = ap₂ (λ a b. a || b) v.strayed v.freed;
@@ -390,6 +483,7 @@ follows_step d c (PutNumber n) t z v = record {
   written =
       v.written;
   in_force = v.in_force;
+  paused = v.paused;
   flights = v.flights;
   freed = v.freed;
   strayed = v.strayed;
@@ -404,6 +498,7 @@ follows_step d c Free t z v = record {
   hand_number = v.hand_number;
   written = v.written;
   in_force = v.in_force;
+  paused = v.paused;
   flights = v.flights;
   freed = refl;
   strayed = ap₂ (λ a b. a || b) v.strayed v.freed;
@@ -418,6 +513,7 @@ follows_step d c x t z v = record {
   hand_number = v.hand_number;
   written = v.written;
   in_force = v.in_force;
+  paused = v.paused;
   flights = v.flights;
   freed = v.freed;
   strayed = v.strayed;

@@ -1,5 +1,5 @@
 -- What is found loses something.
-use Rattle.std.proofs.Common.{ap, ◌∙◌, ◌≡◌, ℕ, zero, suc, ◌+◌, ◌<◌, ◌≤◌, Bool, true, false, not, ◌&&◌, if◌then◌else◌, length, List, [], ◌∷◌, Option, Some, None, inl, inr, refl, sym, subst, arith}
+use Rattle.std.proofs.Common.{ap, ◌∙◌, ◌≡◌, ℕ, zero, suc, ◌+◌, ◌<◌, ◌≤◌, Bool, true, false, not, ◌&&◌, ◌||◌, if◌then◌else◌, length, List, [], ◌∷◌, Option, Some, None, inl, inr, refl, sym, subst, arith}
 use Rattle.plans_rules.specs.declared.step.AnyStep.{AnyStep}
 use Rattle.std.specs.Prelude.{slice_get, nat_eq, IfSome}
 use Rattle.std.proofs.lemmas.Bool.{eqb-true, false≢true}
@@ -22,8 +22,8 @@ use Rattle.plans_rules.specs.Machine.{all_happened}
 use Rattle.plans_rules.proofs.BoolLaws.{and_left, and_right, or_left, or_right, or_cases}
 use Rattle.plans_counterexamples.specs.declared.trace.Case.{Case}
 use Rattle.plans_counterexamples.specs.declared.run.Run.{Run}
-use Rattle.plans_counterexamples.specs.Trace.{Follows, trace_after, trace_fenced, trace_switched, trace_turned}
-use Rattle.plans_counterexamples.specs.Run.{Loses, can_be, differ, fate_of, happenings, is_bad_bit, is_bad_end, is_flying_old, is_missing, run_upto, shows, start_of, trace_extra, trace_flown, trace_number, trace_sent, trace_wanted}
+use Rattle.plans_counterexamples.specs.Trace.{Follows, trace_after, trace_fenced, trace_paused, trace_resumed, trace_switched, trace_turned}
+use Rattle.plans_counterexamples.specs.Run.{Loses, can_be, differ, fate_of, happenings, is_bad_bit, is_bad_end, is_flying_old, is_left, is_left_old, is_missing, run_upto, shows, start_of, trace_extra, trace_flown, trace_number, trace_sent, trace_wanted}
 use Rattle.plans_counterexamples.specs.Search.{at_most, by_producer, first_of, found_in, losing_run_of, or_else, quiet_word, scope_by, stored_ahead, stored_old, stored_word, trace_end, trace_stepped, trace_upto, tried, without_store}
 use Rattle.plans_counterexamples.proofs.RunLemmas.{IsUnsent, follows_begun, follows_end, follows_more, it_loses}
 use Rattle.plans_counterexamples.proofs.SearchLemmas.{traced_more}
@@ -44,6 +44,16 @@ after_none c (steps.Fence q) t e = by_test (nat_eq q c.producer)
 after_none c (steps.Switch q) t e = by_test (nat_eq q c.producer)
   where
     by_test : (b : Bool) → (trace_switched b t).flight ≡ None
+    by_test true = e
+    by_test false = e
+after_none c (steps.Pause q) t e = by_test (nat_eq q c.producer)
+  where
+    by_test : (b : Bool) → (trace_paused c b t).flight ≡ None
+    by_test true = refl
+    by_test false = e
+after_none c (steps.Resume q) t e = by_test (nat_eq q c.producer)
+  where
+    by_test : (b : Bool) → (trace_resumed b t).flight ≡ None
     by_test true = e
     by_test false = e
 after_none c (steps.Zero Old s w) t e = e
@@ -125,19 +135,26 @@ differs true false e = absurd (false≢true e)
 differs false true e = refl
 differs false false e = absurd (false≢true e)
 
-pub shown_bad : (rule : Rule) (run : Run) (terms : Terms) (t : Trace) → shows rule run terms t ≡ true → is_bad_end run terms t ≡ true
-shown_bad rules.Routes run terms t e =
-    or_left (is_bad_bit run t) _ (or_right (differ t.new (trace_wanted run t)) t.old (and_right (is_pending run.case.bank) t.old e))
-shown_bad rules.Words run terms t e = or_left (is_bad_bit run t) _ (elim (or_cases (is_missing run t && not t.old) _ e) [
+pub shown_bad : (rule : Rule) (run : Run) (producers : ℕ) (terms : Terms) (t : Trace) → shows rule run producers terms t ≡ true
+    → is_bad_end run producers terms t ≡ true
+shown_bad rules.Routes run producers terms t e =
+    elim (or_cases (is_left_old run t) _ e) [
+      | inl left ↦ or_left (is_bad_bit run t) _
+          (or_right (differ t.new (trace_wanted run t)) t.old (and_right (is_pending run.case.bank) t.old left))
+      | inr unled ↦ or_right (is_bad_bit run t) _ (or_right (not (trace_number terms.number_to t)) _
+          (or_right (is_flying_old t.flight) _ (or_right (t.strayed || is_left terms t) _ unled)))
+    ]
+shown_bad rules.Words run producers terms t e = or_left (is_bad_bit run t) _ (elim (or_cases (is_missing run t && not t.old) _ e) [
   | inl missing ↦ or_left (differ t.new (trace_wanted run t)) t.old
       (differs t.new (trace_wanted run t) (and_left (is_missing run t) (not t.old) missing))
   | inr left ↦ or_right (differ t.new (trace_wanted run t)) t.old (and_right (not (is_pending run.case.bank)) t.old left)
 ])
-shown_bad rules.Blank run terms t e = or_left (is_bad_bit run t) _ (or_left (differ t.new (trace_wanted run t)) t.old e)
-shown_bad rules.Numbers run terms t e = or_right (is_bad_bit run t) _ (or_left (not (trace_number terms.number_to t)) _ e)
-shown_bad rules.Freeing run terms t e =
-    or_right (is_bad_bit run t) _ (or_right (not (trace_number terms.number_to t)) _ (or_right (is_flying_old t.flight) _ e))
-shown_bad rules.Notice run terms t e = absurd (false≢true e)
+shown_bad rules.Blank run producers terms t e = or_left (is_bad_bit run t) _ (or_left (differ t.new (trace_wanted run t)) t.old e)
+shown_bad rules.Numbers run producers terms t e = or_right (is_bad_bit run t) _ (or_left (not (trace_number terms.number_to t)) _ e)
+shown_bad rules.Freeing run producers terms t e =
+    or_right (is_bad_bit run t) _ (or_right (not (trace_number terms.number_to t)) _
+    (or_right (is_flying_old t.flight) _ (or_left (t.strayed || is_left terms t) _ e)))
+shown_bad rules.Notice run producers terms t e = absurd (false≢true e)
 
 -- What is found is a run that loses something.
 abbrev pub FoundLoses : List RouteKind → Terms → List AnyStep → Losing → Type 0
@@ -147,12 +164,12 @@ pub tried_loses : (rule : Rule) (producers : List RouteKind) (terms : Terms) (pl
     → IfFound (FoundLoses producers terms plan) (tried rule producers terms plan run)
 unfolding tried
 tried_loses rule producers terms plan run = λ x e. by_test
-    (can_be run terms producers && shows rule run terms (trace_end run terms plan)) refl x e
+    (can_be run terms producers && shows rule run (length producers) terms (trace_end run terms plan)) refl x e
   where
     made : Losing
     made = record { run = run; fate = fate_of rule plan run (length producers) (trace_end run terms plan) }
 
-    by_test : (b : Bool) → (can_be run terms producers && shows rule run terms (trace_end run terms plan)) ≡ b → (x : Losing)
+    by_test : (b : Bool) → (can_be run terms producers && shows rule run (length producers) terms (trace_end run terms plan)) ≡ b → (x : Losing)
         → ◌≡◌ {A = Option Losing} (if b then Some made else None) (Some x) → Loses (setting_of producers terms) plan x.run
     by_test false is x e = absurd (cc)
     by_test true is x e =
@@ -160,7 +177,7 @@ tried_loses rule producers terms plan run = λ x e. by_test
         (it_loses producers terms plan run (trace_end run terms plan) (and_left _ _ is)
         (follows_end producers terms plan run (trace_upto run terms plan (length plan)) (unsent_upto run terms plan (length plan))
         (follows_upto producers terms plan run (length plan) (omega arith)))
-        (shown_bad rule run terms (trace_end run terms plan) (and_right (can_be run terms producers) _ is)))
+        (shown_bad rule run (length producers) terms (trace_end run terms plan) (and_right (can_be run terms producers) _ is)))
 
 without_loses : (rule : Rule) (producers : List RouteKind) (terms : Terms) (plan : List AnyStep) (case : Case)
     → IfFound (FoundLoses producers terms plan) (without_store rule producers terms plan case)
@@ -185,7 +202,8 @@ producer_loses : (rule : Rule) (producers : List RouteKind) (terms : Terms) (pla
 unfolding by_producer
 producer_loses rule producers terms plan word at producer =
     either _ _ _ (old_loses rule producers terms plan _ _) (either _ _ _ (old_loses rule producers terms plan _ _)
-    (either _ _ _ (old_loses rule producers terms plan _ _) (ahead_loses rule producers terms plan _ _)))
+    (either _ _ _ (old_loses rule producers terms plan _ _)
+    (either _ _ _ (ahead_loses rule producers terms plan _ _) (tried_loses rule producers terms plan _))))
 
 stored_loses : (rule : Rule) (producers : List RouteKind) (terms : Terms) (plan : List AnyStep) (at word : ℕ)
     → IfFound (FoundLoses producers terms plan) (stored_word rule producers terms plan at word)

@@ -19,7 +19,7 @@ use Rattle.plans_rules.specs.Setting.{Setting, setting_of, is_old, same_spot}
 use Rattle.plans_rules.specs.Machine.{AnyFlight, AnyMachine, AnyHappening, landed, all_happened, happened, one_landed, all_but, steps_in, stepped}
 use Rattle.plans_rules.specs.Machine.By.{InForce as AsInForce}
 use Rattle.plans_rules.specs.Machine.AnyHappening.{Does, Stores, Sends, Lands, Refetches}
-use Rattle.plans_rules.specs.Safe.{IsRouted, CanHappen, IsRun, IsStartOfAny, IsMovedByAny, number_in}
+use Rattle.plans_rules.specs.Safe.{CanHappen, IsRun, IsStartOfAny, IsMovedByAny, number_in}
 use Rattle.plans_rules.proofs.BoolLaws.{not_true, and_left, and_right, or_right, or_cases}
 use Rattle.plans_counterexamples.specs.declared.trace.Case.{Case}
 use Rattle.plans_counterexamples.specs.declared.trace.StoreRoute.{StoreRoute}
@@ -28,8 +28,8 @@ use Rattle.plans_counterexamples.specs.declared.trace.Trace.{Trace}
 use Rattle.plans_counterexamples.specs.declared.run.Run.{Run}
 use Rattle.plans_counterexamples.specs.declared.run.Extra.{Extra}
 use Rattle.plans_counterexamples.specs.declared.run.Extra.TheVariants as extras
-use Rattle.plans_counterexamples.specs.Trace.{Follows, begins_old, begins_new, flights_by, flight_landed, trace_after, trace_landed, trace_stored, worth}
-use Rattle.plans_counterexamples.specs.Run.{Loses, can_be, differ, extra_at, by_of, happenings, is_bad_bit, is_bad_end, is_flying_old, is_left, is_routed, one_bit, run_upto, start_of, step_at, trace_begun, trace_extra, trace_flown, trace_number, trace_sent, trace_wanted}
+use Rattle.plans_counterexamples.specs.Trace.{Follows, begins_old, begins_new, flights_by, flight_landed, trace_after, trace_landed, trace_stored, unless_paused, worth}
+use Rattle.plans_counterexamples.specs.Run.{Loses, can_be, differ, extra_at, by_of, happenings, is_bad_bit, is_bad_end, is_flying_old, is_left, is_unled, is_routed, one_bit, run_upto, start_of, step_at, trace_begun, trace_extra, trace_flown, trace_number, trace_sent, trace_wanted}
 use Rattle.plans_counterexamples.proofs.FollowLemmas.{follows_landed, follows_step}
 
 -- ---- lists of happenings
@@ -64,6 +64,7 @@ follows_begun producers terms run = record {
   hand_number = refl;
   written = refl;
   in_force = refl;
+  paused = refl;
   flights = refl;
   freed = refl;
   strayed = refl;
@@ -94,6 +95,7 @@ flown d c t z v =
       hand_number = w.hand_number;
       written = w.written;
       in_force = w.in_force;
+      paused = w.paused;
       flights = e;
       freed = w.freed;
       strayed = w.strayed;
@@ -105,20 +107,30 @@ flown d c t z v =
     by_flight None e = bare t z [] refl v
     by_flight (Some place) e = bare (trace_landed c place t) (landed d place c.identity z) [] refl (follows_landed d c place t z v)
 
+-- what a producer does, unless it is paused
+pub unless_follows : (c : Case) (t u : Trace) (z y : AnyMachine) (b k : Bool) → k ≡ b → Follows c t z → Follows c u y
+    → Follows c (elim b [ true ↦ t | false ↦ u ]) (if k then z else y)
+unless_follows c t u z y true true e v w = v
+unless_follows c t u z y false false e v w = w
+unless_follows c t u z y true false e v w = absurd (false≢true e)
+unless_follows c t u z y false true e v w = absurd (false≢true (sym e))
+
 stored : (d : Setting) (c : Case) (route : StoreRoute) (t : Trace) (z : AnyMachine) → Follows c t z
     → Follows c (trace_stored c route t) (happened d (Stores c.producer (by_of route) c.identity) z)
-stored d c Written t z v = subst (λ place. Follows c (trace_landed c t.written t) (landed d place c.identity z)) (sym v.written)
-    (follows_landed d c t.written t z v)
-stored d c InForce t z v = subst (λ place. Follows c (trace_landed c t.in_force t) (landed d place c.identity z)) (sym v.in_force)
-    (follows_landed d c t.in_force t z v)
+stored d c Written t z v = unless_follows c t (trace_landed c t.written t) z (landed d (z.written c.producer) c.identity z) t.paused
+    (z.paused c.producer) v.paused v
+    (subst (λ place. Follows c (trace_landed c t.written t) (landed d place c.identity z)) (sym v.written) (follows_landed d c t.written t z v))
+stored d c InForce t z v = unless_follows c t (trace_landed c t.in_force t) z (landed d (z.in_force c.producer) c.identity z) t.paused
+    (z.paused c.producer) v.paused v
+    (subst (λ place. Follows c (trace_landed c t.in_force t) (landed d place c.identity z)) (sym v.in_force) (follows_landed d c t.in_force t z v))
 
 -- Where a store is sent, none is in flight yet.
 abbrev pub IsUnsent : Run → ℕ → Trace → Type 0
 IsUnsent run k t = (before lands : ℕ) → run.extra ≡ extras.Sends before lands → nat_eq before k ≡ true → t.flight ≡ None
 
 sent : (d : Setting) (c : Case) (t : Trace) (z : AnyMachine) → t.flight ≡ None → Follows c t z
-    → Follows c (record t { flight = Some t.in_force }) (happened d (Sends c.producer AsInForce c.identity) z)
-sent d c t z none v = record {
+    → Follows c (unless_paused t (record t { flight = Some t.in_force })) (happened d (Sends c.producer AsInForce c.identity) z)
+sent d c t z none v = unless_follows c t (record t { flight = Some t.in_force }) z after t.paused (z.paused c.producer) v.paused v (record {
   old = v.old;
   new = v.new;
   hand = v.hand;
@@ -128,11 +140,15 @@ sent d c t z none v = record {
   hand_number = v.hand_number;
   written = v.written;
   in_force = v.in_force;
+  paused = v.paused;
   flights = ap₂ (λ place fs. record { producer = c.producer; place = place; identity = c.identity } ∷ fs) v.in_force
       (v.flights ∙ ap (flights_by c) none);
   freed = v.freed;
   strayed = v.strayed;
-}
+})
+  where
+    after : AnyMachine
+    after = record z { flights = record { producer = c.producer; place = z.in_force c.producer; identity = c.identity } ∷ z.flights }
 
 pub follows_extra : (d : Setting) (run : Run) (k : ℕ) (t : Trace) (z : AnyMachine) → IsUnsent run k t → Follows run.case t z
     → Follows run.case (trace_extra run k t) (all_happened d (extra_at run k) z)
@@ -233,6 +249,7 @@ begins_well : (producers : List RouteKind) (terms : Terms) (run : Run) → (not 
 begins_well producers terms run fresh = record {
   written = λ p is. refl;
   in_force = λ p is. refl;
+  paused = λ p is. refl;
   flights = tt;
   due = λ s i. refl;
   hand = λ s i. refl;
@@ -364,8 +381,18 @@ flies_old c (Some place) e all = old_new place e all.0
 pub true_false : (b : Bool) → b ≡ true → b ≡ false → ⊥
 true_false b e f = false≢true (sym f ∙ e)
 
+-- the route in force of a producer that is there leads to the old place
+unled_is : (run : Run) (producers : ℕ) (t : Trace) → is_unled run producers t ≡ true → (run.case.producer < producers) × (is_old t.in_force ≡ true)
+unled_is run producers t e = by_extra run.extra e
+  where
+    by_extra : (extra : Extra) → is_unled (record run { extra = extra }) producers t ≡ true
+        → (run.case.producer < producers) × (is_old t.in_force ≡ true)
+    by_extra extras.Nothing e = (below_is run.case.producer producers (and_left _ _ e), and_right (nat_lt run.case.producer producers) _ e)
+    by_extra (extras.Stores before route) e = absurd (false≢true e)
+    by_extra (extras.Sends before lands) e = absurd (false≢true e)
+
 ends_badly : (producers : List RouteKind) (terms : Terms) (run : Run) (t : Trace) (z : AnyMachine) → run.case.identity / 64 < terms.words
-    → Follows run.case t z → is_bad_end run terms t ≡ true
+    → Follows run.case t z → is_bad_end run (length producers) terms t ≡ true
     → IsMovedByAny (setting_of producers terms) (start_of (setting_of producers terms) run) z → ⊥
 ends_badly producers terms run t z inside v bad m = elim (or_cases (is_bad_bit run t) _ bad) [
   | inl bit ↦ elim (or_cases (differ t.new (trace_wanted run t)) t.old bit) [
@@ -377,12 +404,17 @@ ends_badly producers terms run t z inside v bad m = elim (or_cases (is_bad_bit r
         ∙ sym (ended_number run.case t z terms.number_to v) ∙ m.numbers run.case.number ∙ begun_number producers terms run terms.number_from refl)
     | inr more ↦ elim (or_cases (is_flying_old t.flight) _ more) [
       | inl flying ↦ flies_old run.case t.flight flying (subst (AllByRecursion (λ (g : AnyFlight). g.place ≡ New)) v.flights m.flights)
-      | inr reached ↦ elim (or_cases t.strayed _ reached) [
-        | inl strayed ↦ true_false t.strayed strayed (sym v.strayed ∙ m.strayed)
-        | inr left ↦
-            let there = and_right terms.is_inherited _ left in
-            zero_one (sym (m.inherited (and_left terms.is_inherited _ left) (v.freed ∙ and_left t.freed _ there) run.case.number)
-            ∙ v.old_number ∙ ap worth (and_right t.freed _ there))
+      | inr some ↦ elim (or_cases (t.strayed || is_left terms t) _ some) [
+        | inl reached ↦ elim (or_cases t.strayed _ reached) [
+          | inl strayed ↦ true_false t.strayed strayed (sym v.strayed ∙ m.strayed)
+          | inr left ↦
+              let there = and_right terms.is_inherited _ left in
+              zero_one (sym (m.inherited (and_left terms.is_inherited _ left) (v.freed ∙ and_left t.freed _ there) run.case.number)
+              ∙ v.old_number ∙ ap worth (and_right t.freed _ there))
+        ]
+        | inr unled ↦
+            let is = unled_is run (length producers) t unled in
+            old_new t.in_force is.1 (sym v.in_force ∙ m.in_force run.case.producer is.0)
       ]
     ]
   ]
@@ -390,7 +422,7 @@ ends_badly producers terms run t z inside v bad m = elim (or_cases (is_bad_bit r
 
 pub it_loses : (producers : List RouteKind) (terms : Terms) (plan : List AnyStep) (run : Run) (t : Trace) → can_be run terms producers ≡ true
     → Follows run.case t (all_happened (setting_of producers terms) (happenings plan run) (start_of (setting_of producers terms) run))
-    → is_bad_end run terms t ≡ true → Loses (setting_of producers terms) plan run
+    → is_bad_end run (length producers) terms t ≡ true → Loses (setting_of producers terms) plan run
 it_loses producers terms plan run t can v bad =
     let inside = below_is (run.case.identity / 64) terms.words (and_left _ _ can) in
     let rest = and_right (nat_lt (run.case.identity / 64) terms.words) _ can in

@@ -5,14 +5,14 @@ use Rattle.std.proofs.lemmas.Option.{slice_get-get_or}
 use Rattle.plans_rules.specs.declared.step.AnyStep.{AnyStep}
 use Rattle.plans_rules.specs.declared.setting.Terms.{Terms}
 use Rattle.plans_counterexamples.specs.declared.run.Run.{Run}
-use Rattle.plans_rules.specs.Setting.{is_old}
+use Rattle.plans_counterexamples.specs.declared.trace.StoreRoute.{StoreRoute}
 use Rattle.plans_counterexamples.specs.declared.trace.Case.{Case}
 use Rattle.plans_counterexamples.specs.declared.trace.Trace.{Trace}
 use Rattle.plans_counterexamples.specs.declared.trace.Begin.TheVariants as begins
 use Rattle.plans_counterexamples.specs.declared.run.Extra.TheVariants as extras
 use Rattle.plans_counterexamples.specs.Trace.{trace_after}
 use Rattle.plans_counterexamples.specs.Run.{trace_extra}
-use Rattle.plans_counterexamples.specs.Search.{first_of, last_old, or_else, run_of, trace_stepped, trace_upto}
+use Rattle.plans_counterexamples.specs.Search.{first_of, last_by, or_else, reaches_by, run_of, trace_stepped, trace_upto}
 
 pub traced_more : (run : Run) (terms : Terms) (plan : List AnyStep) (k : ℕ) (x : AnyStep) → k < length plan
     → trace_after run.case (get_or plan k x) (trace_extra run k (trace_upto run terms plan k)) ≡ trace_upto run terms plan (k + 1)
@@ -48,20 +48,20 @@ first_end found k n all past e =
     let none : n - k ≡ 0 = omega (arith, past) in
     sym (ap (first_of found k) none) ∙ e
 
--- how late the route in force still leads to the old place, with one step more
-pub last_more : (case : Case) (terms : Terms) (plan : List AnyStep) (k : ℕ) (x : AnyStep) (t now : Trace) (last : ℕ) → k < length plan
+-- how late a place is reached by a route, with one step more
+pub last_more : (route : StoreRoute) (case : Case) (terms : Terms) (plan : List AnyStep) (k : ℕ) (x : AnyStep) (t now : Trace) (last : ℕ) → k < length plan
     → t ≡ trace_upto (run_of case begins.Nowhere extras.Nothing) terms plan k → now ≡ trace_after case (get_or plan k x) t
-    → last ≡ last_old case terms plan k
+    → last ≡ last_by route case terms plan k
     → (now ≡ trace_upto (run_of case begins.Nowhere extras.Nothing) terms plan (k + 1))
-    × ((if is_old now.in_force then k + 1 else last) ≡ last_old case terms plan (k + 1))
-last_more case terms plan k x t now last low before after so_far =
+    × ((if reaches_by route now then k + 1 else last) ≡ last_by route case terms plan (k + 1))
+last_more route case terms plan k x t now last low before after so_far =
     let run : Run = run_of case begins.Nowhere extras.Nothing in
     let reached : now ≡ trace_upto run terms plan (k + 1) =
     after ∙ ap (trace_after case (get_or plan k x)) before ∙ traced_more run terms plan k x low in
     let next : suc k ≡ k + 1 = omega arith in (
       reached,
-      ap (λ (u : Trace). if is_old u.in_force then k + 1 else last) reached
-          ∙ ap (λ n. if is_old (trace_upto run terms plan (k + 1)).in_force then k + 1 else n) so_far
-          ∙ subst (λ m. (if is_old (trace_upto run terms plan m).in_force then k + 1 else last_old case terms plan k) ≡ last_old case terms plan m)
+      ap (λ (u : Trace). if reaches_by route u then k + 1 else last) reached
+          ∙ ap (λ n. if reaches_by route (trace_upto run terms plan (k + 1)) then k + 1 else n) so_far
+          ∙ subst (λ m. (if reaches_by route (trace_upto run terms plan m) then k + 1 else last_by route case terms plan k) ≡ last_by route case terms plan m)
           next refl,
     )

@@ -1,7 +1,7 @@
 -- A watch follows the machine, and what it finds leaves the host untold.
 use Rattle.std.proofs.Common.{◌≡◌, ℕ, zero, suc, ◌+◌, ◌/◌, ◌<◌, Bool, true, false, not, ◌&&◌, ◌||◌, nat_eq, nat_lt, if◌then◌else◌, length, List, [], ◌∷◌, ◌++◌, Option, Some, None, refl, sym, ap, ap₂, subst, ◌∙◌, arith}
 use Rattle.std.specs.Prelude.{get_or, slice_get}
-use Rattle.std.proofs.lemmas.Bool.{eq-eqb, ne_eqb}
+use Rattle.std.proofs.lemmas.Bool.{eq-eqb, ne_eqb, false≢true}
 use Rattle.std.proofs.lemmas.Option.{slice_get-get_or, same_Some}
 use Rattle.plans_rules.specs.declared.step.WhichSet.TheVariants.{Pending}
 use Rattle.plans_rules.specs.declared.step.AnyPlace.{AnyPlace}
@@ -13,7 +13,7 @@ use Rattle.plans_rules.specs.declared.setting.NumberSpot.{NumberSpot}
 use Rattle.plans_rules.specs.declared.setting.NumberSpot.TheVariants.{InOld, InHand, InNew}
 use Rattle.plans_rules.specs.declared.setting.Terms.{Terms}
 use Rattle.plans_rules.specs.Setting.{Setting, setting_of, is_old, names}
-use Rattle.plans_rules.specs.Machine.{AnyMachine, Sets, landed, all_landed, flights_of, all_happened, stepped, with_one}
+use Rattle.plans_rules.specs.Machine.{AnyMachine, Sets, landed, all_landed, flights_of, all_happened, route_of, stepped, with_one}
 use Rattle.plans_rules.specs.Machine.AnyHappening.{Does, Stores}
 use Rattle.plans_rules.specs.Rules.{writes_notice}
 use Rattle.plans_rules.specs.Safe.{IsStartOfAny}
@@ -27,7 +27,7 @@ use Rattle.plans_counterexamples.specs.declared.untold.UntoldRun.{UntoldRun}
 use Rattle.plans_counterexamples.specs.Search.{first_of, or_else}
 use Rattle.plans_counterexamples.specs.UntoldSearch.{is_small, stored_before, stored_by, tried_untold, untold_of, untold_run_of, untold_word, with_delivery, untold_with_numbers}
 use Rattle.plans_counterexamples.specs.Run.{by_of, extra_at, run_upto, step_at}
-use Rattle.plans_counterexamples.specs.Untold.{IsAlone, IsWatched, LeavesUntold, can_come, can_store, enabled_bit, extra_of, is_unstored, is_untold, pending_bit, producer_of, run_in, watch_sees, watch_told, untold_end, untold_start, watch_after, watch_begun, watch_end, watch_extra, watch_landed, watch_out, watch_route, watch_stepped, watch_upto}
+use Rattle.plans_counterexamples.specs.Untold.{IsAlone, IsWatched, LeavesUntold, can_come, can_store, enabled_bit, extra_of, is_unstored, is_untold, pending_bit, producer_of, run_in, watch_sees, watch_told, untold_end, untold_start, watch_after, watch_begun, watch_end, watch_extra, watch_landed, watch_made, watch_out, watch_route, watch_stepped, watch_upto}
 use Rattle.plans_counterexamples.proofs.FollowLemmas.{follows_landed, follows_step}
 use Rattle.plans_counterexamples.proofs.RunLemmas.{MayStore, all_happened-append, below_is, happens_well, true_false}
 use Rattle.plans_counterexamples.proofs.FoundLemmas.{IfFound, either, first}
@@ -67,6 +67,8 @@ seen_after : (producers : List RouteKind) (terms : Terms) (u : UntoldRun) (x : A
 seen_after producers terms u (steps.Look word) w z v = ap₂ (λ a b. a || b) v.seen (word_same producers terms u w z word v)
 seen_after producers terms u (steps.Fence p) w z v = ap (λ (y : AnyMachine). y.seen) (fenced (setting_of producers terms) p z v.flights) ∙ v.seen
     ∙ or_nothing w.seen
+seen_after producers terms u (steps.Pause p) w z v = ap (λ (y : AnyMachine). y.seen) (fenced (setting_of producers terms) p z v.flights) ∙ v.seen
+    ∙ or_nothing w.seen
 seen_after producers terms u (steps.Zero Old s k) w z v = v.seen ∙ or_nothing w.seen
 seen_after producers terms u (steps.Zero New s k) w z v = v.seen ∙ or_nothing w.seen
 seen_after producers terms u (steps.ZeroNumber Old n) w z v = v.seen ∙ or_nothing w.seen
@@ -80,6 +82,8 @@ told_after producers terms u steps.Post w z inside v = ap₂ (λ a b. a || b) v.
 told_after producers terms u steps.Tell w z inside v = ap₂ (λ a b. a || b) v.told (any_same producers terms u w z inside v)
 told_after producers terms u (steps.Fence p) w z inside v = ap (λ (y : AnyMachine). y.told) (fenced (setting_of producers terms) p z v.flights)
     ∙ v.told ∙ or_nothing w.told
+told_after producers terms u (steps.Pause p) w z inside v = ap (λ (y : AnyMachine). y.told) (fenced (setting_of producers terms) p z v.flights)
+    ∙ v.told ∙ or_nothing w.told
 told_after producers terms u (steps.Zero Old s k) w z inside v = v.told ∙ or_nothing w.told
 told_after producers terms u (steps.Zero New s k) w z inside v = v.told ∙ or_nothing w.told
 told_after producers terms u (steps.ZeroNumber Old n) w z inside v = v.told ∙ or_nothing w.told
@@ -91,6 +95,8 @@ noticed_after : (producers : List RouteKind) (terms : Terms) (u : UntoldRun) (x 
 noticed_after producers terms u steps.WriteNotice w z v = refl
 noticed_after producers terms u (steps.Fence p) w z v =
     ap (λ (y : AnyMachine). y.noticed) (fenced (setting_of producers terms) p z v.flights) ∙ v.noticed
+noticed_after producers terms u (steps.Pause p) w z v =
+    ap (λ (y : AnyMachine). y.noticed) (fenced (setting_of producers terms) p z v.flights) ∙ v.noticed
 noticed_after producers terms u (steps.Zero Old s k) w z v = v.noticed
 noticed_after producers terms u (steps.Zero New s k) w z v = v.noticed
 noticed_after producers terms u (steps.ZeroNumber Old n) w z v = v.noticed
@@ -100,6 +106,8 @@ noticed_after producers terms u x w z v = v.noticed
 old_after : (producers : List RouteKind) (terms : Terms) (u : UntoldRun) (x : AnyStep) (w : Watch) (z : AnyMachine) → IsWatched u w z
     → IsAlone u.identity (stepped (setting_of producers terms) x z).old
 old_after producers terms u (steps.Fence p) w z v =
+    λ j other. ap (λ (y : AnyMachine). y.old Pending j) (fenced (setting_of producers terms) p z v.flights) ∙ v.old j other
+old_after producers terms u (steps.Pause p) w z v =
     λ j other. ap (λ (y : AnyMachine). y.old Pending j) (fenced (setting_of producers terms) p z v.flights) ∙ v.old j other
 old_after producers terms u (steps.Zero Old s k) w z v = λ j other. and_false_right (not (names s k Pending (j / 64))) _ (v.old j other)
 old_after producers terms u (steps.Zero New s k) w z v = v.old
@@ -111,6 +119,8 @@ old_after producers terms u x w z v = v.old
 new_after : (producers : List RouteKind) (terms : Terms) (u : UntoldRun) (x : AnyStep) (w : Watch) (z : AnyMachine) → IsWatched u w z
     → IsAlone u.identity (stepped (setting_of producers terms) x z).new
 new_after producers terms u (steps.Fence p) w z v =
+    λ j other. ap (λ (y : AnyMachine). y.new Pending j) (fenced (setting_of producers terms) p z v.flights) ∙ v.new j other
+new_after producers terms u (steps.Pause p) w z v =
     λ j other. ap (λ (y : AnyMachine). y.new Pending j) (fenced (setting_of producers terms) p z v.flights) ∙ v.new j other
 new_after producers terms u (steps.Zero Old s k) w z v = v.new
 new_after producers terms u (steps.Zero New s k) w z v = λ j other. and_false_right (not (names s k Pending (j / 64))) _ (v.new j other)
@@ -126,6 +136,8 @@ new_after producers terms u x w z v = v.new
 hand_after : (producers : List RouteKind) (terms : Terms) (u : UntoldRun) (x : AnyStep) (w : Watch) (z : AnyMachine) → IsWatched u w z
     → IsAlone u.identity (stepped (setting_of producers terms) x z).hand
 hand_after producers terms u (steps.Fence p) w z v =
+    λ j other. ap (λ (y : AnyMachine). y.hand Pending j) (fenced (setting_of producers terms) p z v.flights) ∙ v.hand j other
+hand_after producers terms u (steps.Pause p) w z v =
     λ j other. ap (λ (y : AnyMachine). y.hand Pending j) (fenced (setting_of producers terms) p z v.flights) ∙ v.hand j other
 hand_after producers terms u (steps.Zero Old s k) w z v = v.hand
 hand_after producers terms u (steps.Zero New s k) w z v = v.hand
@@ -171,6 +183,7 @@ watched_begun producers terms u = record {
     hand_number = refl;
     written = refl;
     in_force = refl;
+    paused = refl;
     flights = refl;
     freed = refl;
     strayed = refl;
@@ -185,6 +198,7 @@ watched_begun producers terms u = record {
     hand_number = refl;
     written = refl;
     in_force = refl;
+    paused = refl;
     flights = refl;
     freed = refl;
     strayed = refl;
@@ -211,7 +225,7 @@ watched_extra producers terms u k w z v = by_store u.store v
 
     by_route : (store : Store) (route : StoreRoute) → IsWatched (record u { store = Some store }) w z
         → IsWatched (record u { store = Some store }) (watch_landed terms u.identity store.producer (watch_route route w) w)
-        (all_happened (setting_of producers terms) (Stores store.producer (by_of route) u.identity ∷ []) z)
+        (landed (setting_of producers terms) (route_of (by_of route) store.producer z) u.identity z)
     by_route store Written v = subst (λ place. IsWatched (record u { store = Some store })
         (watch_landed terms u.identity store.producer w.pending.written w) (landed (setting_of producers terms) place u.identity z))
         (sym v.pending.written) (watched_landed producers terms (record u { store = Some store }) w.pending.written w z v)
@@ -219,11 +233,20 @@ watched_extra producers terms u k w z v = by_store u.store v
         (watch_landed terms u.identity store.producer w.pending.in_force w) (landed (setting_of producers terms) place u.identity z))
         (sym v.pending.in_force) (watched_landed producers terms (record u { store = Some store }) w.pending.in_force w z v)
 
+    by_pause : (store : Store) (b k : Bool) → k ≡ b → IsWatched (record u { store = Some store }) w z
+        → IsWatched (record u { store = Some store }) (elim b
+        [ true ↦ w | false ↦ watch_landed terms u.identity store.producer (watch_route store.route w) w ])
+        (if k then z else landed (setting_of producers terms) (route_of (by_of store.route) store.producer z) u.identity z)
+    by_pause store true true e v = v
+    by_pause store false false e v = by_route store store.route v
+    by_pause store true false e v = absurd (false≢true e)
+    by_pause store false true e v = absurd (false≢true (sym e))
+
     by_test : (store : Store) (b : Bool) → IsWatched (record u { store = Some store }) w z
         → IsWatched (record u { store = Some store }) (elim b
-        [ true ↦ watch_landed terms u.identity store.producer (watch_route store.route w) w | false ↦ w ])
+        [ true ↦ watch_made terms u.identity store.producer store.route w | false ↦ w ])
         (all_happened (setting_of producers terms) (if b then Stores store.producer (by_of store.route) u.identity ∷ [] else []) z)
-    by_test store true v = by_route store store.route v
+    by_test store true v = by_pause store w.pending.paused (z.paused store.producer) v.pending.paused v
     by_test store false v = v
 
     by_store : (o : Option Store) → IsWatched (record u { store = o }) w z
@@ -282,6 +305,7 @@ begins_untold : (d : Setting) (u : UntoldRun) → IsStartOfAny d (untold_start d
 begins_untold d u = record {
   written = λ p is. refl;
   in_force = λ p is. refl;
+  paused = λ p is. refl;
   flights = tt;
   due = λ s i. refl;
   hand = λ s i. refl;

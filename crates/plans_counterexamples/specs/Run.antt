@@ -23,11 +23,10 @@ use Rattle.plans_counterexamples.specs.declared.trace.StoreRoute.{StoreRoute}
 use Rattle.plans_counterexamples.specs.declared.trace.StoreRoute.TheVariants.{Written, InForce}
 use Rattle.plans_counterexamples.specs.declared.trace.Trace.{Trace}
 use Rattle.plans_counterexamples.specs.declared.run.Run.{Run}
-use Rattle.plans_counterexamples.specs.declared.run.Extra.{Extra}
 use Rattle.plans_counterexamples.specs.declared.run.Fate.{Fate}
 use Rattle.plans_counterexamples.specs.declared.run.Fate.TheVariants as fates
 use Rattle.plans_counterexamples.specs.declared.run.Extra.TheVariants as extras
-use Rattle.plans_counterexamples.specs.Trace.{trace_first, begins_old, begins_new, flights_by, trace_stored, flight_landed, worth}
+use Rattle.plans_counterexamples.specs.Trace.{trace_first, begins_old, begins_new, trace_stored, unless_paused, flight_landed, worth}
 
 -- ---- how a run begins
 
@@ -49,6 +48,7 @@ start_of d run = record {
   hand_number = λ n. worth (same_spot d.number_from InHand);
   written = λ p. Old;
   in_force = λ p. Old;
+  paused = λ p. false;
   flights = [];
   freed = false;
   strayed = false;
@@ -103,9 +103,12 @@ pub record Loses (d : Setting) (plan : List AnyStep) (run : Run) : Type 0 where
 abbrev pub trace_begun : Run → Terms → Trace
 trace_begun run terms = trace_first run.begin run.left terms
 
--- What is followed, once the store is sent, and once it has landed.
+-- What is followed, once the store is sent, unless its producer is paused, and once it has landed.
 abbrev pub trace_sent : Bool → Trace → Trace
-trace_sent comes t = elim comes [ true ↦ record t { flight = Some t.in_force } | false ↦ t ]
+trace_sent comes t = elim comes [
+  | true ↦ unless_paused t (record t { flight = Some t.in_force })
+  | false ↦ t
+]
 
 abbrev pub trace_flown : Case → Bool → Trace → Trace
 trace_flown c comes t = elim comes [
@@ -155,12 +158,22 @@ is_bad_bit run t = differ t.new (trace_wanted run t) || t.old
 abbrev pub is_left : Terms → Trace → Bool
 is_left terms t = terms.is_inherited && (t.freed && t.old_number)
 
--- Whether the run does not end as it has to, by what was followed.
-abbrev pub is_bad_end : Run → Terms → Trace → Bool
-is_bad_end run terms t =
+-- Whether the run has no store, and the route in force of the producer that it follows, one of so
+-- many, leads to the old place.
+abbrev pub is_unled : Run → ℕ → Trace → Bool
+is_unled run producers t = elim run.extra [
+  | extras.Nothing ↦ nat_lt run.case.producer producers && is_old t.in_force
+  | extras.Stores before route ↦ false
+  | extras.Sends before lands ↦ false
+]
+
+-- Whether the run of a plan with so many producers does not end as it has to, by what was followed.
+abbrev pub is_bad_end : Run → ℕ → Terms → Trace → Bool
+is_bad_end run producers terms t =
     is_bad_bit run t
     || (not (trace_number terms.number_to t)
-    || (is_flying_old t.flight || (t.strayed || is_left terms t)))
+    || (is_flying_old t.flight
+    || ((t.strayed || is_left terms t) || is_unled run producers t)))
 
 -- ---- it shows that a rule is broken
 
@@ -168,18 +181,22 @@ is_bad_end run terms t =
 abbrev pub is_missing : Run → Trace → Bool
 is_missing run t = trace_wanted run t && not t.new
 
--- Whether an end shows that a rule of safety is broken: a pending bit is left in the old place; a
--- bit is missing, or an enable is left there; a bit is missing, or left over in the new place; the
+-- Whether a pending bit is left in the old place.
+abbrev pub is_left_old : Run → Trace → Bool
+is_left_old run t = is_pending run.case.bank && t.old
+
+-- Whether an end shows that a rule of safety is broken: a pending bit is left in the old place, or,
+-- of a run without a store, the producer's route leads there; a bit is missing, or an enable is left there; a bit is missing, or left over in the new place; the
 -- number is not where it has to be; the old place is reached after it was given back, or the number
 -- is left there. No such end shows that the rule on notices is.
-abbrev pub shows : Rule → Run → Terms → Trace → Bool
-shows rules.Routes run terms t = is_pending run.case.bank && t.old
-shows rules.Words run terms t =
+abbrev pub shows : Rule → Run → ℕ → Terms → Trace → Bool
+shows rules.Routes run producers terms t = is_left_old run t || is_unled run producers t
+shows rules.Words run producers terms t =
     (is_missing run t && not t.old) || (not (is_pending run.case.bank) && t.old)
-shows rules.Blank run terms t = differ t.new (trace_wanted run t)
-shows rules.Numbers run terms t = not (trace_number terms.number_to t)
-shows rules.Freeing run terms t = t.strayed || is_left terms t
-shows rules.Notice run terms t = false
+shows rules.Blank run producers terms t = differ t.new (trace_wanted run t)
+shows rules.Numbers run producers terms t = not (trace_number terms.number_to t)
+shows rules.Freeing run producers terms t = t.strayed || is_left terms t
+shows rules.Notice run producers terms t = false
 
 -- The last step, of so many, that leaves nothing of a word in the old place, if there is one: by
 -- how many are before it.
@@ -212,9 +229,14 @@ bit_fate plan run producers t = elim t.old [
   ]
 ]
 
--- What becomes of what is followed: the number is not where it has to be; the old place is reached
--- after it was given back, or the number is left there; or what becomes of the bit.
+-- What becomes of what is followed: the route of the producer leads to the old place still, and the
+-- bit is not there; the number is not where it has to be; the old place is reached after it was
+-- given back, or the number is left there; or what becomes of the bit.
 abbrev pub fate_of : Rule → List AnyStep → Run → ℕ → Trace → Fate
+fate_of rules.Routes plan run producers t = elim (is_left_old run t) [
+  | true ↦ bit_fate plan run producers t
+  | false ↦ fates.Unled
+]
 fate_of rules.Numbers plan run producers t = fates.Misplaced
 fate_of rules.Freeing plan run producers t = elim t.strayed [
   | true ↦ fates.Strayed

@@ -1,7 +1,6 @@
 -- Which run is found of a plan that breaks a rule of safety: the first that shows it, of a few with
 -- one store at most that follow the word in which the rule is broken. Profile.
-use Rattle.std.specs.Prelude.{ℕ, zero, suc, ◌+◌, ◌*◌, ◌-◌, ◌^◌, Bool, true, false, ◌&&◌, ◌||◌, nat_le, if◌then◌else◌, List, length, Option, Some, None, slice_get}
-use Rattle.plans_rules.specs.declared.step.WhichSet.{WhichSet}
+use Rattle.std.specs.Prelude.{ℕ, zero, suc, ◌+◌, ◌*◌, ◌-◌, ◌^◌, Bool, true, false, not, ◌&&◌, nat_le, if◌then◌else◌, List, length, Option, Some, None, slice_get}
 use Rattle.plans_rules.specs.declared.step.WhichSet.TheVariants.{Pending, Enabled}
 use Rattle.plans_rules.specs.declared.step.Number.TheVariants.{Threshold, Delivery}
 use Rattle.plans_rules.specs.declared.step.AnyStep.{AnyStep}
@@ -14,6 +13,7 @@ use Rattle.plans_rules.specs.Rules.{lifts}
 use Rattle.plans_counterexamples.specs.declared.trace.Begin.{Begin}
 use Rattle.plans_counterexamples.specs.declared.trace.Begin.TheVariants as begins
 use Rattle.plans_counterexamples.specs.declared.trace.Case.{Case}
+use Rattle.plans_counterexamples.specs.declared.trace.StoreRoute.{StoreRoute}
 use Rattle.plans_counterexamples.specs.declared.trace.StoreRoute.TheVariants.{Written, InForce}
 use Rattle.plans_counterexamples.specs.declared.trace.Trace.{Trace}
 use Rattle.plans_counterexamples.specs.declared.run.Extra.{Extra}
@@ -44,7 +44,8 @@ trace_end run terms plan = trace_extra run (length plan) (trace_upto run terms p
 -- broken.
 unfoldable pub tried : Rule → List RouteKind → Terms → List AnyStep → Run → Option Losing
 tried rule producers terms plan run =
-    if can_be run terms producers && shows rule run terms (trace_end run terms plan)
+    if can_be run terms producers
+    && shows rule run (length producers) terms (trace_end run terms plan)
     then Some (record {
       run = run;
       fate = fate_of rule plan run (length producers) (trace_end run terms plan);
@@ -96,28 +97,35 @@ without_store rule producers terms plan case =
     (or_else (tried rule producers terms plan (run_of case begins.InNew extras.Nothing))
     (tried rule producers terms plan (left_run case))))
 
--- How many steps at most, of so many, are done where the producer's route in force still leads to
--- the old place.
-abbrev pub last_old : Case → Terms → List AnyStep → ℕ → ℕ
-last_old case terms plan zero = 0
-last_old case terms plan (suc k) =
-    if is_old (trace_upto (run_of case begins.Nowhere extras.Nothing) terms plan (suc k)).in_force
-    then k + 1 else last_old case terms plan k
+-- Whether a store of the producer comes to the old place by the route in force; whether one comes
+-- to the new place by the written route.
+abbrev pub reaches_by : StoreRoute → Trace → Bool
+reaches_by InForce t = is_old t.in_force && not t.paused
+reaches_by Written t = not (is_old t.written) && not t.paused
+
+-- How many steps at most, of so many, are done where that is so; 0 if it never is.
+abbrev pub last_by : StoreRoute → Case → Terms → List AnyStep → ℕ → ℕ
+last_by route case terms plan zero = 0
+last_by route case terms plan (suc k) =
+    if reaches_by route (trace_upto (run_of case begins.Nowhere extras.Nothing) terms plan (suc k))
+    then k + 1 else last_by route case terms plan k
 
 -- The runs with a store of the producer that reaches the old place with so many steps before it, or
 -- as late as it can before that: it is made then, or it is sent, and lands there.
 unfoldable pub stored_old : Rule → List RouteKind → Terms → List AnyStep → Case → ℕ → Option Losing
 stored_old rule producers terms plan case at =
     or_else (tried rule producers terms plan
-    (run_of case begins.Nowhere (extras.Stores (last_old case terms plan at) InForce)))
+    (run_of case begins.Nowhere (extras.Stores (last_by InForce case terms plan at) InForce)))
     (tried rule producers terms plan
-    (run_of case begins.Nowhere (extras.Sends (last_old case terms plan at) at)))
+    (run_of case begins.Nowhere (extras.Sends (last_by InForce case terms plan at) at)))
 
--- The run with a store by the written route with so many steps before it.
+-- The run with a store that reaches the new place by the written route with so many steps before
+-- it, or as late as it can before that.
 unfoldable pub stored_ahead : Rule → List RouteKind → Terms → List AnyStep → Case → ℕ
     → Option Losing
 stored_ahead rule producers terms plan case at =
-    tried rule producers terms plan (run_of case begins.Nowhere (extras.Stores at Written))
+    tried rule producers terms plan
+    (run_of case begins.Nowhere (extras.Stores (last_by Written case terms plan at) Written))
 
 -- How many steps are before the last one, of so many, that lifts a pending word; 0 if there is
 -- none.
@@ -134,7 +142,7 @@ one_more plan at = if nat_le (length plan) at then at else at + 1
 
 -- The first that shows it of the runs with a store of a producer into a word, which a rule that is
 -- broken with so many steps before it asks for: behind the step, or before it; before the last step
--- that lifts the word; or ahead.
+-- that lifts the word; or ahead. Then that without a store, by where the producer's route leads.
 unfoldable pub by_producer : Rule → List RouteKind → Terms → List AnyStep → ℕ → ℕ → ℕ
     → Option Losing
 by_producer rule producers terms plan word at producer =
@@ -143,7 +151,9 @@ by_producer rule producers terms plan word at producer =
     (or_else (stored_old rule producers terms plan (pending_case word producer) at)
     (or_else (stored_old rule producers terms plan (pending_case word producer)
     (last_lift plan word at))
-    (stored_ahead rule producers terms plan (pending_case word producer) at)))
+    (or_else (stored_ahead rule producers terms plan (pending_case word producer) at)
+    (tried rule producers terms plan
+    (run_of (pending_case word producer) begins.Nowhere extras.Nothing)))))
 
 -- The first of these runs of any producer.
 unfoldable pub stored_word : Rule → List RouteKind → Terms → List AnyStep → ℕ → ℕ → Option Losing

@@ -42,6 +42,7 @@ trace_first begin left terms = record {
   hand_number = same_spot terms.number_from InHand;
   written = Old;
   in_force = Old;
+  paused = false;
   flight = None;
   freed = false;
   strayed = false;
@@ -56,10 +57,15 @@ trace_landed c place t = record t {
   strayed = t.strayed || (is_old place && t.freed);
 }
 
--- It lands where a route leads: as it is written, or in force.
+-- What the producer makes of what is followed, unless it is paused.
+abbrev pub unless_paused : Trace → Trace → Trace
+unless_paused t made = elim t.paused [ true ↦ t | false ↦ made ]
+
+-- It lands where a route leads, as it is written or in force; if the producer is paused it makes
+-- none.
 abbrev pub trace_stored : Case → StoreRoute → Trace → Trace
-trace_stored c Written t = trace_landed c t.written t
-trace_stored c InForce t = trace_landed c t.in_force t
+trace_stored c Written t = unless_paused t (trace_landed c t.written t)
+trace_stored c InForce t = unless_paused t (trace_landed c t.in_force t)
 
 -- ---- a step, told whether it is about the word, the number or the producer that is followed
 
@@ -85,6 +91,16 @@ trace_switched is_this t = elim is_this [
   | true ↦ record t { written = New; in_force = New }
   | false ↦ t
 ]
+
+-- The producer is paused, once what is in flight has landed; it is resumed.
+abbrev pub trace_paused : Case → Bool → Trace → Trace
+trace_paused c is_this t = elim is_this [
+  | true ↦ record (flight_landed c t.flight t) { flight = None; paused = true }
+  | false ↦ t
+]
+
+abbrev pub trace_resumed : Bool → Trace → Trace
+trace_resumed is_this t = elim is_this [ true ↦ record t { paused = false } | false ↦ t ]
 
 -- The word is zeroed in a place.
 abbrev pub trace_zeroed : AnyPlace → Bool → Trace → Trace
@@ -157,6 +173,8 @@ abbrev pub trace_after : Case → AnyStep → Trace → Trace
 trace_after c (steps.Route p) t = trace_turned (nat_eq p c.producer) t
 trace_after c (steps.Fence p) t = trace_fenced c (nat_eq p c.producer) t
 trace_after c (steps.Switch p) t = trace_switched (nat_eq p c.producer) t
+trace_after c (steps.Pause p) t = trace_paused c (nat_eq p c.producer) t
+trace_after c (steps.Resume p) t = trace_resumed (nat_eq p c.producer) t
 trace_after c (steps.Zero place s w) t = trace_zeroed place (names_bit c s w) t
 trace_after c (steps.Take s w) t = trace_taken (names_bit c s w) t
 trace_after c (steps.Copy s w) t = trace_copied (names_bit c s w) t
@@ -193,6 +211,7 @@ pub record Follows (c : Case) (t : Trace) (z : AnyMachine) : Type 0 where
   pub hand_number : z.hand_number c.number ≡ worth t.hand_number
   pub written : z.written c.producer ≡ t.written
   pub in_force : z.in_force c.producer ≡ t.in_force
+  pub paused : z.paused c.producer ≡ t.paused
   pub flights : z.flights ≡ flights_by c t.flight
   pub freed : z.freed ≡ t.freed
   pub strayed : z.strayed ≡ t.strayed

@@ -113,6 +113,7 @@ untold_start d u = record {
   hand_number = number_first u InHand;
   written = λ p. Old;
   in_force = λ p. Old;
+  paused = λ p. false;
   flights = [];
   freed = false;
   strayed = false;
@@ -152,6 +153,7 @@ trace_from is_there old_number hand_number new_number = record {
   hand_number = hand_number;
   written = Old;
   in_force = Old;
+  paused = false;
   flight = None;
   freed = false;
   strayed = false;
@@ -196,10 +198,17 @@ abbrev pub watch_route : StoreRoute → Watch → AnyPlace
 watch_route Written w = w.pending.written
 watch_route InForce w = w.pending.in_force
 
+-- A producer makes its store by a route, unless it is paused.
+abbrev pub watch_made : Terms → ℕ → ℕ → StoreRoute → Watch → Watch
+watch_made terms identity producer route w = elim w.pending.paused [
+  | true ↦ w
+  | false ↦ watch_landed terms identity producer (watch_route route w) w
+]
+
 -- The store comes, where so many steps are before it.
 abbrev pub watch_stored : Terms → ℕ → Store → ℕ → Watch → Watch
 watch_stored terms identity store k w = elim (nat_eq store.before k) [
-  | true ↦ watch_landed terms identity store.producer (watch_route store.route w) w
+  | true ↦ watch_made terms identity store.producer store.route w
   | false ↦ w
 ]
 

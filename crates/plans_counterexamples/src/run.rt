@@ -7,7 +7,7 @@ ghost use Rattle.plans_rules.specs.Machine.{all_happened};
 ghost use Rattle.plans_counterexamples.specs.Trace.{Follows};
 ghost use Rattle.plans_rules.specs.Rules as rules;
 ghost use Rattle.plans_rules.specs.Setting.{is_pending};
-ghost use Rattle.plans_counterexamples.specs.Run.{Loses, bit_fate, can_be, differ, fate_of, happenings, is_left, is_missing, is_routed, last_emptied, left_by, shows, start_of, trace_begun, trace_extra, trace_number, trace_wanted};
+ghost use Rattle.plans_counterexamples.specs.Run.{Loses, bit_fate, can_be, differ, fate_of, happenings, is_left, is_left_old, is_missing, is_routed, is_unled, last_emptied, left_by, shows, start_of, trace_begun, trace_extra, trace_number, trace_wanted};
 ghost use Rattle.plans_counterexamples.specs.Search.{tried, trace_end};
 
 use crate::search::Losing;
@@ -53,6 +53,9 @@ pub enum Fate {
     /// It is in the old place, and what takes its word, or zeroes it, with so many steps before it,
     /// comes too early.
     TakenEarly { before: usize },
+
+    /// It is not there, and the route of the producer that is followed leads there still.
+    Unled,
 
     /// It is in the hand alone.
     Held,
@@ -135,12 +138,30 @@ impl Run {
         }
     }
 
+    /// Tells whether the run has no store, and the route in force of the producer that it follows,
+    /// one of so many, leads to the old place.
+    fn is_unled(self, producers: usize, trace: Trace) -> bool
+        ensures { result ≡ is_unled self producers trace }
+    {
+        match self.extra {
+            Extra::Nothing => { self.case.producer < producers && trace.in_force == AnyPlace::Old }
+            _ => false,
+        }
+    }
+
+    /// Tells whether a pending bit is left in the old place.
+    fn is_left_old(self, trace: Trace) -> bool
+        ensures { result ≡ is_left_old self trace }
+    {
+        self.is_pending() && trace.old
+    }
+
     /// Tells whether an end shows that a rule of safety is broken.
-    fn shows(self, rule: Rule, terms: Terms, trace: Trace) -> bool
-        ensures { result ≡ shows rule self terms trace }
+    fn shows(self, rule: Rule, producers: usize, terms: Terms, trace: Trace) -> bool
+        ensures { result ≡ shows rule self producers terms trace }
     {
         match rule {
-            Rule::Routes => self.is_pending() && trace.old,
+            Rule::Routes => self.is_left_old(trace) || self.is_unled(producers, trace),
             Rule::Words => {
                 self.is_missing(trace) && !trace.old || !self.is_pending() && trace.old
             }
@@ -184,6 +205,13 @@ impl Run {
         ensures { result ≡ fate_of rule plan.now self producers trace }
     {
         match rule {
+            Rule::Routes => {
+                if self.is_left_old(trace) {
+                    self.bit_fate(producers, plan, trace)
+                } else {
+                    Fate::Unled
+                }
+            }
             Rule::Numbers => Fate::Misplaced,
             Rule::Freeing => {
                 if trace.strayed {
@@ -226,9 +254,10 @@ impl Run {
 
     /// Tells whether a plan has this run, which ends so, and it shows that a rule is broken.
     fn is_shown(self, rule: Rule, producers: &[RouteKind], terms: Terms, end: Trace) -> bool
-        ensures { result ≡ (can_be self terms producers.now && shows rule self terms end) }
+        ensures { result ≡ (can_be self terms producers.now
+            && shows rule self (length producers.now) terms end) }
     {
-        self.can_be(terms, producers) && self.shows(rule, terms, end)
+        self.can_be(terms, producers) && self.shows(rule, producers.len(), terms, end)
     }
 
     /// Gives this run, if a plan has it and it shows that a rule is broken, and what becomes of

@@ -2,17 +2,17 @@
 //! at most.
 
 ghost use Rattle.std.specs.Prelude.{◌≡◌, ◌≤◌, if◌then◌else◌, IfSome, Some, length};
-ghost use Rattle.plans_rules.specs.Setting.{is_old, setting_of};
+ghost use Rattle.plans_rules.specs.Setting.{setting_of};
 ghost use Rattle.plans_counterexamples.specs.Run.{Loses};
 ghost use Rattle.plans_counterexamples.specs.declared.run.Extra.TheVariants as extras;
 ghost use Rattle.plans_counterexamples.specs.declared.search.Scope.TheVariants as scopes;
 ghost use Rattle.plans_counterexamples.specs.Search as search_;
-ghost use Rattle.plans_counterexamples.specs.Search.{at_most, by_producer, enabled_case, first_of, found_in, last_lift, last_old, losing_run_of, one_more, pending_case, quiet_word, scope_by, stored_ahead, stored_old, stored_word, without_store};
+ghost use Rattle.plans_counterexamples.specs.Search.{at_most, by_producer, enabled_case, first_of, found_in, last_by, last_lift, losing_run_of, one_more, pending_case, quiet_word, reaches_by, scope_by, stored_ahead, stored_old, stored_word, without_store};
 ghost use Rattle.plans_rules.specs.declared.step.WhichSet.TheVariants.{Pending};
 ghost use Rattle.plans_rules.specs.Rules as rules;
 
 use crate::run::{Extra, Fate, Run};
-use crate::trace::{Begin, Case, StoreRoute};
+use crate::trace::{Begin, Case, StoreRoute, Trace};
 use plans_rules::{AnyPlace, AnyStep, Number, RouteKind, Rule, Terms, WhichSet};
 
 /// A run that shows that a rule is broken, and what becomes in the end of what it follows.
@@ -106,27 +106,38 @@ fn without_store(
     left_run(case).tried(rule, producers, terms, plan)
 }
 
-/// Gives how many steps at most, of so many, are done where the producer's route in force still
-/// leads to the old place.
-fn last_old(case: Case, terms: Terms, plan: &[AnyStep], count: usize) -> usize
+/// Gives how many steps at most, of so many, are done where a store of the producer comes to the old
+/// place by the route in force, or to the new one by the written route; 0 if it never does.
+fn last_by(route: StoreRoute, case: Case, terms: Terms, plan: &[AnyStep], count: usize) -> usize
     requires { count ≤ length plan.now }
-    ensures { result ≡ last_old case terms plan.now count }
+    ensures { result ≡ last_by route case terms plan.now count }
 {
     let run = run_of(case, Begin::Nowhere, Extra::Nothing);
     let mut trace = run.begun(terms);
     let mut last = 0;
     for at in 0..count {
         trace = trace.after(case, plan[at]);
-        last = if_old(trace.in_force, at + 1, last);
+        last = if_reached(reaches_by(route, trace), at + 1, last);
     }
     last
 }
 
-/// Gives one number where a place is the old one, else another.
-fn if_old(place: AnyPlace, now: usize, last: usize) -> usize
-    ensures { result ≡ if is_old place then now else last }
+/// Tells whether a store of the producer comes to the old place by the route in force, or to the new
+/// one by the written route.
+fn reaches_by(route: StoreRoute, trace: Trace) -> bool
+    ensures { result ≡ reaches_by route trace }
 {
-    if place == AnyPlace::Old { now } else { last }
+    match route {
+        StoreRoute::InForce => trace.in_force == AnyPlace::Old && !trace.paused,
+        StoreRoute::Written => trace.written != AnyPlace::Old && !trace.paused,
+    }
+}
+
+/// Gives one number where a place is reached, else another.
+fn if_reached(is_reached: bool, now: usize, last: usize) -> usize
+    ensures { result ≡ if is_reached then now else last }
+{
+    if is_reached { now } else { last }
 }
 
 /// Makes a store that lands at once.
@@ -157,7 +168,7 @@ fn stored_old(
     requires { at ≤ length plan.now }
     ensures { result ≡ stored_old rule producers.now terms plan.now case at }
 {
-    let last = last_old(case, terms, plan, at);
+    let last = last_by(StoreRoute::InForce, case, terms, plan, at);
     let made = run_of(case, Begin::Nowhere, stores(last, StoreRoute::InForce));
     if let Some(found) = made.tried(rule, producers, terms, plan) {
         return Some(found);
@@ -165,8 +176,8 @@ fn stored_old(
     run_of(case, Begin::Nowhere, sends(last, at)).tried(rule, producers, terms, plan)
 }
 
-/// Looks for a run with a store by the written route with so many steps before it. `None`: there is
-/// none.
+/// Looks for a run with a store that reaches the new place by the written route with so many steps
+/// before it, or as late as it can before that. `None`: there is none.
 #[tactic(auto, unfolding(crate::specs::Search::stored_ahead))]
 fn stored_ahead(
     rule: Rule,
@@ -176,11 +187,12 @@ fn stored_ahead(
     case: Case,
     at: usize,
 ) -> Option<Losing>
+    requires { at ≤ length plan.now }
     ensures { result ≡ stored_ahead rule producers.now terms plan.now case at }
 {
-    run_of(case, Begin::Nowhere, stores(at, StoreRoute::Written)).tried(
-        rule, producers, terms, plan,
-    )
+    let last = last_by(StoreRoute::Written, case, terms, plan, at);
+    let made = run_of(case, Begin::Nowhere, stores(last, StoreRoute::Written));
+    made.tried(rule, producers, terms, plan)
 }
 
 /// Tells whether a step lifts a pending word.
@@ -219,7 +231,8 @@ fn one_more(plan: &[AnyStep], at: usize) -> usize
 }
 
 /// Looks for a run with a store of a producer into a word, which a rule that is broken with so many
-/// steps before it asks for. `None`: there is none.
+/// steps before it asks for, and then for that without a store, by where the producer's route leads.
+/// `None`: there is none.
 #[tactic(auto, unfolding(crate::specs::Search::by_producer))]
 fn by_producer(
     rule: Rule,
@@ -245,7 +258,10 @@ fn by_producer(
     if let Some(found) = stored_old(rule, producers, terms, plan, case, lift) {
         return Some(found);
     }
-    stored_ahead(rule, producers, terms, plan, case, at)
+    if let Some(found) = stored_ahead(rule, producers, terms, plan, case, at) {
+        return Some(found);
+    }
+    run_of(case, Begin::Nowhere, Extra::Nothing).tried(rule, producers, terms, plan)
 }
 
 /// Looks for such a run of any producer. `None`: there is none.

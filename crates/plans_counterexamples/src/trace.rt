@@ -2,7 +2,7 @@
 
 ghost use Rattle.std.specs.Prelude.{◌≡◌, Some, None};
 ghost use Rattle.plans_counterexamples.specs.Run.{trace_flown, trace_number, trace_sent};
-ghost use Rattle.plans_counterexamples.specs.Trace.{names_bit, trace_after, trace_copied, trace_copied_number, trace_fenced, trace_first, trace_joined, trace_landed, trace_put, trace_put_number, trace_stored, trace_switched, trace_taken, trace_taken_number, trace_turned, trace_zeroed, trace_zeroed_number};
+ghost use Rattle.plans_counterexamples.specs.Trace.{names_bit, trace_after, trace_copied, trace_copied_number, trace_fenced, trace_first, trace_joined, trace_landed, trace_paused, trace_put, trace_put_number, trace_resumed, trace_stored, trace_switched, trace_taken, trace_taken_number, trace_turned, trace_zeroed, trace_zeroed_number};
 
 use plans_rules::{AnyPlace, AnyStep, Number, NumberSpot, Terms, WhichSet};
 
@@ -49,6 +49,9 @@ pub(crate) struct Trace {
     pub(crate) written: AnyPlace,
     pub(crate) in_force: AnyPlace,
 
+    /// The producer is paused.
+    pub(crate) paused: bool,
+
     /// Where a store of the producer that is in flight will land.
     pub(crate) flight: Option<AnyPlace>,
 
@@ -81,6 +84,7 @@ impl Trace {
             hand_number: terms.number_from == NumberSpot::InHand,
             written: AnyPlace::Old,
             in_force: AnyPlace::Old,
+            paused: false,
             flight: None,
             freed: false,
             strayed: false,
@@ -106,6 +110,9 @@ impl Trace {
     pub(crate) fn stored(self, case: Case, route: StoreRoute) -> Trace
         ensures { result ≡ trace_stored case route self }
     {
+        if self.paused {
+            return self;
+        }
         match route {
             StoreRoute::Written => self.landed(case, self.written),
             StoreRoute::InForce => self.landed(case, self.in_force),
@@ -133,13 +140,12 @@ impl Trace {
     pub(crate) fn sent_if(self, comes: bool) -> Trace
         ensures { result ≡ trace_sent comes self }
     {
-        if comes {
-            Trace {
-                flight: Some(self.in_force),
-                ..self
-            }
-        } else {
-            self
+        if !comes || self.paused {
+            return self;
+        }
+        Trace {
+            flight: Some(self.in_force),
+            ..self
         }
     }
 
@@ -162,6 +168,8 @@ impl Trace {
             AnyStep::Route(p) => self.turned(p as usize == case.producer),
             AnyStep::Fence(p) => self.fenced(case, p as usize == case.producer),
             AnyStep::Switch(p) => self.switched(p as usize == case.producer),
+            AnyStep::Pause(p) => self.paused(case, p as usize == case.producer),
+            AnyStep::Resume(p) => self.resumed(p as usize == case.producer),
             AnyStep::Zero(place, s, w) => self.zeroed(place, case.names_bit(s, w)),
             AnyStep::Take(s, w) => self.taken(case.names_bit(s, w)),
             AnyStep::Copy(s, w) => self.copied(case.names_bit(s, w)),
@@ -221,6 +229,38 @@ impl Trace {
             Trace {
                 written: AnyPlace::New,
                 in_force: AnyPlace::New,
+                ..self
+            }
+        } else {
+            self
+        }
+    }
+
+    /// Gives what a step makes of it that pauses the producer, or another one.
+    fn paused(self, case: Case, is_this: bool) -> Trace
+        ensures { result ≡ trace_paused case is_this self }
+    {
+        if !is_this {
+            return self;
+        }
+        let landed = match self.flight {
+            Some(place) => self.landed(case, place),
+            None => self,
+        };
+        Trace {
+            flight: None,
+            paused: true,
+            ..landed
+        }
+    }
+
+    /// Gives what a step makes of it that resumes the producer, or another one.
+    fn resumed(self, is_this: bool) -> Trace
+        ensures { result ≡ trace_resumed is_this self }
+    {
+        if is_this {
+            Trace {
+                paused: false,
                 ..self
             }
         } else {

@@ -60,6 +60,7 @@ fn trace_from(is_there: bool, old_number: bool, hand_number: bool, new_number: b
         hand_number,
         written: AnyPlace::Old,
         in_force: AnyPlace::Old,
+        paused: false,
         flight: None,
         freed: false,
         strayed: false,
@@ -122,8 +123,7 @@ impl UntoldRun {
             None => watch,
             Some(store) => {
                 if store.before == before_it {
-                    let place = watch.route(store.route);
-                    watch.landed(terms, self.identity, store.producer, place)
+                    watch.made(terms, self.identity, store.producer, store.route)
                 } else {
                     watch
                 }

@@ -2,7 +2,7 @@
 
 ghost use Rattle.std.specs.Prelude.{◌≡◌};
 ghost use Rattle.plans_rules.specs.Rules as rules;
-ghost use Rattle.plans_counterexamples.specs.Untold.{enabled_bit, pending_bit, watch_sees, watch_tells, watch_told, watch_after, watch_landed, watch_lets, watch_out, watch_route};
+ghost use Rattle.plans_counterexamples.specs.Untold.{enabled_bit, pending_bit, watch_sees, watch_tells, watch_told, watch_after, watch_landed, watch_lets, watch_made, watch_out, watch_route};
 ghost use Rattle.plans_counterexamples.specs.Trace.{trace_after};
 
 use crate::trace::{Case, StoreRoute, Trace};
@@ -79,7 +79,7 @@ impl Watch {
     }
 
     /// Tells where a store by one of the two routes lands.
-    pub(crate) fn route(self, route: StoreRoute) -> AnyPlace
+    fn route(self, route: StoreRoute) -> AnyPlace
         ensures { result ≡ watch_route route self }
     {
         match route {
@@ -88,14 +88,25 @@ impl Watch {
         }
     }
 
-    /// Gives what a store makes of it, as it lands in a place.
-    pub(crate) fn landed(
+    /// Gives what a store of a producer by one of the two routes makes of it: nothing if that is
+    /// paused.
+    pub(crate) fn made(
         self,
         terms: Terms,
         identity: u64,
         producer: usize,
-        place: AnyPlace,
+        route: StoreRoute,
     ) -> Watch
+        ensures { result ≡ watch_made terms identity producer route self }
+    {
+        if self.pending.paused {
+            return self;
+        }
+        self.landed(terms, identity, producer, self.route(route))
+    }
+
+    /// Gives what a store makes of it, as it lands in a place.
+    fn landed(self, terms: Terms, identity: u64, producer: usize, place: AnyPlace) -> Watch
         ensures { result ≡ watch_landed terms identity producer place self }
     {
         let is_out = self.enabled.new && self.lets(terms, identity);

@@ -8,7 +8,7 @@ use Rattle.plans_rules.specs.declared.setting.RouteKind.{RouteKind}
 use Rattle.plans_rules.specs.declared.setting.RouteKind.TheVariants.{Routed, Switched}
 use Rattle.plans_rules.specs.declared.step.WhichSet.TheVariants.{Pending, Enabled}
 use Rattle.plans_rules.specs.Setting.{Setting, setting_of, all_below, any_below}
-use Rattle.plans_rules.specs.Rules.{Done, shuts, frees, writes_notice, is_noticed, are_heeded, is_turned, is_led, is_led_as, all_led, is_reached, was_shut, is_shut, lets, any_old, only_hand, is_blank, is_reported}
+use Rattle.plans_rules.specs.Rules.{Done, shuts, frees, writes_notice, is_noticed, are_heeded, is_paused, is_led_as, is_led_if_any, is_calm, reaches, is_reached, is_still, was_shut, is_shut, lets, any_old, only_hand, is_blank, is_reported}
 use Rattle.plans_judge.specs.declared.table.Table.{Table}
 use Rattle.plans_judge.specs.declared.lead.Lead.{Lead}
 use Rattle.plans_judge.specs.declared.word.Word.{Word}
@@ -20,7 +20,7 @@ use Rattle.plans_rules.specs.declared.rule.Rule.TheVariants.{Freeing}
 use Rattle.std.specs.List.{list_any}
 use Rattle.plans_rules.specs.declared.setting.Terms.{Terms}
 use Rattle.plans_judge.specs.declared.word.World.{World}
-use Rattle.plans_judge.specs.Table.{AllAfter, Stands, lead_first, lead_after, lead_at, led_by, is_led_at, is_turned_at, ready_by, shut_by, spots_any_old, is_taken_at, is_kept_at, is_blank_at, is_reported_at, word_first, word_after, word_at, standing_first, standing_after, standing_at, world_at}
+use Rattle.plans_judge.specs.Table.{AllAfter, Stands, lead_first, lead_after, lead_at, led_by, calm_by, reaching_by, is_calm_at, is_reaching_at, led_if_any, ready_by, shut_by, spots_any_old, is_taken_at, is_kept_at, is_blank_at, is_reported_at, word_first, word_after, word_at, standing_first, standing_after, standing_at, world_at}
 
 pub all_below_same : (f g : ℕ → Bool) (n : ℕ) → ((k : ℕ) → k < n → f k ≡ g k) → all_below f n ≡ all_below g n
 all_below_same f g zero same = refl
@@ -48,23 +48,43 @@ led_same : (kind : RouteKind) (p : ℕ) (done : Done) → led_by (lead_at done p
 led_same Routed p done = refl
 led_same Switched p done = refl
 
-turned_next : (old : Table) (leads : List Lead) (x : AnyStep) (producers : List RouteKind) (done : Done) → Stands old producers done
-    → AllAfter (lead_after x) old.leads.items leads
-    → any_below (is_turned_at leads) (length leads) ≡ is_reached (setting_of producers old.terms) Pending (x ∷ done)
-turned_next old leads x producers done v made =
-    ap (any_below (is_turned_at leads)) (made.0 ∙ v.count)
-    ∙ any_below_same (is_turned_at leads) (λ p. is_turned p (x ∷ done)) (length producers)
-    (λ p low. ap (λ (o : Option Lead). elim o [ None ↦ false | Some lead ↦ lead.turned ]) (led_next old leads x producers done p v made low))
+led_as : (kind : RouteKind) (p : ℕ) (done : Done) (o : Option RouteKind) → o ≡ Some kind → led_by (lead_at done p kind) ≡ is_led_as o p done
+led_as kind p done o e = led_same kind p done ∙ sym (ap (λ (k : Option RouteKind). is_led_as k p done) e)
 
-led_all_next : (old : Table) (leads : List Lead) (x : AnyStep) (producers : List RouteKind) (done : Done) → Stands old producers done
+reaching_next : (old : Table) (leads : List Lead) (x : AnyStep) (producers : List RouteKind) (done : Done) → Stands old producers done
     → AllAfter (lead_after x) old.leads.items leads
-    → all_below (is_led_at leads) (length leads) ≡ all_led (setting_of producers old.terms) (x ∷ done)
-led_all_next old leads x producers done v made =
-    ap (all_below (is_led_at leads)) (made.0 ∙ v.count)
-    ∙ all_below_same (is_led_at leads) (λ p. is_led (setting_of producers old.terms) p (x ∷ done)) (length producers)
-    (λ p low. ap (λ (o : Option Lead). elim o [ None ↦ false | Some lead ↦ led_by lead ]) (led_next old leads x producers done p v made low)
-    ∙ led_same (get_or producers p Routed) p (x ∷ done)
-    ∙ sym (ap (λ (k : Option RouteKind). is_led_as k p (x ∷ done)) (slice_get-get_or producers p Routed low)))
+    → any_below (is_reaching_at leads) (length leads) ≡ is_reached (setting_of producers old.terms) Pending (x ∷ done)
+reaching_next old leads x producers done v made =
+    ap (any_below (is_reaching_at leads)) (made.0 ∙ v.count)
+    ∙ any_below_same (is_reaching_at leads) (λ p. reaches p (x ∷ done)) (length producers)
+    (λ p low. ap (λ (o : Option Lead). elim o [ None ↦ false | Some lead ↦ reaching_by lead ]) (led_next old leads x producers done p v made low))
+
+calm_next : (old : Table) (leads : List Lead) (x : AnyStep) (producers : List RouteKind) (done : Done) → Stands old producers done
+    → AllAfter (lead_after x) old.leads.items leads
+    → all_below (is_calm_at leads) (length leads) ≡ is_still (setting_of producers old.terms) Pending (x ∷ done)
+calm_next old leads x producers done v made =
+    ap (all_below (is_calm_at leads)) (made.0 ∙ v.count)
+    ∙ all_below_same (is_calm_at leads) (λ p. is_calm (setting_of producers old.terms) p (x ∷ done)) (length producers)
+    (λ p low. ap (λ (o : Option Lead). elim o [ None ↦ false | Some lead ↦ calm_by lead ]) (led_next old leads x producers done p v made low)
+    ∙ ap (λ b. b || is_paused p (x ∷ done)) (led_as (get_or producers p Routed) p (x ∷ done) (slice_get producers p)
+    (slice_get-get_or producers p Routed low)))
+
+pub calm_is : (t : Table) (producers : List RouteKind) (done : Done) → Stands t producers done
+    → all_below (is_calm_at t.leads.items) (length t.leads.items) ≡ is_still (setting_of producers t.terms) Pending done
+calm_is t producers done v =
+    ap (all_below (is_calm_at t.leads.items)) v.count
+    ∙ all_below_same (is_calm_at t.leads.items) (λ p. is_calm (setting_of producers t.terms) p done) (length producers)
+    (λ p low. ap (λ (o : Option Lead). elim o [ None ↦ false | Some lead ↦ calm_by lead ]) (v.leads p ∙ ap (option_map (lead_at done p))
+    (slice_get-get_or producers p Routed low))
+    ∙ ap (λ b. b || is_paused p done) (led_as (get_or producers p Routed) p done (slice_get producers p) (slice_get-get_or producers p Routed low)))
+
+pub resumed_is : (t : Table) (producers : List RouteKind) (done : Done) (p : ℕ) → Stands t producers done
+    → led_if_any (slice_get t.leads.items p) ≡ is_led_if_any (setting_of producers t.terms) p done
+resumed_is t producers done p v = ap led_if_any (v.leads p) ∙ at_kind (slice_get producers p)
+  where
+    at_kind : (o : Option RouteKind) → led_if_any (option_map (lead_at done p) o) ≡ elim o [ None ↦ true | Some kind ↦ is_led_as (Some kind) p done ]
+    at_kind None = refl
+    at_kind (Some kind) = led_same kind p done
 
 pub taken_is : (t : Table) (producers : List RouteKind) (done : Done) → Stands t producers done
     → all_below (is_taken_at t.words.items) (length t.words.items) ≡ all_below
@@ -104,11 +124,11 @@ shut_is t producers done v = ap (λ b. shut_by t.terms.is_inherited b t.delivery
     ∙ ap (shut_by t.terms.is_inherited (was_shut Threshold done)) v.delivery_shut
 
 pub free_is : (t : Table) (producers : List RouteKind) (done : Done) (led shut : Bool) → Stands t producers done
-    → led ≡ all_led (setting_of producers t.terms) done → shut ≡ is_shut (setting_of producers t.terms) done
+    → led ≡ is_still (setting_of producers t.terms) Pending done → shut ≡ is_shut (setting_of producers t.terms) done
     → (led && (not t.freed && shut)) ≡ lets Freeing (setting_of producers t.terms) Free done
 free_is t producers done led shut v e f = ap (λ b. b && (not t.freed && shut)) e
-    ∙ ap (λ b. all_led (setting_of producers t.terms) done && (not b && shut)) v.freed
-    ∙ ap (λ b. all_led (setting_of producers t.terms) done && (not (list_any frees done) && b)) f
+    ∙ ap (λ b. is_still (setting_of producers t.terms) Pending done && (not b && shut)) v.freed
+    ∙ ap (λ b. is_still (setting_of producers t.terms) Pending done && (not (list_any frees done) && b)) f
 
 pub reported_is : (t : Table) (producers : List RouteKind) (done : Done) → Stands t producers done
     → all_below (is_reported_at t.words.items) (length t.words.items) ≡ all_below (λ w. is_reported (setting_of producers t.terms) w done)
@@ -163,8 +183,8 @@ standing_step d x n done = refl
 -- the table is that of one step more
 pub stands_more : (old new : Table) (x : AnyStep) (world : World) (producers : List RouteKind) (done : Done)
     → world ≡ record {
-      still = all_below (is_led_at new.leads.items) (length new.leads.items);
-      reached = any_below (is_turned_at new.leads.items) (length new.leads.items);
+      still = all_below (is_calm_at new.leads.items) (length new.leads.items);
+      reached = any_below (is_reaching_at new.leads.items) (length new.leads.items);
       ready = ready_by old.terms.heeds new.threshold new.delivery new.noticed;
     }
     → new.terms ≡ old.terms → AllAfter (lead_after x) old.leads.items new.leads.items → AllAfter (word_after world x) old.words.items new.words.items
@@ -185,15 +205,15 @@ stands_more old new x world producers done knows_world terms leads words thresho
     let is : world ≡ world_at d x done = knows_world
     ∙ ap (λ b. record {
       still = b;
-      reached = any_below (is_turned_at new.leads.items) (length new.leads.items);
+      reached = any_below (is_reaching_at new.leads.items) (length new.leads.items);
       ready = ready_by d.heeds new.threshold new.delivery new.noticed;
-    }) (led_all_next old new.leads.items x producers done v leads)
+    }) (calm_next old new.leads.items x producers done v leads)
     ∙ ap (λ b. record {
-      still = all_led d (x ∷ done);
+      still = is_still d Pending (x ∷ done);
       reached = b;
       ready = ready_by d.heeds new.threshold new.delivery new.noticed;
-    }) (turned_next old new.leads.items x producers done v leads)
-    ∙ ap (λ b. record { still = all_led d (x ∷ done); reached = is_reached d Pending (x ∷ done); ready = b }) knows in
+    }) (reaching_next old new.leads.items x producers done v leads)
+    ∙ ap (λ b. record { still = is_still d Pending (x ∷ done); reached = is_reached d Pending (x ∷ done); ready = b }) knows in
     let inside : (w : ℕ) → w < old.terms.words → slice_get new.words.items w ≡ Some (word_at d (x ∷ done) w) =
     λ w low. words.1 w ∙ ap (option_map (word_after world x w)) (v.words w low) ∙ ap (λ k. Some (word_after k x w (word_at d done w))) is
     ∙ ap Some (word_step d done x w) in

@@ -1,6 +1,6 @@
 -- What a table of flags, kept from step to step, says of the steps that are done: of each the same
 -- as the rules do. Profile.
-use Rattle.std.specs.Prelude.{◌≡◌, ℕ, ◌<◌, length, Bool, true, false, not, ◌&&◌, ◌||◌, List, ◌∷◌, Some, None, slice_get, option_map}
+use Rattle.std.specs.Prelude.{◌≡◌, ℕ, ◌<◌, length, Bool, true, false, not, ◌&&◌, ◌||◌, List, ◌∷◌, Option, Some, None, slice_get, option_map}
 use Rattle.std.specs.List.{list_any}
 use Rattle.plans_rules.specs.declared.step.WhichSet.{WhichSet}
 use Rattle.plans_rules.specs.declared.step.WhichSet.TheVariants.{Pending, Enabled}
@@ -14,7 +14,7 @@ use Rattle.plans_rules.specs.declared.setting.RouteKind.TheVariants.{Routed, Swi
 use Rattle.plans_rules.specs.declared.setting.NumberSpot.{NumberSpot}
 use Rattle.plans_rules.specs.declared.setting.NumberSpot.TheVariants.{InOld, InHand, InNew}
 use Rattle.plans_rules.specs.Setting.{Setting, setting_of, same_number, same_spot}
-use Rattle.plans_rules.specs.Rules.{turns, fences, switches, empties, lifts, fills, blanks, frees, looks, posts, tells, untells, Done, is_turned, is_fenced, all_led, is_reached, any_of_two, brought, alone_by, may_stand, is_blank, was_shut, has_number, are_heeded, is_noticed, is_seen, is_looked, is_reported}
+use Rattle.plans_rules.specs.Rules.{turns, fences, switches, pauses, resumes, empties, lifts, fills, blanks, frees, looks, posts, tells, untells, Done, is_turned, is_fenced, is_paused, is_drained, is_still, is_reached, any_of_two, brought, alone_by, may_stand, is_blank, was_shut, has_number, are_heeded, is_noticed, is_seen, is_looked, is_reported}
 use Rattle.plans_judge.specs.declared.lead.Lead.{Lead}
 use Rattle.plans_judge.specs.declared.standing.Standing.{Standing}
 use Rattle.plans_judge.specs.declared.table.Table.{Table}
@@ -31,6 +31,17 @@ AllAfter after old new =
 
 -- ---- a producer
 
+-- Whether producer p is paused after a step, by what is kept of it.
+abbrev pub paused_after : AnyStep → ℕ → Lead → Bool
+paused_after x p lead = pauses p x || (not (resumes p x) && lead.paused)
+
+-- Whether its route is in force after a step, with none of its stores in flight to the old place.
+abbrev pub drained_after : AnyStep → ℕ → Lead → Bool
+drained_after x p lead =
+    (fences p x && lead.turned)
+    || ((pauses p x && (lead.fenced || lead.switched))
+    || ((switches p x && lead.paused) || lead.drained))
+
 -- What a step makes of what is kept of producer p.
 abbrev pub lead_after : AnyStep → ℕ → Lead → Lead
 lead_after x p lead = record {
@@ -38,27 +49,50 @@ lead_after x p lead = record {
   turned = turns p x || lead.turned;
   fenced = elim (fences p x) [ true ↦ lead.turned || lead.fenced | false ↦ lead.fenced ];
   switched = switches p x || lead.switched;
+  paused = paused_after x p lead;
+  drained = drained_after x p lead;
 }
 
 -- What is kept of a producer of a kind before the first step.
 abbrev pub lead_first : RouteKind → Lead
-lead_first kind = record { kind = kind; turned = false; fenced = false; switched = false }
+lead_first kind = record {
+  kind = kind;
+  turned = false;
+  fenced = false;
+  switched = false;
+  paused = false;
+  drained = false;
+}
 
 -- Whether all that the producer stores from now on goes to the new place, by what is kept of it.
 abbrev pub led_by : Lead → Bool
 led_by lead = elim lead.kind [
-  | Routed ↦ lead.fenced
+  | Routed ↦ lead.drained
   | Switched ↦ lead.fenced || lead.switched
 ]
+
+-- Whether it stores nothing into the old place; whether it may store into the new one.
+abbrev pub calm_by : Lead → Bool
+calm_by lead = led_by lead || lead.paused
+
+abbrev pub reaching_by : Lead → Bool
+reaching_by lead = lead.turned && not lead.paused
 
 -- Whether all that the producer in a place of the list stores from now on goes to the new place.
 abbrev pub is_led_at : List Lead → ℕ → Bool
 is_led_at leads p = elim (slice_get leads p) [ None ↦ false | Some lead ↦ led_by lead ]
 
--- Whether the route of the producer in a place of the list leads to the new place, as it is
--- written.
-abbrev pub is_turned_at : List Lead → ℕ → Bool
-is_turned_at leads p = elim (slice_get leads p) [ None ↦ false | Some lead ↦ lead.turned ]
+-- Whether the producer in a place of the list stores nothing into the old place; whether it may
+-- store into the new one.
+abbrev pub is_calm_at : List Lead → ℕ → Bool
+is_calm_at leads p = elim (slice_get leads p) [ None ↦ false | Some lead ↦ calm_by lead ]
+
+abbrev pub is_reaching_at : List Lead → ℕ → Bool
+is_reaching_at leads p = elim (slice_get leads p) [ None ↦ false | Some lead ↦ reaching_by lead ]
+
+-- Whether it is led, if the list has such a producer.
+abbrev pub led_if_any : Option Lead → Bool
+led_if_any o = elim o [ None ↦ true | Some lead ↦ led_by lead ]
 
 -- What the rules say of producer p after the steps that are done.
 abbrev pub lead_at : Done → ℕ → RouteKind → Lead
@@ -67,6 +101,8 @@ lead_at done p kind = record {
   turned = is_turned p done;
   fenced = is_fenced p done;
   switched = list_any (switches p) done;
+  paused = is_paused p done;
+  drained = is_drained p done;
 }
 
 -- ---- a word
@@ -287,7 +323,7 @@ standing_at d n done = record {
 -- the new place, and they go to the host.
 abbrev pub world_at : Setting → AnyStep → Done → World
 world_at d x done = record {
-  still = all_led d (x ∷ done);
+  still = is_still d Pending (x ∷ done);
   reached = is_reached d Pending (x ∷ done);
   ready = are_heeded d (x ∷ done) && is_noticed d (x ∷ done);
 }

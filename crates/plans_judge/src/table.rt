@@ -5,14 +5,15 @@ ghost use Rattle.plans_rules.specs.Rules as rules;
 ghost use Rattle.plans_rules.specs.Rules.{Done};
 ghost use Rattle.plans_rules.specs.Safe.{IsInFile};
 ghost use Rattle.plans_rules.specs.Setting.{all_below, any_below, setting_of};
-ghost use Rattle.plans_judge.specs.Table.{AllAfter, Stands, flags_at, is_led_at, lead_after, is_turned_at, lead_first, ready_by, shut_by, word_after, word_first};
+ghost use Rattle.plans_judge.specs.Table.{AllAfter, Stands, flags_at, is_calm_at, is_reaching_at, lead_after, lead_first, ready_by, shut_by, word_after, word_first};
 ghost use Rattle.plans_judge.specs.Verdicts.{refusing, refusing_end, rules_of};
 ghost use Rattle.plans_rules.specs.declared.rule.Rule.TheVariants as rule_;
+ghost use Rattle.plans_rules.specs.declared.step.WhichSet.TheVariants.{Pending};
 ghost use Rattle.plans_rules.specs.declared.step.AnyStep.TheVariants.{Free};
 ghost use Rattle.plans_rules.specs.declared.setting.NumberSpot.TheVariants as spot;
 
 use crate::judging::Part;
-use crate::lead::{Lead, all_led, any_turned, lead_all};
+use crate::lead::{Lead, all_calm, all_led, any_reaching, lead_all, led_if_any};
 use crate::standing::Standing;
 use crate::word::{Flags, Word, World, all_blank, all_kept, all_reported, all_taken, step_all};
 use plans_rules::{AnyPlace, AnyStep, Number, NumberSpot, RouteKind, Rule, Terms, WhichSet};
@@ -124,6 +125,23 @@ impl Table {
         all_led(&self.leads)
     }
 
+    /// Tells whether nobody stores into the old place.
+    fn is_still(&self) -> bool
+        ensures { (producers : List RouteKind) (done : Done) → Stands self.now producers done
+            → result ≡ rules.is_still (setting_of producers self.now.terms) Pending done }
+    {
+        all_calm(&self.leads)
+    }
+
+    /// Tells whether a producer is led to the new place, if there is such a one.
+    #[tactic(auto, using(crate::proofs::StandsLemmas::resumed_is))]
+    fn is_led_if_any(&self, producer: u32) -> bool
+        ensures { (producers : List RouteKind) (done : Done) → Stands self.now producers done
+            → result ≡ rules.is_led_if_any (setting_of producers self.now.terms) producer done }
+    {
+        led_if_any(&self.leads, producer as usize)
+    }
+
     /// Tells whether a number stands in a spot as it was at the start.
     fn has_number(&self, number: Number, spot: NumberSpot) -> bool
         ensures { (producers : List RouteKind) (done : Done) → Stands self.now producers done
@@ -185,7 +203,7 @@ impl Table {
         ensures { (producers : List RouteKind) (done : Done) → Stands self.now producers done
             → result ≡ rules.lets rule_.Freeing (setting_of producers self.now.terms) Free done }
     {
-        free_by(self.all_led(), self.freed, self.is_shut())
+        free_by(self.is_still(), self.freed, self.is_shut())
     }
 
     /// Tells whether the rule on giving the old place back does.
@@ -195,6 +213,7 @@ impl Table {
     {
         match step {
             AnyStep::Free => self.lets_free(),
+            AnyStep::Resume(p) => !self.freed || self.is_led_if_any(p),
             AnyStep::Take(..)
             | AnyStep::Copy(..)
             | AnyStep::Zero(AnyPlace::Old, ..)
@@ -311,15 +330,16 @@ impl Table {
     /// Gives what is known of the whole move after a step that the leads and the numbers have made.
     fn world(&self) -> World
         ensures { result ≡ record {
-          still = all_below (is_led_at self.now.leads.items) (length self.now.leads.items);
-          reached = any_below (is_turned_at self.now.leads.items) (length self.now.leads.items);
+          still = all_below (is_calm_at self.now.leads.items) (length self.now.leads.items);
+          reached = any_below (is_reaching_at self.now.leads.items)
+              (length self.now.leads.items);
           ready = ready_by self.now.terms.heeds self.now.threshold self.now.delivery
               self.now.noticed;
         } }
     {
         World {
-            still: all_led(&self.leads),
-            reached: any_turned(&self.leads),
+            still: all_calm(&self.leads),
+            reached: any_reaching(&self.leads),
             ready: ready_by(
                 self.terms.heeds,
                 self.threshold,
@@ -369,10 +389,10 @@ fn shut_by(is_inherited: bool, threshold_shut: bool, delivery_shut: bool) -> boo
 
 /// Tells whether the old place may be given back: nobody stores there, it was not given back, and
 /// nothing is left to its next owner.
-fn free_by(led: bool, freed: bool, shut: bool) -> bool
-    ensures { result ≡ (led && (not freed && shut)) }
+fn free_by(still: bool, freed: bool, shut: bool) -> bool
+    ensures { result ≡ (still && (not freed && shut)) }
 {
-    led && !freed && shut
+    still && !freed && shut
 }
 
 /// Tells whether either is so.

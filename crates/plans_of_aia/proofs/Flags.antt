@@ -1,13 +1,32 @@
 -- Where an identity may stand that is due, told by three flags of a word: enough for plans of our shape, which take each word once.
-use Rattle.std.proofs.Common.{◌≡◌, ℕ, Bool, true, false, not, ◌&&◌, ◌||◌, List, [], ◌∷◌, inl, inr, refl, ◌∙◌}
+use Rattle.std.proofs.Common.{◌≡◌, ℕ, Bool, true, false, not, ◌&&◌, ◌||◌, [], ◌∷◌, inl, inr, refl, ◌∙◌}
+use Rattle.std.specs.List.{AllByRecursion}
 use Rattle.std.proofs.lemmas.Bool.{false≢true}
 use Rattle.plans_rules.specs.declared.step.WhichSet.{WhichSet}
 use Rattle.plans_rules.specs.declared.step.AnyStep.{AnyStep}
+use Rattle.plans_rules.specs.declared.step.AnyStep.TheVariants.{Pause, Resume}
 use Rattle.plans_rules.specs.Setting.{Setting}
-use Rattle.plans_rules.specs.Rules.{Done, empties, lifts, fills, blanks, is_reached, is_still, brought, may_stand, only_hand, only_new, any_old}
-use Rattle.plans_rules.proofs.BoolLaws.{false_of, true_of, clash, not_true, and_of, or_left, or_right, or_cases}
+use Rattle.plans_rules.specs.Rules.{Done, pauses, resumes, empties, lifts, fills, blanks, is_reached, is_still, brought, may_stand, only_hand, only_new, any_old}
+use Rattle.plans_rules.proofs.BoolLaws.{false_of, clash, and_of, or_left, or_right, or_cases}
 use Rattle.plans_rules.proofs.Reached.{still_more, reached_more}
-use Rattle.plans_rules.proofs.Brought.{two_find, old_after, hand_after, new_after, came, stored_cases, reached_none, not_left}
+use Rattle.plans_rules.proofs.Brought.{two_find, old_after, hand_after, new_after, came, stored_cases, not_left}
+
+-- A step pauses nobody, and resumes nobody.
+abbrev pub IsNoPause : AnyStep → Type 0
+IsNoPause (Pause p) = ⊥
+IsNoPause (Resume p) = ⊥
+IsNoPause x = Unit {0}
+
+abbrev pub AllUnpaused : Done → Type 0
+AllUnpaused done = AllByRecursion IsNoPause done
+
+pauses_none : (x : AnyStep) (p : ℕ) → IsNoPause x → pauses p x ≡ false
+pauses_none (Pause q) p none = absurd none
+pauses_none x p none = refl
+
+resumes_none : (x : AnyStep) (p : ℕ) → IsNoPause x → resumes p x ≡ false
+resumes_none (Resume q) p none = absurd none
+resumes_none x p none = refl
 
 -- A word may hold something in the old place.
 abbrev pub old_holds : Setting → WhichSet → ℕ → Done → Bool
@@ -47,10 +66,10 @@ busy_law false true now old more busy held = clash now (more refl) busy
 busy_law false false now old more busy held = held refl
 
 -- whoever stores there leaves it so that it may hold something
-busy_holds : (d : Setting) (s : WhichSet) (w : ℕ) (done : Done) → is_still d s done ≡ false → old_holds d s w done ≡ true
-busy_holds d s w [] busy = refl
-busy_holds d s w (x ∷ done) busy = busy_law (empties s w x) (is_still d s done) (is_still d s (x ∷ done)) (old_holds d s w done)
-    (still_more d s x done) busy (busy_holds d s w done)
+busy_holds : (d : Setting) (s : WhichSet) (w : ℕ) (done : Done) → AllUnpaused done → is_still d s done ≡ false → old_holds d s w done ≡ true
+busy_holds d s w [] on busy = refl
+busy_holds d s w (x ∷ done) on busy = busy_law (empties s w x) (is_still d s done) (is_still d s (x ∷ done)) (old_holds d s w done)
+    (still_more d s x done (λ p. resumes_none x p on.0)) busy (busy_holds d s w done on.1)
 
 old_law : (e a old still : Bool) → (a ≡ true → old ≡ true) → old_after e a ≡ true → (elim e [ true ↦ old && not still | false ↦ old ]) ≡ true
 old_law true a old still held is = absurd (false≢true is)
@@ -74,23 +93,23 @@ new_law true z k b r now hand filled reached held there is = elim (or_cases k _ 
 ]
 new_law false z k b r now hand filled reached held there is = more_new r now filled filled reached (λ e. e) (there (not_left z b is).1)
 
-pub flagged : (d : Setting) (s : WhichSet) (w : ℕ) (done : Done) (o h n : Bool) → may_stand d s w done o h n ≡ true → Flagged d s w done o h n
-flagged d s w [] true true n may = absurd (false≢true may)
-flagged d s w [] true false true may = absurd (false≢true may)
-flagged d s w [] true false false may = record { old = λ e. refl; hand = λ e. absurd (false≢true e); new = λ e. absurd (false≢true e) }
-flagged d s w [] false h n may = absurd (false≢true may)
-flagged d s w (x ∷ done) o h n may =
+pub flagged : (d : Setting) (s : WhichSet) (w : ℕ) (done : Done) (o h n : Bool) → AllUnpaused done → may_stand d s w done o h n ≡ true → Flagged d s w done o h n
+flagged d s w [] true true n on may = absurd (false≢true may)
+flagged d s w [] true false true on may = absurd (false≢true may)
+flagged d s w [] true false false on may = record { old = λ e. refl; hand = λ e. absurd (false≢true e); new = λ e. absurd (false≢true e) }
+flagged d s w [] false h n on may = absurd (false≢true may)
+flagged d s w (x ∷ done) o h n on may =
     elim (or_cases (brought (empties s w x) (lifts s w x) (fills s w x) (blanks s w x) (may_stand d s w done) o h n) _ may) [
       | inl there ↦ (let from = came (empties s w x) (lifts s w x) (fills s w x) (blanks s w x) (may_stand d s w done) o h n there in
-          let was = flagged d s w done from.a from.k from.b from.stood in record {
+          let was = flagged d s w done from.a from.k from.b on.1 from.stood in record {
             old = λ e. old_law (empties s w x) from.a _ (is_still d s done) was.old (from.old ∙ e);
             hand = λ e. hand_law (lifts s w x) (fills s w x) from.a from.k _ _ was.old was.hand (from.hand ∙ e);
-            new = λ e. new_law (fills s w x) (blanks s w x) from.k from.b (is_reached d s done) _ _ _ (reached_more d s x done) was.hand was.new
+            new = λ e. new_law (fills s w x) (blanks s w x) from.k from.b (is_reached d s done) _ _ _ (reached_more d s x done (λ p. pauses_none x p on.0)) was.hand was.new
                 (from.new ∙ e);
           })
       | inr alone ↦ elim (stored_cases d s (x ∷ done) o h n alone) [
         | inl old ↦ record {
-          old = λ e. busy_holds d s w (x ∷ done) old.3;
+          old = λ e. busy_holds d s w (x ∷ done) on old.3;
           hand = λ e. clash h e old.1;
           new = λ e. clash n e old.2;
         }
@@ -103,13 +122,13 @@ flagged d s w (x ∷ done) o h n may =
     ]
 
 -- so where they do not, none may
-pub none_old : (d : Setting) (s : WhichSet) (w : ℕ) (done : Done) → old_holds d s w done ≡ false → any_old d s w done ≡ false
-none_old d s w done none = false_of _ (λ some. let found = two_find (λ h n. may_stand d s w done true h n) some in
-    clash _ ((flagged d s w done true found.0 found.1 found.2).old refl) none)
+pub none_old : (d : Setting) (s : WhichSet) (w : ℕ) (done : Done) → AllUnpaused done → old_holds d s w done ≡ false → any_old d s w done ≡ false
+none_old d s w done on none = false_of _ (λ some. let found = two_find (λ h n. may_stand d s w done true h n) some in
+    clash _ ((flagged d s w done true found.0 found.1 on found.2).old refl) none)
 
-pub none_hand : (d : Setting) (s : WhichSet) (w : ℕ) (done : Done) → hand_holds d s w done ≡ false → only_hand d s w done ≡ false
-none_hand d s w done none = false_of _ (λ some. clash _ ((flagged d s w done false true false some).hand refl) none)
+pub none_hand : (d : Setting) (s : WhichSet) (w : ℕ) (done : Done) → AllUnpaused done → hand_holds d s w done ≡ false → only_hand d s w done ≡ false
+none_hand d s w done on none = false_of _ (λ some. clash _ ((flagged d s w done false true false on some).hand refl) none)
 
-pub none_new : (d : Setting) (s : WhichSet) (w : ℕ) (done : Done) → (is_reached d s done || is_filled d s w done) ≡ false
+pub none_new : (d : Setting) (s : WhichSet) (w : ℕ) (done : Done) → AllUnpaused done → (is_reached d s done || is_filled d s w done) ≡ false
     → only_new d s w done ≡ false
-none_new d s w done none = false_of _ (λ some. clash _ ((flagged d s w done false false true some).new refl) none)
+none_new d s w done on none = false_of _ (λ some. clash _ ((flagged d s w done false false true on some).new refl) none)

@@ -1,14 +1,17 @@
 -- What a step more leaves as it was, of the tests by which the rules on anybody's plan are told.
-use Rattle.std.proofs.Common.{◌≡◌, ℕ, Bool, true, false, not, ◌&&◌, ◌||◌, nat_eq, [], ◌∷◌, Option, Some, None, refl, sym, arith}
+use Rattle.std.proofs.Common.{◌≡◌, ℕ, Bool, true, false, not, ◌&&◌, nat_eq, [], ◌∷◌, Option, Some, None, refl, sym, arith}
 use Rattle.std.proofs.lemmas.Bool.{false≢true, eqb-true}
 use Rattle.plans_rules.specs.declared.step.WhichSet.{WhichSet}
 use Rattle.plans_rules.specs.declared.step.AnyStep.{AnyStep}
 use Rattle.plans_rules.specs.declared.step.AnyStep.TheVariants.{Take, Join, Put}
 use Rattle.plans_rules.specs.Setting.{Setting, names}
-use Rattle.plans_rules.specs.Rules.{Done, turns, fences, empties, is_turned, is_fenced, is_still, is_blank}
-use Rattle.plans_of_aia.proofs.Flags.{old_holds, hand_holds, is_filled}
+use Rattle.plans_rules.specs.Rules.{Done, turns, empties, is_turned, is_drained, is_still, is_blank}
+use Rattle.plans_of_aia.proofs.Flags.{AllUnpaused, old_holds, hand_holds, is_filled}
 use Rattle.plans_rules.proofs.BoolLaws.{or_right}
-use Rattle.plans_of_aia.specs.Translated.{onto}
+use Rattle.plans_rules.proofs.Reached.{drained_more}
+use Rattle.aia_plan.specs.declared.step.Step.{Step as OurStep}
+use Rattle.aia_plan.specs.declared.step.Step.TheVariants as ours
+use Rattle.plans_of_aia.specs.Translated.{access_of, onto}
 
 pub same_number : (n : ℕ) → nat_eq n n ≡ true
 same_number n = grind arith
@@ -25,13 +28,26 @@ pub turned_on : (p : ℕ) (step : Option AnyStep) (done : Done) → is_turned p 
 turned_on p None done e = e
 turned_on p (Some x) done e = or_right (turns p x) (is_turned p done) e
 
-fenced_by : (here turned fenced : Bool) → fenced ≡ true → elim here [ true ↦ turned || fenced | false ↦ fenced ] ≡ true
-fenced_by true turned fenced e = or_right turned fenced e
-fenced_by false turned fenced e = e
+pub drained_on : (p : ℕ) (step : Option AnyStep) (done : Done) → is_drained p done ≡ true → is_drained p (onto step done) ≡ true
+drained_on p None done e = e
+drained_on p (Some x) done e = drained_more p x done e
 
-pub fenced_on : (p : ℕ) (step : Option AnyStep) (done : Done) → is_fenced p done ≡ true → is_fenced p (onto step done) ≡ true
-fenced_on p None done e = e
-fenced_on p (Some x) done e = fenced_by (fences p x) (is_turned p done) (is_fenced p done) e
+-- no step of ours pauses or resumes anybody
+pub unpaused_on : (x : OurStep) (done : Done) → AllUnpaused done → AllUnpaused (onto (access_of x) done)
+unpaused_on ours.Word0 done on = (tt, on)
+unpaused_on ours.Word1 done on = (tt, on)
+unpaused_on ours.Fence done on = (tt, on)
+unpaused_on ours.Map done on = (tt, on)
+unpaused_on ours.Unmap done on = (tt, on)
+unpaused_on ours.Remap done on = (tt, on)
+unpaused_on ours.GFence done on = (tt, on)
+unpaused_on (ours.TakeP w) done on = (tt, on)
+unpaused_on (ours.PutP w) done on = (tt, on)
+unpaused_on (ours.TakeE w) done on = (tt, on)
+unpaused_on (ours.PutE w) done on = (tt, on)
+unpaused_on (ours.Look w) done on = (tt, on)
+unpaused_on ours.Post done on = (tt, on)
+unpaused_on x done on = on
 
 -- ---- words
 

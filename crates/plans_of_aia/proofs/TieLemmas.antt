@@ -68,6 +68,7 @@ led_at_start kind words plan e =
       late = λ w low.
           let late = all_late words plan keeps.late w low in
           record { emptied = stood (TakeP w) plan late.once; fence = late.fence; gfence = late.gfence };
+      unpaused = tt;
     }
 
 held_at_start : (kind : Kind) (words : ℕ) (plan : WrittenPlan) → failing kind words plan ≡ None → Held words None None plan []
@@ -80,6 +81,7 @@ held_at_start kind words plan e =
       filled = λ w h. absurd (false≢true h);
       taken = λ w f. no_number f;
       once = λ w low. inl (below_passes (λ w. is_once (TakeE w) plan) words w enables.0 low);
+      unpaused = tt;
     }
 
 pub kept_there : (kind : Kind) (words : ℕ) (plan : WrittenPlan) → All (IsInside words) plan → failing kind words plan ≡ None

@@ -11,10 +11,10 @@ use Rattle.plans_rules.specs.declared.step.WhichSet.TheVariants.{Pending, Enable
 use Rattle.plans_rules.specs.declared.rule.Rule.TheVariants.{Words}
 use Rattle.plans_rules.specs.declared.step.AnyStep.TheVariants as steps
 use Rattle.plans_rules.specs.Rules.{Done, any_old, only_hand, lets_rest}
-use Rattle.plans_of_aia.proofs.Flags.{old_holds, hand_holds, is_filled, none_old, none_hand, none_new}
+use Rattle.plans_of_aia.proofs.Flags.{AllUnpaused, old_holds, hand_holds, is_filled, none_old, none_hand, none_new}
 use Rattle.plans_rules.proofs.BoolLaws.{by_case, all_of, false_of, and_left, and_right, and_of, not_true, or_false_left, or_false_right, clash}
 use Rattle.plans_of_aia.specs.Translated.{access_of, onto, translated, shape_setting}
-use Rattle.plans_of_aia.proofs.Onward.{same_number, numbers_are_one, no_number, emptied_on, emptied_now, hand_beside, hand_joined, hand_put, filled_beside}
+use Rattle.plans_of_aia.proofs.Onward.{same_number, numbers_are_one, no_number, unpaused_on, emptied_on, emptied_now, hand_beside, hand_joined, hand_put, filled_beside}
 
 -- What is in the hand is the word that was taken just now. A word of the enables that has come to the
 -- new place is taken no more; each is taken once, or was taken and is empty.
@@ -25,6 +25,7 @@ pub record Held (words : ℕ) (pending enables : Option ℕ) (rest : WrittenPlan
   pub taken : (w : ℕ) → enables ≡ Some w → is_never (TakeE w) rest ≡ true
   pub once : (w : ℕ) → w < words → (is_once (TakeE w) rest ≡ true)
       ⊎ ((is_never (TakeE w) rest ≡ true) × (old_holds (shape_setting words) Enabled w done ≡ false))
+  pub unpaused : AllUnpaused done
 
 none_same : (t : Option ℕ) → is_same t None ≡ true → t ≡ None
 none_same None e = refl
@@ -68,8 +69,8 @@ words_end words pending enables done p e held =
     let no_pending = false_of (hand_holds d Pending w done) (λ h. empty_hand pending w p (held.pending_held w h)) in
     let no_enables = false_of (hand_holds d Enabled w done) (λ h. empty_hand enables w e (held.enables_held w h)) in
     let emptied : old_holds d Enabled w done ≡ false = elim (held.once w low) [ inl once ↦ absurd (false≢true once) | inr gone ↦ gone.1 ] in
-    and_of _ _ (ap not (none_hand d Pending w done no_pending))
-    (and_of _ _ (ap not (none_old d Enabled w done emptied)) (ap not (none_hand d Enabled w done no_enables))))
+    and_of _ _ (ap not (none_hand d Pending w done held.unpaused no_pending))
+    (and_of _ _ (ap not (none_old d Enabled w done held.unpaused emptied)) (ap not (none_hand d Enabled w done held.unpaused no_enables))))
 
 -- a pending word is taken
 pending_taken : (words v : ℕ) (pending enables : Option ℕ) (later : WrittenPlan) (done : Done) → pending ≡ None → enables ≡ None
@@ -81,6 +82,7 @@ pending_taken words v pending enables later done p e held = record {
   filled = λ w h. ((held.filled w h).0, λ f. no_number f);
   taken = λ w f. no_number f;
   once = held.once;
+  unpaused = (tt, held.unpaused);
 }
 
 pending_joined : (words v : ℕ) (pending enables : Option ℕ) (later : WrittenPlan) (done : Done) → pending ≡ Some v → enables ≡ None
@@ -93,6 +95,7 @@ pending_joined words v pending enables later done p e held = record {
   filled = λ w h. ((held.filled w h).0, λ f. no_number f);
   taken = λ w f. no_number f;
   once = held.once;
+  unpaused = (tt, held.unpaused);
 }
 
 enables_taken : (words v : ℕ) (pending enables : Option ℕ) (later : WrittenPlan) (done : Done) → v < words → pending ≡ None → enables ≡ None
@@ -119,6 +122,7 @@ enables_taken words v pending enables later done inside p e held =
             | inl once ↦ inl (once_later (nat_eq v w) (is_never (TakeE w) later) (is_once (TakeE w) later) other once)
             | inr gone ↦ inr (never_here w (TakeE v) later gone.0, emptied_on d Enabled w (Some (steps.Take Enabled v)) done gone.1)
           ]);
+      unpaused = (tt, held.unpaused);
     }
 
 enables_put : (words v : ℕ) (pending enables : Option ℕ) (later : WrittenPlan) (done : Done) → pending ≡ None → enables ≡ Some v
@@ -138,6 +142,7 @@ enables_put words v pending enables later done p e held =
       );
       taken = λ w f. no_number f;
       once = held.once;
+      unpaused = (tt, held.unpaused);
     }
 
 not_filled : (words v : ℕ) (pending enables : Option ℕ) (rest : WrittenPlan) (done : Done) → enables ≡ Some v → Held words pending enables rest done
@@ -153,7 +158,7 @@ words_kept words (TakeP v ∷ later) pending enables done inside p e held =
     let no_pending = none_same pending (and_left _ _ p) in
     let no_enables = none_same enables (and_left _ _ e) in
     let free = false_of (hand_holds (shape_setting words) Pending v done) (λ h. empty_hand pending v no_pending (held.pending_held v h)) in
-    and_of _ _ (ap not (none_hand (shape_setting words) Pending v done free))
+    and_of _ _ (ap not (none_hand (shape_setting words) Pending v done held.unpaused free))
     (words_kept words later (Some v) None (steps.Take Pending v ∷ done) inside.1 (and_right _ _ p) (and_right _ _ e)
     (pending_taken words v pending enables later done no_pending no_enables held))
 words_kept words (PutP v ∷ later) pending enables done inside p e held =
@@ -163,13 +168,14 @@ words_kept words (TakeE v ∷ later) pending enables done inside p e held =
     let no_pending = none_same pending (and_left _ _ p) in
     let no_enables = none_same enables (and_left _ _ e) in
     let free = false_of (hand_holds (shape_setting words) Enabled v done) (λ h. empty_hand enables v no_enables (held.enables_held v h)) in
-    and_of _ _ (ap not (none_hand (shape_setting words) Enabled v done free))
+    and_of _ _ (ap not (none_hand (shape_setting words) Enabled v done held.unpaused free))
     (words_kept words later None (Some v) (steps.Take Enabled v ∷ done) inside.1 (and_right _ _ p) (and_right _ _ e)
     (enables_taken words v pending enables later done inside.0 no_pending no_enables held))
 words_kept words (PutE v ∷ later) pending enables done inside p e held =
     let in_hand = some_same enables v (and_left _ _ e) in
     let no_pending = none_same pending (and_left _ _ p) in
-    and_of _ _ (ap not (none_new (shape_setting words) Enabled v done (not_filled words v pending enables (PutE v ∷ later) done in_hand held)))
+    and_of _ _ (ap not (none_new (shape_setting words) Enabled v done held.unpaused
+    (not_filled words v pending enables (PutE v ∷ later) done in_hand held)))
     (words_kept words later None None (steps.Put Enabled v ∷ done) inside.1 (and_right _ _ p) (and_right _ _ e)
     (enables_put words v pending enables later done no_pending in_hand held))
 words_kept words (x ∷ later) pending enables done inside p e held =
@@ -181,4 +187,5 @@ words_kept words (x ∷ later) pending enables done inside p e held =
       filled = λ w h. ((held.filled w h).0, λ f. no_number f);
       taken = λ w f. no_number f;
       once = held.once;
+      unpaused = unpaused_on x done held.unpaused;
     })

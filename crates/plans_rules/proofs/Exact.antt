@@ -1,10 +1,11 @@
 -- A plan that is safe keeps the rules of safety: so they refuse only what can lose something.
-use Rattle.std.proofs.Common.{◌≡◌, ℕ, ◌/◌, ◌*◌, ◌<◌, Bool, true, false, not, ◌&&◌, ◌||◌, length, List, [], ◌∷◌, inl, inr, refl, sym, ap, subst, ◌∙◌, arith}
+use Rattle.std.proofs.Common.{◌≡◌, ℕ, ◌/◌, ◌*◌, ◌<◌, Bool, true, false, not, ◌&&◌, ◌||◌, nat_eq, length, List, [], ◌∷◌, Option, Some, None, inl, inr, refl, sym, ap, subst, ◌∙◌, arith}
 use Rattle.std.specs.List.{list_any, AllByRecursion}
 use Rattle.plans_rules.specs.declared.rule.Rule.{Rule}
 use Rattle.plans_rules.specs.declared.rule.Rule.TheVariants.{Routes, Blank, Words, Numbers, Freeing, Notice}
 use Rattle.std.specs.Prelude.{slice_get}
 use Rattle.std.proofs.lemmas.Bool.{eq-eqb, false≢true}
+use Rattle.std.proofs.lemmas.Option.{slice_get_within}
 use Rattle.plans_rules.specs.declared.step.AnyPlace.TheVariants.{Old, New}
 use Rattle.plans_rules.specs.declared.step.WhichSet.{WhichSet}
 use Rattle.plans_rules.specs.declared.step.WhichSet.TheVariants.{Pending, Enabled}
@@ -12,40 +13,46 @@ use Rattle.plans_rules.specs.declared.step.Number.{Number}
 use Rattle.plans_rules.specs.declared.step.Number.TheVariants.{Threshold, Delivery}
 use Rattle.plans_rules.specs.declared.setting.NumberSpot.{NumberSpot}
 use Rattle.plans_rules.specs.declared.setting.NumberSpot.TheVariants.{InOld, InHand, InNew}
+use Rattle.plans_rules.specs.declared.setting.RouteKind.{RouteKind}
+use Rattle.plans_rules.specs.declared.setting.RouteKind.TheVariants.{Routed, Switched}
 use Rattle.plans_rules.specs.declared.step.AnyStep.{AnyStep}
-use Rattle.plans_rules.specs.declared.step.AnyStep.TheVariants.{Fence, Zero, Take, Copy, Join, Put, ZeroNumber, TakeNumber, CopyNumber, Free}
+use Rattle.plans_rules.specs.declared.step.AnyStep.TheVariants.{Fence, Pause, Resume, Zero, Take, Copy, Join, Put, ZeroNumber, TakeNumber, CopyNumber, Free}
 use Rattle.plans_rules.specs.Setting.{Setting, is_old, same_spot, names}
-use Rattle.plans_rules.specs.Machine.{AnyFlight, AnyMachine, flight_landed, all_landed, flights_of, flights_beside, stepped, one_landed}
+use Rattle.plans_rules.specs.Machine.{AnyFlight, AnyMachine, landed, flight_landed, all_landed, flights_of, flights_beside, stepped, one_landed}
 use Rattle.plans_rules.specs.Machine.By.{Written, InForce}
-use Rattle.plans_rules.specs.Safe.{IsRouted, IsStartOfAny, number_in, IsSafe, IsInFile}
-use Rattle.plans_rules.specs.Rules.{fences, empties, lifts, fills, blanks, frees, Done, is_turned, is_fenced, is_led, all_led, is_reached, is_still, brought, may_stand, only_old, only_hand, only_new, any_old, is_blank, was_shut, is_shut, has_number, lets, lets_end, lets_rest}
-use Rattle.plans_rules.proofs.BoolLaws.{by_case, true_of, clash, and_of, or_left, or_right, or_false_left, or_false_right, or_cases, all_of, all_find, any_find}
+use Rattle.plans_rules.specs.Safe.{IsProducer, IsRouted, IsStartOfAny, number_in, IsSafe, IsInFile}
+use Rattle.plans_rules.specs.Rules.{fences, pauses, switches, empties, lifts, fills, blanks, frees, Done, is_turned, is_fenced, is_forced, is_paused, is_drained, is_led, is_led_as, is_led_if_any, all_led, is_calm, reaches, is_reached, is_still, brought, may_stand, only_old, only_hand, only_new, any_old, is_blank, was_shut, is_shut, has_number, lets, lets_end, lets_rest}
+use Rattle.plans_rules.proofs.BoolLaws.{by_case, false_of, true_of, clash, not_true, and_left, and_right, and_of, or_left, or_right, or_false_left, or_false_right, or_cases, all_of, all_find, any_find}
+use Rattle.plans_rules.proofs.Reached.{forced_turned, paused_drained}
 use Rattle.plans_rules.proofs.Safety.{IsOfSafety}
-use Rattle.plans_rules.proofs.States.{Live, live_step, live_store, live_land, At, at_step, at_is, no_old, no_hand, end_new, end_old, lost, worth, Plain, Flying, plain_step, sent, flying_on, Witness, stored, kind_of, unled_routed, unled_switched, unled_old, fence_same, Unshut, unshut_step}
+use Rattle.plans_rules.proofs.States.{Live, live_step, live_store, live_land, At, at_step, at_is, no_old, no_hand, end_new, end_old, lost, worth, Plain, Flying, plain_step, sent, flying_on, Witness, stored, kind_of, unled_routed, unled_switched, unforced_old, unled_old, running, fence_same, Unshut, unshut_step}
 use Rattle.plans_rules.proofs.Brought.{two_find, old_after, hand_after, new_after, came, stored_cases}
 
 -- ---- a step
 
--- whoever is not led stores there again
+-- whoever is neither led nor paused stores there again
 again : (d : Setting) (s : WhichSet) (i : ℕ) (done : Done) (rest : List AnyStep) → is_still d s done ≡ false → ((j : ℕ) → Plain d done rest j)
-    → ((p j : ℕ) → IsRouted d p → is_fenced p done ≡ false → Flying d done rest p j) → At d rest s i true true false false
+    → ((p j : ℕ) → IsRouted d p → is_drained p done ≡ false → is_paused p done ≡ false → Flying d done rest p j) → At d rest s i true true false false
 again d Enabled i done rest busy plain flying = absurd (false≢true (sym busy))
 again d Pending i done rest busy plain flying =
-    let found = all_find (λ p. is_led d p done) (length d.producers) busy in
-    unled_old d done rest found.0 i found.1 found.2 (plain i) (flying found.0 i)
+    let found = all_find (λ p. is_calm d p done) (length d.producers) busy in
+    unled_old d done rest found.0 i found.1 (or_false_left _ _ found.2) (or_false_right (is_led d found.0 done) _ found.2) (plain i)
+    (flying found.0 i)
 
--- whoever is turned stores into the new place
+-- whoever is turned and not paused stores into the new place
 there : (d : Setting) (s : WhichSet) (i : ℕ) (done : Done) (rest : List AnyStep) → is_reached d s done ≡ true → ((j : ℕ) → Plain d done rest j)
     → At d rest s i true false true false
 there d Enabled i done rest reached plain = absurd (false≢true reached)
 there d Pending i done rest reached plain =
-    let found = any_find (λ p. is_turned p done) (length d.producers) reached in
-    stored d done rest found.0 i Written New found.1 (plain i) (((plain i).ways found.0).ahead found.2)
+    let found = any_find (λ p. reaches p done) (length d.producers) reached in
+    stored d done rest found.0 i Written New found.1 (not_true _ (and_right (is_turned found.0 done) _ found.2)) (plain i)
+    (((plain i).ways found.0).ahead (and_left (is_turned found.0 done) _ found.2))
 
 -- where one may stand after a step, one does in a state
 stands_next : (d : Setting) (x : AnyStep) (done : Done) (rest : List AnyStep) (s : WhichSet) (i : ℕ) (o h n : Bool) → Witness d done (x ∷ rest)
     → ((j : ℕ) → Plain d (x ∷ done) rest j)
-    → ((p j : ℕ) → IsRouted d p → is_fenced p (x ∷ done) ≡ false → Flying d (x ∷ done) rest p j) → may_stand d s (i / 64) (x ∷ done) o h n ≡ true
+    → ((p j : ℕ) → IsRouted d p → is_drained p (x ∷ done) ≡ false → is_paused p (x ∷ done) ≡ false → Flying d (x ∷ done) rest p j)
+    → may_stand d s (i / 64) (x ∷ done) o h n ≡ true
     → At d rest s i true o n h
 stands_next d x done rest s i o h n v plain flying may =
     elim (or_cases (brought (empties s (i / 64) x) (lifts s (i / 64) x) (fills s (i / 64) x) (blanks s (i / 64) x)
@@ -94,12 +101,33 @@ not_of : (b : Bool) → (b ≡ true → ⊥) → not b ≡ true
 not_of true h = absurd (h refl)
 not_of false h = refl
 
+undrained : (p : ℕ) (x : AnyStep) (done : Done) → is_drained p (x ∷ done) ≡ false → is_drained p done ≡ false
+undrained p x done e = or_false_right (switches p x && is_paused p done) _
+    (or_false_right (pauses p x && is_forced p done) _ (or_false_right (fences p x && is_turned p done) _ e))
+
+-- a store that is in flight to the old place by a route which is in force elsewhere was so before the step
+flew : (p : ℕ) (x : AnyStep) (done : Done) → is_drained p (x ∷ done) ≡ false → is_paused p (x ∷ done) ≡ false → is_forced p (x ∷ done) ≡ true
+    → (fences p x ≡ false) × (is_paused p done ≡ false)
+flew p (Fence q) done undrained runs forced =
+    (fence_law (nat_eq q p) (is_turned p done) (is_fenced p done) (list_any (switches p) done) _ (forced_turned p done) undrained forced, runs)
+  where
+    fence_law : (m t c s l : Bool) → ((c || s) ≡ true → t ≡ true) → ((m && t) || l) ≡ false → ((elim m [ true ↦ t || c | false ↦ c ]) || s) ≡ true
+        → m ≡ false
+    fence_law true true c s l h e f = absurd (false≢true (sym e))
+    fence_law true false c s l h e f = absurd (false≢true (h f))
+    fence_law false t c s l h e f = refl
+flew p (Pause q) done undrained runs forced = (refl, or_false_right (nat_eq q p) _ runs)
+flew p (Resume q) done undrained runs forced = (refl, false_of _ (λ paused. clash _ (paused_drained p done paused forced) undrained))
+flew p x done undrained runs forced = (refl, runs)
+
 witness_step : (d : Setting) (x : AnyStep) (done : Done) (rest : List AnyStep) → Witness d done (x ∷ rest) → Witness d (x ∷ done) rest
 witness_step d x done rest v =
     let plain : ((j : ℕ) → Plain d (x ∷ done) rest j) = λ j. plain_step d x done rest j (v.plain j) in
-    let flying : ((p j : ℕ) → IsRouted d p → is_fenced p (x ∷ done) ≡ false → Flying d (x ∷ done) rest p j) = λ p j routed e. by_case (fences p x)
-    (λ m. sent d (x ∷ done) rest p j routed (fence_calm x p m e) (plain j))
-    (λ m. flying_on d x done rest p j m (v.flying p j routed (fence_other (fences p x) _ _ m e))) in
+    let flying : ((p j : ℕ) → IsRouted d p → is_drained p (x ∷ done) ≡ false → is_paused p (x ∷ done) ≡ false → Flying d (x ∷ done) rest p j) =
+    λ p j routed e runs. by_case (is_forced p (x ∷ done))
+    (λ forced. let before = flew p x done e runs forced in
+    flying_on d x done rest p j before.0 (or_false_left _ _ runs) (v.flying p j routed (undrained p x done e) before.1))
+    (λ unforced. sent d (x ∷ done) rest p j routed unforced runs (plain j)) in
     record {
       plain = plain;
       flying = flying;
@@ -109,18 +137,6 @@ witness_step d x done rest v =
           (at_step d x rest s i false false true false (v.dirty s i (or_false_right (blanks s (i / 64) x) _ e)));
       unshut = unshut_step d x done rest v.unshut;
     }
-  where
-    fence_calm : (x : AnyStep) (p : ℕ) → fences p x ≡ true → is_fenced p (x ∷ done) ≡ false → is_turned p (x ∷ done) ≡ false
-    fence_calm (Fence q) p m e = calm_law (fences p (Fence q)) _ _ m e
-      where
-        calm_law : (m t c : Bool) → m ≡ true → (elim m [ true ↦ t || c | false ↦ c ]) ≡ false → t ≡ false
-        calm_law true t c e f = or_false_left t c f
-        calm_law false t c e f = absurd (false≢true e)
-    fence_calm x p m e = absurd (false≢true m)
-
-    fence_other : (m t c : Bool) → m ≡ false → (elim m [ true ↦ t || c | false ↦ c ]) ≡ false → c ≡ false
-    fence_other true t c e f = absurd (false≢true (sym e))
-    fence_other false t c e f = f
 
 -- ---- a step that the rules don't let stand loses something
 
@@ -230,6 +246,7 @@ landed_strayed d (f ∷ later) z e = landed_strayed d later (flight_landed d f z
 
 strayed_on : (d : Setting) (x : AnyStep) (z : AnyMachine) → z.strayed ≡ true → (stepped d x z).strayed ≡ true
 strayed_on d (Fence p) z e = landed_strayed d (flights_of p z.flights) z e
+strayed_on d (Pause p) z e = landed_strayed d (flights_of p z.flights) z e
 strayed_on d (Take s w) z e = or_left z.strayed _ e
 strayed_on d (Copy s w) z e = or_left z.strayed _ e
 strayed_on d Free z e = or_left z.strayed _ e
@@ -249,23 +266,47 @@ stray_bit : (s o f : Bool) → o ≡ true → f ≡ true → (s || (o && f)) ≡
 stray_bit s true f e g = or_right s f g
 stray_bit s false f e g = absurd (false≢true e)
 
--- who is not led reaches it
-free_loses : (d : Setting) (done : Done) (rest : List AnyStep) → Witness d done (Free ∷ rest) → all_led d done ≡ false → ⊥
-free_loses d done rest v e =
-    let found = all_find (λ p. is_led d p done) (length d.producers) e in
-    elim (kind_of d found.0 found.1) [
-      | inl routed ↦ (let fly : Flying d done (Free ∷ rest) found.0 0 =
-          v.flying found.0 0 (found.1, routed) (unled_routed d found.0 done routed found.2) in
-          stray_loses d fly.start rest _ (live_land d fly.start rest (stepped d Free fly.z) 0 (live_step d fly.start Free rest fly.z fly.live))
-          (subst (λ fs. (one_landed d (slice_get fs 0) (stepped d Free fly.z)).strayed ≡ true) (sym fly.flights)
-          (stray_bit (fly.z.strayed || fly.z.freed) true true refl refl)))
-      | inr switched ↦ (let plain : Plain d done (Free ∷ rest) 0 = v.plain 0 in
-          let none = unled_switched d found.0 done switched found.2 in
-          stray_loses d plain.at.start rest _ (live_store d plain.at.start rest (stepped d Free plain.at.z) found.0 InForce 0 found.1
-          (live_step d plain.at.start Free rest plain.at.z plain.at.live))
-          (stray_bit (plain.at.z.strayed || plain.at.z.freed) (is_old (plain.at.z.in_force found.0)) true
-          (ap is_old ((plain.ways found.0).behind (or_false_left _ _ none) (or_false_right (is_fenced found.0 done) _ none))) refl))
+-- who is neither led nor paused reaches it
+unled_strays : (d : Setting) (done : Done) (rest : List AnyStep) (p : ℕ) → Witness d done rest → IsProducer d p → is_led d p done ≡ false
+    → is_paused p done ≡ false → list_any frees done ≡ true → ⊥
+unled_strays d done rest p v declared unled runs freed =
+    elim (kind_of d p declared) [
+      | inl routed ↦ (let fly : Flying d done rest p 0 = v.flying p 0 (declared, routed) (unled_routed d p done routed unled) runs in
+          stray_loses d fly.start rest _ (live_land d fly.start rest fly.z 0 fly.live)
+          (subst (λ fs. (one_landed d (slice_get fs 0) fly.z).strayed ≡ true) (sym fly.flights)
+          (stray_bit fly.z.strayed true fly.z.freed refl (fly.freed ∙ freed))))
+      | inr switched ↦ (let plain : Plain d done rest 0 = v.plain 0 in
+          stray_loses d plain.at.start rest _ (live_store d plain.at.start rest plain.at.z p InForce 0 declared plain.at.live)
+          (ap (λ (y : AnyMachine). y.strayed) (running (plain.at.z.paused p) plain.at.z (landed d (plain.at.z.in_force p) 0 plain.at.z)
+          (plain.paused p ∙ runs))
+          ∙ stray_bit plain.at.z.strayed (is_old (plain.at.z.in_force p)) plain.at.z.freed
+          (ap is_old (unforced_old d done rest p 0 (unled_switched d p done switched unled) plain)) (plain.freed ∙ freed)))
     ]
+
+free_loses : (d : Setting) (done : Done) (rest : List AnyStep) → Witness d done (Free ∷ rest) → is_still d Pending done ≡ false → ⊥
+free_loses d done rest v e =
+    let found = all_find (λ p. is_calm d p done) (length d.producers) e in
+    unled_strays d (Free ∷ done) rest found.0 (witness_step d Free done rest v) found.1
+    (free_unled (slice_get d.producers found.0) found.0 (or_false_left _ _ found.2)) (or_false_right (is_led d found.0 done) _ found.2) refl
+  where
+    free_unled : (k : Option RouteKind) (p : ℕ) → is_led_as k p done ≡ false → is_led_as k p (Free ∷ done) ≡ false
+    free_unled None p e = e
+    free_unled (Some Routed) p e = e
+    free_unled (Some Switched) p e = e
+
+resume_loses : (d : Setting) (q : ℕ) (done : Done) (rest : List AnyStep) → Witness d done (Resume q ∷ rest) → list_any frees done ≡ true
+    → is_led_if_any d q done ≡ false → ⊥
+resume_loses d q done rest v freed e =
+    let unled = unled_kind (slice_get d.producers q) e in
+    unled_strays d (Resume q ∷ done) rest q (witness_step d (Resume q) done rest v)
+    (slice_get_within d.producers q unled.0 unled.1)
+    unled.2 (ap (λ m. not m && is_paused q done) (eq-eqb q q refl)) freed
+  where
+    unled_kind : (o : Option RouteKind) → (elim o [ None ↦ true | Some kind ↦ is_led_as (Some kind) q done ]) ≡ false
+        → (k : RouteKind) × (o ≡ Some k) × (is_led_as o q (Resume q ∷ done) ≡ false)
+    unled_kind None e = absurd (false≢true (sym e))
+    unled_kind (Some Routed) e = (Routed, refl, e)
+    unled_kind (Some Switched) e = (Switched, refl, e)
 
 reach_loses : (d : Setting) (x : AnyStep) (done : Done) (rest : List AnyStep)
     → ((z : AnyMachine) → (stepped d x z).strayed ≡ (z.strayed || z.freed)) → Witness d done (x ∷ rest) → list_any frees done ≡ true → ⊥
@@ -295,6 +336,10 @@ left_loses d start (Fence p ∷ rest) z n inherited live none freed e =
     let same = fence_same d p z (ap (flights_of p) none) in
     left_loses d start rest (stepped d (Fence p) z) n inherited (live_step d start (Fence p) rest z live) (ap (flights_beside p) none)
     (ap (λ (y : AnyMachine). y.freed) same ∙ freed) (ap (λ (y : AnyMachine). y.old_number n) same ∙ e)
+left_loses d start (Pause p ∷ rest) z n inherited live none freed e =
+    let same = fence_same d p z (ap (flights_of p) none) in
+    left_loses d start rest (stepped d (Pause p) z) n inherited (live_step d start (Pause p) rest z live) (ap (flights_beside p) none)
+    (ap (λ (y : AnyMachine). y.freed) same ∙ freed) (ap (λ (y : AnyMachine). y.old_number n) same ∙ e)
 left_loses d start (Free ∷ rest) z n inherited live none freed e =
     left_loses d start rest (stepped d Free z) n inherited (live_step d start Free rest z live) none refl e
 left_loses d start (x ∷ rest) z n inherited live none freed e =
@@ -318,6 +363,12 @@ shut_kept d done rest v = where_inherited d.is_inherited _ _ (λ is. true_of _ (
 freeing_kept : (d : Setting) (x : AnyStep) (done : Done) (rest : List AnyStep) → Witness d done (x ∷ rest) → lets Freeing d x done ≡ true
 freeing_kept d Free done rest v = and_of _ _ (true_of _ (free_loses d done rest v))
     (and_of _ _ (not_of _ (reach_loses d Free done rest (λ z. refl) v)) (shut_kept d done rest v))
+freeing_kept d (Resume p) done rest v = resume_law (list_any frees done) (is_led_if_any d p done) (resume_loses d p done rest v)
+  where
+    resume_law : (freed led : Bool) → (freed ≡ true → led ≡ false → ⊥) → (not freed || led) ≡ true
+    resume_law false led e = refl
+    resume_law true true e = refl
+    resume_law true false e = absurd (e refl refl)
 freeing_kept d (Copy s w) done rest v = not_of _ (reach_loses d (Copy s w) done rest (λ z. refl) v)
 freeing_kept d (Take s w) done rest v = not_of _ (reach_loses d (Take s w) done rest (λ z. refl) v)
 freeing_kept d (Zero Old s w) done rest v = not_of _ (reach_loses d (Zero Old s w) done rest (λ z. refl) v)
@@ -344,16 +395,23 @@ dirty_loses : (d : Setting) (s : WhichSet) (w : ℕ) (done : Done) → w < d.wor
 dirty_loses d s w done inside v e = false≢true (sym (end_new d s (64 * w) false false true false (below_words d w inside)
     (v.dirty s (64 * w) (at_first (λ u. is_blank d s u done ≡ false) w e))))
 
+-- a route that is not in force in the end
+unforced_loses : (d : Setting) (done : Done) (p : ℕ) → Witness d done [] → IsProducer d p → is_forced p done ≡ false → ⊥
+unforced_loses d done p v declared e =
+    let plain : Plain d done [] 0 = v.plain 0 in
+    false≢true (ap is_old (sym ((plain.at.live [] tt refl).in_force p declared) ∙ unforced_old d done [] p 0 e plain))
+
 unled_loses : (d : Setting) (done : Done) → Witness d done [] → all_led d done ≡ false → ⊥
 unled_loses d done v e =
     let found = all_find (λ p. is_led d p done) (length d.producers) e in
     elim (kind_of d found.0 found.1) [
-      | inl routed ↦ (let fly : Flying d done [] found.0 0 = v.flying found.0 0 (found.1, routed) (unled_routed d found.0 done routed found.2) in
-          false≢true (sym (ap is_old (subst (AllByRecursion (λ (f : AnyFlight). f.place ≡ New)) fly.flights (fly.live [] tt refl).flights).0)))
-      | inr switched ↦ (let plain : Plain d done [] 0 = v.plain 0 in
-          let none = unled_switched d found.0 done switched found.2 in
-          false≢true (ap is_old (sym ((plain.at.live [] tt refl).in_force found.0 found.1)
-          ∙ (plain.ways found.0).behind (or_false_left _ _ none) (or_false_right (is_fenced found.0 done) _ none))))
+      | inl routed ↦ (let undrained = unled_routed d found.0 done routed found.2 in
+          by_case (is_paused found.0 done)
+          (λ paused. unforced_loses d done found.0 v found.1
+          (false_of _ (λ forced. clash _ (paused_drained found.0 done paused forced) undrained)))
+          (λ runs. let fly : Flying d done [] found.0 0 = v.flying found.0 0 (found.1, routed) undrained runs in
+          false≢true (sym (ap is_old (subst (AllByRecursion (λ (f : AnyFlight). f.place ≡ New)) fly.flights (fly.live [] tt refl).flights).0))))
+      | inr switched ↦ unforced_loses d done found.0 v found.1 (unled_switched d found.0 done switched found.2)
     ]
 
 number_loses : (d : Setting) (done : Done) (n : Number) → Witness d done [] → has_number d n d.number_to done ≡ false → ⊥
@@ -410,6 +468,7 @@ beginning d before rest = record {
   noticed = true;
   seen = false;
   told = false;
+  paused = λ p. false;
 }
 
 it_begins : (d : Setting) (before rest : WhichSet → ℕ → Bool) → (d.is_fresh ≡ true → (s : WhichSet) (i : ℕ) → rest s i ≡ false)
@@ -417,6 +476,7 @@ it_begins : (d : Setting) (before rest : WhichSet → ℕ → Bool) → (d.is_fr
 it_begins d before rest fresh = record {
   written = λ p e. refl;
   in_force = λ p e. refl;
+  paused = λ p e. refl;
   flights = tt;
   due = λ s i. refl;
   hand = λ s i. refl;
@@ -454,6 +514,7 @@ begin_plain d plan i safe = record {
   numbers = λ n spot. started spot;
   begun = λ n. begun d.number_from;
   freed = refl;
+  paused = λ p. refl;
 }
   where
     started : (spot : NumberSpot) → number_in spot Threshold (beginning d nothing nothing) ≡ worth (same_spot d.number_from spot)
@@ -469,7 +530,7 @@ begin_plain d plan i safe = record {
 begin : (d : Setting) (plan : List AnyStep) → IsSafe d plan → Witness d [] plan
 begin d plan safe = record {
   plain = λ i. begin_plain d plan i safe;
-  flying = λ p i routed e. sent d [] plan p i routed refl (begin_plain d plan i safe);
+  flying = λ p i routed e runs. sent d [] plan p i routed refl refl (begin_plain d plan i safe);
   stands = λ s i o h n may. (let there = begun_there o h n may in at_is d plan s i true _ _ _ _ _ _ (sym there.0)
       (sym there.2) (sym there.1) (record {
         start = beginning d (names s i) nothing;
@@ -499,6 +560,7 @@ begin d plan safe = record {
     live = from_start d plan _ safe (record {
       written = λ p e. refl;
       in_force = λ p e. refl;
+      paused = λ p e. refl;
       flights = tt;
       due = λ s i. refl;
       hand = λ s i. refl;

@@ -25,10 +25,10 @@ pub mended_shift_rows : AreAccepted widths (kvm_moves with_devices) (kvm_shift_w
 mended_shift_rows = (refl, (refl, (refl, (refl, (refl, (refl, tt))))))
 
 pub routes_rows : BreakAlone Routes (plainly true) break_routes
-routes_rows = (refl, (refl, (refl, (refl, (refl, tt)))))
+routes_rows = (refl, (refl, (refl, (refl, (refl, (refl, (refl, tt)))))))
 
 pub words_rows : BreakAlone Words (plainly true) break_words
-words_rows = (refl, (refl, (refl, (refl, (refl, (refl, (refl, (refl, tt))))))))
+words_rows = (refl, (refl, (refl, (refl, (refl, (refl, (refl, (refl, (refl, tt)))))))))
 
 pub blank_rows : BreakAlone Blank (plainly false) break_blank
 blank_rows = (refl, tt)

@@ -16,15 +16,15 @@ use Rattle.plans_rules.specs.declared.setting.NumberSpot.TheVariants.{InOld, InH
 use Rattle.plans_rules.specs.declared.setting.RouteKind.{RouteKind}
 use Rattle.plans_rules.specs.declared.setting.RouteKind.TheVariants.{Routed, Switched}
 use Rattle.plans_rules.specs.declared.step.AnyStep.{AnyStep}
-use Rattle.plans_rules.specs.declared.step.AnyStep.TheVariants.{Route, Fence, Switch, Zero, Take, Copy, Join, Put, ZeroNumber, TakeNumber, CopyNumber, PutNumber, Free}
+use Rattle.plans_rules.specs.declared.step.AnyStep.TheVariants.{Route, Fence, Switch, Pause, Resume, Zero, Take, Copy, Join, Put, ZeroNumber, TakeNumber, CopyNumber, PutNumber, Free}
 use Rattle.plans_rules.specs.Setting.{Setting, is_old, same_bank, same_number, same_spot, names}
 use Rattle.plans_rules.specs.Machine.{AnyFlight, AnyMachine, landed, flight_landed, all_landed, flights_of, flights_beside, led_to, stepped, By, route_of, AnyHappening, one_landed, all_but, happened, all_happened, steps_in}
 use Rattle.plans_rules.specs.Machine.By.{Written, InForce}
 use Rattle.plans_rules.specs.Machine.AnyHappening.{Does, Stores, Sends, Lands, Refetches}
 use Rattle.plans_rules.specs.Safe.{IsProducer, IsRouted, CanHappen, IsRun, IsStartOfAny, number_in, IsMovedByAny, IsSafe}
-use Rattle.plans_rules.specs.Rules.{empties, lifts, fills, blanks, shuts, switches, frees, Done, is_turned, is_fenced, is_led_as, is_led, all_led, is_reached, any_of_two, brought, may_stand, only_old, only_hand, only_new, any_old, is_blank, was_shut, is_shut, has_number, lets, lets_end, lets_rest}
-use Rattle.plans_rules.proofs.BoolLaws.{false_of, clash, not_true, and_left, and_right, and_of, or_left, or_right, or_false, or_cases, added_cases, all_at, any_at}
-use Rattle.plans_rules.proofs.Reached.{all_led_more}
+use Rattle.plans_rules.specs.Rules.{empties, lifts, fills, blanks, shuts, resumes, switches, frees, Done, is_turned, is_fenced, is_forced, is_paused, is_led_as, is_led, all_led, is_calm, reaches, is_reached, is_still, any_of_two, brought, may_stand, only_old, only_hand, only_new, any_old, is_blank, was_shut, is_shut, has_number, lets, lets_end, lets_rest}
+use Rattle.plans_rules.proofs.BoolLaws.{false_of, clash, not_true, and_left, and_right, and_of, and_false_right, or_left, or_right, or_false, or_cases, added_cases, all_at, any_at}
+use Rattle.plans_rules.proofs.Reached.{led_forced, still_more, still_resumed}
 use Rattle.plans_rules.proofs.Brought.{Places, two_at, two_find, old_after, hand_after, new_after, brought_at, busy_old, reached_new, take_somewhere, copy_somewhere, join_somewhere, put_somewhere, wipe_somewhere, zero_somewhere, not_left, blank_before, hand_more, new_more, old_more, hand_cases}
 
 -- ---- the invariant
@@ -47,27 +47,29 @@ pub record Kept (stands : Places) (c q a b k : Bool) : Type 0 where
   pub from_hand : k ≡ true → (q ≡ true) × (any_of_two (λ o n. stands o true n) ≡ true)
   pub from_new : c ≡ true → b ≡ true → q ≡ true
 
--- Of one producer: its route is turned (t), and led (l).
-pub record Leads (t l : Bool) (written in_force : AnyPlace) : Type 0 where
+-- Of one producer: its route is turned (t), and in force (c).
+pub record Leads (t c : Bool) (written in_force : AnyPlace) : Type 0 where
   pub before : t ≡ false → (written ≡ Old) × (in_force ≡ Old)
   pub after : t ≡ true → written ≡ New
-  pub led : l ≡ true → (in_force ≡ New) × (t ≡ true)
+  pub led : c ≡ true → (in_force ≡ New) × (t ≡ true)
 
 -- Where a store may land.
 abbrev pub MayLand : Bool → Bool → AnyPlace → Type 0
 MayLand t l place = (place ≡ Old → l ≡ false) × (place ≡ New → t ≡ true)
 
 abbrev pub Flies : Setting → Done → AnyFlight → Type 0
-Flies d done f = IsRouted d f.producer × MayLand (is_turned f.producer done) (is_led d f.producer done) f.place
+Flies d done f =
+    IsRouted d f.producer × (is_paused f.producer done ≡ false) × MayLand (is_turned f.producer done) (is_led d f.producer done) f.place
 
 pub record Invariant (d : Setting) (start : AnyMachine) (done : Done) (z : AnyMachine) : Type 0 where
-  pub leads : (p : ℕ) → IsProducer d p → Leads (is_turned p done) (is_led d p done) (z.written p) (z.in_force p)
+  pub leads : (p : ℕ) → IsProducer d p → Leads (is_turned p done) (is_forced p done) (z.written p) (z.in_force p)
+  pub paused : (p : ℕ) → IsProducer d p → z.paused p ≡ is_paused p done
   pub flights : AllByRecursion (Flies d done) z.flights
   pub kept : (s : WhichSet) (i : ℕ) → Kept (may_stand d s (i / 64) done) (is_blank d s (i / 64) done) (z.due s i) (z.old s i) (z.new s i) (z.hand s i)
   pub somewhere : (s : WhichSet) (w : ℕ) → may_stand d s w done false false false ≡ false
   pub enables : (i : ℕ) → z.due Enabled i ≡ start.old Enabled i
   pub freed : z.freed ≡ list_any frees done
-  pub safe : list_any frees done ≡ true → all_led d done ≡ true
+  pub safe : list_any frees done ≡ true → is_still d Pending done ≡ true
   pub strayed : z.strayed ≡ false
   pub shut : (n : Number) → was_shut n done ≡ true → z.old_number n ≡ 0
   pub left : d.is_inherited ≡ true → list_any frees done ≡ true → (n : Number) → was_shut n done ≡ true
@@ -78,17 +80,20 @@ pub record Invariant (d : Setting) (start : AnyMachine) (done : Done) (z : AnyMa
 old_is_new : {A : Type 0} (place : AnyPlace) → place ≡ Old → place ≡ New → A
 old_is_new place e f = absurd (false≢true (ap is_old (sym f ∙ e)))
 
-may_written : (t l : Bool) (w f : AnyPlace) → Leads t l w f → MayLand t l w
-may_written true l w f v = (λ e. old_is_new w e (v.after refl), λ e. refl)
-may_written false l w f v = (λ e. false_of l (λ led. absurd (false≢true (v.led led).1)), λ e. old_is_new w (v.before refl).0 e)
+may_written : (t c l : Bool) (w f : AnyPlace) → (l ≡ true → c ≡ true) → Leads t c w f → MayLand t l w
+may_written true c l w f forced v = (λ e. old_is_new w e (v.after refl), λ e. refl)
+may_written false c l w f forced v =
+    (λ e. false_of l (λ led. absurd (false≢true (v.led (forced led)).1)), λ e. old_is_new w (v.before refl).0 e)
 
-may_force : (t l : Bool) (w f : AnyPlace) → Leads t l w f → MayLand t l f
-may_force true l w f v = (λ e. false_of l (λ led. old_is_new f e (v.led led).0), λ e. refl)
-may_force false l w f v = (λ e. false_of l (λ led. absurd (false≢true (v.led led).1)), λ e. old_is_new f (v.before refl).1 e)
+may_force : (t c l : Bool) (w f : AnyPlace) → (l ≡ true → c ≡ true) → Leads t c w f → MayLand t l f
+may_force true c l w f forced v = (λ e. false_of l (λ led. old_is_new f e (v.led (forced led)).0), λ e. refl)
+may_force false c l w f forced v =
+    (λ e. false_of l (λ led. absurd (false≢true (v.led (forced led)).1)), λ e. old_is_new f (v.before refl).1 e)
 
-pub may_by : (by : By) (p : ℕ) (t l : Bool) (z : AnyMachine) → Leads t l (z.written p) (z.in_force p) → MayLand t l (route_of by p z)
-may_by Written p t l z v = may_written t l (z.written p) (z.in_force p) v
-may_by InForce p t l z v = may_force t l (z.written p) (z.in_force p) v
+pub may_by : (d : Setting) (by : By) (p : ℕ) (done : Done) (z : AnyMachine) → Leads (is_turned p done) (is_forced p done) (z.written p) (z.in_force p)
+    → MayLand (is_turned p done) (is_led d p done) (route_of by p z)
+may_by d Written p done z v = may_written _ _ _ (z.written p) (z.in_force p) (led_forced (slice_get d.producers p) p done) v
+may_by d InForce p done z v = may_force _ _ _ (z.written p) (z.in_force p) (led_forced (slice_get d.producers p) p done) v
 
 land_law : (m o : Bool) (stands : Places) (c q a b k : Bool) → (m ≡ true → o ≡ true → stands true false false ≡ true)
     → (m ≡ true → o ≡ false → stands false false true ≡ true)
@@ -125,7 +130,7 @@ land_law true false stands c q a b k past ahead v = record {
 
 -- what a landing does to the bits, with the place known
 kept_land : (d : Setting) (start : AnyMachine) (done : Done) (place : AnyPlace) (x : ℕ) (z : AnyMachine)
-    → (is_old place ≡ true → all_led d done ≡ false) → (is_old place ≡ false → is_reached d Pending done ≡ true)
+    → (is_old place ≡ true → is_still d Pending done ≡ false) → (is_old place ≡ false → is_reached d Pending done ≡ true)
     → Invariant d start done z → (s : WhichSet) (i : ℕ)
     → Kept (may_stand d s (i / 64) done) (is_blank d s (i / 64) done) ((landed d place x z).due s i) ((landed d place x z).old s i)
     ((landed d place x z).new s i) ((landed d place x z).hand s i)
@@ -135,10 +140,11 @@ kept_land d start done place x z past ahead v Pending i =
 kept_land d start done place x z past ahead v Enabled i = v.kept Enabled i
 
 land_at : (d : Setting) (start : AnyMachine) (done : Done) (place : AnyPlace) (x : ℕ) (z : AnyMachine)
-    → (is_old place ≡ true → all_led d done ≡ false) → (is_old place ≡ false → is_reached d Pending done ≡ true)
+    → (is_old place ≡ true → is_still d Pending done ≡ false) → (is_old place ≡ false → is_reached d Pending done ≡ true)
     → Invariant d start done z → Invariant d start done (landed d place x z)
 land_at d start done place x z past ahead v = record {
   leads = v.leads;
+  paused = v.paused;
   flights = v.flights;
   kept = kept_land d start done place x z past ahead v;
   somewhere = v.somewhere;
@@ -155,15 +161,30 @@ land_at d start done place x z past ahead v = record {
     stray_law true f h = h refl
     stray_law false f h = refl
 
+-- where a producer that is not paused may store, it is not calm, or it reaches the new place
+pub past_of : (d : Setting) (done : Done) (p : ℕ) (place : AnyPlace) → IsProducer d p → is_paused p done ≡ false
+    → MayLand (is_turned p done) (is_led d p done) place → is_old place ≡ true → is_still d Pending done ≡ false
+past_of d done p Old declared running may o = false_of _ (λ all. clash _ (all_at (λ q. is_calm d q done) (length d.producers) p all declared)
+    (or_false (is_led d p done) _ (may.0 refl) running))
+past_of d done p New declared running may o = absurd (false≢true o)
+
+pub reach_of : (d : Setting) (done : Done) (p : ℕ) (place : AnyPlace) → IsProducer d p → is_paused p done ≡ false
+    → MayLand (is_turned p done) (is_led d p done) place → is_old place ≡ false → is_reached d Pending done ≡ true
+reach_of d done p Old declared running may o = absurd (false≢true (sym o))
+reach_of d done p New declared running may o = any_at (λ q. reaches q done) (length d.producers) p declared
+    (and_of (is_turned p done) _ (may.1 refl) (ap not running))
+
 -- where a producer's store may land, it keeps the invariant
 pub land : (d : Setting) (start : AnyMachine) (done : Done) (p : ℕ) (place : AnyPlace) (x : ℕ) (z : AnyMachine) → IsProducer d p
-    → MayLand (is_turned p done) (is_led d p done) place
+    → is_paused p done ≡ false → MayLand (is_turned p done) (is_led d p done) place
     → Invariant d start done z → Invariant d start done (landed d place x z)
-land d start done p Old x z declared may v =
-    land_at d start done Old x z (λ o. false_of _ (λ all. clash _ (all_at (λ q. is_led d q done) (length d.producers) p all declared)
-    (may.0 refl))) (λ o. absurd (false≢true (sym o))) v
-land d start done p New x z declared may v =
-    land_at d start done New x z (λ o. absurd (false≢true o)) (λ o. any_at (λ q. is_turned q done) (length d.producers) p declared (may.1 refl)) v
+land d start done p place x z declared running may v =
+    land_at d start done place x z (past_of d done p place declared running may) (reach_of d done p place declared running may) v
+
+-- what a producer does, unless it is paused
+pub unless : (P : AnyMachine → Type 0) (b : Bool) (z y : AnyMachine) → P z → (b ≡ false → P y) → P (if b then z else y)
+unless P true z y here there = here
+unless P false z y here there = there refl
 
 -- ---- between two steps
 
@@ -185,7 +206,7 @@ all_kept P (suc k) (f ∷ later) (first, others) = (first, all_kept P k later ot
 
 pub fly : (d : Setting) (start : AnyMachine) (done : Done) (f : AnyFlight) (z : AnyMachine) → Flies d done f → Invariant d start done z
     → Invariant d start done (flight_landed d f z)
-fly d start done f z may v = land d start done f.producer f.place f.identity z may.0.0 may.1 v
+fly d start done f z may v = land d start done f.producer f.place f.identity z may.0.0 may.1 may.2 v
 
 fly_one : (d : Setting) (start : AnyMachine) (done : Done) (z : AnyMachine) (fs : List AnyFlight) (k : ℕ) → AllFly d done fs
     → Invariant d start done z → Invariant d start done (one_landed d (slice_get fs k) z)
@@ -203,6 +224,7 @@ with_flights : (d : Setting) (start : AnyMachine) (done : Done) (z : AnyMachine)
     → Invariant d start done z → Invariant d start done (record z { flights = fs })
 with_flights d start done z fs all v = record {
   leads = v.leads;
+  paused = v.paused;
   flights = all;
   kept = v.kept;
   somewhere = v.somewhere;
@@ -226,13 +248,17 @@ refetch_law true t l there w f same v = record {
 pub between : (d : Setting) (start : AnyMachine) (done : Done) (x : AnyHappening) (z : AnyMachine) → IsBetween x → CanHappen d x
     → Invariant d start done z → Invariant d start done (happened d x z)
 between d start done (Does step) z is can v = absurd is
-between d start done (Stores p by x) z is can v = land d start done p (route_of by p z) x z can (may_by by p _ _ z (v.leads p can)) v
-between d start done (Sends p by x) z is can v = with_flights d start done z _ ((can, may_by by p _ _ z (v.leads p can.0)), v.flights) v
+between d start done (Stores p by x) z is can v = unless (Invariant d start done) (z.paused p) z (landed d (route_of by p z) x z) v
+    (λ runs. land d start done p (route_of by p z) x z can (sym (v.paused p can) ∙ runs) (may_by d by p done z (v.leads p can)) v)
+between d start done (Sends p by x) z is can v =
+    unless (Invariant d start done) (z.paused p) z (record z { flights = record { producer = p; place = route_of by p z; identity = x } ∷ z.flights })
+    v (λ runs. with_flights d start done z _ ((can, sym (v.paused p can.0) ∙ runs, may_by d by p done z (v.leads p can.0)), v.flights) v)
 between d start done (Lands k) z is can v = with_flights d start done (one_landed d (slice_get z.flights k) z) _
     (all_kept (Flies d done) k z.flights v.flights) (fly_one d start done z z.flights k v.flights v)
 between d start done (Refetches p) z is can v = record {
   leads = λ q declared. refetch_law (nat_eq p q) _ _ (z.written p) (z.written q) (z.in_force q) (λ m. ap z.written (eqb-true p q m))
       (v.leads q declared);
+  paused = v.paused;
   flights = v.flights;
   kept = v.kept;
   somewhere = v.somewhere;
@@ -283,31 +309,32 @@ fence_law false t l now there w f same cases v = record {
   led = λ e. elim (cases e) [ inl both ↦ absurd (false≢true both.0) | inr led ↦ v.led led ];
 }
 
--- how each step leads a producer
-led_by_route : (k : Option RouteKind) (p q : ℕ) (done : Done) → is_led_as k p (Route q ∷ done) ≡ true → is_led_as k p done ≡ true
-led_by_route None p q done e = e
-led_by_route (Some Routed) p q done e = e
-led_by_route (Some Switched) p q done e = e
-
+-- how each step puts a route in force
 switched_cases : (f m s : Bool) → (f || (m || s)) ≡ true → (m ≡ true) ⊎ ((f || s) ≡ true)
 switched_cases true m s e = inr refl
 switched_cases false true s e = inl refl
 switched_cases false false s e = inr e
 
-led_by_switch : (k : Option RouteKind) (p q : ℕ) (done : Done) → is_led_as k p (Switch q ∷ done) ≡ true → (nat_eq q p ≡ true)
-    ⊎ (is_led_as k p done ≡ true)
-led_by_switch None p q done e = inr e
-led_by_switch (Some Routed) p q done e = inr e
-led_by_switch (Some Switched) p q done e = switched_cases (is_fenced p done) (nat_eq q p) _ e
+forced_by_switch : (p q : ℕ) (done : Done) → is_forced p (Switch q ∷ done) ≡ true → (nat_eq q p ≡ true) ⊎ (is_forced p done ≡ true)
+forced_by_switch p q done e = switched_cases (is_fenced p done) (nat_eq q p) _ e
 
-led_by_fence : (k : Option RouteKind) (p q : ℕ) (done : Done) → is_led_as k p (Fence q ∷ done) ≡ true
-    → ((nat_eq q p ≡ true) × (is_turned p done ≡ true)) ⊎ (is_led_as k p done ≡ true)
-led_by_fence None p q done e = inr e
-led_by_fence (Some Routed) p q done e = added_cases (nat_eq q p) _ _ e
-led_by_fence (Some Switched) p q done e = elim (or_cases _ (list_any (switches p) done) e) [
+forced_by_fence : (p q : ℕ) (done : Done) → is_forced p (Fence q ∷ done) ≡ true
+    → ((nat_eq q p ≡ true) × (is_turned p done ≡ true)) ⊎ (is_forced p done ≡ true)
+forced_by_fence p q done e = elim (or_cases _ (list_any (switches p) done) e) [
   | inl fenced ↦ elim (added_cases (nat_eq q p) _ _ fenced) [ inl now ↦ inl now | inr before ↦ inr (or_left (is_fenced p done) _ before) ]
   | inr switched ↦ inr (or_right (is_fenced p done) _ switched)
 ]
+
+-- and how it leads a routed producer that has something in flight
+beside_cases : (m a l : Bool) → ((m && a) || l) ≡ true → m ≡ false → l ≡ true
+beside_cases true a l e other = absurd (false≢true (sym other))
+beside_cases false a l e other = e
+
+-- at its own kind
+at_routed : (k : Option RouteKind) (p : ℕ) (x : AnyStep) (done : Done) → k ≡ Some Routed
+    → (is_led_as (Some Routed) p (x ∷ done) ≡ true → is_led_as (Some Routed) p done ≡ true) → is_led_as k p (x ∷ done) ≡ true → is_led_as k p done ≡ true
+at_routed k p x done e h led =
+    subst (λ k. is_led_as k p done ≡ true) (sym e) (h (subst (λ k. is_led_as k p (x ∷ done) ≡ true) e led))
 
 -- a routed producer's flights, at a step that turns it
 turned_flight : (m t l now : Bool) (place : AnyPlace) → (now ≡ true → l ≡ true) → MayLand t l place → MayLand (m || t) now place
@@ -316,19 +343,34 @@ turned_flight m t l now place same may = (λ e. false_of now (λ led. clash l (s
 fly_route : (d : Setting) (q : ℕ) (done : Done) (f : AnyFlight) → Flies d done f → Flies d (Route q ∷ done) f
 fly_route d q done f may = (
   may.0,
+  may.1,
   turned_flight (nat_eq q f.producer) _ _ _ f.place
-      (led_by_route (slice_get d.producers f.producer) f.producer q done) may.1,
+      (at_routed (slice_get d.producers f.producer) f.producer (Route q) done may.0.1 (λ led. led)) may.2,
 )
 
 fly_switch : (d : Setting) (q : ℕ) (done : Done) (f : AnyFlight) → Flies d done f → Flies d (Switch q ∷ done) f
 fly_switch d q done f may = (
   may.0,
+  may.1,
   turned_flight (nat_eq q f.producer) _ _ _ f.place
-      (λ led. at_kind (slice_get d.producers f.producer) may.0.1 led) may.1,
+      (at_routed (slice_get d.producers f.producer) f.producer (Switch q) done may.0.1
+      (λ led. elim (or_cases (nat_eq q f.producer && is_paused f.producer done) _ led) [
+        | inl both ↦ clash (is_paused f.producer done) (and_right (nat_eq q f.producer) _ both) may.1
+        | inr before ↦ before
+      ])) may.2,
 )
-  where
-    at_kind : (k : Option RouteKind) → k ≡ Some Routed → is_led_as k f.producer (Switch q ∷ done) ≡ true → is_led_as k f.producer done ≡ true
-    at_kind k e led = subst (λ k. is_led_as k f.producer done ≡ true) (sym e) (subst (λ k. is_led_as k f.producer (Switch q ∷ done) ≡ true) e led)
+
+-- one that is resumed was not paused, if it has something in flight
+fly_resume : (d : Setting) (q : ℕ) (done : Done) (f : AnyFlight) → Flies d done f → Flies d (Resume q ∷ done) f
+fly_resume d q done f may = (
+  may.0,
+  and_false_right (not (nat_eq q f.producer)) _ may.1,
+  (
+    λ e. false_of _ (λ led. clash _
+        (at_routed (slice_get d.producers f.producer) f.producer (Resume q) done may.0.1 (λ led. led) led) (may.2.0 e)),
+    may.2.1,
+  ),
+)
 
 -- the flights of a producer, and those beside, at its fence
 pub of_all : (P : AnyFlight → Type 0) → (p : ℕ) (fs : List AnyFlight) → AllByRecursion P fs → AllByRecursion P (flights_of p fs)
@@ -352,11 +394,22 @@ beside_all P Q p (f ∷ later) h (first, others) = beside_law (nat_eq p f.produc
 fly_fence : (d : Setting) (q : ℕ) (done : Done) (f : AnyFlight) → nat_eq q f.producer ≡ false → Flies d done f → Flies d (Fence q ∷ done) f
 fly_fence d q done f other may = (
   may.0,
+  may.1,
   (
-    λ e. false_of _
-        (λ led. elim (led_by_fence (slice_get d.producers f.producer) f.producer q done led)
-        [ inl both ↦ clash (nat_eq q f.producer) both.0 other | inr before ↦ clash _ before (may.1.0 e) ]),
-    may.1.1,
+    λ e. false_of _ (λ led. clash _ (at_routed (slice_get d.producers f.producer) f.producer (Fence q) done may.0.1
+        (λ led. beside_cases (nat_eq q f.producer) _ _ led other) led) (may.2.0 e)),
+    may.2.1,
+  ),
+)
+
+fly_pause : (d : Setting) (q : ℕ) (done : Done) (f : AnyFlight) → nat_eq q f.producer ≡ false → Flies d done f → Flies d (Pause q ∷ done) f
+fly_pause d q done f other may = (
+  may.0,
+  or_false (nat_eq q f.producer) _ other may.1,
+  (
+    λ e. false_of _ (λ led. clash _ (at_routed (slice_get d.producers f.producer) f.producer (Pause q) done may.0.1
+        (λ led. beside_cases (nat_eq q f.producer) _ _ led other) led) (may.2.0 e)),
+    may.2.1,
   ),
 )
 
@@ -528,10 +581,18 @@ unstrayed : (d : Setting) (start : AnyMachine) (done : Done) (z : AnyMachine) �
     → (z.strayed || z.freed) ≡ false
 unstrayed d start done z v e = or_false z.strayed z.freed v.strayed (v.freed ∙ not_true _ e)
 
--- what is safe stays safe at a step that frees nothing
+-- what is safe stays safe at a step that frees nothing and resumes nobody
 safe_more : (d : Setting) (start : AnyMachine) (x : AnyStep) (done : Done) (z : AnyMachine) → Invariant d start done z
-    → list_any frees done ≡ true → all_led d (x ∷ done) ≡ true
-safe_more d start x done z v e = all_led_more d x done (v.safe e)
+    → ((p : ℕ) → resumes p x ≡ false) → list_any frees done ≡ true → is_still d Pending (x ∷ done) ≡ true
+safe_more d start x done z v none e = still_more d Pending x done none (v.safe e)
+
+resumed_law : (freed led : Bool) → (not freed || led) ≡ true → freed ≡ true → led ≡ true
+resumed_law true led e f = e
+resumed_law false led e f = absurd (false≢true f)
+
+landed_paused : (d : Setting) (fs : List AnyFlight) (z : AnyMachine) (p : ℕ) → (all_landed d fs z).paused p ≡ z.paused p
+landed_paused d [] z p = refl
+landed_paused d (f ∷ later) z p = landed_paused d later (flight_landed d f z) p
 
 landed_written : (d : Setting) (fs : List AnyFlight) (z : AnyMachine) (p : ℕ) → (all_landed d fs z).written p ≡ z.written p
 landed_written d [] z p = refl
@@ -551,28 +612,28 @@ freed_shut d done e is Delivery = (left_shut d.is_inherited _ _ e is).1
 pub does : (d : Setting) (start : AnyMachine) (done : Done) (x : AnyStep) (z : AnyMachine) → Guard d x done → Invariant d start done z
     → Invariant d start (x ∷ done) (stepped d x z)
 does d start done (Route q) z guard v = record {
-  leads = λ p declared. route_law (nat_eq q p) _ _ _ (z.written p) (z.in_force p) (led_by_route (slice_get d.producers p) p q done)
-      (v.leads p declared);
+  leads = λ p declared. route_law (nat_eq q p) _ _ _ (z.written p) (z.in_force p) (λ e. e) (v.leads p declared);
+  paused = v.paused;
   flights = all_mapped (Flies d done) (Flies d (Route q ∷ done)) (fly_route d q done) z.flights v.flights;
   kept = λ s i. kept_next d (Route q) done s i _ _ _ _ (v.kept s i);
   somewhere = λ s w. somewhere_step d s w (Route q) done (guard Words tt) (v.somewhere s w);
   enables = v.enables;
   freed = v.freed;
-  safe = safe_more d start (Route q) done z v;
+  safe = safe_more d start (Route q) done z v (λ p. refl);
   strayed = v.strayed;
   shut = v.shut;
   left = shut_kept d start (Route q) done z v refl;
   numbers = v.numbers;
 }
 does d start done (Switch q) z guard v = record {
-  leads = λ p declared. switch_law (nat_eq q p) _ _ _ (z.written p) (z.in_force p) (led_by_switch (slice_get d.producers p) p q done)
-      (v.leads p declared);
+  leads = λ p declared. switch_law (nat_eq q p) _ _ _ (z.written p) (z.in_force p) (forced_by_switch p q done) (v.leads p declared);
+  paused = v.paused;
   flights = all_mapped (Flies d done) (Flies d (Switch q ∷ done)) (fly_switch d q done) z.flights v.flights;
   kept = λ s i. kept_next d (Switch q) done s i _ _ _ _ (v.kept s i);
   somewhere = λ s w. somewhere_step d s w (Switch q) done (guard Words tt) (v.somewhere s w);
   enables = v.enables;
   freed = v.freed;
-  safe = safe_more d start (Switch q) done z v;
+  safe = safe_more d start (Switch q) done z v (λ p. refl);
   strayed = v.strayed;
   shut = v.shut;
   left = shut_kept d start (Switch q) done z v refl;
@@ -580,12 +641,13 @@ does d start done (Switch q) z guard v = record {
 }
 does d start done (Zero Old t u) z guard v = record {
   leads = v.leads;
+  paused = v.paused;
   flights = v.flights;
   kept = λ s i. kept_next d (Zero Old t u) done s i _ _ _ _ (v.kept s i);
   somewhere = λ s w. somewhere_step d s w (Zero Old t u) done (guard Words tt) (v.somewhere s w);
   enables = v.enables;
   freed = v.freed;
-  safe = safe_more d start (Zero Old t u) done z v;
+  safe = safe_more d start (Zero Old t u) done z v (λ p. refl);
   strayed = unstrayed d start done z v (guard Freeing tt);
   shut = v.shut;
   left = shut_kept d start (Zero Old t u) done z v refl;
@@ -593,12 +655,13 @@ does d start done (Zero Old t u) z guard v = record {
 }
 does d start done (Zero New t u) z guard v = record {
   leads = v.leads;
+  paused = v.paused;
   flights = v.flights;
   kept = λ s i. kept_next d (Zero New t u) done s i _ _ _ _ (v.kept s i);
   somewhere = λ s w. somewhere_step d s w (Zero New t u) done (guard Words tt) (v.somewhere s w);
   enables = v.enables;
   freed = v.freed;
-  safe = safe_more d start (Zero New t u) done z v;
+  safe = safe_more d start (Zero New t u) done z v (λ p. refl);
   strayed = v.strayed;
   shut = v.shut;
   left = shut_kept d start (Zero New t u) done z v refl;
@@ -606,12 +669,13 @@ does d start done (Zero New t u) z guard v = record {
 }
 does d start done (Take t u) z guard v = record {
   leads = v.leads;
+  paused = v.paused;
   flights = v.flights;
   kept = λ s i. kept_next d (Take t u) done s i _ _ _ _ (v.kept s i);
   somewhere = λ s w. somewhere_step d s w (Take t u) done (guard Words tt) (v.somewhere s w);
   enables = v.enables;
   freed = v.freed;
-  safe = safe_more d start (Take t u) done z v;
+  safe = safe_more d start (Take t u) done z v (λ p. refl);
   strayed = unstrayed d start done z v (guard Freeing tt);
   shut = v.shut;
   left = shut_kept d start (Take t u) done z v refl;
@@ -619,12 +683,13 @@ does d start done (Take t u) z guard v = record {
 }
 does d start done (Copy t u) z guard v = record {
   leads = v.leads;
+  paused = v.paused;
   flights = v.flights;
   kept = λ s i. kept_next d (Copy t u) done s i _ _ _ _ (v.kept s i);
   somewhere = λ s w. somewhere_step d s w (Copy t u) done (guard Words tt) (v.somewhere s w);
   enables = v.enables;
   freed = v.freed;
-  safe = safe_more d start (Copy t u) done z v;
+  safe = safe_more d start (Copy t u) done z v (λ p. refl);
   strayed = unstrayed d start done z v (guard Freeing tt);
   shut = v.shut;
   left = shut_kept d start (Copy t u) done z v refl;
@@ -632,12 +697,13 @@ does d start done (Copy t u) z guard v = record {
 }
 does d start done (ZeroNumber Old n) z guard v = record {
   leads = v.leads;
+  paused = v.paused;
   flights = v.flights;
   kept = λ s i. kept_next d (ZeroNumber Old n) done s i _ _ _ _ (v.kept s i);
   somewhere = λ s w. somewhere_step d s w (ZeroNumber Old n) done (guard Words tt) (v.somewhere s w);
   enables = v.enables;
   freed = v.freed;
-  safe = safe_more d start (ZeroNumber Old n) done z v;
+  safe = safe_more d start (ZeroNumber Old n) done z v (λ p. refl);
   strayed = unstrayed d start done z v (guard Freeing tt);
   shut = λ m. shut_law (same_number n m) (was_shut m done) (z.old_number m) (v.shut m);
   left = shut_kept d start (ZeroNumber Old n) done z v refl;
@@ -645,12 +711,13 @@ does d start done (ZeroNumber Old n) z guard v = record {
 }
 does d start done (ZeroNumber New n) z guard v = record {
   leads = v.leads;
+  paused = v.paused;
   flights = v.flights;
   kept = λ s i. kept_next d (ZeroNumber New n) done s i _ _ _ _ (v.kept s i);
   somewhere = λ s w. somewhere_step d s w (ZeroNumber New n) done (guard Words tt) (v.somewhere s w);
   enables = v.enables;
   freed = v.freed;
-  safe = safe_more d start (ZeroNumber New n) done z v;
+  safe = safe_more d start (ZeroNumber New n) done z v (λ p. refl);
   strayed = v.strayed;
   shut = v.shut;
   left = shut_kept d start (ZeroNumber New n) done z v refl;
@@ -658,12 +725,13 @@ does d start done (ZeroNumber New n) z guard v = record {
 }
 does d start done (TakeNumber n) z guard v = record {
   leads = v.leads;
+  paused = v.paused;
   flights = v.flights;
   kept = λ s i. kept_next d (TakeNumber n) done s i _ _ _ _ (v.kept s i);
   somewhere = λ s w. somewhere_step d s w (TakeNumber n) done (guard Words tt) (v.somewhere s w);
   enables = v.enables;
   freed = v.freed;
-  safe = safe_more d start (TakeNumber n) done z v;
+  safe = safe_more d start (TakeNumber n) done z v (λ p. refl);
   strayed = unstrayed d start done z v (guard Freeing tt);
   shut = λ m. shut_law (same_number n m) (was_shut m done) (z.old_number m) (v.shut m);
   left = shut_kept d start (TakeNumber n) done z v refl;
@@ -671,12 +739,13 @@ does d start done (TakeNumber n) z guard v = record {
 }
 does d start done (CopyNumber n) z guard v = record {
   leads = v.leads;
+  paused = v.paused;
   flights = v.flights;
   kept = λ s i. kept_next d (CopyNumber n) done s i _ _ _ _ (v.kept s i);
   somewhere = λ s w. somewhere_step d s w (CopyNumber n) done (guard Words tt) (v.somewhere s w);
   enables = v.enables;
   freed = v.freed;
-  safe = safe_more d start (CopyNumber n) done z v;
+  safe = safe_more d start (CopyNumber n) done z v (λ p. refl);
   strayed = unstrayed d start done z v (guard Freeing tt);
   shut = v.shut;
   left = shut_kept d start (CopyNumber n) done z v refl;
@@ -684,12 +753,13 @@ does d start done (CopyNumber n) z guard v = record {
 }
 does d start done (PutNumber n) z guard v = record {
   leads = v.leads;
+  paused = v.paused;
   flights = v.flights;
   kept = λ s i. kept_next d (PutNumber n) done s i _ _ _ _ (v.kept s i);
   somewhere = λ s w. somewhere_step d s w (PutNumber n) done (guard Words tt) (v.somewhere s w);
   enables = v.enables;
   freed = v.freed;
-  safe = safe_more d start (PutNumber n) done z v;
+  safe = safe_more d start (PutNumber n) done z v (λ p. refl);
   strayed = v.strayed;
   shut = v.shut;
   left = shut_kept d start (PutNumber n) done z v refl;
@@ -697,45 +767,87 @@ does d start done (PutNumber n) z guard v = record {
 }
 does d start done Free z guard v = record {
   leads = v.leads;
+  paused = v.paused;
   flights = v.flights;
   kept = λ s i. kept_next d Free done s i _ _ _ _ (v.kept s i);
   somewhere = λ s w. somewhere_step d s w Free done (guard Words tt) (v.somewhere s w);
   enables = v.enables;
   freed = refl;
-  safe = λ e. all_led_more d Free done (and_left (all_led d done) _ (guard Freeing tt));
-  strayed = unstrayed d start done z v (and_left (not (list_any frees done)) _ (and_right (all_led d done) _ (guard Freeing tt)));
+  safe = λ e. still_more d Pending Free done (λ p. refl) (and_left (is_still d Pending done) _ (guard Freeing tt));
+  strayed = unstrayed d start done z v (and_left (not (list_any frees done)) _ (and_right (is_still d Pending done) _ (guard Freeing tt)));
   shut = v.shut;
   left = λ inherited freed n. freed_shut d done
-      (and_right (not (list_any frees done)) _ (and_right (all_led d done) _ (guard Freeing tt))) inherited n;
+      (and_right (not (list_any frees done)) _ (and_right (is_still d Pending done) _ (guard Freeing tt))) inherited n;
   numbers = v.numbers;
 }
 does d start done (Fence q) z guard v =
     let u : Invariant d start done (all_landed d (flights_of q z.flights) z) =
     fly_all d start done (flights_of q z.flights) z (of_all (Flies d done) q z.flights v.flights) v in
     record {
-      leads = λ p declared. subst (λ w. Leads (is_turned p done) (is_led d p (Fence q ∷ done)) w (led_to q (z.written q) z.in_force p))
+      leads = λ p declared. subst (λ w. Leads (is_turned p done) (is_forced p (Fence q ∷ done)) w (led_to q (z.written q) z.in_force p))
           (sym (landed_written d (flights_of q z.flights) z p))
           (fence_law (nat_eq q p) _ _ _ (z.written q) (z.written p) (z.in_force p) (λ m. ap z.written (eqb-true q p m))
-          (led_by_fence (slice_get d.producers p) p q done) (v.leads p declared));
+          (forced_by_fence p q done) (v.leads p declared));
+      paused = λ p declared. landed_paused d (flights_of q z.flights) z p ∙ v.paused p declared;
       flights = beside_all (Flies d done) (Flies d (Fence q ∷ done)) q z.flights (fly_fence d q done) v.flights;
       kept = λ s i. kept_next d (Fence q) done s i _ _ _ _ (u.kept s i);
       somewhere = λ s w. somewhere_step d s w (Fence q) done (guard Words tt) (v.somewhere s w);
       enables = u.enables;
       freed = u.freed;
-      safe = safe_more d start (Fence q) done z v;
+      safe = safe_more d start (Fence q) done z v (λ p. refl);
       strayed = u.strayed;
       shut = u.shut;
       left = shut_kept d start (Fence q) done z v refl;
       numbers = u.numbers;
     }
+does d start done (Pause q) z guard v =
+    let u : Invariant d start done (all_landed d (flights_of q z.flights) z) =
+    fly_all d start done (flights_of q z.flights) z (of_all (Flies d done) q z.flights v.flights) v in
+    record {
+      leads = u.leads;
+      paused = λ p declared. pause_law (nat_eq q p) (z.paused p) (is_paused p done) (v.paused p declared);
+      flights = beside_all (Flies d done) (Flies d (Pause q ∷ done)) q z.flights (fly_pause d q done) v.flights;
+      kept = λ s i. kept_next d (Pause q) done s i _ _ _ _ (u.kept s i);
+      somewhere = λ s w. somewhere_step d s w (Pause q) done (guard Words tt) (v.somewhere s w);
+      enables = u.enables;
+      freed = u.freed;
+      safe = safe_more d start (Pause q) done z v (λ p. refl);
+      strayed = u.strayed;
+      shut = u.shut;
+      left = shut_kept d start (Pause q) done z v refl;
+      numbers = u.numbers;
+    }
+  where
+    pause_law : (m was now : Bool) → was ≡ now → ◌≡◌ {A = Bool} (if m then true else was) (m || (true && now))
+    pause_law true was now e = refl
+    pause_law false was now e = e
+does d start done (Resume q) z guard v = record {
+  leads = v.leads;
+  paused = λ p declared. resume_law (nat_eq q p) (z.paused p) (is_paused p done) (v.paused p declared);
+  flights = all_mapped (Flies d done) (Flies d (Resume q ∷ done)) (fly_resume d q done) z.flights v.flights;
+  kept = λ s i. kept_next d (Resume q) done s i _ _ _ _ (v.kept s i);
+  somewhere = λ s w. somewhere_step d s w (Resume q) done (guard Words tt) (v.somewhere s w);
+  enables = v.enables;
+  freed = v.freed;
+  safe = λ e. still_resumed d q done (resumed_law (list_any frees done) _ (guard Freeing tt) e) (v.safe e);
+  strayed = v.strayed;
+  shut = v.shut;
+  left = shut_kept d start (Resume q) done z v refl;
+  numbers = v.numbers;
+}
+  where
+    resume_law : (m was now : Bool) → was ≡ now → ◌≡◌ {A = Bool} (if m then false else was) (not m && now)
+    resume_law true was now e = refl
+    resume_law false was now e = e
 does d start done x z guard v = record {
   leads = v.leads;
+  paused = v.paused;
   flights = v.flights;
   kept = λ s i. kept_next d x done s i _ _ _ _ (v.kept s i);
   somewhere = λ s w. somewhere_step d s w x done (guard Words tt) (v.somewhere s w);
   enables = v.enables;
   freed = v.freed;
-  safe = safe_more d start x done z v;
+  safe = safe_more d start x done z v (λ p. refl);
   strayed = v.strayed;
   shut = v.shut;
   left = shut_kept d start x done z v refl;
@@ -780,11 +892,12 @@ begins d z is = record {
   leads = λ p declared. record {
     before = λ e. (is.written p declared, is.in_force p declared);
     after = λ e. absurd (false≢true e);
-    led =
-        λ e. clash _ e (old_lead (slice_get d.producers p) p);
+    led = λ e. absurd (false≢true e);
   };
+  paused = is.paused;
   flights = all_mapped _ (Flies d []) (λ f old. (
     old.0,
+    refl,
     (λ e. old_lead (slice_get d.producers f.producer) f.producer, λ e. old_is_new f.place old.1 e),
   )) z.flights is.flights;
   kept = λ s i. record {
@@ -873,14 +986,16 @@ ends d start z fin =
     let all : all_led d fin.done ≡ true = and_left (all_led d fin.done) _ (fin.guard Routes tt) in
     let led : (p : ℕ) → IsProducer d p → is_led d p fin.done ≡ true =
     λ p declared. all_at (λ p. is_led d p fin.done) (length d.producers) p all declared in
+    let forced : (p : ℕ) → IsProducer d p → is_forced p fin.done ≡ true =
+    λ p declared. led_forced (slice_get d.producers p) p fin.done (led p declared) in
     record {
       pending = λ i inside. moved_end d start z fin.done Pending i v (ended d fin.done Pending (i / 64) fin.guard inside);
       enabled = λ i inside. moved_end d start z fin.done Enabled i v (ended d fin.done Enabled (i / 64) fin.guard inside) ∙ v.enables i;
       none_left = λ s i inside. left_over d start z fin.done s i v (ended d fin.done s (i / 64) fin.guard inside);
       numbers = λ n. v.numbers n d.number_to (number_end d fin.done n fin.guard);
-      written = λ p declared. (v.leads p declared).after ((v.leads p declared).led (led p declared)).1;
-      in_force = λ p declared. ((v.leads p declared).led (led p declared)).0;
-      flights = all_mapped (Flies d fin.done) _ (λ f may. lands_new f.place _ _ (led f.producer may.0.0) may.1) z.flights v.flights;
+      written = λ p declared. (v.leads p declared).after ((v.leads p declared).led (forced p declared)).1;
+      in_force = λ p declared. ((v.leads p declared).led (forced p declared)).0;
+      flights = all_mapped (Flies d fin.done) _ (λ f may. lands_new f.place _ _ (led f.producer may.0.0) may.2) z.flights v.flights;
       strayed = v.strayed;
       inherited = λ is freed n. v.shut n (v.left is (sym v.freed ∙ freed) n);
     }

@@ -15,13 +15,13 @@ use Rattle.plans_rules.specs.declared.setting.NumberSpot.TheVariants.{InOld, InH
 use Rattle.plans_rules.specs.declared.setting.RouteKind.{RouteKind}
 use Rattle.plans_rules.specs.declared.setting.RouteKind.TheVariants.{Routed, Switched}
 use Rattle.plans_rules.specs.declared.step.AnyStep.{AnyStep}
-use Rattle.plans_rules.specs.declared.step.AnyStep.TheVariants.{Route, Fence, Switch, Zero, ZeroNumber, TakeNumber, CopyNumber, PutNumber, Free}
+use Rattle.plans_rules.specs.declared.step.AnyStep.TheVariants.{Route, Fence, Switch, Pause, Resume, Zero, ZeroNumber, TakeNumber, CopyNumber, PutNumber, Free}
 use Rattle.plans_rules.specs.Setting.{Setting, is_old, is_pending, same_number}
 use Rattle.plans_rules.specs.Machine.{AnyMachine, landed, all_landed, flights_of, flights_beside, stepped, By, route_of, one_landed, all_but, AnyHappening, happened, all_happened, steps_in}
-use Rattle.plans_rules.specs.Machine.By.{Written, InForce}
+use Rattle.plans_rules.specs.Machine.By.{InForce}
 use Rattle.plans_rules.specs.Machine.AnyHappening.{Does, Stores, Sends, Lands}
 use Rattle.plans_rules.specs.Safe.{IsProducer, IsRouted, CanHappen, number_in, IsMovedByAny}
-use Rattle.plans_rules.specs.Rules.{fences, switches, empties, lifts, fills, blanks, frees, Done, is_turned, is_fenced, is_led_as, is_led, may_stand, is_blank, was_shut, has_number}
+use Rattle.plans_rules.specs.Rules.{fences, pauses, switches, empties, lifts, fills, blanks, frees, Done, is_turned, is_fenced, is_forced, is_paused, is_drained, is_led_as, is_led, may_stand, is_blank, was_shut, has_number}
 use Rattle.plans_rules.proofs.BoolLaws.{or_false_left, or_false_right}
 use Rattle.plans_rules.proofs.Brought.{old_after, hand_after, new_after}
 
@@ -62,10 +62,12 @@ pub record At (d : Setting) (rest : List AnyStep) (s : WhichSet) (i : ℕ) (q a 
 -- a step lands nothing
 abbrev LandsNone : AnyStep → AnyMachine → Type 0
 LandsNone (Fence p) z = flights_of p z.flights ≡ []
+LandsNone (Pause p) z = flights_of p z.flights ≡ []
 LandsNone x z = Unit {0}
 
 lands_none : (x : AnyStep) (z : AnyMachine) → z.flights ≡ [] → LandsNone x z
 lands_none (Fence p) z e = ap (flights_of p) e
+lands_none (Pause p) z e = ap (flights_of p) e
 lands_none x z e = tt
 
 pub fence_same : (d : Setting) (p : ℕ) (z : AnyMachine) → flights_of p z.flights ≡ [] → all_landed d (flights_of p z.flights) z ≡ z
@@ -74,6 +76,7 @@ fence_same d p z e = subst (λ fs. all_landed d fs z ≡ z) (sym e) refl
 old_bit : (d : Setting) (x : AnyStep) (z : AnyMachine) (s : WhichSet) (i : ℕ) → LandsNone x z
     → (stepped d x z).old s i ≡ old_after (empties s (i / 64) x) (z.old s i)
 old_bit d (Fence p) z s i e = ap (λ (y : AnyMachine). y.old s i) (fence_same d p z e)
+old_bit d (Pause p) z s i e = ap (λ (y : AnyMachine). y.old s i) (fence_same d p z e)
 old_bit d (Zero Old t w) z s i e = refl
 old_bit d (Zero New t w) z s i e = refl
 old_bit d (ZeroNumber Old n) z s i e = refl
@@ -83,6 +86,7 @@ old_bit d x z s i e = refl
 new_bit : (d : Setting) (x : AnyStep) (z : AnyMachine) (s : WhichSet) (i : ℕ) → LandsNone x z
     → (stepped d x z).new s i ≡ new_after (fills s (i / 64) x) (blanks s (i / 64) x) (z.hand s i) (z.new s i)
 new_bit d (Fence p) z s i e = ap (λ (y : AnyMachine). y.new s i) (fence_same d p z e)
+new_bit d (Pause p) z s i e = ap (λ (y : AnyMachine). y.new s i) (fence_same d p z e)
 new_bit d (Zero Old t w) z s i e = refl
 new_bit d (Zero New t w) z s i e = refl
 new_bit d (ZeroNumber Old n) z s i e = refl
@@ -92,6 +96,7 @@ new_bit d x z s i e = refl
 hand_bit : (d : Setting) (x : AnyStep) (z : AnyMachine) (s : WhichSet) (i : ℕ) → LandsNone x z
     → (stepped d x z).hand s i ≡ hand_after (lifts s (i / 64) x) (fills s (i / 64) x) (z.old s i) (z.hand s i)
 hand_bit d (Fence p) z s i e = ap (λ (y : AnyMachine). y.hand s i) (fence_same d p z e)
+hand_bit d (Pause p) z s i e = ap (λ (y : AnyMachine). y.hand s i) (fence_same d p z e)
 hand_bit d (Zero Old t w) z s i e = refl
 hand_bit d (Zero New t w) z s i e = refl
 hand_bit d (ZeroNumber Old n) z s i e = refl
@@ -100,6 +105,7 @@ hand_bit d x z s i e = refl
 
 due_bit : (d : Setting) (x : AnyStep) (z : AnyMachine) (s : WhichSet) (i : ℕ) → LandsNone x z → (stepped d x z).due s i ≡ z.due s i
 due_bit d (Fence p) z s i e = ap (λ (y : AnyMachine). y.due s i) (fence_same d p z e)
+due_bit d (Pause p) z s i e = ap (λ (y : AnyMachine). y.due s i) (fence_same d p z e)
 due_bit d (Zero Old t w) z s i e = refl
 due_bit d (Zero New t w) z s i e = refl
 due_bit d (ZeroNumber Old n) z s i e = refl
@@ -108,6 +114,7 @@ due_bit d x z s i e = refl
 
 pub still_none : (d : Setting) (x : AnyStep) (z : AnyMachine) → z.flights ≡ [] → (stepped d x z).flights ≡ []
 still_none d (Fence p) z e = ap (flights_beside p) e
+still_none d (Pause p) z e = ap (flights_beside p) e
 still_none d (Zero Old t w) z e = e
 still_none d (Zero New t w) z e = e
 still_none d (ZeroNumber Old n) z e = e
@@ -194,8 +201,9 @@ pub record Plain (d : Setting) (done : Done) (rest : List AnyStep) (i : ℕ) : T
   pub numbers : (n : Number) (spot : NumberSpot) → number_in spot n at.z ≡ worth (has_number d n spot done)
   pub begun : (n : Number) → number_in d.number_from n at.start ≡ 1
   pub freed : at.z.freed ≡ list_any frees done
+  pub paused : (p : ℕ) → at.z.paused p ≡ is_paused p done
 
--- a store of p is in flight to the old place
+-- A store of p, which is not paused, is in flight to the old place.
 pub record Flying (d : Setting) (done : Done) (rest : List AnyStep) (p i : ℕ) : Type 0 where
   pub start : AnyMachine
   pub z : AnyMachine
@@ -230,6 +238,9 @@ ways_step d (Fence q) done z p e v =
     subst (λ w. Ways (is_turned p done) (is_fenced p (Fence q ∷ done)) (list_any (switches p) done) w
     (if nat_eq q p then z.written q else z.in_force p)) (sym (ap (λ (y : AnyMachine). y.written p) (fence_same d q z e)))
     (ways_fence (nat_eq q p) _ _ _ (z.written q) (z.written p) (z.in_force p) (λ m. ap z.written (eqb-true q p m)) v)
+ways_step d (Pause q) done z p e v =
+    subst (λ (y : AnyMachine). Ways (is_turned p done) (is_fenced p done) (list_any (switches p) done) (y.written p) (y.in_force p))
+    (sym (fence_same d q z e)) v
 ways_step d (Zero Old s w) done z p e v = v
 ways_step d (Zero New s w) done z p e v = v
 ways_step d (ZeroNumber Old n) done z p e v = v
@@ -284,17 +295,38 @@ worth_step d (ZeroNumber New Delivery) done z Threshold e v spot = v spot
 worth_step d (Zero Old s w) done z n e v spot = v spot
 worth_step d (Zero New s w) done z n e v spot = v spot
 worth_step d (Fence p) done z n e v spot = ap (number_in spot n) (fence_same d p z e) ∙ v spot
+worth_step d (Pause p) done z n e v spot = ap (number_in spot n) (fence_same d p z e) ∙ v spot
 worth_step d x done z n e v spot = v spot
 
 freed_step : (d : Setting) (x : AnyStep) (done : Done) (z : AnyMachine) → LandsNone x z → z.freed ≡ list_any frees done
     → (stepped d x z).freed ≡ list_any frees (x ∷ done)
 freed_step d (Fence p) done z e v = ap (λ (y : AnyMachine). y.freed) (fence_same d p z e) ∙ v
+freed_step d (Pause p) done z e v = ap (λ (y : AnyMachine). y.freed) (fence_same d p z e) ∙ v
 freed_step d Free done z e v = refl
 freed_step d (Zero Old s w) done z e v = v
 freed_step d (Zero New s w) done z e v = v
 freed_step d (ZeroNumber Old n) done z e v = v
 freed_step d (ZeroNumber New n) done z e v = v
 freed_step d x done z e v = v
+
+paused_step : (d : Setting) (x : AnyStep) (done : Done) (z : AnyMachine) (p : ℕ) → LandsNone x z → z.paused p ≡ is_paused p done
+    → (stepped d x z).paused p ≡ is_paused p (x ∷ done)
+paused_step d (Fence q) done z p e v = ap (λ (y : AnyMachine). y.paused p) (fence_same d q z e) ∙ v
+paused_step d (Pause q) done z p e v = pause_law (nat_eq q p) (z.paused p) (is_paused p done) v
+  where
+    pause_law : (m was now : Bool) → was ≡ now → ◌≡◌ {A = Bool} (if m then true else was) (m || (true && now))
+    pause_law true was now e = refl
+    pause_law false was now e = e
+paused_step d (Resume q) done z p e v = resume_law (nat_eq q p) (z.paused p) (is_paused p done) v
+  where
+    resume_law : (m was now : Bool) → was ≡ now → ◌≡◌ {A = Bool} (if m then false else was) (not m && now)
+    resume_law true was now e = refl
+    resume_law false was now e = e
+paused_step d (Zero Old s w) done z p e v = v
+paused_step d (Zero New s w) done z p e v = v
+paused_step d (ZeroNumber Old n) done z p e v = v
+paused_step d (ZeroNumber New n) done z p e v = v
+paused_step d x done z p e v = v
 
 pub plain_step : (d : Setting) (x : AnyStep) (done : Done) (rest : List AnyStep) (i : ℕ) → Plain d done (x ∷ rest) i → Plain d (x ∷ done) rest i
 unfolding step_nowhere at_is at_step
@@ -306,16 +338,24 @@ plain_step d x done rest i v =
       numbers = λ n. worth_step d x done v.at.z n none (v.numbers n);
       begun = v.begun;
       freed = freed_step d x done v.at.z none v.freed;
+      paused = λ p. paused_step d x done v.at.z p none (v.paused p);
     }
 
--- a store is sent, to the old place
-pub sent : (d : Setting) (done : Done) (rest : List AnyStep) (p i : ℕ) → IsRouted d p → is_turned p done ≡ false → Plain d done rest i
-    → Flying d done rest p i
-sent d done rest p i routed calm v = record {
+-- whoever is not paused does what it may
+pub running : (b : Bool) (z y : AnyMachine) → b ≡ false → (if b then z else y) ≡ y
+running true z y e = absurd (false≢true (sym e))
+running false z y e = refl
+
+-- where the route is not in force a store is sent to the old place
+pub sent : (d : Setting) (done : Done) (rest : List AnyStep) (p i : ℕ) → IsRouted d p → is_forced p done ≡ false → is_paused p done ≡ false
+    → Plain d done rest i → Flying d done rest p i
+sent d done rest p i routed unforced runs v = record {
   start = v.at.start;
-  z = happened d (Sends p Written i) v.at.z;
-  live = live_send d v.at.start rest v.at.z p Written i routed v.at.live;
-  flights = ap (λ w. record { producer = p; place = w; identity = i } ∷ v.at.z.flights) ((v.ways p).calm calm)
+  z = after;
+  live = subst (λ (y : AnyMachine). Live d v.at.start rest y) (running (v.at.z.paused p) v.at.z after (v.paused p ∙ runs))
+      (live_send d v.at.start rest v.at.z p InForce i routed v.at.live);
+  flights = ap (λ w. record { producer = p; place = w; identity = i } ∷ v.at.z.flights)
+      ((v.ways p).behind (or_false_left _ _ unforced) (or_false_right (is_fenced p done) _ unforced))
       ∙ ap (λ fs. record { producer = p; place = Old; identity = i } ∷ fs) v.at.flights;
   due = v.at.due refl;
   old = v.at.old;
@@ -323,6 +363,9 @@ sent d done rest p i routed calm v = record {
   hand = v.at.hand;
   freed = v.freed;
 }
+  where
+    after : AnyMachine
+    after = record v.at.z { flights = record { producer = p; place = v.at.z.in_force p; identity = i } ∷ v.at.z.flights }
 
 other_none : (d : Setting) (q p i : ℕ) → nat_eq q p ≡ false → flights_of q (record { producer = p; place = Old; identity = i } ∷ []) ≡ []
 other_none d q p i e = ap (λ m. if m then record { producer = p; place = Old; identity = i } ∷ [] else []) e
@@ -331,26 +374,28 @@ other_beside : (d : Setting) (q p i : ℕ) → nat_eq q p ≡ false
     → flights_beside q (record { producer = p; place = Old; identity = i } ∷ []) ≡ record { producer = p; place = Old; identity = i } ∷ []
 other_beside d q p i e = ap (λ m. if m then [] else record { producer = p; place = Old; identity = i } ∷ []) e
 
-lands_other : (d : Setting) (x : AnyStep) (z : AnyMachine) (p i : ℕ) → fences p x ≡ false
+lands_other : (d : Setting) (x : AnyStep) (z : AnyMachine) (p i : ℕ) → fences p x ≡ false → pauses p x ≡ false
     → z.flights ≡ record { producer = p; place = Old; identity = i } ∷ [] → LandsNone x z
-lands_other d (Fence q) z p i e f = ap (flights_of q) f ∙ other_none d q p i e
-lands_other d x z p i e f = tt
+lands_other d (Fence q) z p i e g f = ap (flights_of q) f ∙ other_none d q p i e
+lands_other d (Pause q) z p i e g f = ap (flights_of q) f ∙ other_none d q p i g
+lands_other d x z p i e g f = tt
 
-still_other : (d : Setting) (x : AnyStep) (z : AnyMachine) (p i : ℕ) → fences p x ≡ false
+still_other : (d : Setting) (x : AnyStep) (z : AnyMachine) (p i : ℕ) → fences p x ≡ false → pauses p x ≡ false
     → z.flights ≡ record { producer = p; place = Old; identity = i } ∷ []
     → (stepped d x z).flights ≡ record { producer = p; place = Old; identity = i } ∷ []
-still_other d (Fence q) z p i e f = ap (flights_beside q) f ∙ other_beside d q p i e
-still_other d (Zero Old s w) z p i e f = f
-still_other d (Zero New s w) z p i e f = f
-still_other d (ZeroNumber Old n) z p i e f = f
-still_other d (ZeroNumber New n) z p i e f = f
-still_other d x z p i e f = f
+still_other d (Fence q) z p i e g f = ap (flights_beside q) f ∙ other_beside d q p i e
+still_other d (Pause q) z p i e g f = ap (flights_beside q) f ∙ other_beside d q p i g
+still_other d (Zero Old s w) z p i e g f = f
+still_other d (Zero New s w) z p i e g f = f
+still_other d (ZeroNumber Old n) z p i e g f = f
+still_other d (ZeroNumber New n) z p i e g f = f
+still_other d x z p i e g f = f
 
-pub flying_on : (d : Setting) (x : AnyStep) (done : Done) (rest : List AnyStep) (p i : ℕ) → fences p x ≡ false → Flying d done (x ∷ rest) p i
-    → Flying d (x ∷ done) rest p i
-flying_on d x done rest p i other v =
+pub flying_on : (d : Setting) (x : AnyStep) (done : Done) (rest : List AnyStep) (p i : ℕ) → fences p x ≡ false → pauses p x ≡ false
+    → Flying d done (x ∷ rest) p i → Flying d (x ∷ done) rest p i
+flying_on d x done rest p i other more v =
     let z : AnyMachine = v.z in
-    let none = lands_other d x v.z p i other v.flights in
+    let none = lands_other d x v.z p i other more v.flights in
     let e = empties Pending (i / 64) x in
     let l = lifts Pending (i / 64) x in
     let f = fills Pending (i / 64) x in
@@ -359,7 +404,7 @@ flying_on d x done rest p i other v =
       start = v.start;
       z = stepped d x v.z;
       live = live_step d v.start x rest v.z v.live;
-      flights = still_other d x v.z p i other v.flights;
+      flights = still_other d x v.z p i other more v.flights;
       due = due_bit d x v.z Pending i none ∙ v.due;
       old = old_bit d x v.z Pending i none ∙ ap (old_after e) v.old ∙ no_old e;
       new = new_bit d x v.z Pending i none ∙ ap (λ y. new_after f b y (v.z.new Pending i)) v.hand ∙ ap (new_after f b false) v.new ∙ no_new f b;
@@ -390,6 +435,7 @@ unshut_number d (ZeroNumber New m) done z n e v = v
 unshut_number d (Zero Old s w) done z n e v = v
 unshut_number d (Zero New s w) done z n e v = v
 unshut_number d (Fence p) done z n e v = ap (λ (y : AnyMachine). y.old_number n) (fence_same d p z e) ∙ v
+unshut_number d (Pause p) done z n e v = ap (λ (y : AnyMachine). y.old_number n) (fence_same d p z e) ∙ v
 unshut_number d x done z n e v = v
 
 pub unshut_step : (d : Setting) (x : AnyStep) (done : Done) (rest : List AnyStep) → Unshut d done (x ∷ rest) → Unshut d (x ∷ done) rest
@@ -408,7 +454,7 @@ unshut_step d x done rest v =
 
 pub record Witness (d : Setting) (done : Done) (rest : List AnyStep) : Type 0 where
   pub plain : (i : ℕ) → Plain d done rest i
-  pub flying : (p i : ℕ) → IsRouted d p → is_fenced p done ≡ false → Flying d done rest p i
+  pub flying : (p i : ℕ) → IsRouted d p → is_drained p done ≡ false → is_paused p done ≡ false → Flying d done rest p i
   pub stands : (s : WhichSet) (i : ℕ) (o h n : Bool) → may_stand d s (i / 64) done o h n ≡ true → At d rest s i true o n h
   pub dirty : (s : WhichSet) (i : ℕ) → is_blank d s (i / 64) done ≡ false → At d rest s i false false true false
   pub unshut : Unshut d done rest
@@ -425,13 +471,13 @@ set_bit true false a true e f g = absurd (false≢true f)
 set_bit true false a false e f g = g
 set_bit false o a b e f g = absurd (false≢true e)
 
-pub stored : (d : Setting) (done : Done) (rest : List AnyStep) (p i : ℕ) (by : By) (place : AnyPlace) → IsProducer d p → (v : Plain d done rest i)
-    → route_of by p v.at.z ≡ place
-    → At d rest Pending i true (is_old place) (not (is_old place)) false
-stored d done rest p i by place declared v e = record {
+pub stored : (d : Setting) (done : Done) (rest : List AnyStep) (p i : ℕ) (by : By) (place : AnyPlace) → IsProducer d p → is_paused p done ≡ false
+    → (v : Plain d done rest i) → route_of by p v.at.z ≡ place → At d rest Pending i true (is_old place) (not (is_old place)) false
+stored d done rest p i by place declared runs v e = record {
   start = v.at.start;
-  z = happened d (Stores p by i) v.at.z;
-  live = live_store d v.at.start rest v.at.z p by i declared v.at.live;
+  z = after;
+  live = subst (λ (y : AnyMachine). Live d v.at.start rest y) (running (v.at.z.paused p) v.at.z after (v.paused p ∙ runs))
+      (live_store d v.at.start rest v.at.z p by i declared v.at.live);
   flights = v.at.flights;
   base = λ f. absurd (false≢true (sym f));
   due = λ f. set_bit (nat_eq i i) true (v.at.z.due Pending i) true (eq-eqb i i refl) refl (v.at.due refl);
@@ -440,6 +486,9 @@ stored d done rest p i by place declared v e = record {
       (ap (λ y. not (is_old y)) e) v.at.new;
   hand = v.at.hand;
 }
+  where
+    after : AnyMachine
+    after = landed d (route_of by p v.at.z) i v.at.z
 
 arrived : (d : Setting) (done : Done) (rest : List AnyStep) (p i : ℕ) → Flying d done rest p i → At d rest Pending i true true false false
 arrived d done rest p i v = record {
@@ -464,18 +513,23 @@ kind_of d p declared = by_kind (get_or d.producers p Routed) (slice_get-get_or d
     by_kind Routed e = inl e
     by_kind Switched e = inr e
 
-pub unled_routed : (d : Setting) (p : ℕ) (done : Done) → slice_get d.producers p ≡ Some Routed → is_led d p done ≡ false → is_fenced p done ≡ false
+pub unled_routed : (d : Setting) (p : ℕ) (done : Done) → slice_get d.producers p ≡ Some Routed → is_led d p done ≡ false → is_drained p done ≡ false
 unled_routed d p done k e = subst (λ k. is_led_as k p done ≡ false) k e
 
 pub unled_switched : (d : Setting) (p : ℕ) (done : Done) → slice_get d.producers p ≡ Some Switched → is_led d p done ≡ false
-    → (is_fenced p done || list_any (switches p) done) ≡ false
+    → is_forced p done ≡ false
 unled_switched d p done k e = subst (λ k. is_led_as k p done ≡ false) k e
 
-pub unled_old : (d : Setting) (done : Done) (rest : List AnyStep) (p i : ℕ) → IsProducer d p → is_led d p done ≡ false → Plain d done rest i
-    → (IsRouted d p → is_fenced p done ≡ false → Flying d done rest p i)
+-- the route in force of one that no step puts in force leads to the old place
+pub unforced_old : (d : Setting) (done : Done) (rest : List AnyStep) (p i : ℕ) → is_forced p done ≡ false → (v : Plain d done rest i)
+    → v.at.z.in_force p ≡ Old
+unforced_old d done rest p i none v = (v.ways p).behind (or_false_left _ _ none) (or_false_right (is_fenced p done) _ none)
+
+pub unled_old : (d : Setting) (done : Done) (rest : List AnyStep) (p i : ℕ) → IsProducer d p → is_led d p done ≡ false → is_paused p done ≡ false
+    → Plain d done rest i → (IsRouted d p → is_drained p done ≡ false → is_paused p done ≡ false → Flying d done rest p i)
     → At d rest Pending i true true false false
-unled_old d done rest p i declared e plain flying = elim (kind_of d p declared) [
-  | inl routed ↦ arrived d done rest p i (flying (declared, routed) (unled_routed d p done routed e))
-  | inr switched ↦ (let none = unled_switched d p done switched e in
-      stored d done rest p i InForce Old declared plain ((plain.ways p).behind (or_false_left _ _ none) (or_false_right (is_fenced p done) _ none)))
+unled_old d done rest p i declared e runs plain flying = elim (kind_of d p declared) [
+  | inl routed ↦ arrived d done rest p i (flying (declared, routed) (unled_routed d p done routed e) runs)
+  | inr switched ↦ stored d done rest p i InForce Old declared runs plain
+      (unforced_old d done rest p i (unled_switched d p done switched e) plain)
 ]

@@ -1,5 +1,5 @@
 -- A plan into memory that keeps the rules tells the host.
-use Rattle.std.proofs.Common.{◌≡◌, ℕ, zero, suc, ◌/◌, ◌%◌, ◌*◌, ◌+◌, ◌<◌, Bool, true, false, not, ◌&&◌, ◌||◌, nat_eq, nat_lt, length, List, [], ◌∷◌, ◌⊎◌, inl, inr, refl, sym, ap, subst, ◌∙◌, arith}
+use Rattle.std.proofs.Common.{◌≡◌, ℕ, zero, suc, ◌/◌, ◌%◌, ◌*◌, ◌+◌, ◌<◌, Bool, true, false, not, ◌&&◌, ◌||◌, nat_eq, nat_lt, List, [], ◌∷◌, ◌⊎◌, inl, inr, refl, sym, ap, ap₂, subst, ◌∙◌, arith}
 use Rattle.std.specs.List.{AllByRecursion}
 use Rattle.plans_rules.specs.declared.rule.Rule.{Rule}
 use Rattle.plans_rules.specs.declared.rule.Rule.TheVariants.{Notice}
@@ -13,16 +13,16 @@ use Rattle.plans_rules.specs.declared.step.Number.{Number}
 use Rattle.plans_rules.specs.declared.step.Number.TheVariants.{Threshold, Delivery}
 use Rattle.plans_rules.specs.declared.setting.NumberSpot.TheVariants.{InNew}
 use Rattle.plans_rules.specs.declared.step.AnyStep.{AnyStep}
-use Rattle.plans_rules.specs.declared.step.AnyStep.TheVariants.{Fence, Zero, ZeroNumber, Look, Post, Tell, Untell, WriteNotice}
+use Rattle.plans_rules.specs.declared.step.AnyStep.TheVariants.{Fence, Pause, Zero, ZeroNumber, Look, Post, Tell, Untell, WriteNotice}
 use Rattle.plans_rules.specs.Setting.{Setting, is_old}
 use Rattle.plans_rules.specs.Machine.{lets_out, stands_out, word_stands_out, AnyFlight, AnyMachine, landed, flight_landed, all_landed, flights_of, stepped, route_of, AnyHappening, one_landed, happened, all_happened, steps_in}
 use Rattle.plans_rules.specs.Machine.AnyHappening.{Does, Stores, Sends, Lands, Refetches}
-use Rattle.plans_rules.specs.Safe.{IsProducer, CanHappen, IsStartOfAny, number_in, IsTold}
-use Rattle.plans_rules.specs.Rules.{looks, posts, tells, untells, Done, is_turned, is_led, all_led, may_stand, only_old, is_there, are_heeded, is_noticed, is_reached, is_settled, is_seen, is_looked, is_reported, lets, lets_end, lets_rest}
+use Rattle.plans_rules.specs.Safe.{CanHappen, IsStartOfAny, number_in, IsTold}
+use Rattle.plans_rules.specs.Rules.{looks, posts, tells, untells, Done, may_stand, is_still, only_old, is_there, are_heeded, is_noticed, is_reached, is_settled, is_seen, is_looked, is_reported, lets, lets_end, lets_rest}
 use Rattle.plans_rules.proofs.BoolLaws.{false_of, true_of, clash, not_true, and_left, and_right, and_of, or_left, or_right, or_false_left, or_false_right, or_cases, all_at, any_at}
 use Rattle.plans_rules.proofs.Brought.{Places, busy_old}
 use Rattle.plans_rules.proofs.Safety as safety
-use Rattle.plans_rules.proofs.Safety.{IsBetween, Invariant, MayLand, Flies, AllFly, fly, of_all, may_by, does, between, begins, moved_end, ended}
+use Rattle.plans_rules.proofs.Safety.{IsBetween, Invariant, Flies, AllFly, past_of, reach_of, unless, fly, of_all, may_by, does, between, begins, moved_end, ended}
 
 -- ---- what a settled word says of a machine
 
@@ -99,7 +99,7 @@ there_new d start done z s i v is due =
     in_.new (there_at (may_stand d s (i / 64) done) in_.o in_.h in_.n is (v.somewhere s (i / 64)) in_.may)
 
 -- and nobody stores into its old place
-there_still : (d : Setting) (w : ℕ) (done : Done) → is_there d Pending w done ≡ true → all_led d done ≡ true
+there_still : (d : Setting) (w : ℕ) (done : Done) → is_there d Pending w done ≡ true → is_still d Pending done ≡ true
 there_still d w done is = true_of _ (λ busy. clash (only_old d Pending w done) (busy_old d Pending w done busy) (or_false_left _ _ (not_true _ is)))
 
 -- The numbers as they were at the start.
@@ -163,7 +163,7 @@ past_seen false x true e = or_right x true refl
 past_seen false x false e = or_left x false e
 
 noted_land : (d : Setting) (start : AnyMachine) (done : Done) (place : AnyPlace) (x : ℕ) (z : AnyMachine)
-    → (is_old place ≡ true → all_led d done ≡ false) → (is_old place ≡ false → is_reached d Pending done ≡ true)
+    → (is_old place ≡ true → is_still d Pending done ≡ false) → (is_old place ≡ false → is_reached d Pending done ≡ true)
     → Invariant d start done z → Noted d start done z → Noted d start done (landed d place x z)
 noted_land d start done place x z past reaches w v = record {
   seen = λ i e due. clash _ (reaches (ahead i (seen_settled d (i / 64) done e))) (seen_calm d (i / 64) done e);
@@ -187,17 +187,6 @@ noted_land d start done place x z past reaches w v = record {
     tells_host i told settled h due = land_out (nat_eq x i) (is_old place) (z.due Pending i) _ z.noticed _ told
         (λ m. ahead i settled) (v.noticed settled.notices) (stands i settled) h due
 
--- a landing that the producer's routes allow
-past_of : (d : Setting) (done : Done) (p : ℕ) (place : AnyPlace) → IsProducer d p → MayLand (is_turned p done) (is_led d p done) place
-    → is_old place ≡ true → all_led d done ≡ false
-past_of d done p Old declared may o = false_of _ (λ all. clash _ (all_at (λ q. is_led d q done) (length d.producers) p all declared) (may.0 refl))
-past_of d done p New declared may o = absurd (false≢true o)
-
-reach_of : (d : Setting) (done : Done) (p : ℕ) (place : AnyPlace) → IsProducer d p → MayLand (is_turned p done) (is_led d p done) place
-    → is_old place ≡ false → is_reached d Pending done ≡ true
-reach_of d done p Old declared may o = absurd (false≢true (sym o))
-reach_of d done p New declared may o = any_at (λ q. is_turned q done) (length d.producers) p declared (may.1 refl)
-
 -- both invariants
 pub record Both (d : Setting) (start : AnyMachine) (done : Done) (z : AnyMachine) : Type 0 where
   pub kept : Invariant d start done z
@@ -207,8 +196,8 @@ fly_noted : (d : Setting) (start : AnyMachine) (done : Done) (f : AnyFlight) (z 
     → Both d start done (flight_landed d f z)
 fly_noted d start done f z may v = record {
   kept = fly d start done f z may v.kept;
-  noted = noted_land d start done f.place f.identity z (past_of d done f.producer f.place may.0.0 may.1)
-      (reach_of d done f.producer f.place may.0.0 may.1) v.kept v.noted;
+  noted = noted_land d start done f.place f.identity z (past_of d done f.producer f.place may.0.0 may.1 may.2)
+      (reach_of d done f.producer f.place may.0.0 may.1 may.2) v.kept v.noted;
 }
 
 noted_all : (d : Setting) (start : AnyMachine) (done : Done) (fs : List AnyFlight) (z : AnyMachine) → AllFly d done fs → Both d start done z
@@ -227,23 +216,29 @@ noted_between : (d : Setting) (start : AnyMachine) (done : Done) (x : AnyHappeni
     → Invariant d start done z → Noted d start done z → Noted d start done (happened d x z)
 noted_between d start done (Does step) z is can w v = absurd is
 noted_between d start done (Stores p by x) z is can w v =
-    noted_land d start done (route_of by p z) x z (past_of d done p (route_of by p z) can (may_by by p _ _ z (w.leads p can)))
-    (reach_of d done p (route_of by p z) can (may_by by p _ _ z (w.leads p can))) w v
-noted_between d start done (Sends p by x) z is can w v = record { seen = v.seen; looked = v.looked; reported = v.reported; noticed = v.noticed }
+    unless (Noted d start done) (z.paused p) z (landed d (route_of by p z) x z) v (λ runs. let still = sym (w.paused p can) ∙ runs in
+    let may = may_by d by p done z (w.leads p can) in
+    noted_land d start done (route_of by p z) x z (past_of d done p (route_of by p z) can still may)
+    (reach_of d done p (route_of by p z) can still may) w v)
+noted_between d start done (Sends p by x) z is can w v =
+    unless (Noted d start done) (z.paused p) z (record z { flights = record { producer = p; place = route_of by p z; identity = x } ∷ z.flights }) v
+    (λ runs. record { seen = v.seen; looked = v.looked; reported = v.reported; noticed = v.noticed })
 noted_between d start done (Lands k) z is can w v =
     let u = (noted_one d start done z z.flights k w.flights (record { kept = w; noted = v })).noted in
     record { seen = u.seen; looked = u.looked; reported = u.reported; noticed = u.noticed }
 noted_between d start done (Refetches p) z is can w v = record { seen = v.seen; looked = v.looked; reported = v.reported; noticed = v.noticed }
 
--- ---- a step that is no fence
+-- ---- a step that waits for nothing in flight
 
 abbrev pub IsNoFence : AnyStep → Type 0
 IsNoFence (Fence p) = ⊥
+IsNoFence (Pause p) = ⊥
 IsNoFence x = Unit {0}
 
 -- a step makes nothing due
 due_stays : (d : Setting) (x : AnyStep) (z : AnyMachine) → IsNoFence x → (stepped d x z).due ≡ z.due
 due_stays d (Fence p) z is = absurd is
+due_stays d (Pause p) z is = absurd is
 due_stays d (Zero Old s w) z is = refl
 due_stays d (Zero New s w) z is = refl
 due_stays d (ZeroNumber Old n) z is = refl
@@ -257,6 +252,7 @@ due_before d start x z i is due = subst (λ sets. stands_out d sets (first_numbe
 -- what was told, or seen, stays so
 told_stays : (d : Setting) (x : AnyStep) (z : AnyMachine) → IsNoFence x → untells x ≡ false → z.told ≡ true → (stepped d x z).told ≡ true
 told_stays d (Fence p) z is none e = absurd is
+told_stays d (Pause p) z is none e = absurd is
 told_stays d Untell z is none e = absurd (false≢true (sym none))
 told_stays d Post z is none e = or_left z.told _ e
 told_stays d Tell z is none e = or_left z.told _ e
@@ -276,6 +272,7 @@ told_more t s x e = past_seen t x s (or_left (t || s) x e)
 seen_stays : (d : Setting) (x : AnyStep) (z : AnyMachine) → IsNoFence x → untells x ≡ false → (z.told || z.seen) ≡ true
     → ((stepped d x z).told || (stepped d x z).seen) ≡ true
 seen_stays d (Fence p) z is none e = absurd is
+seen_stays d (Pause p) z is none e = absurd is
 seen_stays d Untell z is none e = absurd (false≢true (sym none))
 seen_stays d Post z is none e = told_more z.told z.seen z.seen e
 seen_stays d Tell z is none e = told_more z.told z.seen _ e
@@ -289,6 +286,7 @@ seen_stays d x z is none e = e
 -- what a look saw stays seen, and what was told is not taken back then
 look_stays : (d : Setting) (x : AnyStep) (z : AnyMachine) → IsNoFence x → z.seen ≡ true → (stepped d x z).seen ≡ true
 look_stays d (Fence p) z is e = absurd is
+look_stays d (Pause p) z is e = absurd is
 look_stays d (Look w) z is e = or_left z.seen _ e
 look_stays d (Zero Old s w) z is e = e
 look_stays d (Zero New s w) z is e = e
@@ -304,6 +302,7 @@ untold_now d x z m e saw = absurd (false≢true m)
 noticed_stays : (d : Setting) (done : Done) (x : AnyStep) (z : AnyMachine) → IsNoFence x → (is_noticed d done ≡ true → z.noticed ≡ true)
     → is_noticed d (x ∷ done) ≡ true → (stepped d x z).noticed ≡ true
 noticed_stays d done (Fence p) z is h e = absurd is
+noticed_stays d done (Pause p) z is h e = absurd is
 noticed_stays d done WriteNotice z is h e = refl
 noticed_stays d done (Zero Old s w) z is h e = h e
 noticed_stays d done (Zero New s w) z is h e = h e
@@ -373,22 +372,41 @@ notes d start done x z is w v = record {
   noticed = noticed_stays d done x z is v.noticed;
 }
 
--- a fence only lands stores
-notes_fence : (d : Setting) (start : AnyMachine) (done : Done) (p : ℕ) (z : AnyMachine) → Invariant d start done z → Noted d start done z
-    → Noted d start (Fence p ∷ done) (stepped d (Fence p) z)
-notes_fence d start done p z w v =
-    let u = (noted_all d start done (flights_of p z.flights) z (of_all (Flies d done) p z.flights w.flights)
-    (record { kept = w; noted = v })).noted in
-    record {
-      seen = λ i e. u.seen i (and_left (is_seen d (i / 64) done) _ e);
-      looked = λ i e. u.looked i (and_left (is_looked d (i / 64) done) _ e);
-      reported = λ i inside e. u.reported i inside (and_left (is_reported d (i / 64) done) _ e);
-      noticed = u.noticed;
-    }
+-- a fence, and a pause, only lands stores
+notes_landed : (d : Setting) (start : AnyMachine) (done : Done) (p : ℕ) (z : AnyMachine) → Invariant d start done z → Noted d start done z
+    → Noted d start done (all_landed d (flights_of p z.flights) z)
+notes_landed d start done p z w v =
+    (noted_all d start done (flights_of p z.flights) z (of_all (Flies d done) p z.flights w.flights) (record { kept = w; noted = v })).noted
+
+-- what such a step says is noted was noted before it
+abbrev SaysLess : Setting → AnyStep → Done → Type 0
+SaysLess d x done = (w : ℕ) → (is_seen d w (x ∷ done) ≡ true → is_seen d w done ≡ true)
+    × (is_looked d w (x ∷ done) ≡ true → is_looked d w done ≡ true)
+    × (is_reported d w (x ∷ done) ≡ true → is_reported d w done ≡ true)
+
+less_of : (a b c x y z : Bool) → ((a && x) ≡ true → a ≡ true) × ((b && y) ≡ true → b ≡ true) × ((c && z) ≡ true → c ≡ true)
+less_of a b c x y z = (and_left a x, and_left b y, and_left c z)
+
+-- so what is noted once all has landed is noted behind it, whatever else it does
+noted_behind : (d : Setting) (start : AnyMachine) (x : AnyStep) (done : Done) (z u : AnyMachine) → SaysLess d x done
+    → (is_noticed d (x ∷ done) ≡ true → is_noticed d done ≡ true) → u.due ≡ z.due → u.seen ≡ z.seen → u.told ≡ z.told → u.noticed ≡ z.noticed
+    → Noted d start done u → Noted d start (x ∷ done) z
+noted_behind d start x done z u less same due seen told noticed v = record {
+  seen = λ i e out. sym seen ∙ v.seen i ((less (i / 64)).0 e) (due_in i out);
+  looked = λ i e out. sym (ap₂ (λ a b. a || b) told seen) ∙ v.looked i ((less (i / 64)).1 e) (due_in i out);
+  reported = λ i inside e out. sym told ∙ v.reported i inside ((less (i / 64)).2 e) (due_in i out);
+  noticed = λ e. sym noticed ∙ v.noticed (same e);
+}
+  where
+    due_in : (i : ℕ) → due_out d start z i ≡ true → due_out d start u i ≡ true
+    due_in i out = subst (λ sets. stands_out d sets (first_numbers d start) i ≡ true) (sym due) out
 
 notes_any : (d : Setting) (start : AnyMachine) (done : Done) (x : AnyStep) (z : AnyMachine) → Invariant d start done z
     → Invariant d start (x ∷ done) (stepped d x z) → Noted d start done z → Noted d start (x ∷ done) (stepped d x z)
-notes_any d start done (Fence p) z w after v = notes_fence d start done p z w v
+notes_any d start done (Fence p) z w after v =
+    noted_behind d start (Fence p) done _ _ (λ w. less_of _ _ _ _ _ _) (λ e. e) refl refl refl refl (notes_landed d start done p z w v)
+notes_any d start done (Pause p) z w after v =
+    noted_behind d start (Pause p) done _ _ (λ w. less_of _ _ _ _ _ _) (λ e. e) refl refl refl refl (notes_landed d start done p z w v)
 notes_any d start done x z w after v = notes d start done x z tt after v
 
 -- ---- a whole run

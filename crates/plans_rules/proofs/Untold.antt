@@ -1,5 +1,5 @@
 -- Plans that leave their host untold, each with a run that shows it; and one that nobody has to be told of.
-use Rattle.std.proofs.Common.{◌≡◌, ℕ, ◌/◌, ◌<◌, Bool, true, false, ◌&&◌, ◌||◌, nat_eq, List, [], ◌∷◌, ◌++◌, Option, Some, None, refl, sym, ap, subst, ◌∙◌, arith}
+use Rattle.std.proofs.Common.{◌≡◌, ℕ, ◌/◌, ◌<◌, Bool, true, false, ◌&&◌, ◌||◌, if◌then◌else◌, nat_eq, List, [], ◌∷◌, ◌++◌, Option, Some, None, refl, sym, ap, subst, ◌∙◌, arith}
 use Rattle.std.specs.Prelude.{slice_get}
 use Rattle.std.specs.List.{AllByRecursion}
 use Rattle.std.proofs.lemmas.Bool.{false≢true}
@@ -12,7 +12,7 @@ use Rattle.plans_rules.specs.declared.setting.NumberSpot.TheVariants.{InHand, In
 use Rattle.plans_rules.specs.declared.step.AnyStep.{AnyStep}
 use Rattle.plans_rules.specs.declared.step.AnyStep.TheVariants.{Route, Fence, Switch, Zero, Take, Copy, Join, ZeroNumber, TakeNumber, PutNumber, Look, Post, Tell, Untell, WriteNotice, Free}
 use Rattle.plans_rules.specs.Setting.{Setting}
-use Rattle.plans_rules.specs.Machine.{AnyFlight, AnyMachine, stands_out, one_landed, AnyHappening, happened, all_happened, steps_in}
+use Rattle.plans_rules.specs.Machine.{AnyFlight, AnyMachine, landed, route_of, stands_out, one_landed, AnyHappening, happened, all_happened, steps_in}
 use Rattle.plans_rules.specs.Machine.By.{Written, InForce}
 use Rattle.plans_rules.specs.Machine.AnyHappening.{Does, Stores, Sends, Lands, Refetches}
 use Rattle.plans_rules.specs.Safe.{CanHappen, IsStartOfAny, IsTold}
@@ -39,6 +39,7 @@ start goes rest = record {
   hand_number = λ n. 7;
   written = λ p. Old;
   in_force = λ p. Old;
+  paused = λ p. false;
   flights = [];
   freed = false;
   strayed = false;
@@ -55,6 +56,7 @@ pub starts : (d : Setting) (rest : WhichSet → ℕ → Bool) → (d.is_fresh �
 starts d rest fresh = record {
   written = λ p declared. refl;
   in_force = λ p declared. refl;
+  paused = λ p declared. refl;
   flights = tt;
   due = λ s i. refl;
   hand = λ s i. refl;
@@ -150,6 +152,7 @@ stands_first : IsStartOfAny unstored standing
 stands_first = record {
   written = λ p declared. refl;
   in_force = λ p declared. refl;
+  paused = λ p declared. refl;
   flights = tt;
   due = λ s i. refl;
   hand = λ s i. refl;
@@ -183,11 +186,17 @@ one_keeps : (d : Setting) (f : Option AnyFlight) (z : AnyMachine) → (one_lande
 one_keeps d None z = refl
 one_keeps d (Some f) z = refl
 
+unless_keeps : (b : Bool) (z y : AnyMachine) → y.new_number ≡ z.new_number → (if b then z else y).new_number ≡ z.new_number
+unless_keeps true z y e = refl
+unless_keeps false z y e = e
+
 no_steps_keep : (d : Setting) (run : List AnyHappening) (z : AnyMachine) → steps_in run ≡ [] → (all_happened d run z).new_number ≡ z.new_number
 no_steps_keep d [] z e = refl
 no_steps_keep d (Does x ∷ later) z e = absurd (cc)
 no_steps_keep d (Stores p by x ∷ later) z e = no_steps_keep d later _ e
+    ∙ unless_keeps (z.paused p) z (landed d (route_of by p z) x z) refl
 no_steps_keep d (Sends p by x ∷ later) z e = no_steps_keep d later _ e
+    ∙ unless_keeps (z.paused p) z (record z { flights = record { producer = p; place = route_of by p z; identity = x } ∷ z.flights }) refl
 no_steps_keep d (Lands k ∷ later) z e = no_steps_keep d later _ e ∙ one_keeps d (slice_get z.flights k) z
 no_steps_keep d (Refetches p ∷ later) z e = no_steps_keep d later _ e
 

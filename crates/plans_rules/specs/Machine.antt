@@ -8,7 +8,7 @@ use Rattle.plans_rules.specs.declared.step.WhichSet.TheVariants.{Pending, Enable
 use Rattle.plans_rules.specs.declared.step.Number.{Number}
 use Rattle.plans_rules.specs.declared.step.Number.TheVariants.{Threshold, Delivery}
 use Rattle.plans_rules.specs.declared.step.AnyStep.{AnyStep}
-use Rattle.plans_rules.specs.declared.step.AnyStep.TheVariants.{Route, Fence, Switch, Zero, Take, Copy, Join, Put, ZeroNumber, TakeNumber, CopyNumber, PutNumber, Look, Post, Tell, Untell, WriteNotice, Free}
+use Rattle.plans_rules.specs.declared.step.AnyStep.TheVariants.{Route, Fence, Switch, Pause, Resume, Zero, Take, Copy, Join, Put, ZeroNumber, TakeNumber, CopyNumber, PutNumber, Look, Post, Tell, Untell, WriteNotice, Free}
 use Rattle.plans_rules.specs.Setting.{Setting, is_old, is_pending, same_number, names, any_below}
 
 -- For each set the identities that stand in it.
@@ -35,6 +35,8 @@ pub record AnyMachine : Type 0 where
   -- where each producer's route leads as it is written, and as it is in force
   pub written : ℕ → AnyPlace
   pub in_force : ℕ → AnyPlace
+  -- whether each is paused, and stores nothing
+  pub paused : ℕ → Bool
   pub flights : List AnyFlight
   -- whether the old place was given back, and whether anything reached it after that, a second time
   -- that it is given back too
@@ -125,6 +127,10 @@ both a b t i = a t i || b t i
 abbrev pub led_to : ℕ → AnyPlace → (ℕ → AnyPlace) → ℕ → AnyPlace
 led_to p place routes q = if nat_eq p q then place else routes q
 
+-- Which producers are paused, with another answer for one.
+abbrev pub with_paused : ℕ → Bool → (ℕ → Bool) → ℕ → Bool
+with_paused p is paused q = if nat_eq p q then is else paused q
+
 -- The numbers, with another value of one.
 abbrev pub with_number : Number → ℕ → (Number → ℕ) → Number → ℕ
 with_number n value numbers m = if same_number n m then value else numbers m
@@ -140,6 +146,11 @@ stepped d (Switch p) z = record z {
   written = led_to p New z.written;
   in_force = led_to p New z.in_force;
 }
+stepped d (Pause p) z = record (all_landed d (flights_of p z.flights) z) {
+  flights = flights_beside p z.flights;
+  paused = with_paused p true z.paused;
+}
+stepped d (Resume p) z = record z { paused = with_paused p false z.paused }
 stepped d (Zero Old s w) z = record z {
   old = without s w z.old;
   strayed = z.strayed || z.freed;
@@ -200,7 +211,8 @@ route_of InForce p z = z.in_force p
 
 -- A step of the plan, or what may come before it or behind it: a store that lands at once; one
 -- that is sent, and is in flight from then on; a landing of the k-th store in flight, counted from
--- 0, the newest first; a route that comes in force as it is written, before its fence.
+-- 0, the newest first; a route that comes in force as it is written, before its fence. A producer
+-- that is paused makes no store and sends none.
 pub data AnyHappening : Type 0 where
   Does : (step : AnyStep) → AnyHappening
   Stores : (producer : ℕ) → (by : By) → (identity : ℕ) → AnyHappening
@@ -222,8 +234,8 @@ all_but (suc k) (x ∷ xs) = x ∷ all_but k xs
 -- What one of these makes of the machine.
 abbrev pub happened : Setting → AnyHappening → AnyMachine → AnyMachine
 happened d (Does step) z = stepped d step z
-happened d (Stores p by x) z = landed d (route_of by p z) x z
-happened d (Sends p by x) z = record z {
+happened d (Stores p by x) z = if z.paused p then z else landed d (route_of by p z) x z
+happened d (Sends p by x) z = if z.paused p then z else record z {
   flights = record { producer = p; place = route_of by p z; identity = x } ∷ z.flights;
 }
 happened d (Lands k) z = record (one_landed d (slice_get z.flights k) z) {

@@ -9,7 +9,7 @@ use Rattle.plans_rules.specs.declared.setting.RouteKind.TheVariants.{Routed}
 use Rattle.plans_rules.specs.declared.rule.Rule.{Rule}
 use Rattle.plans_rules.specs.declared.rule.Rule.TheVariants.{Notice}
 use Rattle.plans_rules.specs.declared.step.AnyStep.{AnyStep}
-use Rattle.plans_rules.specs.declared.step.AnyStep.TheVariants.{Route, Fence, Switch, Zero, Take, Copy, Join, Put, ZeroNumber, TakeNumber, PutNumber, Look, Post, Tell, Untell, WriteNotice, Free}
+use Rattle.plans_rules.specs.declared.step.AnyStep.TheVariants.{Route, Fence, Switch, Pause, Resume, Zero, Take, Copy, Join, Put, ZeroNumber, TakeNumber, PutNumber, Look, Post, Tell, Untell, WriteNotice, Free}
 use Rattle.plans_rules.specs.Setting.{Setting}
 use Rattle.plans_rules.specs.Safe.{IsTold}
 use Rattle.plans_rules.specs.Rules.{accepts, broken}
@@ -112,7 +112,11 @@ break_routes =
     -- the pending word is forgotten
     ∷ (lead ++ enables_moved)
     -- a route that has a fence is switched: what is in flight is not waited for
-    ∷ (Switch 0 ∷ pending_moved ++ enables_moved) ∷ []
+    ∷ (Switch 0 ∷ pending_moved ++ enables_moved)
+    -- a producer is resumed before its route is in force
+    ∷ (Pause 0 ∷ Route 0 ∷ pending_moved ++ enables_moved ++ Resume 0 ∷ Fence 0 ∷ [])
+    -- it is paused before its route is written, and never led
+    ∷ (Pause 0 ∷ pending_moved ++ enables_moved) ∷ []
 
 -- Plans that break the rule on words.
 abbrev pub break_words : List (List AnyStep)
@@ -127,6 +131,8 @@ break_words =
     ∷ (lead ++ Take Pending 0 ∷ pending_moved ++ enables_moved)
     -- it is put once the route leads there
     ∷ (lead ++ Take Pending 0 ∷ Put Pending 0 ∷ enables_moved)
+    -- it is put once a producer that is led there is resumed
+    ∷ (Pause 0 ∷ Switch 0 ∷ Take Pending 0 ∷ Resume 0 ∷ Put Pending 0 ∷ enables_moved)
     -- it is put over what was moved
     ∷ (all_moved ++ Put Enabled 0 ∷ [])
     -- it stays in the hand
@@ -173,6 +179,35 @@ break_freeing_with_numbers =
 -- The old place is given back before a fence.
 abbrev pub freed_early : List AnyStep
 freed_early = Route 0 ∷ Fence 0 ∷ Route 1 ∷ Free ∷ Fence 1 ∷ []
+
+-- A producer is resumed after that, before it is led.
+abbrev pub resumed_early : List AnyStep
+resumed_early =
+    Route 1 ∷ Fence 1 ∷ Pause 0 ∷ Free ∷ Resume 0 ∷ Route 0 ∷ Fence 0 ∷ []
+
+-- ---- plans with a pause that break no rule
+
+-- All is moved while the producer is paused, and it is led after that.
+abbrev pub moved_in_pause : List AnyStep
+moved_in_pause = Pause 0 ∷ pending_moved ++ enables_moved ++ lead ++ Resume 0 ∷ []
+
+-- It is switched while it is paused, so that no fence is needed, and left so.
+abbrev pub switched_in_pause : List AnyStep
+switched_in_pause = Pause 0 ∷ Switch 0 ∷ pending_moved ++ enables_moved
+
+-- It is paused once it is switched, which waits as a fence does.
+abbrev pub paused_behind : List AnyStep
+paused_behind = Switch 0 ∷ Pause 0 ∷ pending_moved ++ enables_moved ++ Resume 0 ∷ []
+
+-- The pending word is put while it is paused.
+abbrev pub put_in_pause : List AnyStep
+put_in_pause =
+    Pause 0 ∷ Switch 0 ∷ Take Pending 0 ∷ Put Pending 0 ∷ Resume 0 ∷ enables_moved
+
+-- The old place is given back while one is paused that leads there still.
+abbrev pub freed_in_pause : List AnyStep
+freed_in_pause =
+    Route 1 ∷ Fence 1 ∷ Pause 0 ∷ Free ∷ Route 0 ∷ Fence 0 ∷ Resume 0 ∷ []
 
 -- ---- plans that leave the host untold
 
@@ -244,6 +279,10 @@ taken_back = all_moved ++ Look 0 ∷ Post ∷ Untell ∷ []
 -- It takes that back before it looks.
 abbrev pub taken_back_first : List AnyStep
 taken_back_first = all_moved ++ Untell ∷ Look 0 ∷ Post ∷ []
+
+-- It takes that back while the producer is paused, from before the look on.
+abbrev pub taken_back_in_pause : List AnyStep
+taken_back_in_pause = all_moved ++ Pause 0 ∷ Look 0 ∷ Post ∷ Untell ∷ Resume 0 ∷ []
 
 -- To memory, and nobody stores.
 abbrev pub unstored : Setting

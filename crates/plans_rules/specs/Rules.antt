@@ -16,7 +16,7 @@ use Rattle.plans_rules.specs.declared.setting.RouteKind.TheVariants.{Routed, Swi
 use Rattle.plans_rules.specs.declared.rule.Rule.{Rule}
 use Rattle.plans_rules.specs.declared.rule.Rule.TheVariants.{Routes, Blank, Words, Numbers, Freeing, Notice}
 use Rattle.plans_rules.specs.declared.step.AnyStep.{AnyStep}
-use Rattle.plans_rules.specs.declared.step.AnyStep.TheVariants.{Route, Fence, Switch, Zero, Take, Copy, Join, Put, ZeroNumber, TakeNumber, CopyNumber, PutNumber, Look, Post, Tell, Untell, WriteNotice, Free}
+use Rattle.plans_rules.specs.declared.step.AnyStep.TheVariants.{Route, Fence, Switch, Pause, Resume, Zero, Take, Copy, Join, Put, ZeroNumber, TakeNumber, CopyNumber, PutNumber, Look, Post, Tell, Untell, WriteNotice, Free}
 use Rattle.plans_rules.specs.Setting.{Setting, same_number, same_spot, names, all_below, any_below}
 
 -- ---- what a step does
@@ -36,6 +36,15 @@ fences p x = false
 abbrev pub switches : ℕ → AnyStep → Bool
 switches p (Switch q) = nat_eq q p
 switches p x = false
+
+-- Whether a step pauses a producer; whether it resumes it.
+abbrev pub pauses : ℕ → AnyStep → Bool
+pauses p (Pause q) = nat_eq q p
+pauses p x = false
+
+abbrev pub resumes : ℕ → AnyStep → Bool
+resumes p (Resume q) = nat_eq q p
+resumes p x = false
 
 -- Whether a step leaves nothing of a word in the old place.
 abbrev pub empties : WhichSet → ℕ → AnyStep → Bool
@@ -107,8 +116,7 @@ Done = List AnyStep
 abbrev pub is_turned : ℕ → Done → Bool
 is_turned p done = list_any (turns p) done
 
--- A fence stood behind a step that writes that route: so it is in force, and no store of the
--- producer is in flight to the old place.
+-- A fence stood behind a step that writes that route: so it is in force.
 abbrev pub is_fenced : ℕ → Done → Bool
 is_fenced p [] = false
 is_fenced p (x ∷ done) = elim (fences p x) [
@@ -116,12 +124,30 @@ is_fenced p (x ∷ done) = elim (fences p x) [
   | false ↦ is_fenced p done
 ]
 
+-- The route leads to the new place in force, by a fence or by a switch.
+abbrev pub is_forced : ℕ → Done → Bool
+is_forced p done = is_fenced p done || list_any (switches p) done
+
+-- A producer is paused: it was, and was not resumed since.
+abbrev pub is_paused : ℕ → Done → Bool
+is_paused p [] = false
+is_paused p (x ∷ done) = pauses p x || (not (resumes p x) && is_paused p done)
+
+-- The route is in force, and no store of the producer is in flight to the old place: a fence stood
+-- behind the step that writes it, or the producer was paused once it was in force, or it was
+-- switched while the producer was paused.
+abbrev pub is_drained : ℕ → Done → Bool
+is_drained p [] = false
+is_drained p (x ∷ done) =
+    (fences p x && is_turned p done)
+    || ((pauses p x && is_forced p done) || ((switches p x && is_paused p done) || is_drained p done))
+
 -- All that a producer of a kind stores from now on goes to the new place.
 abbrev pub is_led_as : Option RouteKind → ℕ → Done → Bool
 is_led_as kind p done = elim kind [
   | None ↦ false
-  | Some Routed ↦ is_fenced p done
-  | Some Switched ↦ is_fenced p done || list_any (switches p) done
+  | Some Routed ↦ is_drained p done
+  | Some Switched ↦ is_forced p done
 ]
 
 -- The same of a producer of the setting.
@@ -132,16 +158,34 @@ is_led d p done = is_led_as (slice_get d.producers p) p done
 abbrev pub all_led : Setting → Done → Bool
 all_led d done = all_below (λ p. is_led d p done) (length d.producers)
 
+-- It is led, if there is such a producer.
+abbrev pub is_led_if_any : Setting → ℕ → Done → Bool
+is_led_if_any d p done = elim (slice_get d.producers p) [
+  | None ↦ true
+  | Some kind ↦ is_led_as (Some kind) p done
+]
+
+-- A producer may store into the new place.
+abbrev pub reaches : ℕ → Done → Bool
+reaches p done = is_turned p done && not (is_paused p done)
+
+-- A producer stores nothing into the old place: it is led, or it is paused.
+abbrev pub is_calm : Setting → ℕ → Done → Bool
+is_calm d p done = is_led d p done || is_paused p done
+
 -- Somebody may store into a set of the new place. Nobody ever stores into the enables.
 abbrev pub is_reached : Setting → WhichSet → Done → Bool
 is_reached d s done = elim s [
-  | Pending ↦ any_below (λ p. is_turned p done) (length d.producers)
+  | Pending ↦ any_below (λ p. reaches p done) (length d.producers)
   | Enabled ↦ false
 ]
 
 -- Nobody stores into a set of the old place.
 abbrev pub is_still : Setting → WhichSet → Done → Bool
-is_still d s done = elim s [ Pending ↦ all_led d done | Enabled ↦ true ]
+is_still d s done = elim s [
+  | Pending ↦ all_below (λ p. is_calm d p done) (length d.producers)
+  | Enabled ↦ true
+]
 
 -- ---- where an identity that is due may stand
 
@@ -332,8 +376,10 @@ lets Words d (Zero New s w) done = not (only_new d s w done)
 -- What may stand in the hand alone is joined to a blank word.
 lets Blank d (Join s w) done = not (only_hand d s w done) || is_blank d s w done
 -- The old place is given back once, when nobody stores there and nothing is left to its next owner,
--- and not accessed after that.
-lets Freeing d Free done = all_led d done && (not (list_any frees done) && is_shut d done)
+-- and not accessed after that; and nobody is resumed then who would store there.
+lets Freeing d Free done =
+    is_still d Pending done && (not (list_any frees done) && is_shut d done)
+lets Freeing d (Resume p) done = not (list_any frees done) || is_led_if_any d p done
 lets Freeing d (Take s w) done = not (list_any frees done)
 lets Freeing d (Copy s w) done = not (list_any frees done)
 lets Freeing d (Zero Old s w) done = not (list_any frees done)

@@ -36,13 +36,14 @@ pub record IsRun (d : Setting) (plan : List AnyStep) (run : List AnyHappening) :
   pub others : AllByRecursion (CanHappen d) run
 
 -- How a run begins. All leads to the old place, and so does what is in flight, of routed producers
--- alone; what stands there is due; the hand is empty, and the old place is not given back; notices
--- go to the host where that is declared. What stands in the old place, and in a new one that is not
--- fresh, the numbers, what is in flight, what was seen or told before, and where notices go that
--- were not declared to go, are free.
+-- alone; nobody is paused; what stands there is due; the hand is empty, and the old place is not
+-- given back; notices go to the host where that is declared. What stands in the old place, and in a
+-- new one that is not fresh, the numbers, what is in flight, what was seen or told before, and where
+-- notices go that were not declared to go, are free.
 pub record IsStartOfAny (d : Setting) (z : AnyMachine) : Type 0 where
   pub written : (p : ℕ) → IsProducer d p → z.written p ≡ Old
   pub in_force : (p : ℕ) → IsProducer d p → z.in_force p ≡ Old
+  pub paused : (p : ℕ) → IsProducer d p → z.paused p ≡ false
   pub flights : AllByRecursion
       (λ (f : AnyFlight). IsRouted d f.producer × (f.place ≡ Old)) z.flights
   pub due : (s : WhichSet) (i : ℕ) → z.due s i ≡ z.old s i

@@ -2,7 +2,7 @@
 #[derive(Clone, Copy, Debug, PartialEq, Eq)]
 pub enum Rule {
     /// Each producer's route leads to the new place, in force, and each pending word is taken
-    /// after that.
+    /// after that, or while the producer is paused.
     Routes,
 
     /// What may hold something is not overwritten, the enables are taken, and nothing is left in
@@ -15,7 +15,8 @@ pub enum Rule {
     /// Threshold and delivery come to where they have to be, as they were.
     Numbers,
 
-    /// The old place is given back once nobody stores there, and not accessed after that.
+    /// The old place is given back once nobody stores there, and not accessed after that, nor is a
+    /// producer resumed then that would store there.
     Freeing,
 
     /// In memory the host is told of each word once all of it is there, with what is heeded, and it

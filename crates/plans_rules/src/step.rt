@@ -41,6 +41,13 @@ pub enum AnyStep {
     /// no store.
     Switch(u32),
 
+    /// Pauses a producer, which stores nothing from then on until it is resumed, and waits for its
+    /// stores that are in flight: they have landed.
+    Pause(u32),
+
+    /// Resumes a producer: it stores again.
+    Resume(u32),
+
     /// Overwrites a word of a place with zeros.
     Zero(AnyPlace, WhichSet, u32),
 

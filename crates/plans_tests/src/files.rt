@@ -249,6 +249,10 @@ fn lines_are_read(rt: HostRuntime) {
     assert!(rt; parse_line(b"write notice") == Reading::Line(PlanLine::Step(AnyStep::WriteNotice)));
     assert!(rt; parse_line(b"untell") == Reading::Line(PlanLine::Step(AnyStep::Untell)));
     assert!(rt; parse_line(b"untell 0") == Reading::Bad);
+    assert!(rt; parse_line(b"pause 2 # it") == Reading::Line(PlanLine::Step(AnyStep::Pause(2))));
+    assert!(rt; parse_line(b"resume 15") == Reading::Line(PlanLine::Step(AnyStep::Resume(15))));
+    assert!(rt; parse_line(b"pause") == Reading::Bad);
+    assert!(rt; parse_line(b"resume 0 1") == Reading::Bad);
     assert!(rt; parse_line(b"write") == Reading::Bad);
     assert!(rt; parse_line(b"write notice 0") == Reading::Bad);
     assert!(rt; parse_line(b"notices unset # yet") == Reading::Line(PlanLine::NoticesUnset));
@@ -307,6 +311,54 @@ is lost\n";
 zero old pending 0\njoin pending 0\ncopy enabled 0\nput enabled 0\nzero old enabled 0\n";
     let is_kept = answers_so(rt.alloc(), late, b"accepted\n")?;
     assert!(rt; is_kept);
+    Ok(())
+}
+
+/// What is read while its producer is paused is whole, if that is resumed once its route is in
+/// force.
+#[test]
+fn a_producer_is_paused(rt: HostRuntime) -> Result<(), Fail> {
+    let early = b"fresh\nproducer routed\nnumbers old old\npause 0\ntake pending 0\nput pending 0\n\
+take enabled 0\nput enabled 0\nroute 0\nresume 0\nfence 0\n";
+    let left =
+        b"refused routes in the end\n  run: identity 1 is pending nowhere at the start; producer 0 \
+stores it behind line 10 by its route in force; in the end it is in the old place, since line 5 \
+takes its word too early\n";
+    let is_left = answers_so(rt.alloc(), early, left)?;
+    assert!(rt; is_left);
+    let late = b"fresh\nproducer routed\nnumbers old old\npause 0\ntake pending 0\nput pending 0\n\
+take enabled 0\nput enabled 0\nroute 0\nfence 0\nresume 0\n";
+    let is_kept = answers_so(rt.alloc(), late, b"accepted\n")?;
+    assert!(rt; is_kept);
+    let never = b"fresh\nproducer routed\nnumbers old old\npause 0\ntake pending 0\nput pending 0\n\
+take enabled 0\nput enabled 0\nroute 0\n";
+    let unled =
+        b"refused routes in the end\n  run: identity 1 is pending nowhere at the start; in the end \
+the route in force of producer 0 leads to the old place still\n";
+    let is_unled = answers_so(rt.alloc(), never, unled)?;
+    assert!(rt; is_unled);
+    Ok(())
+}
+
+/// A store that overwrites another one was made before its producer was paused.
+#[test]
+fn no_store_is_shown_of_a_producer_that_is_paused(rt: HostRuntime) -> Result<(), Fail> {
+    let put = b"fresh\nproducer routed\nnumbers old old\nroute 0\nfence 0\npause 0\n\
+zero new pending 0\ntake pending 0\nput pending 0\n";
+    let lost =
+        b"refused words at line 7: zero new pending 0\n  run: identity 1 is pending nowhere at \
+the start; producer 0 stores it behind line 5 by its written route; in the end it is nowhere: it \
+is lost\n";
+    let is_lost = answers_so(rt.alloc(), put, lost)?;
+    assert!(rt; is_lost);
+    let freed = b"words 1\nproducer switched\nnumbers old old\npause 0\nfree\nresume 0\n\
+switch 0\n";
+    let strayed =
+        b"refused freeing at line 6: resume 0\n  run: identity 1 is pending nowhere at the start; \
+producer 0 stores it behind line 6 by its route in force; the old place is reached after it was \
+given back\n";
+    let is_strayed = answers_so(rt.alloc(), freed, strayed)?;
+    assert!(rt; is_strayed);
     Ok(())
 }
 

@@ -136,6 +136,8 @@ abbrev pub is_known : ℕ → ℕ → AnyStep → Bool
 is_known words producers (steps.Route p) = nat_lt p producers
 is_known words producers (steps.Fence p) = nat_lt p producers
 is_known words producers (steps.Switch p) = nat_lt p producers
+is_known words producers (steps.Pause p) = nat_lt p producers
+is_known words producers (steps.Resume p) = nat_lt p producers
 is_known words producers (steps.Zero place s w) = nat_lt w words
 is_known words producers (steps.Take s w) = nat_lt w words
 is_known words producers (steps.Copy s w) = nat_lt w words
@@ -243,6 +245,9 @@ fate_text places run fates.NotTaken =
 fate_text places run (fates.TakenEarly before) =
     codes "; in the end it is in the old place, since "
     ++ (line_text places before ++ codes " takes its word too early")
+fate_text places run fates.Unled =
+    codes "; in the end the route in force of producer "
+    ++ (decimal run.case.producer ++ codes " leads to the old place still")
 fate_text places run fates.Held = codes "; in the end it is in the hand alone: it is lost"
 fate_text places run fates.Gone = codes "; in the end it is nowhere: it is lost"
 fate_text places run fates.LeftOver =

@@ -209,7 +209,9 @@ abbrev pub routing_named : Text → Text → Option AnyStep
 routing_named name text =
     if bytes_eq name (codes "route") then numbered_at steps.Route text
     else if bytes_eq name (codes "fence") then numbered_at steps.Fence text
-    else if bytes_eq name (codes "switch") then numbered_at steps.Switch text else None
+    else if bytes_eq name (codes "switch") then numbered_at steps.Switch text
+    else if bytes_eq name (codes "pause") then numbered_at steps.Pause text
+    else if bytes_eq name (codes "resume") then numbered_at steps.Resume text else None
 
 -- A step that moves something, likewise.
 abbrev pub moving_named : Text → Text → Option AnyStep

@@ -241,6 +241,17 @@ fn push_not_led(out: &mut Vec<u8>, producer: usize) -> Result<(), AllocError>
     out.extend_from_slice(b" leads still")
 }
 
+/// Appends that a route in force leads to the old place still. `Err`: there is no memory for it.
+fn push_unled(out: &mut Vec<u8>, producer: usize) -> Result<(), AllocError>
+    ensures { OnOk result (out.new.items ≡ out.old.items
+        ++ (codes "; in the end the route in force of producer "
+        ++ (decimal producer ++ codes " leads to the old place still"))) }
+{
+    out.extend_from_slice(b"; in the end the route in force of producer ")?;
+    push_number(out, producer as u64)?;
+    out.extend_from_slice(b" leads to the old place still")
+}
+
 /// Appends that a line takes a word too early. `Err`: there is no memory for it.
 fn push_early(out: &mut Vec<u8>, marks: &[Mark], before: usize) -> Result<(), AllocError>
     ensures { OnOk result (out.new.items ≡ out.old.items
@@ -277,6 +288,7 @@ fn push_fate(out: &mut Vec<u8>, marks: &[Mark], run: Run, fate: Fate) -> Result<
             )
         }
         Fate::TakenEarly { before } => push_early(out, marks, before),
+        Fate::Unled => push_unled(out, run.case.producer),
         Fate::Held => out.extend_from_slice(b"; in the end it is in the hand alone: it is lost"),
         Fate::Gone => out.extend_from_slice(b"; in the end it is nowhere: it is lost"),
         Fate::LeftOver => {

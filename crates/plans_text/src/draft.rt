@@ -100,6 +100,7 @@ fn is_known(words: u32, producers: usize, step: AnyStep) -> bool
 {
     match step {
         AnyStep::Route(p) | AnyStep::Fence(p) | AnyStep::Switch(p) => (p as usize) < producers,
+        AnyStep::Pause(p) | AnyStep::Resume(p) => (p as usize) < producers,
         AnyStep::Zero(_, _, w) => w < words,
         AnyStep::Take(_, w) | AnyStep::Copy(_, w) => w < words,
         AnyStep::Join(_, w) | AnyStep::Put(_, w) => w < words,

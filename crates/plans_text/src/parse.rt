@@ -151,7 +151,7 @@ fn last_number(text: &[u8]) -> Option<u32>
     at_end(rest, number)
 }
 
-/// Reads a step about a route. `None`: the name or what stands behind it spells none.
+/// Reads a step about a producer. `None`: the name or what stands behind it spells none.
 fn routing_named(name: &[u8], text: &[u8]) -> Option<AnyStep>
     ensures { result ≡ reading.routing_named name.now text.now }
 {
@@ -161,6 +161,10 @@ fn routing_named(name: &[u8], text: &[u8]) -> Option<AnyStep>
         Some(AnyStep::Fence(last_number(text)?))
     } else if name == b"switch".as_slice() {
         Some(AnyStep::Switch(last_number(text)?))
+    } else if name == b"pause".as_slice() {
+        Some(AnyStep::Pause(last_number(text)?))
+    } else if name == b"resume".as_slice() {
+        Some(AnyStep::Resume(last_number(text)?))
     } else {
         None
     }

@@ -6,9 +6,10 @@ every place, from several starts; and where the program shows a run, that run is
 loses something, or, of a plan that the rule on notices alone refuses, one that leaves the host
 untold. Prints how many accepted plans had a bad run, how many refused ones had none, and how many
 runs that were shown were good or missing, and ends with 1 if any was, and with 2 if the words are
-wrong or PROGRAM can't be run. A plan into memory that heeds its numbers may be refused by the rule
-on notices though no run of it leaves the host untold: none is shown then. Where notices are
-declared unset, no store tells the host before the plan writes where they go. """
+wrong or PROGRAM can't be run. A plan into memory that heeds its numbers, or leaves all producers
+paused, may be refused by the rule on notices though no run of it leaves the host untold: none is
+shown then. Where notices are declared unset, no store tells the host before the plan writes where
+they go. """
 
 from __future__ import annotations
 
@@ -89,13 +90,25 @@ def hypervisors(words: int) -> Iterator[tuple[Setting, list[Step]]]:
     yield (Setting(host, words, True, True, True, 'old', 'new', True),
            [('switch', 0), ('route', 1), ('fence', 1), *swapped, ('put', 'delivery'),
             ('put', 'threshold'), *joined, ('write', 'notice'), ('tell',), ('free',)])
+    all_resumed: list[Step] = [('resume', 0), ('resume', 1)]
+    for resumed in (all_resumed, all_resumed[:0]):
+        yield (Setting(host, words, True, False, False, 'old', 'new'),
+               [('pause', 0), ('pause', 1), *swapped, *both_sets(words, 'put'), *put, *kvm,
+                ('free',), *resumed])
+    yield (Setting(routed, words, True, False, False, 'old', 'new'),
+           [('switch', 0), ('pause', 0), ('pause', 1), ('switch', 1), *swapped, *joined,
+            ('resume', 1), *put, ('resume', 0)])
+    yield (Setting(host, words, True, True, False, 'old', 'hand'),
+           [*kvm, *swapped, *joined, ('pause', 0), ('pause', 1),
+            *(('look', w) for w in range(words)), ('post',), ('untell',), ('resume', 0), ('free',),
+            ('resume', 1)])
 
 
 def all_steps(setting: Setting) -> list[Step]:
     """Every step that a plan of a setting may have."""
     out: list[Step] = [('post',), ('tell',), ('untell',), ('write', 'notice'), ('free',)]
     for p in range(len(setting.producers)):
-        out += [('route', p), ('fence', p), ('switch', p)]
+        out += [(verb, p) for verb in ('route', 'fence', 'switch', 'pause', 'resume')]
     for w in range(setting.words):
         out.append(('look', w))
         for bank in ('pending', 'enabled'):
@@ -142,6 +155,7 @@ class Machine:
         self.number[setting.start] = {'threshold': 9, 'delivery': 1}
         self.written = ['old'] * len(setting.producers)
         self.force = ['old'] * len(setting.producers)
+        self.paused = [False] * len(setting.producers)
         self.flights: list[tuple[int, str, Bit]] = []
         self.freed = self.strayed = self.seen = self.told = False
         self.notices_reach_the_host = not setting.unset
@@ -172,11 +186,13 @@ class Machine:
         self.due.add(what)
 
     def store(self, producer: int, by_written: bool, what: Bit) -> None:
-        self.land((self.written if by_written else self.force)[producer], what)
+        if not self.paused[producer]:
+            self.land((self.written if by_written else self.force)[producer], what)
 
     def send(self, producer: int, by_written: bool, what: Bit) -> None:
         route = (self.written if by_written else self.force)[producer]
-        self.flights.append((producer, route, what))
+        if not self.paused[producer]:
+            self.flights.append((producer, route, what))
 
     def land_first(self) -> None:
         if self.flights:
@@ -192,12 +208,23 @@ class Machine:
     def do_switch(self, p: int) -> None:
         self.written[p] = self.force[p] = 'new'
 
-    def do_fence(self, p: int) -> None:
+    def wait_for(self, p: int) -> None:
+        """What is in flight of a producer lands."""
         for q, place, what in self.flights:
             if q == p:
                 self.land(place, what)
         self.flights = [f for f in self.flights if f[0] != p]
+
+    def do_fence(self, p: int) -> None:
+        self.wait_for(p)
         self.force[p] = self.written[p]
+
+    def do_pause(self, p: int) -> None:
+        self.wait_for(p)
+        self.paused[p] = True
+
+    def do_resume(self, p: int) -> None:
+        self.paused[p] = False
 
     @staticmethod
     def of_word(bits: set[Bit], word: int) -> set[Bit]:
@@ -349,6 +376,7 @@ SHOWN = re.compile(
     r'(?P<fate>; .*)')
 LED = re.compile(r'in the end it is in the old place,'
                  r' where the route of producer (\d+) leads still')
+UNLED = re.compile(r'in the end the route in force of producer (\d+) leads to the old place still')
 EARLY = re.compile(r'in the end it is in the old place, since line (\d+) takes its word too early')
 LEFT = re.compile(r'in the end (threshold|delivery) is left in the old place for its next owner')
 MISPLACED = re.compile(r'in the end (threshold|delivery) is not where it has to be, as it was')
@@ -374,10 +402,13 @@ def comes_so(machine: Machine, plan: list[Step], first_line: int, rule: str,
     in_old, in_new = what in machine.old[bank], what in machine.new[bank]
     last = max((at for at, step in enumerate(plan) if empties(step, bank, what[0])), default=None)
     of_old = rule == 'routes' and bank == 'pending' or rule == 'words' and bank == 'enabled'
-    led, early, left, misplaced = (form.fullmatch(said) for form in (LED, EARLY, LEFT, MISPLACED))
+    forms = (LED, UNLED, EARLY, LEFT, MISPLACED)
+    led, unled, early, left, misplaced = (form.fullmatch(said) for form in forms)
     if led:
         return (of_old and in_old and producer is not None and int(led[1]) == producer
                 and machine.force[producer] == 'old')
+    if unled:
+        return rule == 'routes' and not in_old and machine.force[int(unled[1])] == 'old'
     if early:
         return of_old and in_old and last is not None and int(early[1]) == first_line + last
     if left:
@@ -542,9 +573,8 @@ def main() -> int:
         for (setting, plan), (verdict, shown) in zip(plans, verdicts(program, plans), strict=True):
             bad = has_bad_run(setting, plan)
             key = (verdict, 'a bad run' if bad else 'no bad run', shown)
-            if (setting.memory and setting.heeds
-                    and key == ('refused notice', 'no bad run', 'none found')):
-                key = ('refused notice', 'no bad run, with numbers that are heeded', 'none found')
+            if setting.memory and key == ('refused notice', 'no bad run', 'none found'):
+                key = (verdict, 'no bad run' + where_more_is_asked(setting, plan), shown)
             tally[key] = tally.get(key, 0) + 1
             if not is_right(key):
                 print(key, setting.lines(), plan)
@@ -553,13 +583,23 @@ def main() -> int:
     return 0 if all(map(is_right, tally)) else 1
 
 
+def where_more_is_asked(setting: Setting, plan: list[Step]) -> str:
+    """Says why the rule on notices may refuse a plan that tells its host; nothing if it may not."""
+    if setting.heeds:
+        return ', with numbers that are heeded'
+    machine = Machine(setting, (), ())
+    run(machine, plan, [])
+    return ', with all paused in the end' if all(machine.paused) else ''
+
+
 def is_right(key: tuple[str, str, str]) -> bool:
     """Whether a verdict, what this machine found, and what was shown agree."""
     verdict, found, shown = key
     if verdict == 'accepted':
         return (found, shown) == ('no bad run', 'none shown')
     if verdict == 'refused notice':
-        # Where numbers are heeded the rule on notices asks for more than that the host is told; and
-        # a run that is shown may begin with other numbers than those that are tried here.
+        # Where numbers are heeded, or all are paused in the end, the rule on notices asks for more
+        # than that the host is told; and a run that is shown may begin with other numbers than
+        # those that are tried here.
         return shown == 'shown' or (found.startswith('no bad run, with') and shown == 'none found')
     return verdict.startswith('refused') and (found, shown) == ('a bad run', 'shown')

@@ -12,6 +12,9 @@ returns-clause-none c = ap (λ rules. length rules) c.each_rule_is_needed.ensure
 pub returns-clause-freeing_early : goal.returns-clause-freeing_early
 returns-clause-freeing_early c = ap (λ rules. length rules) c.each_rule_is_needed.ensures.freeing_early
 
+pub returns-clause-freeing_resumed : goal.returns-clause-freeing_resumed
+returns-clause-freeing_resumed c = ap (λ rules. length rules) c.each_rule_is_needed.ensures.freeing_resumed
+
 pub returns-clause-routes : goal.returns-clause-routes
 returns-clause-routes c = each_breaks rules.Routes (plainly true) break_routes c.each_rule_is_needed.ensures.routes
 
