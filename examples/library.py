@@ -40,6 +40,39 @@ class Model:
             raise MemoryError if code == 1 else ValueError(code)
         return answer.raw[:written.value]
 
+    def text(self, text):
+        """The code of the answer to a line, and the answer."""
+        answer, written = ctypes.create_string_buffer(ANSWER), ctypes.c_size_t()
+        code = self.calls.aia_text(ctypes.byref(self.handle), text, ctypes.c_size_t(len(text)),
+                                   answer, ctypes.c_size_t(ANSWER), ctypes.byref(written))
+        return code, answer.raw[:written.value]
+
+    def word(self, code):
+        """The word of a code, "" where it has none."""
+        name, written = ctypes.create_string_buffer(ANSWER), ctypes.c_size_t()
+        self.calls.aia_code_name(ctypes.c_int32(code), name, ctypes.c_size_t(ANSWER),
+                                 ctypes.byref(written))
+        return name.raw[:written.value].decode()
+
+    def reset(self):
+        """The code of a reset: there is no machine then."""
+        return self.calls.aia_reset(ctypes.byref(self.handle))
+
+    def signals(self, hart):
+        """The code, the pins and `hgeip` of a hart."""
+        pins, hgeip = ctypes.c_uint32(), ctypes.c_uint64()
+        code = self.calls.aia_signals(ctypes.byref(self.handle), ctypes.c_uint64(hart),
+                                      ctypes.byref(pins), ctypes.byref(hgeip))
+        return code, pins.value, hgeip.value
+
+    def entry(self, first, second):
+        """The code of `entry FIRST SECOND`, and the entry's kind and numbers."""
+        kind, numbers = ctypes.c_uint32(), [ctypes.c_uint64() for _ in range(3)]
+        code = self.calls.aia_entry(ctypes.byref(self.handle), ctypes.c_uint64(first),
+                                    ctypes.c_uint64(second), ctypes.byref(kind),
+                                    *map(ctypes.byref, numbers))
+        return code, kind.value, [number.value for number in numbers]
+
     def store(self, addr, value):
         """The code of `st ADDR VALUE`."""
         return self.calls.aia_store(ctypes.byref(self.handle), ctypes.c_uint64(addr),
@@ -76,6 +109,10 @@ def answer(library, script):
         print(model.store(0x28000000, 5), model.load(0x28000000))  # nomachine is 16
         model.line(b"machine 1 0 63 8")
         print(model.store(0x0C000000, 0x100), model.load(0x0C000000))
+        code, answer = model.text(b"pins 1")
+        print(code, model.word(code), answer.decode().strip())
+        print(model.signals(0), model.entry(0x7, 0))  # basic mode, of page 0
+        print(model.reset(), model.text(b"pins 0")[0], model.word(16))
 
 
 if __name__ == "__main__":

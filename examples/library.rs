@@ -22,6 +22,22 @@ mod ffi {
             room: usize,
             written: *mut usize,
         ) -> i32;
+        pub fn aia_text(
+            handle: *mut *mut Aia,
+            text: *const u8,
+            length: usize,
+            answer: *mut u8,
+            room: usize,
+            written: *mut usize,
+        ) -> i32;
+        pub fn aia_code_name(code: i32, name: *mut u8, room: usize, written: *mut usize) -> i32;
+        pub fn aia_reset(handle: *mut *mut Aia) -> i32;
+        pub fn aia_signals(
+            handle: *mut *mut Aia,
+            hart: u64,
+            pins: *mut u32,
+            hgeip: *mut u64,
+        ) -> i32;
         pub fn aia_store(handle: *mut *mut Aia, addr: u64, value: u32) -> i32;
     }
 }
@@ -59,10 +75,50 @@ impl Model {
         }
     }
 
+    /// Answers a line; `Err` has the code of the answer, where that is no value.
+    pub fn text(&mut self, text: &str) -> Result<String, i32> {
+        let (mut answer, mut written) = ([0; 64], 0);
+        let code = unsafe {
+            ffi::aia_text(
+                &mut self.handle,
+                text.as_ptr(),
+                text.len(),
+                answer.as_mut_ptr(),
+                answer.len(),
+                &mut written,
+            )
+        };
+        match code {
+            0 => Ok(String::from_utf8_lossy(&answer[..written]).into_owned()),
+            _ => Err(code),
+        }
+    }
+
+    /// Makes the model as new, with no machine.
+    pub fn reset(&mut self) -> i32 {
+        unsafe { ffi::aia_reset(&mut self.handle) }
+    }
+
+    /// Gives the pins of a hart, and its `hgeip`; `Err` has the code.
+    pub fn signals(&mut self, hart: u64) -> Result<(u32, u64), i32> {
+        let (mut pins, mut hgeip) = (0, 0);
+        match unsafe { ffi::aia_signals(&mut self.handle, hart, &mut pins, &mut hgeip) } {
+            0 => Ok((pins, hgeip)),
+            code => Err(code),
+        }
+    }
+
     /// Stores 32 bits at an address; the code of `st`.
     pub fn store(&mut self, addr: u64, value: u32) -> i32 {
         unsafe { ffi::aia_store(&mut self.handle, addr, value) }
     }
+}
+
+/// Gives the word of a code from 16 on.
+pub fn code_name(code: i32) -> Option<String> {
+    let (mut name, mut written) = ([0; 64], 0);
+    let found = unsafe { ffi::aia_code_name(code, name.as_mut_ptr(), name.len(), &mut written) };
+    (found == 0).then(|| String::from_utf8_lossy(&name[..written]).into_owned())
 }
 
 impl Drop for Model {
@@ -84,6 +140,13 @@ fn main() {
         print!("{}", model.line(line).expect("a code"));
     }
     println!("{}", model.store(0x2800_0000, 5));
-    let thread = std::thread::spawn(move || model.line("h 0 csrrw stopei 0"));
-    print!("{}", thread.join().expect("a thread").expect("a code"));
+    println!("{:?} {:?}", model.signals(0), model.signals(1));
+    println!("{:?} {:?}", model.text("pins 1"), code_name(32));
+    let thread = std::thread::spawn(move || {
+        let claimed = model.line("h 0 csrrw stopei 0").expect("a code");
+        (claimed, model.reset(), model.text("pins 0"))
+    });
+    let (claimed, reset, none) = thread.join().expect("a thread");
+    print!("{claimed}");
+    println!("{reset} {none:?}");
 }

@@ -55,18 +55,18 @@ struct aia;
 /* What a call says. Below 16 it says how the call went: after codes 1 to 5 nothing changed, and no
  * answer was written, but by aia_replay, which did the lines that it says were taken. From 16 on,
  * and where it is AIA_DONE, it is the answer to the line. Of two that fit, AIA_NO_ROOM of
- * aia_line and AIA_NO_LINE come before AIA_CLOSED. */
+ * aia_line and aia_text and AIA_NO_LINE come before AIA_CLOSED. */
 enum aia_code {
     AIA_DONE = 0,       /* the line did what it says, or the call did */
     AIA_NO_MEMORY = 1,  /* there is no memory */
     AIA_CLOSED = 2,     /* the handle is closed */
     AIA_OPEN = 3,       /* the handle is open already */
     AIA_NO_ROOM = 4,    /* there is less room than AIA_ANSWER bytes for an answer */
-    AIA_NO_LINE = 5,    /* the numbers name no CSR, or no instruction */
+    AIA_NO_LINE = 5,    /* the numbers name no CSR, no instruction, no part or no code */
     AIA_NO_MACHINE = 16, /* nomachine */
     AIA_AGAIN = 17,      /* again */
     AIA_MOVING = 18,     /* moving */
-    AIA_BAD = 19,        /* bad: of texts alone, so that no call answers it */
+    AIA_BAD = 19,        /* bad: of texts alone, so that only aia_text answers it */
     AIA_RANGE = 32,      /* range */
     AIA_FULL = 33,       /* full */
     AIA_BUSY = 34,       /* busy */
@@ -106,10 +106,31 @@ enum aia_csr_address {
     AIA_SIE = 0x104
 };
 
+/* Parts of an image, with the numbers of each in their order: no part is 0. */
+enum aia_part_kind {
+    AIA_PART_IMAGE = 1,  /* image: version, N, D, T, S */
+    AIA_PART_MAJORS = 2, /* majors: J, E */
+    AIA_PART_PRIO = 3,   /* prio: P, V */
+    AIA_PART_WORD = 4    /* word: W, P, E */
+};
+
+/* What entries say, with the numbers of each in their order: none is 0. */
+enum aia_entry_kind {
+    AIA_ENTRY_BASIC = 1,        /* basic: P */
+    AIA_ENTRY_MRIF = 2,         /* mrif: A, P, I */
+    AIA_ENTRY_NOT_VALID = 3,    /* notvalid */
+    AIA_ENTRY_CUSTOM = 4,       /* custom */
+    AIA_ENTRY_MISCONFIGURED = 5 /* misconfigured */
+};
+
 /* ---- the handle */
 
 /* Opens a closed handle; its model has no machine. AIA_DONE, AIA_NO_MEMORY or AIA_OPEN. */
 int32_t aia_open(struct aia **handle);
+
+/* Has an open handle's model be as after aia_open, with no machine: what it knew is forgotten. It
+ * takes no memory. AIA_DONE or AIA_CLOSED. */
+int32_t aia_reset(struct aia **handle);
 
 /* Closes a handle and frees its model; a closed one stays closed. */
 void aia_close(struct aia **handle);
@@ -122,6 +143,19 @@ void aia_close(struct aia **handle);
  * AIA_DONE whatever the answer says, AIA_NO_MEMORY, AIA_CLOSED or AIA_NO_ROOM. */
 int32_t aia_line(struct aia **handle, const uint8_t *text, size_t length, uint8_t *answer,
                  size_t room, size_t *written);
+
+/* Answers one line as aia_line does, and writes the same bytes, but where aia_line says AIA_DONE
+ * whatever the answer is, this says the code of the answer, so that nobody reads words: AIA_BAD,
+ * AIA_RANGE and the others from 16 on, and AIA_DONE of ok, done, a value, an empty line or a
+ * comment. Or AIA_NO_MEMORY, AIA_CLOSED or AIA_NO_ROOM: with these alone no line was answered. */
+int32_t aia_text(struct aia **handle, const uint8_t *text, size_t length, uint8_t *answer,
+                 size_t room, size_t *written);
+
+/* Writes the word that answers have for a code from 16 on, `range` of AIA_RANGE, with no LF and no
+ * 0 behind it, and how many bytes that are: 0 after any code but AIA_DONE. What is behind them
+ * stays as it was. AIA_DONE; AIA_NO_ROOM with less room than AIA_ANSWER bytes; AIA_NO_LINE of a
+ * number that is no such code. */
+int32_t aia_code_name(int32_t code, uint8_t *name, size_t room, size_t *written);
 
 /* Answers the lines of a script, of any length. Says how many bytes of it were taken: whole lines,
  * or all of it, where a last line may have no LF; and how many bytes of answers were written. What
@@ -151,6 +185,9 @@ int32_t aia_load(struct aia **handle, uint64_t addr, uint32_t *value);
 int32_t aia_pins(struct aia **handle, uint64_t hart, uint32_t *pins);
 /* h H hgeip */
 int32_t aia_hgeip(struct aia **handle, uint64_t hart, uint64_t *value);
+/* pins H, and then h H hgeip, as aia_pins and aia_hgeip. The code is the first of theirs that is
+ * not AIA_DONE. */
+int32_t aia_signals(struct aia **handle, uint64_t hart, uint32_t *pins, uint64_t *hgeip);
 /* m H csrr CSR, h H csrr CSR and their kin. AIA_NO_LINE where a number names none. */
 int32_t aia_csr(struct aia **handle, uint64_t hart, uint32_t csr, uint32_t op, uint64_t operand,
                 uint64_t *value);
@@ -177,6 +214,22 @@ int32_t aia_inject(struct aia **handle, uint64_t vm, uint64_t vcpu, uint64_t bit
 int32_t aia_hvictl(struct aia **handle, uint64_t vm, uint64_t vcpu, uint64_t value);
 /* hviprio VM C V */
 int32_t aia_hviprio(struct aia **handle, uint64_t vm, uint64_t vcpu, uint64_t value);
+
+/* save VM C K: the part's kind and numbers, and 0 behind the last. All are 0 where the line is
+ * refused. */
+int32_t aia_save(struct aia **handle, uint64_t vm, uint64_t vcpu, uint64_t k, uint32_t *kind,
+                 uint64_t *first, uint64_t *second, uint64_t *third, uint64_t *fourth,
+                 uint64_t *fifth);
+/* load VM C PART: by the part's kind and numbers; those behind its last are not looked at.
+ * AIA_NO_LINE where a number is no kind, where version, N or T of an image has more than 32 bits,
+ * or where D is neither 0 nor 1. */
+int32_t aia_load_part(struct aia **handle, uint64_t vm, uint64_t vcpu, uint32_t kind,
+                      uint64_t first, uint64_t second, uint64_t third, uint64_t fourth,
+                      uint64_t fifth);
+/* entry W0 W1: the entry's kind and numbers, and 0 behind the last. All are 0 where the line is
+ * refused. */
+int32_t aia_entry(struct aia **handle, uint64_t w0, uint64_t w1, uint32_t *kind, uint64_t *first,
+                  uint64_t *second, uint64_t *third);
 
 /* arrive VM C H */
 int32_t aia_arrive(struct aia **handle, uint64_t vm, uint64_t vcpu, uint64_t hart);

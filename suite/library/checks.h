@@ -37,6 +37,19 @@ static inline int32_t say(struct aia **handle, const char *text, size_t room, st
     return code;
 }
 
+/* The same by aia_text. */
+static inline int32_t say_code(struct aia **handle, const char *text, size_t room,
+                               struct said *said)
+{
+    memset(said->bytes, UNTOUCHED, sizeof said->bytes);
+    said->length = 12345;
+    int32_t code = aia_text(handle, (const uint8_t *)text, strlen(text), said->bytes, room,
+                            &said->length);
+    for (size_t at = said->length; at < sizeof said->bytes; at++)
+        CHECK(said->bytes[at] == UNTOUCHED);
+    return code;
+}
+
 /* Tells whether a text is answered with these words and an LF; "" of none. */
 static inline bool answers(struct aia **handle, const char *text, const char *words)
 {

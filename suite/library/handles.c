@@ -6,6 +6,20 @@
 
 #include <pthread.h>
 
+/* Parts and entries of a closed handle. */
+static void closed_parts(struct aia **handle)
+{
+    uint32_t kind = 7;
+    uint64_t n[5] = {7, 7, 7, 7, 7};
+    CHECK(aia_save(handle, 0, 0, 0, &kind, &n[0], &n[1], &n[2], &n[3], &n[4]) == AIA_CLOSED);
+    CHECK(kind == 0 && !n[0] && !n[1] && !n[2] && !n[3] && !n[4]);
+    kind = n[0] = n[1] = n[2] = 7;
+    CHECK(aia_entry(handle, 1, 0, &kind, &n[0], &n[1], &n[2]) == AIA_CLOSED);
+    CHECK(kind == 0 && !n[0] && !n[1] && !n[2]);
+    CHECK(aia_load_part(handle, 0, 0, AIA_PART_PRIO, 0, 0, 0, 0, 0) == AIA_CLOSED);
+    CHECK(aia_load_part(handle, 0, 0, 5, 0, 0, 0, 0, 0) == AIA_NO_LINE);
+}
+
 /* A closed handle answers that it is closed, and stays so. */
 static void closed_ones(void)
 {
@@ -16,12 +30,18 @@ static void closed_ones(void)
     size_t taken = 7, written = 7;
     uint8_t room[AIA_ANSWER];
     CHECK(say(&handle, "machine 1 1 63 1", AIA_ANSWER, &said) == AIA_CLOSED && said.length == 0);
+    CHECK(say_code(&handle, "machine 1 1 63 1", AIA_ANSWER, &said) == AIA_CLOSED);
+    CHECK(say_code(&handle, "ld 0", AIA_ANSWER - 1, &said) == AIA_NO_ROOM && said.length == 0);
+    CHECK(aia_reset(&handle) == AIA_CLOSED && handle == NULL);
     CHECK(aia_replay(&handle, room, 1, &taken, room + 1, 1, &written) == AIA_CLOSED);
     CHECK(taken == 0 && written == 0);
     CHECK(aia_machine(&handle, 1, 1, 63, 1) == AIA_CLOSED);
     CHECK(aia_store(&handle, 0, 0) == AIA_CLOSED && aia_step(&handle, 0, 0) == AIA_CLOSED);
     CHECK(aia_load(&handle, 0, &narrow) == AIA_CLOSED && narrow == 0);
     CHECK(aia_csr(&handle, 0, AIA_STOPEI, AIA_CSRR, 0, &wide) == AIA_CLOSED && wide == 0);
+    wide = narrow = 7;
+    CHECK(aia_signals(&handle, 0, &narrow, &wide) == AIA_CLOSED && narrow == 0 && wide == 0);
+    closed_parts(&handle);
     CHECK(handle == NULL);
     aia_close(&handle);
     CHECK(handle == NULL);
@@ -37,6 +57,96 @@ static void room_for_answers(struct aia **handle)
     CHECK(answers(handle, "machine 1 1 63 1", "again"));
     CHECK(answers(handle, "# a comment", "") && answers(handle, "", ""));
     CHECK(answers(handle, "nonsense", "bad") && answers(handle, "ld 0 ", "bad"));
+}
+
+/* Texts that say the codes of their answers, with the bytes of aia_line. */
+static void codes_of_texts(struct aia **handle)
+{
+    static const struct {
+        const char *text, *answer;
+        int32_t code;
+    } rows[] = {
+        {"machine 1 1 63 1", "ok\n", AIA_DONE},       {"machine 1 1 63 1", "again\n", AIA_AGAIN},
+        {"pins 1", "range\n", AIA_RANGE},             {"st 0x1 1", "fault\n", AIA_FAULT},
+        {"nonsense", "bad\n", AIA_BAD},               {"# a comment", "", AIA_DONE},
+        {"", "", AIA_DONE},                           {"pins 0", "pins 0 0 0 0\n", AIA_DONE},
+        {"h 0 csrr stopei", "0x0000000000000000\n", AIA_DONE},
+        {"h 0 csrr sireg", "illegal\n", AIA_ILLEGAL}, {"step 0 0", "range\n", AIA_RANGE},
+    };
+    struct said said;
+    CHECK(say_code(handle, "ld 0", AIA_ANSWER, &said) == AIA_NO_MACHINE && said.length == 10);
+    CHECK(say_code(handle, "machine 1 1 63 1", AIA_ANSWER - 1, &said) == AIA_NO_ROOM);
+    CHECK(said.length == 0 && answers(handle, "ld 0", "nomachine"));
+    for (size_t at = 0; at < sizeof rows / sizeof *rows; at++) {
+        CHECK(say_code(handle, rows[at].text, AIA_ANSWER, &said) == rows[at].code);
+        CHECK(said.length == strlen(rows[at].answer));
+        CHECK(memcmp(said.bytes, rows[at].answer, said.length) == 0);
+    }
+}
+
+/* Numbers that are of no part, and those that are of one. */
+static void parts(struct aia **handle)
+{
+    const uint64_t wide = (uint64_t)1 << 32;
+    const uint32_t image = AIA_PART_IMAGE;
+    uint32_t kind = 7;
+    uint64_t n[5];
+    CHECK(aia_vm(handle, 1, 0x8, 0) == AIA_DONE);
+    CHECK(aia_load_part(handle, 0, 0, 0, 0, 0, 0, 0, 0) == AIA_NO_LINE);
+    CHECK(aia_load_part(handle, 0, 0, 5, 0, 0, 0, 0, 0) == AIA_NO_LINE);
+    CHECK(aia_load_part(handle, 0, 0, image, wide + 1, 63, 0, 0, 0x70) == AIA_NO_LINE);
+    CHECK(aia_load_part(handle, 0, 0, image, 1, wide + 63, 0, 0, 0x70) == AIA_NO_LINE);
+    CHECK(aia_load_part(handle, 0, 0, image, 1, 63, 2, 0, 0x70) == AIA_NO_LINE);
+    CHECK(aia_load_part(handle, 0, 0, image, 1, 63, 0, wide, 0x70) == AIA_NO_LINE);
+    CHECK(aia_load_part(handle, 0, 0, image, 1, 63, 1, 5, 0x72) == AIA_DONE);
+    CHECK(aia_save(handle, 0, 0, 0, &kind, &n[0], &n[1], &n[2], &n[3], &n[4]) == AIA_DONE);
+    CHECK(kind == image && n[0] == 1 && n[1] == 63 && n[2] == 1 && n[3] == 5 && n[4] == 0x72);
+    CHECK(aia_load_part(handle, 0, 1, AIA_PART_PRIO, 0, 0, 9, 9, 9) == AIA_RANGE);
+}
+
+/* Both signals of a hart: the supervisor file's, and that of a guest file. */
+static void signals(void)
+{
+    struct aia *handle = NULL;
+    uint32_t pins = 7;
+    uint64_t hgeip = 7;
+    CHECK(aia_open(&handle) == AIA_DONE);
+    CHECK(aia_signals(&handle, 0, &pins, &hgeip) == AIA_NO_MACHINE && pins == 0 && hgeip == 0);
+    CHECK(aia_machine(&handle, 1, 2, 63, 1) == AIA_DONE);
+    CHECK(aia_signals(&handle, 0, &pins, &hgeip) == AIA_DONE && pins == 0 && hgeip == 0);
+    CHECK(answers(&handle, "h 0 csrrw siselect 0x70", "0x0000000000000000"));
+    CHECK(answers(&handle, "h 0 csrrw sireg 1", "0x0000000000000000"));
+    CHECK(answers(&handle, "h 0 csrrw siselect 0xc0", "0x0000000000000070"));
+    CHECK(answers(&handle, "h 0 csrrw sireg 0x20", "0x0000000000000000"));
+    CHECK(aia_store(&handle, 0x28000000, 5) == AIA_DONE);
+    CHECK(aia_signals(&handle, 0, &pins, &hgeip) == AIA_DONE && pins == 8 && hgeip == 0);
+    CHECK(answers(&handle, "vm 1 0x8 0", "ok") && answers(&handle, "arrive 0 0 0", "ok"));
+    CHECK(answers(&handle, "g 0 0 csrrw siselect 0x70", "0x0000000000000000"));
+    CHECK(answers(&handle, "g 0 0 csrrw sireg 1", "0x0000000000000000"));
+    CHECK(answers(&handle, "g 0 0 csrrw siselect 0xc0", "0x0000000000000070"));
+    CHECK(answers(&handle, "g 0 0 csrrw sireg 0x8", "0x0000000000000000"));
+    CHECK(answers(&handle, "g 0 0 ipi 0 3", "ok"));
+    CHECK(aia_signals(&handle, 0, &pins, &hgeip) == AIA_DONE && pins == 8 && hgeip == 2);
+    CHECK(aia_signals(&handle, 1, &pins, &hgeip) == AIA_RANGE && pins == 0 && hgeip == 0);
+    aia_close(&handle);
+}
+
+/* A handle that is reset has no machine, and may make another one, time and again. */
+static void resets(void)
+{
+    struct aia *handle = NULL, *before;
+    CHECK(aia_open(&handle) == AIA_DONE && aia_reset(&handle) == AIA_DONE);
+    before = handle;
+    for (uint64_t harts = 1; harts <= 4; harts++) {
+        CHECK(answers(&handle, "pins 0", "nomachine"));
+        CHECK(aia_machine(&handle, harts, 1, 63, 1) == AIA_DONE);
+        CHECK(aia_store(&handle, 0x28000000, 5) == AIA_DONE);
+        CHECK(aia_machine(&handle, harts, 1, 63, 1) == AIA_AGAIN);
+        CHECK(answers(&handle, "h 0 csrrw siselect 0x80", "0x0000000000000000"));
+        CHECK(answers(&handle, "h 0 csrr sireg", "0x0000000000000020"));
+        CHECK(aia_reset(&handle) == AIA_DONE && handle == before);
+    }
+    aia_close(&handle);
 }
 
 /* A script is taken up to the line for whose answer there may be no room. */
@@ -82,7 +192,12 @@ static void edges(void)
     room_for_answers(&handle);
     scripts(&handle);
     numbers(&handle);
+    resets();
     CHECK(aia_open(&other) == AIA_DONE && other != handle);
+    codes_of_texts(&other);
+    parts(&other);
+    signals();
+    CHECK(aia_reset(&other) == AIA_DONE);
     CHECK(answers(&other, "ld 0", "nomachine"));
     handle = NULL; /* moved is the handle from here on */
     CHECK(answers(&moved, "machine 1 1 63 1", "again"));
@@ -93,6 +208,35 @@ static void edges(void)
     CHECK(answers(&moved, "ld 0", "") == false);
 }
 
+/* The word of each code from 16 on, as docs/REFERENCE.md has it, and of no other number. */
+static void names(void)
+{
+    static const char *const words[] = {
+        [AIA_NO_MACHINE] = "nomachine", [AIA_AGAIN] = "again",     [AIA_MOVING] = "moving",
+        [AIA_BAD] = "bad",              [AIA_RANGE] = "range",     [AIA_FULL] = "full",
+        [AIA_BUSY] = "busy",            [AIA_HOME] = "home",       [AIA_ENTERED] = "entered",
+        [AIA_PARKED] = "parked",        [AIA_NO_FILE] = "nofile",  [AIA_PASSED] = "passed",
+        [AIA_UNREADY] = "unready",      [AIA_IDLE] = "idle",       [AIA_AWAY] = "away",
+        [AIA_ILLEGAL] = "illegal",      [AIA_VIRTUAL] = "virtual", [AIA_FAULT] = "fault",
+        [AIA_GUARDED] = "guarded",      [AIA_OTHER] = "other",     [AIA_NOT_VALID] = "notvalid",
+        [AIA_G_FAULT] = "gfault",
+    };
+    static const int32_t none[] = {INT32_MIN, -1, 0, 1, 15, 20, 31, 50, INT32_MAX};
+    const int32_t count = sizeof words / sizeof *words;
+    uint8_t name[AIA_ANSWER + 1];
+    size_t written;
+    for (int32_t code = -100; code < 200; code++) {
+        const char *word = code >= 0 && code < count ? words[code] : NULL;
+        memset(name, UNTOUCHED, sizeof name);
+        CHECK(aia_code_name(code, name, AIA_ANSWER, &written) == (word ? AIA_DONE : AIA_NO_LINE));
+        CHECK(written == (word ? strlen(word) : 0) && name[written] == UNTOUCHED);
+        CHECK(!word || memcmp(name, word, written) == 0);
+        CHECK(aia_code_name(code, name, AIA_ANSWER - 1, &written) == AIA_NO_ROOM && written == 0);
+    }
+    for (size_t at = 0; at < sizeof none / sizeof *none; at++)
+        CHECK(aia_code_name(none[at], name, AIA_ANSWER, &written) == AIA_NO_LINE && written == 0);
+}
+
 /* Each code from AIA_NO_MACHINE on but AIA_BAD, which texts alone are answered. AIA_NO_MEMORY is in
  * no_memory.c, and the others below 16 are among the edges. */
 static void codes(void)
@@ -101,6 +245,7 @@ static void codes(void)
     uint64_t wide;
     uint32_t narrow;
     int steps = 0;
+    names();
     CHECK(aia_open(&handle) == AIA_DONE);
     CHECK(aia_load(&handle, 0, &narrow) == AIA_NO_MACHINE && narrow == 0);
     CHECK(aia_machine(&handle, 5, 0, 63, 1) == AIA_RANGE);

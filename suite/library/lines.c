@@ -1,5 +1,6 @@
 /* lines HOW [ROOM]: answers the script on standard input as `aia replay` does, by the library. HOW
- * is `texts`, each line by aia_line; `script`, all of it by aia_replay, with ROOM bytes for answers
+ * is `texts`, each line by aia_line; `codes`, each line by aia_text, whose code is held to the word
+ * that is answered; `script`, all of it by aia_replay, with ROOM bytes for answers
  * at a time; or `calls`, each line that has a call without text by that call, its answer spelled
  * here again, and the others by aia_line. At the end it tells on standard error how many lines each
  * took. */
@@ -7,7 +8,7 @@
 
 #include <inttypes.h>
 
-enum { MOST_WORDS = 8, LONGEST_LINE = 128 };
+enum { MOST_WORDS = 9, LONGEST_LINE = 128 };
 
 static long by_call, by_text;
 
@@ -55,6 +56,7 @@ static int words_of(char *line, char *words[MOST_WORDS])
 /* By the header's names, so that each of them is held to the word that it stands for. */
 static const char *const words_of_codes[] = {
     [AIA_NO_MACHINE] = "nomachine", [AIA_AGAIN] = "again",     [AIA_MOVING] = "moving",
+    [AIA_BAD] = "bad",
     [AIA_RANGE] = "range",          [AIA_FULL] = "full",       [AIA_BUSY] = "busy",
     [AIA_HOME] = "home",            [AIA_ENTERED] = "entered", [AIA_PARKED] = "parked",
     [AIA_NO_FILE] = "nofile",       [AIA_PASSED] = "passed",   [AIA_UNREADY] = "unready",
@@ -91,6 +93,53 @@ static void spell_pins(int32_t code, uint32_t pins)
     spell_code(code, text);
 }
 
+/* Sees that the numbers behind the last are 0, and all of a line that is refused. */
+static void ends(int32_t code, uint32_t kind, const uint64_t *numbers, int count, int room)
+{
+    CHECK((code == AIA_DONE) == (kind != 0));
+    for (int at = code == AIA_DONE ? count : 0; at < room; at++)
+        CHECK(numbers[at] == 0);
+}
+
+static void spell_part(int32_t code, uint32_t kind, const uint64_t n[5])
+{
+    static const int counts[] = {
+        [AIA_PART_IMAGE] = 5, [AIA_PART_MAJORS] = 2, [AIA_PART_PRIO] = 2, [AIA_PART_WORD] = 3};
+    char text[AIA_ANSWER] = "";
+    CHECK(kind < sizeof counts / sizeof *counts);
+    if (kind == AIA_PART_IMAGE)
+        snprintf(text, sizeof text, "image %" PRIu64 " %" PRIu64 " %" PRIu64 " %" PRIu64
+                 " 0x%016" PRIx64, n[0], n[1], n[2], n[3], n[4]);
+    else if (kind == AIA_PART_WORD)
+        snprintf(text, sizeof text, "word %" PRIu64 " 0x%016" PRIx64 " 0x%016" PRIx64, n[0], n[1],
+                 n[2]);
+    else
+        snprintf(text, sizeof text, "%s 0x%016" PRIx64 " 0x%016" PRIx64,
+                 kind == AIA_PART_MAJORS ? "majors" : "prio", n[0], n[1]);
+    ends(code, kind, n, counts[kind], 5);
+    spell_code(code, text);
+}
+
+static void spell_entry(int32_t code, uint32_t kind, const uint64_t n[3])
+{
+    static const int counts[] = {[AIA_ENTRY_BASIC] = 1, [AIA_ENTRY_MRIF] = 3,
+                                 [AIA_ENTRY_MISCONFIGURED] = 0};
+    static const char *const words[] = {[AIA_ENTRY_NOT_VALID] = "notvalid",
+                                        [AIA_ENTRY_CUSTOM] = "custom",
+                                        [AIA_ENTRY_MISCONFIGURED] = "misconfigured"};
+    char text[AIA_ANSWER] = "";
+    CHECK(kind < sizeof counts / sizeof *counts);
+    if (kind == AIA_ENTRY_BASIC)
+        snprintf(text, sizeof text, "basic 0x%016" PRIx64, n[0]);
+    else if (kind == AIA_ENTRY_MRIF)
+        snprintf(text, sizeof text, "mrif 0x%016" PRIx64 " 0x%016" PRIx64 " %" PRIu64, n[0], n[1],
+                 n[2]);
+    else if (kind != 0)
+        snprintf(text, sizeof text, "%s", words[kind]);
+    ends(code, kind, n, counts[kind], 3);
+    spell_code(code, text);
+}
+
 /* ---- forms of lines that read no CSR: a row each */
 
 typedef int32_t (*act)(struct aia **handle, const uint64_t *n);
@@ -118,6 +167,26 @@ static int32_t inject(struct aia **h, const uint64_t *n) { return aia_inject(h, 
 static int32_t hvictl(struct aia **h, const uint64_t *n) { return aia_hvictl(h, n[0], n[1], n[2]); }
 static int32_t hviprio(struct aia **h, const uint64_t *n) { return aia_hviprio(h, n[0], n[1], n[2]); }
 
+static int32_t load_image(struct aia **h, const uint64_t *n)
+{
+    return aia_load_part(h, n[0], n[1], AIA_PART_IMAGE, n[2], n[3], n[4], n[5], n[6]);
+}
+
+static int32_t load_majors(struct aia **h, const uint64_t *n)
+{
+    return aia_load_part(h, n[0], n[1], AIA_PART_MAJORS, n[2], n[3], 7, 7, 7);
+}
+
+static int32_t load_prio(struct aia **h, const uint64_t *n)
+{
+    return aia_load_part(h, n[0], n[1], AIA_PART_PRIO, n[2], n[3], 7, 7, 7);
+}
+
+static int32_t load_word(struct aia **h, const uint64_t *n)
+{
+    return aia_load_part(h, n[0], n[1], AIA_PART_WORD, n[2], n[3], n[4], 7, 7);
+}
+
 /* A word stands for itself, but `N` for a number, `V` for one of 32 bits, `L` for 0 or 1. */
 static const struct {
     const char *words[MOST_WORDS];
@@ -143,6 +212,10 @@ static const struct {
     {{"step", "N", "N"}, step, "done"},
     {{"enter", "N", "N"}, enter, "ok"},
     {{"exit", "N", "N"}, leave_memory, "ok"},
+    {{"load", "N", "N", "image", "V", "V", "L", "V", "N"}, load_image, "ok"},
+    {{"load", "N", "N", "majors", "N", "N"}, load_majors, "ok"},
+    {{"load", "N", "N", "prio", "N", "N"}, load_prio, "ok"},
+    {{"load", "N", "N", "word", "N", "N", "N"}, load_word, "ok"},
     {{"inject", "N", "N", "N", "L"}, inject, "ok"},
     {{"hvictl", "N", "N", "N"}, hvictl, "ok"},
     {{"hviprio", "N", "N", "N"}, hviprio, "ok"},
@@ -249,6 +322,25 @@ static bool by_value(struct aia **handle, char **words, int count)
     return true;
 }
 
+static bool by_numbers(struct aia **handle, char **words, int count)
+{
+    static const char *const save[MOST_WORDS] = {"save", "N", "N", "N"};
+    static const char *const entry[MOST_WORDS] = {"entry", "N", "N"};
+    uint64_t asked[MOST_WORDS], n[5] = {7, 7, 7, 7, 7};
+    uint32_t kind = 7;
+    if (fits(save, words, count, asked)) {
+        int32_t code = aia_save(handle, asked[0], asked[1], asked[2], &kind, &n[0], &n[1], &n[2],
+                                &n[3], &n[4]);
+        spell_part(code, kind, n);
+    } else if (fits(entry, words, count, asked)) {
+        int32_t code = aia_entry(handle, asked[0], asked[1], &kind, &n[0], &n[1], &n[2]);
+        spell_entry(code, kind, n);
+    } else {
+        return by_value(handle, words, count);
+    }
+    return true;
+}
+
 static bool by_calls(struct aia **handle, const uint8_t *text, size_t length)
 {
     char line[LONGEST_LINE + 1], *words[MOST_WORDS];
@@ -266,10 +358,10 @@ static bool by_calls(struct aia **handle, const uint8_t *text, size_t length)
             return true;
         }
     }
-    return by_value(handle, words, count);
+    return by_numbers(handle, words, count);
 }
 
-/* ---- the three ways */
+/* ---- the four ways */
 
 static void each_line(struct aia **handle, const uint8_t *script, size_t length, bool calls)
 {
@@ -284,6 +376,34 @@ static void each_line(struct aia **handle, const uint8_t *script, size_t length,
             fwrite(answer, 1, written, stdout);
             by_text++;
         }
+        at += text + 1;
+    }
+}
+
+/* Gives the code of what was answered, by its word. */
+static int32_t code_of(const uint8_t *answer, size_t length)
+{
+    const int32_t count = sizeof words_of_codes / sizeof *words_of_codes;
+    for (int32_t code = 0; code < count; code++) {
+        const char *word = words_of_codes[code];
+        if (word && length == strlen(word) + 1 && memcmp(answer, word, length - 1) == 0)
+            return code;
+    }
+    return AIA_DONE;
+}
+
+static void each_code(struct aia **handle, const uint8_t *script, size_t length)
+{
+    uint8_t answer[AIA_ANSWER];
+    for (size_t at = 0; at < length;) {
+        const uint8_t *end = memchr(script + at, '\n', length - at);
+        size_t text = end ? (size_t)(end - script) - at : length - at, written;
+        int32_t code = aia_text(handle, script + at, text, answer, sizeof answer, &written);
+        /* `notvalid` is what an entry says too, which is a value */
+        bool is_entry = text > 6 && memcmp(script + at, "entry ", 6) == 0;
+        CHECK(code == code_of(answer, written) || (is_entry && code == AIA_DONE));
+        fwrite(answer, 1, written, stdout);
+        by_text++;
         at += text + 1;
     }
 }
@@ -331,8 +451,10 @@ int main(int argc, char **argv)
         whole_script(&handle, script, length, argc > 2 ? strtoul(argv[2], NULL, 10) : 4096);
     else if (strcmp(how, "texts") == 0 || strcmp(how, "calls") == 0)
         each_line(&handle, script, length, strcmp(how, "calls") == 0);
+    else if (strcmp(how, "codes") == 0)
+        each_code(&handle, script, length);
     else
-        CHECK(!"the first word is texts, script or calls");
+        CHECK(!"the first word is texts, codes, script or calls");
     aia_close(&handle);
     CHECK(handle == NULL);
     free(script);

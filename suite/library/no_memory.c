@@ -47,7 +47,7 @@ void __wrap_free(void *block)
     __real_free(block);
 }
 
-/* Makes the greatest machine by one of the three kinds of call. */
+/* Makes the greatest machine by one of the four kinds of call. */
 static int32_t make(struct aia **handle, int how)
 {
     const char *script = "# the greatest\nmachine 4 31 2047 1023\npins 0\n";
@@ -58,6 +58,8 @@ static int32_t make(struct aia **handle, int how)
         return aia_machine(handle, 4, 31, 2047, 1023);
     if (how == 1)
         return say(handle, "machine 4 31 2047 1023", AIA_ANSWER, &said);
+    if (how == 2)
+        return say_code(handle, "machine 4 31 2047 1023", AIA_ANSWER, &said);
     int32_t code = aia_replay(handle, (const uint8_t *)script, strlen(script), &taken, room,
                               sizeof room, &written);
     CHECK(code != AIA_NO_MEMORY || (taken == 15 && written == 0));
@@ -91,7 +93,7 @@ int main(int argc, char **argv)
     for (int at = 1; at < argc; at++)
         lines += ask_at_machines_alone(argv[at]);
     CHECK(argc == 1 || lines > 1000);
-    for (int how = 0; how < 3; how++) {
+    for (int how = 0; how < 4; how++) {
         for (long at = 0; fine <= how && at < 10000; at++) {
             struct aia *handle = NULL;
             left = at;
@@ -111,12 +113,15 @@ int main(int argc, char **argv)
                 CHECK(code == AIA_DONE);
                 fine++;
             }
+            left = 0;
+            CHECK(aia_reset(&handle) == AIA_DONE && handle && blocks == before);
+            CHECK(answers(&handle, "ld 0", "nomachine"));
             left = -1;
             aia_close(&handle);
             CHECK(!handle && !blocks);
         }
     }
-    CHECK(opens == 3 && fine == 3 && machines > 3);
+    CHECK(opens == 4 && fine == 4 && machines > 3);
     printf("%ld opens and %ld machines had no memory\n", opens, machines);
     return 0;
 }

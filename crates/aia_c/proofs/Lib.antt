@@ -3,3 +3,4 @@ pub mod ServingLemmas
 pub mod JoinedLemmas
 pub mod TextLemmas
 pub mod BlockValues
+pub mod NameLemmas

@@ -13,7 +13,7 @@ use Rattle.aia_replay.specs.Stands.{EngineState, StandsFor, ServesText, ReadsAsM
 use Rattle.aia_replay.proofs.CutLemmas.{texts_front}
 use Rattle.aia_replay.proofs.HeldLemmas.{one_text}
 use Rattle.aia_model.specs.declared.limits.TheConstants.{ANSWER_BYTES}
-use Rattle.aia_c.specs.Calls.{Gives, Answers, WantsMemory, IsCramped, Reads, Lines}
+use Rattle.aia_c.specs.Calls.{Gives, Answers, WantsMemory, IsCramped, Reads, Lines, ReadsCode, Texts}
 use Rattle.aia_c.proofs.JoinedLemmas.{one_line, answered_more, whole_again}
 
 -- ---- the first text of a script
@@ -155,3 +155,11 @@ few_room old new text bytes room code low is = record { cramped = λ few. is; re
 pub enough_room : (old new : Option EngineState) (text bytes : List ℕ) (room : ℕ) (code : ℤ) → ANSWER_BYTES ≤ room → Reads old new text bytes code
     → Lines old new text bytes room code
 enough_room old new text bytes room code high is = record { cramped = λ few. absurd (omega (arith, few, high)); reads = λ enough. is }
+
+pub few_room_code : (old new : Option EngineState) (text bytes : List ℕ) (room : ℕ) (code : ℤ) → room < ANSWER_BYTES → IsCramped old new bytes code
+    → Texts old new text bytes room code
+few_room_code old new text bytes room code low is = record { cramped = λ few. is; reads = λ enough. absurd (omega (arith, low, enough)) }
+
+pub enough_room_code : (old new : Option EngineState) (text bytes : List ℕ) (room : ℕ) (code : ℤ) → ANSWER_BYTES ≤ room
+    → ReadsCode old new text bytes code → Texts old new text bytes room code
+enough_room_code old new text bytes room code high is = record { cramped = λ few. absurd (omega (arith, few, high)); reads = λ enough. is }

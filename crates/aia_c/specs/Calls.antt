@@ -1,19 +1,21 @@
 -- What the calls answer and do. A handle is open, with an engine, or closed. Vocabulary.
 use Rattle.std.specs.Prelude.{◌≡◌, ◌⊎◌, ℕ, ◌<◌, ◌≤◌, ℤ, true, List, [], ◌∷◌, Option, Some, None, Result, Ok, Err}
+use Rattle.std.specs.List.{AllByRecursion}
 use Rattle.aia_model.specs.declared.line.Line.{Line}
+use Rattle.aia_model.specs.declared.line.Line.TheVariants.{Pins, Hgeip}
 use Rattle.aia_model.specs.declared.answer.Answer.{Answer}
 use Rattle.aia_model.specs.Event.{History}
 use Rattle.aia_model.specs.Text.{texts_of}
 use Rattle.aia_model.specs.Reading.{reading}
 use Rattle.aia_model.specs.Refusal.{makes_machine}
-use Rattle.aia_model.specs.Answer.{answer, after}
+use Rattle.aia_model.specs.Answer.{answer, answer_word, after}
 use Rattle.aia_model.specs.Script.{printed, text_answer, after_text, answers_from, after_texts}
 use Rattle.aia_replay.specs.Stands.{EngineState, StandsFor, Serves, ReadsAsMachine}
 use Rattle.aia_replay.specs.Runs.{AreWholeLines}
 use Rattle.aia_c.specs.declared.code.Code.{Code}
 use Rattle.aia_c.specs.declared.code.Code.TheVariants.{Done, NoMemory, Closed, Open, NoRoom, NoLine}
 use Rattle.aia_model.specs.declared.limits.TheConstants.{ANSWER_BYTES}
-use Rattle.aia_c.specs.Codes.{number, code_of, wide_of}
+use Rattle.aia_c.specs.Codes.{number, code_of, text_code, answer_of, wide_of, pins_of}
 
 -- A closed handle is opened, with an engine that has no machine, or there is no memory; an open one
 -- stays as it is.
@@ -21,6 +23,17 @@ abbrev pub Opens : Option EngineState → Option EngineState → ℤ → Type 0
 Opens None None code = code ≡ number NoMemory
 Opens None (Some new) code = (code ≡ number Done) × StandsFor new []
 Opens (Some old) new code = (code ≡ number Open) × (new ≡ Some old)
+
+-- The handle is closed, and nothing changed.
+pub record IsClosed (new : Option EngineState) (code : ℤ) : Type 0 where
+  pub says : code ≡ number Closed
+  pub same : new ≡ None
+
+-- An open handle's engine has no machine again, as when it was opened; a closed one stays closed.
+abbrev pub Resets : Option EngineState → Option EngineState → ℤ → Type 0
+Resets None new code = IsClosed new code
+Resets (Some old) None code = ⊥
+Resets (Some old) (Some new) code = (code ≡ number Done) × StandsFor new []
 
 -- ---- a text
 
@@ -43,11 +56,6 @@ pub record IsCramped (old new : Option EngineState) (bytes : List ℕ) (code : �
   pub same : new ≡ old
   pub nothing : bytes ≡ []
 
--- The handle is closed, and nothing changed.
-pub record IsClosed (new : Option EngineState) (code : ℤ) : Type 0 where
-  pub says : code ≡ number Closed
-  pub same : new ≡ None
-
 abbrev pub Reads : Option EngineState → Option EngineState → List ℕ → List ℕ → ℤ → Type 0
 Reads None new text bytes code = IsClosed new code × (bytes ≡ [])
 Reads (Some old) None text bytes code = ⊥
@@ -61,6 +69,37 @@ pub record Lines (old new : Option EngineState) (text bytes : List ℕ) (room : 
     : Type 0 where
   pub cramped : room < ANSWER_BYTES → IsCramped old new bytes code
   pub reads : ANSWER_BYTES ≤ room → Reads old new text bytes code
+
+-- The same, and the code is that of the text's answer, whatever history the engine stood for.
+pub record GivesCode (old new : EngineState) (text bytes : List ℕ) (code : ℤ) : Type 0 where
+  pub gives : Gives old new text bytes
+  pub says : (h : History) → StandsFor old h
+      → code ≡ number (text_code (text_answer h (reading text)))
+
+abbrev pub ReadsCode : Option EngineState → Option EngineState → List ℕ → List ℕ → ℤ → Type 0
+ReadsCode None new text bytes code = IsClosed new code × (bytes ≡ [])
+ReadsCode (Some old) None text bytes code = ⊥
+ReadsCode (Some old) (Some new) text bytes code =
+    GivesCode old new text bytes code ⊎ ((code ≡ number NoMemory) × Lacks old new text bytes)
+
+-- A call with a text that says the code of its answer: with less room than an answer may take, it
+-- looks at neither the handle nor the text.
+pub record Texts (old new : Option EngineState) (text bytes : List ℕ) (room : ℕ) (code : ℤ)
+    : Type 0 where
+  pub cramped : room < ANSWER_BYTES → IsCramped old new bytes code
+  pub reads : ANSWER_BYTES ≤ room → ReadsCode old new text bytes code
+
+-- ---- the word of a code
+
+abbrev pub SpellsCode : Option Answer → List ℕ → ℤ → Type 0
+SpellsCode None bytes code = (code ≡ number NoLine) × (bytes ≡ [])
+SpellsCode (Some answer) bytes code = (code ≡ number Done) × (bytes ≡ answer_word answer)
+
+-- A call that spells the code of an answer, as that answer is spelled; with less room than an
+-- answer may take, it does not look at the number.
+pub record Names (named : ℤ) (bytes : List ℕ) (room : ℕ) (code : ℤ) : Type 0 where
+  pub cramped : room < ANSWER_BYTES → (code ≡ number NoRoom) × (bytes ≡ [])
+  pub spells : ANSWER_BYTES ≤ room → SpellsCode (answer_of named) bytes code
 
 -- ---- a script
 
@@ -130,6 +169,12 @@ pub record DoesRead (of : Answer → ℕ) (old new : EngineState) (line : Line) 
   pub does : Does old new line code
   pub reads : (h : History) → StandsFor old h → value ≡ of (answer h line)
 
+-- The same of a line that reads several values.
+pub record DoesReadAll (of : Answer → List ℕ) (old new : EngineState) (line : Line) (code : ℤ)
+    (values : List ℕ) : Type 0 where
+  pub does : Does old new line code
+  pub reads : (h : History) → StandsFor old h → values ≡ of (answer h line)
+
 -- A call that makes a machine: it alone can want memory.
 abbrev pub Makes : Option EngineState → Option EngineState → Line → ℤ → Type 0
 Makes None new line code = IsClosed new code
@@ -149,7 +194,32 @@ Fetches of None new line code value = IsClosed new code × (value ≡ 0)
 Fetches of (Some old) None line code value = ⊥
 Fetches of (Some old) (Some new) line code value = DoesRead of old new line code value
 
+-- A call that gives several values, all 0 where there are none.
+abbrev pub FetchesAll : (Answer → List ℕ) → Option EngineState → Option EngineState → Line → ℤ
+    → List ℕ → Type 0
+FetchesAll of None new line code values =
+    IsClosed new code × AllByRecursion (λ value. value ≡ 0) values
+FetchesAll of (Some old) None line code values = ⊥
+FetchesAll of (Some old) (Some new) line code values = DoesReadAll of old new line code values
+
+-- A call that gives both signals of a hart does as `pins`, then as `hgeip`; the code is the first
+-- of theirs that is not `Done`.
+pub record Signals (old new : Option EngineState) (hart : ℕ) (code : ℤ) (harts guests : ℕ)
+    : Type 0 where
+  pub between : Option EngineState
+  pub first : ℤ
+  pub second : ℤ
+  pub pins : Fetches pins_of old between (Pins hart) first harts
+  pub hgeip : Fetches wide_of between new (Hgeip hart) second guests
+  pub done : first ≡ number Done → code ≡ second
+  pub refused : ¬ (first ≡ number Done) → code ≡ first
+
 -- A call whose numbers may name no line: then nothing changed.
 abbrev pub Accesses : Option EngineState → Option EngineState → Option Line → ℤ → ℕ → Type 0
 Accesses old new None code value = (code ≡ number NoLine) × (new ≡ old) × (value ≡ 0)
 Accesses old new (Some line) code value = Fetches wide_of old new line code value
+
+-- The same of a call that gives no value.
+abbrev pub ActsAt : Option EngineState → Option EngineState → Option Line → ℤ → Type 0
+ActsAt old new None code = (code ≡ number NoLine) × (new ≡ old)
+ActsAt old new (Some line) code = Acts old new line code

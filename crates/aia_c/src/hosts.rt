@@ -2,7 +2,7 @@
 
 ghost use Rattle.std.specs.Prelude.{◌≡◌};
 ghost use Rattle.aia_c.specs.Access.{hart_access};
-ghost use Rattle.aia_c.specs.Calls.{Makes, Acts, Fetches, Accesses};
+ghost use Rattle.aia_c.specs.Calls.{Makes, Acts, Fetches, Signals, Accesses};
 ghost use Rattle.aia_c.specs.Codes.{narrow_of, wide_of, pins_of};
 
 use crate::access::hart_access;
@@ -99,6 +99,24 @@ pub extern "C" fn aia_hgeip(handle: &mut Handle, hart: u64, value: &mut u64, all
         result value.new }
 {
     read(handle, &Line::Hgeip { hart }, value, alloc)
+}
+
+/// Gives the signals of a hart and which of its guest files signal, as [`aia_pins`] and then
+/// [`aia_hgeip`] do. Each value is 0 where its line is refused, and the code is the first of theirs
+/// that is not `Done`.
+#[unsafe(no_mangle)]
+pub extern "C" fn aia_signals(
+    handle: &mut Handle,
+    hart: u64,
+    pins: &mut u32,
+    hgeip: &mut u64,
+    alloc: Global,
+) -> i32
+    ensures { Signals handle.old.engine handle.new.engine hart result pins.new hgeip.new }
+{
+    let first = aia_pins(handle, hart, pins, alloc);
+    let second = aia_hgeip(handle, hart, hgeip, alloc);
+    if first == 0 { second } else { first }
 }
 
 /// Does a CSR instruction on a hart, as `m H csrr CSR`, `h H csrr CSR` and their kin, by the

@@ -1,12 +1,15 @@
 //! Laws of calls one after another: each function does nothing, and its clauses are what is proved.
 
-ghost use Rattle.std.specs.Prelude.{◌≡◌, ℕ, ℤ, List, [], ◌∷◌, ◌++◌};
+ghost use Rattle.std.specs.Prelude.{◌≡◌, ℕ, ℤ, List, [], ◌∷◌, ◌++◌, Some};
+ghost use Rattle.aia_model.specs.declared.answer.Answer.{Answer};
 ghost use Rattle.aia_model.specs.declared.line.Line.{Line};
 ghost use Rattle.aia_model.specs.declared.parsed.Parsed.TheVariants as parsed;
 ghost use Rattle.aia_model.specs.Reading.{reading};
 ghost use Rattle.aia_model.specs.Script.{answers, history_of};
 ghost use Rattle.aia_replay.specs.Runs.{NoEnd};
 ghost use Rattle.aia_replay.specs.Stands.{EngineState, StandsFor};
+ghost use Rattle.aia_c.specs.declared.code.Code.TheVariants.{Done};
+ghost use Rattle.aia_c.specs.Codes.{number, code_of, answer_of};
 ghost use Rattle.aia_c.specs.Calls.{Gives, Answers, Does};
 ghost use Rattle.aia_c.specs.Joined.{Call, AreAnswered, AreDone, DoesText, script_of, bytes_of, left_by};
 
@@ -37,4 +40,13 @@ pub fn a_text_is_a_script_of_one_line()
 pub fn a_call_without_text_is_its_line()
     ensures { (old new : EngineState) (line : Line) (text : List ℕ) (code : ℤ) → NoEnd text
         → reading text ≡ parsed.Line line → Does old new line code → DoesText old new text code }
+{}
+
+/// The word of a code is that of the answers that have it: each answer but those of `Done` is the
+/// answer of its own code, and of no other number.
+pub fn a_code_is_named_as_its_answers()
+    ensures each { (answer : Answer) → ¬ (code_of answer ≡ Done)
+        → answer_of (number (code_of answer)) ≡ Some answer }
+    ensures only { (code : ℤ) (answer : Answer) → answer_of code ≡ Some answer
+        → number (code_of answer) ≡ code }
 {}

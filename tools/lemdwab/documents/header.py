@@ -1,5 +1,5 @@
 """Sees that include/aia.h declares what the crate of the library exports: the same calls, with the
-same parameters in the same order, and the same numbers of codes, instructions and CSRs."""
+same parameters in the same order, and the same numbers of codes, instructions, CSRs and kinds."""
 
 from __future__ import annotations
 
@@ -125,6 +125,16 @@ def addresses() -> dict[str, int]:
     return found
 
 
+def kinds(definition: str, prefix: str) -> dict[str, int]:
+    """Gives the number of each kind that a definition of `Parts` begins with, by its name in the
+    header."""
+    found = {}
+    for pattern, right in clauses(CRATE, "Parts", definition):
+        name = sure(re.search(r"\.(\w+)", pattern))[1]
+        found[prefix + upper(name)] = int(sure(re.match(r"(\d+) ∷", right))[1])
+    return found
+
+
 def constants() -> dict[str, int]:
     """Gives the two constants that the header defines, by their names in it."""
     places = {"ANSWER": ("aia_model", "src/limits.rt", "ANSWER_BYTES"),
@@ -174,6 +184,8 @@ def drifts() -> Iterator[str]:
     yield from differ("the answer of", said(), answers())
     yield from differ("the instruction", listed("aia_op"), instructions())
     yield from differ("the CSR", listed("aia_csr_address"), addresses())
+    yield from differ("the kind", listed("aia_part_kind"), kinds("part_numbers", "PART_"))
+    yield from differ("the kind", listed("aia_entry_kind"), kinds("entry_numbers", "ENTRY_"))
     yield from differ("the constant", defined(), constants())
     major, minor, patch = (TOP / "VERSION").read_text(encoding="utf-8").strip().split(".")
     number = 10000 * int(major) + 100 * int(minor) + int(patch)

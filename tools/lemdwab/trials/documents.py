@@ -328,6 +328,8 @@ HEADERS = [
     ("    AIA_OPEN = 3, ", "", "lacks the code OPEN"),
     ("AIA_CSRRS = 2", "AIA_CSRRS = 3", "has the instruction CSRRS as 3"),
     ("AIA_SIP = 0x144", "AIA_SIP = 0x104", "has the CSR SIP as 260"),
+    ("AIA_PART_PRIO = 3", "AIA_PART_PRIO = 4", "has the kind PART_PRIO as 4"),
+    ("AIA_ENTRY_CUSTOM = 4", "AIA_ENTRY_CUSTOM = 6", "has the kind ENTRY_CUSTOM as 6"),
     ("AIA_ANSWER 64", "AIA_ANSWER 63", "has the constant ANSWER as 63"),
     ("AIA_VERSION 10000", "AIA_VERSION 10001", "says the version 10001"),
 ]
