@@ -2,6 +2,7 @@ pub mod Throughout
 pub mod BoolLaws
 pub mod Brought
 pub mod Reached
+pub mod Between
 pub mod Safety
 pub mod Telling
 pub mod States

@@ -22,7 +22,8 @@ use Rattle.plans_rules.specs.Rules.{looks, posts, tells, untells, Done, may_stan
 use Rattle.plans_rules.proofs.BoolLaws.{false_of, true_of, clash, not_true, and_left, and_right, and_of, or_left, or_right, or_false_left, or_false_right, or_cases, all_at, any_at}
 use Rattle.plans_rules.proofs.Brought.{Places, busy_old}
 use Rattle.plans_rules.proofs.Safety as safety
-use Rattle.plans_rules.proofs.Safety.{IsBetween, Invariant, Flies, AllFly, past_of, reach_of, unless, fly, of_all, may_by, does, between, begins, moved_end, ended}
+use Rattle.plans_rules.proofs.Between.{IsBetween, Invariant, Flies, AllFly, past_of, reach_of, unless, fly, may_by, between}
+use Rattle.plans_rules.proofs.Safety.{of_all, does, begins, moved_end, ended}
 
 -- ---- what a settled word says of a machine
 
