@@ -40,6 +40,10 @@ mod ffi {
         ) -> i32;
         pub fn aia_store(handle: *mut *mut Aia, addr: u64, value: u32) -> i32;
     }
+
+    /// `aia_line` or `aia_text`.
+    pub type Answering =
+        unsafe extern "C" fn(*mut *mut Aia, *const u8, usize, *mut u8, usize, *mut usize) -> i32;
 }
 
 /// One model. It may go to another thread, and no two threads use it at once.
@@ -58,28 +62,19 @@ impl Model {
 
     /// Answers a line; `Err` has the code.
     pub fn line(&mut self, text: &str) -> Result<String, i32> {
-        let (mut answer, mut written) = ([0; 64], 0);
-        let code = unsafe {
-            ffi::aia_line(
-                &mut self.handle,
-                text.as_ptr(),
-                text.len(),
-                answer.as_mut_ptr(),
-                answer.len(),
-                &mut written,
-            )
-        };
-        match code {
-            0 => Ok(String::from_utf8_lossy(&answer[..written]).into_owned()),
-            _ => Err(code),
-        }
+        self.answered(ffi::aia_line, text)
     }
 
     /// Answers a line; `Err` has the code of the answer, where that is no value.
     pub fn text(&mut self, text: &str) -> Result<String, i32> {
+        self.answered(ffi::aia_text, text)
+    }
+
+    /// Answers a line by one of the two calls that do.
+    fn answered(&mut self, call: ffi::Answering, text: &str) -> Result<String, i32> {
         let (mut answer, mut written) = ([0; 64], 0);
         let code = unsafe {
-            ffi::aia_text(
+            call(
                 &mut self.handle,
                 text.as_ptr(),
                 text.len(),

@@ -25,29 +25,50 @@ struct said {
 
 enum { UNTOUCHED = 0x5a };
 
-/* Gives a text to a handle, with room for an answer. */
-static inline int32_t say(struct aia **handle, const char *text, size_t room, struct said *said)
+/* aia_line or aia_text. */
+typedef int32_t answering(struct aia **, const uint8_t *, size_t, uint8_t *, size_t, size_t *);
+
+/* Gives a text to a handle by one of these, with room for an answer. */
+static inline int32_t say_by(answering *call, struct aia **handle, const char *text, size_t room,
+                             struct said *said)
 {
     memset(said->bytes, UNTOUCHED, sizeof said->bytes);
     said->length = 12345;
-    int32_t code = aia_line(handle, (const uint8_t *)text, strlen(text), said->bytes, room,
-                            &said->length);
+    int32_t code = call(handle, (const uint8_t *)text, strlen(text), said->bytes, room,
+                        &said->length);
     for (size_t at = said->length; at < sizeof said->bytes; at++)
         CHECK(said->bytes[at] == UNTOUCHED);
     return code;
 }
 
-/* The same by aia_text. */
+static inline int32_t say(struct aia **handle, const char *text, size_t room, struct said *said)
+{
+    return say_by(aia_line, handle, text, room, said);
+}
+
 static inline int32_t say_code(struct aia **handle, const char *text, size_t room,
                                struct said *said)
 {
-    memset(said->bytes, UNTOUCHED, sizeof said->bytes);
-    said->length = 12345;
-    int32_t code = aia_text(handle, (const uint8_t *)text, strlen(text), said->bytes, room,
-                            &said->length);
-    for (size_t at = said->length; at < sizeof said->bytes; at++)
-        CHECK(said->bytes[at] == UNTOUCHED);
-    return code;
+    return say_by(aia_text, handle, text, room, said);
+}
+
+/* The word of each code from 16 on, as docs/REFERENCE.md has it, by the header's names. */
+static const char *const words_of_codes[] = {
+    [AIA_NO_MACHINE] = "nomachine", [AIA_AGAIN] = "again",     [AIA_MOVING] = "moving",
+    [AIA_BAD] = "bad",              [AIA_RANGE] = "range",     [AIA_FULL] = "full",
+    [AIA_BUSY] = "busy",            [AIA_HOME] = "home",       [AIA_ENTERED] = "entered",
+    [AIA_PARKED] = "parked",        [AIA_NO_FILE] = "nofile",  [AIA_PASSED] = "passed",
+    [AIA_UNREADY] = "unready",      [AIA_IDLE] = "idle",       [AIA_AWAY] = "away",
+    [AIA_ILLEGAL] = "illegal",      [AIA_VIRTUAL] = "virtual", [AIA_FAULT] = "fault",
+    [AIA_GUARDED] = "guarded",      [AIA_OTHER] = "other",     [AIA_NOT_VALID] = "notvalid",
+    [AIA_G_FAULT] = "gfault",
+};
+
+/* That of a number, NULL where it is no such code. */
+static inline const char *word_of_code(int32_t code)
+{
+    const int32_t count = sizeof words_of_codes / sizeof *words_of_codes;
+    return code >= 0 && code < count ? words_of_codes[code] : NULL;
 }
 
 /* Tells whether a text is answered with these words and an LF; "" of none. */

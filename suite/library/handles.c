@@ -208,25 +208,14 @@ static void edges(void)
     CHECK(answers(&moved, "ld 0", "") == false);
 }
 
-/* The word of each code from 16 on, as docs/REFERENCE.md has it, and of no other number. */
+/* The word of each code from 16 on, and of no other number. */
 static void names(void)
 {
-    static const char *const words[] = {
-        [AIA_NO_MACHINE] = "nomachine", [AIA_AGAIN] = "again",     [AIA_MOVING] = "moving",
-        [AIA_BAD] = "bad",              [AIA_RANGE] = "range",     [AIA_FULL] = "full",
-        [AIA_BUSY] = "busy",            [AIA_HOME] = "home",       [AIA_ENTERED] = "entered",
-        [AIA_PARKED] = "parked",        [AIA_NO_FILE] = "nofile",  [AIA_PASSED] = "passed",
-        [AIA_UNREADY] = "unready",      [AIA_IDLE] = "idle",       [AIA_AWAY] = "away",
-        [AIA_ILLEGAL] = "illegal",      [AIA_VIRTUAL] = "virtual", [AIA_FAULT] = "fault",
-        [AIA_GUARDED] = "guarded",      [AIA_OTHER] = "other",     [AIA_NOT_VALID] = "notvalid",
-        [AIA_G_FAULT] = "gfault",
-    };
     static const int32_t none[] = {INT32_MIN, -1, 0, 1, 15, 20, 31, 50, INT32_MAX};
-    const int32_t count = sizeof words / sizeof *words;
     uint8_t name[AIA_ANSWER + 1];
     size_t written;
     for (int32_t code = -100; code < 200; code++) {
-        const char *word = code >= 0 && code < count ? words[code] : NULL;
+        const char *word = word_of_code(code);
         memset(name, UNTOUCHED, sizeof name);
         CHECK(aia_code_name(code, name, AIA_ANSWER, &written) == (word ? AIA_DONE : AIA_NO_LINE));
         CHECK(written == (word ? strlen(word) : 0) && name[written] == UNTOUCHED);

@@ -53,25 +53,13 @@ static int words_of(char *line, char *words[MOST_WORDS])
 
 /* ---- answers, spelled again */
 
-/* By the header's names, so that each of them is held to the word that it stands for. */
-static const char *const words_of_codes[] = {
-    [AIA_NO_MACHINE] = "nomachine", [AIA_AGAIN] = "again",     [AIA_MOVING] = "moving",
-    [AIA_BAD] = "bad",
-    [AIA_RANGE] = "range",          [AIA_FULL] = "full",       [AIA_BUSY] = "busy",
-    [AIA_HOME] = "home",            [AIA_ENTERED] = "entered", [AIA_PARKED] = "parked",
-    [AIA_NO_FILE] = "nofile",       [AIA_PASSED] = "passed",   [AIA_UNREADY] = "unready",
-    [AIA_IDLE] = "idle",            [AIA_AWAY] = "away",       [AIA_ILLEGAL] = "illegal",
-    [AIA_VIRTUAL] = "virtual",      [AIA_FAULT] = "fault",     [AIA_GUARDED] = "guarded",
-    [AIA_OTHER] = "other",          [AIA_NOT_VALID] = "notvalid", [AIA_G_FAULT] = "gfault",
-};
-
 static void spell_code(int32_t code, const char *done)
 {
-    const int32_t count = sizeof words_of_codes / sizeof *words_of_codes;
+    const char *word = word_of_code(code);
     if (code == AIA_DONE)
         puts(done);
-    else if (code > 0 && code < count && words_of_codes[code])
-        puts(words_of_codes[code]);
+    else if (word)
+        puts(word);
     else
         printf("code %" PRId32 "\n", code);
 }
