@@ -79,8 +79,8 @@ BUGS = (
         'return "" if path.suffix == ".sh"', COMMANDS),
     Bug("outside", "commands/outside.py", "return wrong[0] if wrong else 0",
         "return wrong[-1] if wrong else 0", COMMANDS),
-    Bug("what runs all of them", "running.py", "if len(found) > most:",
-        "if len(found) > most << 40:", SHARED),
+    Bug("what runs all of them", "running.py", '"it wrote more than answers have, and was stopped"',
+        '""', SHARED),
 )
 
 
