@@ -13,7 +13,7 @@ from lemdwab.documents.antt import prose
 from lemdwab.documents.carried import HEADLINE, all_functions, keys_in, meaning
 from lemdwab.documents.functions import dedented
 from lemdwab.documents.naming import all_definitions, rests_on
-from lemdwab.documents.site_definitions import code_of, library_words
+from lemdwab.documents.site_definitions import DEFINITIONS, code_of, library_words
 from lemdwab.documents.site_pages import Prose, first_sentence, link, linked_code
 from lemdwab.running import TOP
 
@@ -252,15 +252,22 @@ def theorem(site: Site) -> None:
     crate, name, names = HEADLINE
     one = next(one for one in all_functions() if one.crate == crate and one.called() == name)
     rests = Tree(THEOREM, keys_in(one, names), has_code=True)
+    told = link(THEOREM, "docs/PROMISES.html#premises-and-limits", "what is told")
+    trusted = link(THEOREM, "docs/PROMISES.html#what-is-trusted", "what is trusted")
+    words = link(THEOREM, f"{DEFINITIONS}#how-to-read-antt", "how to read them")
     body = ["<h1>The theorem</h1>", Prose.of(headline_words()),
             f"<pre>{contract(THEOREM, one, names)}</pre>",
             f'<p class="note">Two of the clauses of {link(THEOREM, place_of(one), "run")}'
             f" (<code>{crate}</code>), as they stand in its source; its other clauses say why a run"
             " ends otherwise, and what is written then. <code>S.supply source.old</code> is what"
             " the source has left before the run, <code>K.taken sink.new</code> what the sink has"
-            " taken after it.</p>", "<h2>Walking down</h2>",
+            " taken after it. Of a source that does not tell its bytes, as the standard input does"
+            f" not, these lines say nothing: {told}.</p>",
+            f'<p class="note">See also {trusted} beside these lines, and {words}.</p>',
+            "<h2>Walking down</h2>",
             f'<p class="note">All that these lines are made of, down to names of libraries:'
-            f" {len(rests.below)} definitions, each below the one that names it first.</p>",
+            f" {len(rests.below)} definitions, each below the one that names it first. The triangle"
+            " unfolds one, its name opens its page.</p>",
             rests.html()]
     site.write(THEOREM, "The theorem", "\n".join(body))
 
