@@ -1,13 +1,66 @@
 "use strict";
 
+// The way from the page to the start of the site.
+const root = document.currentScript.getAttribute("src").replace("site.js", "");
+
 // What folds hides: a place that is linked to is unfolded.
 function unfold() {
   let at = document.getElementById(decodeURIComponent(location.hash.slice(1)));
   if (!at) return;
+  const opens = (fold) => { fold.open = true; fill(fold); };
   const inner = at.querySelector(":scope > details");
-  if (inner) inner.open = true;
-  for (let up = at; up; up = up.parentElement) if (up.tagName === "DETAILS") up.open = true;
+  if (inner) opens(inner);
+  for (let up = at; up; up = up.parentElement) if (up.tagName === "DETAILS") opens(up);
   at.scrollIntoView();
+}
+
+// The texts of definitions, by page and name: a row of a tree shows its own as it is unfolded. A
+// page without a server can fetch a script and nothing else, so there is one for each page.
+const texts = {}, waiting = {}, rows = {};
+function takes(found) {
+  for (const page in found) {
+    texts[page] = found[page];
+    for (const fold of waiting[page] || []) fill(fold);
+  }
+}
+
+// The place of a row's definition, as its page and its name.
+function placeOf(fold) {
+  const link = fold.querySelector(":scope > .at > a");
+  return link ? link.getAttribute("href").slice(root.length).split("#") : [];
+}
+
+function fill(fold) {
+  const box = fold.querySelector(":scope > .text");
+  if (!box || box.firstChild) return;
+  const [page, name] = placeOf(fold);
+  if (!(page in texts)) {
+    if (!(page in waiting)) {
+      const script = document.createElement("script");
+      script.src = `${root}texts/${page.replace(".html", ".js")}`;
+      document.head.append(script);
+    }
+    (waiting[page] = waiting[page] || []).push(fold);
+    return;
+  }
+  box.innerHTML = texts[page][name].replaceAll('href="^', `href="${root}`);
+  for (const link of box.querySelectorAll("a")) {
+    const to = link.getAttribute("href");
+    const row = rows[to] || rows[to.replace(/\.[^.#]*$/, "")];
+    if (row) link.setAttribute("href", `#${row}`);
+  }
+}
+
+// A click on a row of a tree unfolds it, with its text; names in that lead to their rows.
+function trees() {
+  for (const row of document.querySelectorAll(".tree li[id]")) {
+    const link = row.querySelector(":scope > details > .at > a");
+    if (link) rows[link.getAttribute("href")] = row.id;
+  }
+  document.addEventListener("click", (event) => {
+    const head = event.target.closest(".tree summary");
+    if (head) fill(head.parentElement);
+  });
 }
 
 // The index of names shows those that have the letters which are typed.
@@ -62,6 +115,7 @@ function slides(data) {
 
 window.addEventListener("hashchange", unfold);
 document.addEventListener("DOMContentLoaded", () => {
+  trees();
   unfold();
   const find = document.getElementById("find"), data = document.getElementById("slides");
   if (find) finds(find);

@@ -2,9 +2,10 @@
 """Holds KVM against the program over random scripts: compare_kvm.py PROGRAM BRIDGE SCRIPTS SEED
 
 SCRIPTS of each subject, from the number SEED on. Of moves the stores that follow one in the script
-come within it, on KVM's side.
+come within it, on KVM's side. With MENDED=1 the bridge is of KVM with its errors mended.
 """
 
+import os
 import sys
 from pathlib import Path
 
@@ -29,5 +30,11 @@ def answers(bridge, subject, script, seed):
 
 
 if __name__ == "__main__":
-    KVM = held.Peer(HERE / "known.txt", SUBJECTS, random_script, told, answers)
-    sys.exit(held.main(KVM, __doc__))
+    if os.environ.get("MENDED"):
+        rules.ERRORS.clear()
+    ROWS = HERE / ("known.txt" if rules.ERRORS else "open.txt")
+    KVM = held.Peer(ROWS, SUBJECTS, random_script, told, answers)
+    STATUS = held.main(KVM, __doc__)
+    if not STATUS and not rules.ERRORS:
+        print("of the errors that are mended: 0 known, 0 differ; all else is open")
+    sys.exit(STATUS)

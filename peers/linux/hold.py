@@ -97,7 +97,7 @@ def main():
     try:
         for folder in map(Path, words[:at]):
             for path in sorted(folder.glob("*.script")):
-                (host if path.stem == "host" else files).update(
+                (host if path.stem.startswith("host") else files).update(
                     script(path.with_suffix(""), words[at + 1:], reasons))
         if not host:
             raise OSError("there is no script in " + " ".join(words[:at]))

@@ -10,6 +10,7 @@ import sys
 from collections import Counter
 from pathlib import Path
 
+import parts
 from lemdwab.apart import reading
 from lemdwab.apart.model import Machine
 from lemdwab.apart.moves import ENTERED
@@ -42,7 +43,7 @@ OUR_CHILD, OUR_FILES_OF_HART, ADDRESSES = 0xc008000, 0x20000, range(0x1bc0, 0x1b
 # QEMU's machine here: four pages a hart, of which three are of guest files; the wired disk.
 PAGES_OF_HART, WIRED = 0x4000, 8
 SIZES = (4, 3, 255, 96)
-HARTS, NOTICE_HART = 2, 3
+HARTS, NOTICE_HART, VMS = 2, 3, 8
 DELIVERY, THRESHOLD, EIP, EIE = 0x70, 0x72, 0x80, 0xc0
 VGEIN = 12
 STEPS = {"arrive": 22, "shift": 24, "leave": 28}  # of 255 identities
@@ -51,6 +52,8 @@ TAKEN, SWITCHED, PUT, LEAVES, LEFT, ENDED = 1, 2, 3, 4, 5, 6
 TO_FILE, TO_SOFTWARE, IN_SOFTWARE, COPIED, BEFORE, BEHIND = 7, 8, 9, 10, 11, 12
 ROUTED, READ, FREED = 13, 14, 15
 NOT_SHOWN = "-"
+# A script that is as long is cut where nothing moves: the program takes no more than 16 MB.
+CUT_AT, MOST_BYTES = 12_000_000, 16_777_216
 
 
 class LinuxMachine(QEMU.TheirMachine):
@@ -108,10 +111,16 @@ class Script:
 
     def __init__(self, name):
         self.name = name
+        self.bytes = 0
         self.lines, self.wanted, self.ours, self.foreseen, self.masks = [], [], [], [], {}
+
+    def put(self, text):
+        self.lines.append(text)
+        self.bytes += len(text) + 1
 
     def cut(self, length):
         """Forgets what came behind a place."""
+        self.bytes -= sum(len(text) + 1 for text in self.lines[length:])
         for part in (self.lines, self.wanted, self.ours, self.foreseen):
             del part[length:]
         self.masks = {at: mask for at, mask in self.masks.items() if at < length}
@@ -138,14 +147,17 @@ class Telling:
     def __init__(self, theirs=LinuxMachine):
         self.theirs = theirs
         self.pairs = {}
+        self.parts = Counter()  # of a script: how many have been begun
         self.counts = Counter()
         self.select = {}  # of (letter, hart), and of virtual harts
         self.hstatus = Counter()
         self.owner = {}  # of (hart, file): (VM, virtual hart)
         self.place = {}  # of (VM, virtual hart): parked, entered, or (hart, file)
         self.coming = {}  # of a virtual hart that moves: its old place, its new one
+        self.early = {}  # of one whose move was told as done before its end: its new place
         self.quiet = set()  # those of which KVM has taken eidelivery
         self.owed = {}  # of a virtual hart: what it wrote to sie while it was in memory
+        self.given_up = set()  # harts where KVM delegates nothing more
         self.on_hart = {}  # of a hart: the virtual hart last seen there
         self.told = {}  # of a hart: the virtual hart to whose file KVM is about to store
         self.left = set()  # files that KVM gave back as they stood
@@ -172,22 +184,59 @@ class Telling:
     def pair(self, name, sizes, out):
         if name not in self.pairs:
             self.pairs[name] = Pair(self.theirs, sizes)
-            script = out.setdefault(name, Script(name))
-            script.lines.append("machine %d %d %d %d" % sizes)
-            for part in (script.wanted, script.ours, script.foreseen):
-                part.append("ok")
+            self.begin_part(out, name, sizes)
         return self.pairs[name]
+
+    def begin_part(self, out, name, sizes):
+        """A script begins, or another part of one."""
+        self.parts[name] += 1
+        part = self.part(name)
+        script = out.setdefault(part, Script(part))
+        script.put("machine %d %d %d %d" % sizes)
+        for column in (script.wanted, script.ours, script.foreseen):
+            column.append("ok")
+
+    def part(self, name):
+        return name if self.parts[name] == 1 else f"{name}-part-{self.parts[name]}"
+
+    def cut_where_long(self, out):
+        """Another part begins of each script that is long; not while something moves or waits."""
+        for name in list(self.pairs):
+            size = out[self.part(name)].bytes
+            if size > MOST_BYTES - 100_000:
+                raise ValueError(f"{name} is too long, and was not to be cut")
+            if size > CUT_AT and not self.coming and not self.early and not self.waiting:
+                self.cut(out, name)
+
+    def cut(self, out, name):
+        """Another part of a script, which begins with the state so far."""
+        ours, theirs = self.pairs[name].machines
+        sizes = ours.harts, ours.guests, ours.greatest, ours.sources
+        pair = Pair(Machine, sizes)
+        lines = [(text, *pair.answers(text)) for text in parts.lines_of(ours)]
+        anew = pair.machines[0]
+        if parts.state_of(anew) != parts.state_of(ours):
+            return  # its guest files were taken in another order than a new machine takes them
+        self.begin_part(out, name, sizes)
+        for text, answer, _ in lines:
+            self.put(out, name, text, NOT_SHOWN, answer, answer)
+        self.pairs[name].machines = anew, theirs
+        self.count("cuts", name)
+
+    def put(self, out, name, text, *answers):
+        """A line of a script: what the trace has, the model's answer, and what is foreseen."""
+        script = out[self.part(name)]
+        script.put(text)
+        for column, answer in zip((script.wanted, script.ours, script.foreseen), answers):
+            column.append(answer)
 
     def line(self, out, name, text, wanted=NOT_SHOWN, mask=None):
         """A line of a script, with the answer of the trace."""
-        script = out[name]
+        script = out[self.part(name)]
         if mask is not None:
             script.masks[len(script.lines)] = mask
-        script.lines.append(text)
-        script.wanted.append(wanted)
         ours, foreseen = self.pairs[name].answers(text)
-        script.ours.append(ours)
-        script.foreseen.append(foreseen)
+        self.put(out, name, text, wanted, ours, foreseen)
         self.missed |= not fits(wanted, foreseen, mask)
 
     def host(self, out, *given):
@@ -214,6 +263,8 @@ class Telling:
 
     def take_v(self, out, event, _):
         self.base = self.vms
+        if self.vms + event.one > VMS:
+            raise ValueError(f"more than {VMS} VMs, which no script has")
         for _ in range(event.one):
             self.host(out, f"vm {event.other} 0x3 {NOTICE_HART}", "ok")
             for number in range(event.other):
@@ -308,7 +359,8 @@ class Telling:
             self.count("lines", "g .. ipi, by a guest itself")
             self.host(out, f"g {vm} {sender[1]} ipi {number} {event.other:#x}", "ok")
             return
-        self.count("lines", "msi, by KVM" if by_kvm else "msi, by a guest not seen yet")
+        self.count("lines", "msi, by KVM" if by_kvm else
+                   "msi, by a guest: at offset 4, as it moves, or not seen yet")
         self.host(out, f"msi {vm} {self.page(number) + offset:#x} {event.other:#x}", "ok")
 
     def page(self, number):
@@ -345,8 +397,10 @@ class Telling:
             self.move_begins(out, who, place)
         elif kind == SWITCHED:
             self.left.discard(place)  # KVM has zeroed it
-        elif kind == PUT and who in self.coming:
-            self.finish(out, who)
+        elif kind == PUT:
+            self.early.pop(who, None)
+            if who in self.coming:
+                self.finish(out, who)
             if who in self.owed:
                 self.host(out, f"g {who[0]} {who[1]} csrrw sie {self.owed.pop(who):#x}")
         elif kind == LEAVES:
@@ -377,6 +431,7 @@ class Telling:
         other = self.owner.get(place)
         if other in self.coming and self.coming[other][0] == place:
             self.count("moves", "a file taken of which the old owner's move goes on")
+            self.early[other] = self.coming[other][1]
             self.finish(out, other)
         if self.place[who] == "entered":
             self.host(out, "exit %d %d" % who, "ok")
@@ -432,6 +487,7 @@ class Telling:
     def kernel_hgeip(self, out, one, shown):
         """Files that KVM left as they stood when a VM ended are hidden, and those of moves."""
         moving = {place for places in self.coming.values() for place in places}
+        moving.update(self.early.values())
         left = self.left | {place for place in moving if isinstance(place, tuple)}
         hidden = {number for hart, number in left if hart == one.hart}
         mask = None
@@ -450,6 +506,8 @@ class Telling:
             self.hstatus[hart] = one.written
         if name == "vsiselect" and one.operation == "csrw":
             self.select["v", hart] = one.written
+        if name == "hideleg":
+            (self.given_up.discard if one.written else self.given_up.add)(hart)
         place = self.file_of(one)
         if name == "vsireg" and place:
             select, who = self.select.get(("v", hart), 0), self.owner.get(place)
@@ -482,6 +540,9 @@ class Telling:
             self.count("lines", "inject 5, at a guest's stimecmp")
             self.host(out, f"inject {who[0]} {who[1]} 5 {int(not one.written)}", "ok")
             return
+        if one.hart in self.given_up and name in MAJORS_CSRS:
+            self.count("no line", f"{name} of a guest that runs on after KVM has given up its hart")
+            return
         if self.place[who] == "parked" and who not in self.coming:
             self.host(out, "enter %d %d" % who, "ok")
             self.place[who] = "entered"
@@ -505,6 +566,47 @@ class Telling:
             self.seen(who, one.read & 0x7ff, int(one.read != 0), "claimed by their guest")
         elif name == "sireg" and EIP <= self.select.get(who, 0) < EIE:
             self.seen(who, 32 * (self.select[who] & 0x3f), one.read, "read by their guest")
+
+    # Torn claims.
+
+    def file_on_top(self, one):
+        """The file that an access to `stopei` reaches, by the rules; None where KVM answers."""
+        machine = self.pairs["host"].machines[1]
+        if one.guest is None:
+            return machine.supervisor_files[one.hart]
+        who = self.base + (one.guest >> 4), one.guest & 15
+        return None if self.place[who] == "entered" else machine.vms[who[0]].harts[who[1]].file
+
+    def live(self, one):
+        """The identities that may be on top."""
+        file = self.file_on_top(one)
+        if file is None:
+            return None
+        live = file.pending & file.enabled
+        return live & (1 << file.threshold) - 1 if file.threshold else live
+
+    def tear(self, out, one, before):
+        """A claim of an identity although lower ones came since it began: it is taken away by
+        lines that are not compared. Gives whether that may be."""
+        identity, live = one.read & 0x7ff, self.live(one)
+        if live is None or not live >> identity & 1 or live & before & (1 << identity) - 1:
+            return False
+        self.count("no line", "a torn claim, or look")
+        if one.operation == "csrr":
+            return True
+        who = None if one.guest is None else (self.base + (one.guest >> 4), one.guest & 15)
+        select = self.select.get(who or ("s", one.hart), 0)
+        place = self.place[who] if who else None
+        texts = [f"csrrw siselect {EIP + identity // 64 * 2:#x}",
+                 f"csrrc sireg {1 << identity % 64:#x}", f"csrrw siselect {select:#x}"]
+        for text in texts:
+            self.host(out, ("g %d %d " % who if who else f"h {one.hart} ") + text)
+        if isinstance(place, tuple):
+            for text in texts[:2]:
+                self.file(out, place, "h 0 " + text)
+        if who:
+            self.seen(who, identity, 1, "claimed by their guest")
+        return True
 
     def peek(self, one):
         """Whether an access would read here what the trace has; True where that can't be said."""

@@ -4,6 +4,7 @@ answers."""
 
 from __future__ import annotations
 
+import time
 from collections.abc import Iterator
 from pathlib import Path
 from typing import TYPE_CHECKING, Any
@@ -12,6 +13,7 @@ from urllib.parse import unquote, urlsplit
 from lemdwab import siting
 from lemdwab.browsing import Browser
 from lemdwab.documents import site_documents, site_scripts
+from lemdwab.documents.site_theorem import THEOREM
 
 if TYPE_CHECKING:
     from lemdwab.running import Workers
@@ -21,15 +23,20 @@ if TYPE_CHECKING:
 LONGEST = 600
 # The pages that are looked at on a small screen, in light and dark.
 LAW, SLIDER = "laws/aia_laws/no_notice_is_lost.html", "moves/stores-in-flight.html"
-FITTING = ("index.html", "theorem.html", LAW, SLIDER, "names.html", "peers.html")
+FITTING = ("index.html", THEOREM, LAW, SLIDER, "names.html", "peers.html", "words.html",
+           "lines.html")
+# How often a row is looked at until its text is there, a tenth of a second apart.
+SHOWN = 50
 # What a page says of itself: where its links and what it loads lead, and its places.
-LINKS = """(() => [[...document.querySelectorAll('a[href], link[href], script[src], img[src]')]
-    .map((one) => one.href || one.src),
+LINKS = """(() => [[...new Set([...document.querySelectorAll(
+    'a[href], link[href], script[src], img[src]')].map((one) => one.href || one.src))],
   [...document.querySelectorAll('[id]')].map((one) => one.id)])()"""
-# Unfolds a tree by a click on each of its rows, and says what is wrong with it.
+# Unfolds a tree by a click on each of its rows, which fetch no texts then, and says what is wrong
+# with it.
 UNFOLD = """(() => {
   const tree = document.querySelector('.tree');
   if (!tree) return null;
+  tree.addEventListener('click', (event) => event.stopPropagation());
   for (const fold of tree.querySelectorAll('details'))
     if (!fold.open) fold.querySelector(':scope > summary').click();
   const wrong = [];
@@ -49,6 +56,12 @@ UNFOLD = """(() => {
       wrong.push(`${link.textContent} stands nowhere in it`);
   return [rows.length, wrong];
 })()"""
+# Says how a row of a tree stands: whether it is unfolded and shows its text, and how many names in
+# that lead to rows of the tree.
+ROW = """((id) => { const fold = document.querySelector(`#${id} > details`);
+  const code = fold.querySelector(':scope > .text pre');
+  const names = fold.querySelectorAll(':scope > .text pre a[href^="#t"]');
+  return [fold.open, Boolean(code && code.offsetHeight), names.length]; })"""
 # Goes over all lines of a slider by its button, and lists what it shows of each.
 SLIDE = """(() => {
   const of = (id) => document.getElementById(id), found = [];
@@ -110,6 +123,36 @@ class Session:
                 yield f"a press on {name} on the start page leads to {at}"
             elif not self.browser.says(SEEN):
                 yield f"{place} is not seen behind a press on the start page"
+
+    # ---- a prover's walk
+
+    def walk(self) -> Iterator[str]:
+        """Goes by presses of the mouse from the headline to what has to be believed, and down the
+        tree of a law: a row that is pressed shows its text, and a name in that its own row."""
+        self.browser.opens(self.address(siting.FIRST))
+        if not self.browser.leads(f'sup.laws a[href="{THEOREM}"]'):
+            yield f"no press on the start page leads to {THEOREM}"
+        elif not self.browser.says("document.querySelector('.believed').offsetHeight > 0"):
+            yield f"{THEOREM} does not show what has to be believed"
+        self.browser.opens(self.address(LAW))
+        yield from self.row("t0", ".tree > li > details > summary")
+        name = "#t0 > details > .text pre a[href^='#t']"
+        link = self.browser.says(f"(document.querySelector(\"{name}\") || {{}}).hash || ''")
+        if not link:
+            yield f"no name in the text of a row of {LAW} leads to a row"
+        else:
+            yield from self.row(link[1:], name)
+
+    def row(self, row: str, selector: str) -> Iterator[str]:
+        """Presses something, and says where a row of a tree does not show its text then."""
+        if not self.browser.presses(selector):
+            yield f"nothing in {LAW} can be pressed by {selector}"
+        for _ in range(SHOWN):
+            is_open, is_shown, _ = self.browser.says(f"{ROW}('{row}')")
+            if is_open and is_shown:
+                return
+            time.sleep(0.1)
+        yield f"a press in {LAW} on {selector} does not show the text of {row}"
 
     # ---- pages
 
@@ -206,7 +249,8 @@ def faults(site: Pages, program: str, folder: Path, workers: Workers
     with Browser(program, folder, LONGEST) as browser:
         browser.sized(1100, 800)
         session = Session(site, browser)
-        found = {"laws by clicks": list(session.laws()), "sliders": list(session.sliders(workers)),
+        found = {"laws by clicks": list(session.laws()), "walk": list(session.walk()),
+                 "sliders": list(session.sliders(workers)),
                  "screens": [line for place in FITTING for line in session.fits(place)],
                  "pages": list(session.pages())}
         found["links"] = list(session.dead_links())

@@ -1,5 +1,5 @@
-"""What suite/site looks for in a site: links that lead somewhere, laws that are reached, trees that
-end, and answers that are the program's."""
+"""What suite/site looks for in a site: links that lead somewhere, laws that are reached, and
+answers that are the program's. lemdwab.walking has what it looks for on a prover's walk."""
 
 from __future__ import annotations
 
@@ -13,6 +13,7 @@ from typing import TYPE_CHECKING
 from urllib.parse import unquote
 
 from lemdwab import answers, running
+from lemdwab import walking
 from lemdwab.documents import carried, site_documents, site_laws, site_scripts
 from lemdwab.documents.antt import USES, all_modules, module_path
 from lemdwab.documents.functions import dedented
@@ -69,6 +70,8 @@ class Pages:
                 self.read(place)
         self.seen = self.reached()
         self.code, self.owner = codes(self)
+        # The texts that trees fetch, by their files; lemdwab.walking reads them.
+        self.fetched: dict[Path, dict[str, str]] = {}
 
     def read(self, place: str) -> None:
         """Reads a page."""
@@ -181,76 +184,6 @@ def whole_contracts(site: Pages) -> Iterator[str]:
             yield f"{place} does not show {one.called()} as its source has it"
 
 
-# ---- trees
-
-def tree_of(page: Page) -> str:
-    """Gives the part of a page that is a tree; nothing where there is none."""
-    return page.text.partition('<ul class="tree">')[2].partition("</main>")[0]
-
-
-def is_ended(text: str) -> bool:
-    """Says whether each list of a tree has something in it, and each fold ends."""
-    depth, empty = [], 0
-    for end, tag in re.findall(r"<(/?)(ul|li|details)\b", '<ul class="tree">' + text):
-        if not end:
-            depth.append([tag, 0])
-            continue
-        if not depth or depth[-1][0] != tag:
-            return False
-        tag, inner = depth.pop()
-        empty += tag == "ul" and inner == 0
-        if depth:
-            depth[-1][1] += 1
-        else:
-            break
-    folds = text.count("<details>") + text.count("<details open>")
-    ends = text.count("</summary><ul>") + text.count('names nothing</p>')
-    ends += len(re.findall(r"</pre><ul>", text))
-    return not depth and not empty and folds == ends
-
-
-def definitions_of(text: str) -> list[str]:
-    """Gives the definitions that the rows of a tree unfold, by their places."""
-    return re.findall(r'<summary><a href="([^"]+)">', text)
-
-
-def trees(site: Pages) -> Iterator[str]:
-    """Says which law has no tree, or one that does not end or lacks what its lines name."""
-    for page in site.pages.values():
-        is_row = re.fullmatch(r"laws/aia_\w+\.html", page.place)
-        is_law = is_row or re.fullmatch(r"laws/\w+/\w+\.html", page.place)
-        if not is_law and page.place != "theorem.html":
-            continue
-        text = tree_of(page)
-        if not text:
-            yield f"{page.place} has no tree"
-            continue
-        if not is_ended(text):
-            yield f"the tree of {page.place} does not end"
-        # A page of rows has the tree of what all of them name.
-        yield from () if is_row else left_out(site, page, text)
-
-
-def left_out(site: Pages, page: Page, text: str) -> Iterator[str]:
-    """Says what a tree leaves out that the lines of its law, or of a definition in it, name."""
-    folder = posixpath.dirname(page.place)
-    rows = [posixpath.normpath(posixpath.join(folder, unescape(link)))
-            for link in definitions_of(text)]
-    if len(rows) != len(set(rows)):
-        yield f"the tree of {page.place} unfolds a definition twice"
-    there = set(rows)
-    code = re.search(r"(?s)<pre>(.*?)</pre>", page.text)
-    wanted = [(page.place, code[1] if code else "")]
-    wanted += [(place.partition("#")[0], site.code.get(place, "")) for place in rows]
-    for at, lines in wanted:
-        for link in re.findall(r'<a href="([^"]+)">', lines):
-            place = posixpath.normpath(posixpath.join(posixpath.dirname(at), unescape(link)))
-            place = f"{at}{unescape(link)}" if link.startswith("#") else place
-            leads = site.owner.get(place)
-            if leads and leads not in there:
-                yield f"the tree of {page.place} leaves out {leads}, which {at} names"
-
-
 def codes(site: Pages) -> tuple[dict[str, str], dict[str, str]]:
     """Gives the lines of each definition by its place, and of each place the definition that it is
     of, parts of it too."""
@@ -309,7 +242,7 @@ def faults(site: Pages, workers: Workers) -> dict[str, list[str]]:
     """Gives all that is wrong with a site, by its kind."""
     return {"links": list(dead_links(site)), "reach": list(out_of_reach(site)),
             "laws": [*laws(site), *linked_sentences(site)],
-            "lines": [*whole_modules(site), *whole_contracts(site)], "trees": list(trees(site)),
+            "lines": [*whole_modules(site), *whole_contracts(site)], **walking.faults(site),
             "sliders": list(sliders(site, workers))}
 
 

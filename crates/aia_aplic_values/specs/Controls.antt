@@ -20,7 +20,7 @@ is_control (TopI hart) = true
 is_control (ClaimI hart) = true
 is_control reg = false
 
--- Whether a write of it changes what this hart has: of its idelivery, iforce or ithreshold alone.
+-- Whether a write of it changes what this hart has: only of its idelivery, iforce or ithreshold.
 abbrev pub changes_control_of : DomainReg → ℕ → Bool
 changes_control_of (IDelivery x) hart = nat_eq x hart
 changes_control_of (IForce x) hart = nat_eq x hart

@@ -1,4 +1,4 @@
--- What the checker keeps of the steps behind a step, while it reads a plan from its end.
+-- What the checker keeps of the steps after a step, while it reads a plan from its end.
 -- Vocabulary.
 use Rattle.std.specs.Prelude.{ℕ, Bool, true, false, not, ◌&&◌, List, [], ◌∷◌, Option, Some, None}
 use Rattle.std.specs.List.{list_any, list_all}
@@ -20,7 +20,7 @@ use Rattle.aia_audit.specs.declared.takes.Takes.{Takes}
 abbrev pub has_record : WrittenPlan → Bool
 has_record plan = list_any is_record plan
 
--- Pairs of tests: a step that passes the second must have none behind it that passes the first. So
+-- Pairs of tests: a step that passes the second must have none after it that passes the first. So
 -- a step stands once, and one comes before another.
 abbrev pub orders : List ((Step → Bool) × (Step → Bool))
 orders =
@@ -33,7 +33,7 @@ orders =
 abbrev pub fits_before : Step → WrittenPlan → Bool
 fits_before x later = list_all (λ pair. not (pair.1 x && list_any pair.0 later)) orders
 
--- Whether each step of a plan may stand before those behind it.
+-- Whether each step of a plan may stand before those after it.
 abbrev pub are_in_order : WrittenPlan → Bool
 are_in_order [] = true
 are_in_order (x ∷ later) = are_in_order later && fits_before x later
@@ -61,13 +61,13 @@ routes_behind kind plan = record {
 abbrev pub is_taken : (Step → Option ℕ) → ℕ → WrittenPlan → Bool
 is_taken takes w plan = list_any (λ x. names (takes x) w) plan
 
--- Whether a step may stand before those behind it, by the word that it takes, if it takes one: a
+-- Whether a step may stand before those after it, by the word that it takes, if it takes one: a
 -- test of them lets it, and none of them takes that word again.
 abbrev pub may_take : Option ℕ → Bool → (ℕ → Bool) → Bool
 may_take None may again = true
 may_take (Some w) may again = may && not (again w)
 
--- Whether each step of a plan that takes a word may stand before those behind it.
+-- Whether each step of a plan that takes a word may stand before those after it.
 abbrev pub all_may_take : (Step → Option ℕ) → (WrittenPlan → Bool) → WrittenPlan → Bool
 all_may_take takes may [] = true
 all_may_take takes may (x ∷ later) =
@@ -78,7 +78,7 @@ abbrev pub first_put : (Step → Option ℕ) → WrittenPlan → Option ℕ
 first_put puts [] = None
 first_put puts (x ∷ later) = puts x
 
--- Whether each step that takes a word has one that puts it right behind it, and no other step but
+-- Whether each step that takes a word has one that puts it right after it, and no other step but
 -- the first puts one.
 abbrev pub are_paired_behind : (Step → Option ℕ) → (Step → Option ℕ) → WrittenPlan → Bool
 are_paired_behind takes puts [] = true
@@ -95,7 +95,7 @@ takes_behind takes puts may plan = record {
   is_paired = are_paired_behind takes puts plan;
 }
 
--- Pending words may be taken where no fence is behind.
+-- Pending words may be taken where no fence is after.
 abbrev pub is_late : WrittenPlan → Bool
 is_late later = not (stands Fence later) && not (stands GFence later)
 

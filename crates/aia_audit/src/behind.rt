@@ -1,4 +1,4 @@
-//! What stands behind a step of a plan, as far as the rule asks for it: a plan is read from its
+//! What stands after a step of a plan, as far as the rule asks for it: a plan is read from its
 //! last step to its first, so that all of it is known when a step is met.
 
 ghost use Rattle.std.specs.Prelude.{◌≡◌, ◌≤◌, [], ◌∷◌};
@@ -14,7 +14,7 @@ use crate::takes::Takes;
 use crate::verdict::Verdict;
 use aia_plan::{Kind, Step};
 
-/// What stands behind a step of a plan.
+/// What stands after a step of a plan.
 #[derive(Clone, Copy)]
 pub struct Behind {
     routes: Routes,
@@ -81,7 +81,7 @@ fn by_parts(turns: bool, takes_late: bool, puts_at_once: bool, moves_enables: bo
 }
 
 impl Behind {
-    /// Gives what stands behind the last step of a plan: nothing.
+    /// Gives what stands after the last step of a plan: nothing.
     pub fn none() -> Behind
         ensures { (kind : Kind) → result ≡ behind kind [] }
     {
@@ -92,7 +92,7 @@ impl Behind {
         }
     }
 
-    /// Gives what stands behind the step before `step`, in the plan of a move of a kind.
+    /// Gives what stands after the step before `step`, in the plan of a move of a kind.
     pub fn with(self, kind: Kind, step: Step) -> Behind
         requires { IsInside FILE_WORDS step }
         ensures { (later : WrittenPlan) → self ≡ behind kind later

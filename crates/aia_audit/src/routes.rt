@@ -7,7 +7,7 @@ ghost use Rattle.aia_audit.specs.Behind.{is_leave, routes_behind};
 
 use aia_plan::{Kind, Step};
 
-/// Which of the steps that turn the routes stand behind a step of a plan.
+/// Which of the steps that turn the routes stand after a step of a plan.
 #[derive(Clone, Copy)]
 pub struct Routes {
     word1: bool,
@@ -18,7 +18,7 @@ pub struct Routes {
     /// One of a move of another kind than the plan's.
     other_record: bool,
     gfence: bool,
-    /// None of them stands there twice, or behind one that must come after it.
+    /// None of them stands there twice, or after one that must come after it.
     in_order: bool,
 }
 
@@ -30,7 +30,7 @@ fn is_leave(kind: Kind) -> bool
 }
 
 impl Routes {
-    /// Gives what stands behind the last step of a plan: nothing.
+    /// Gives what stands after the last step of a plan: nothing.
     pub fn none() -> Routes
         ensures { (kind : Kind) → result ≡ routes_behind kind [] }
     {
@@ -45,7 +45,7 @@ impl Routes {
         }
     }
 
-    /// Gives what stands behind the step before `step`.
+    /// Gives what stands after the step before `step`.
     pub fn with(self, kind: Kind, step: Step) -> Routes
         ensures { (later : WrittenPlan) → self ≡ routes_behind kind later
             → result ≡ routes_behind kind (step ∷ later) }
@@ -78,7 +78,7 @@ impl Routes {
         }
     }
 
-    /// Gives what stands behind the step before one that writes the record, in a move of another
+    /// Gives what stands after the step before one that writes the record, in a move of another
     /// kind than the plan's or not.
     fn with_record(self, other: bool) -> Routes
         ensures { result ≡ record self {

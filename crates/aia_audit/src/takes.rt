@@ -9,7 +9,7 @@ ghost use Rattle.aia_regs.specs.declared.limits.TheConstants.{FILE_WORDS};
 
 use aia_plan::Step;
 
-/// Which words of a set the steps behind a step of a plan take and put.
+/// Which words of a set the steps after a step of a plan take and put.
 #[derive(Clone, Copy)]
 pub struct Takes {
     /// Bit `w` is a one where word `w` is taken.
@@ -42,7 +42,7 @@ fn is_same(one: Option<u32>, other: Option<u32>) -> bool
 }
 
 impl Takes {
-    /// Gives what stands behind the last step of a plan: nothing.
+    /// Gives what stands after the last step of a plan: nothing.
     #[tactic(auto, unfolding(aia_word::specs::Sets::word_of))]
     pub fn none() -> Takes
         ensures { (takes puts : Step → Option ℕ) (may : WrittenPlan → Bool)
@@ -69,7 +69,7 @@ impl Takes {
         }
     }
 
-    /// Tells whether a word, if one is taken, may be taken before the steps behind it: they let one
+    /// Tells whether a word, if one is taken, may be taken before the steps after it: they let one
     /// be taken, and do not take it too.
     fn lets_take(self, taken: Option<u32>, may: bool) -> bool
         requires { IfSome taken (λ w. w < FILE_WORDS) }
@@ -81,8 +81,8 @@ impl Takes {
         }
     }
 
-    /// Gives what stands behind the step before one that takes a word or puts one, or neither;
-    /// where it takes one, `may` tells whether a word may be taken before the steps behind it.
+    /// Gives what stands after the step before one that takes a word or puts one, or neither;
+    /// where it takes one, `may` tells whether a word may be taken before the steps after it.
     #[tactic(auto, using(crate::proofs::TakesLemmas::may_take_bits))]
     pub fn with(self, taken: Option<u32>, put: Option<u32>, may: bool) -> Takes
         requires { IfSome taken (λ w. w < FILE_WORDS) }

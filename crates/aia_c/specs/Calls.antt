@@ -175,7 +175,7 @@ pub record DoesReadAll (of : Answer → List ℕ) (old new : EngineState) (line 
   pub does : Does old new line code
   pub reads : (h : History) → StandsFor old h → values ≡ of (answer h line)
 
--- A call that makes a machine: it alone can want memory.
+-- A call that makes a machine: only such a call can want memory.
 abbrev pub Makes : Option EngineState → Option EngineState → Line → ℤ → Type 0
 Makes None new line code = IsClosed new code
 Makes (Some old) None line code = ⊥

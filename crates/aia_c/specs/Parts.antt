@@ -10,7 +10,7 @@ use Rattle.aia_model.specs.declared.line.Line.{Line}
 use Rattle.aia_model.specs.declared.line.Line.TheVariants.{LoadPart}
 use Rattle.aia_c.specs.Codes.{bit_at}
 
--- A part of an image as numbers: its kind, and what its line has behind that word, filled with 0 to
+-- A part of an image as numbers: its kind, and what its line has after that word, filled with 0 to
 -- five.
 abbrev pub part_numbers : Part → List ℕ
 part_numbers (parts.Image version n delivery threshold select) =
@@ -19,7 +19,7 @@ part_numbers (parts.Majors injected enabled) = 2 ∷ injected ∷ enabled ∷ 0 
 part_numbers (parts.Prio hviprio hvictl) = 3 ∷ hviprio ∷ hvictl ∷ 0 ∷ 0 ∷ 0 ∷ []
 part_numbers (parts.Word w pending enable) = 4 ∷ w ∷ pending ∷ enable ∷ 0 ∷ 0 ∷ []
 
--- What an entry says as numbers: its kind, and what is printed behind that word, filled with 0 to
+-- What an entry says as numbers: its kind, and what is printed after that word, filled with 0 to
 -- three.
 abbrev pub entry_numbers : Entry → List ℕ
 entry_numbers (entries.Basic page) = 1 ∷ page ∷ 0 ∷ 0 ∷ []
@@ -38,8 +38,8 @@ entry_of (answers.Entry entry) = entry_numbers entry
 entry_of answer = 0 ∷ 0 ∷ 0 ∷ 0 ∷ []
 
 -- The part of a kind and five numbers, None where there is no such kind, or where a number does not
--- fit: version, N and T of `image` are of 32 bits, and D is 0 or 1. A kind looks at its own numbers
--- alone.
+-- fit: version, N and T of `image` are of 32 bits, and D is 0 or 1. A kind looks only at its own
+-- numbers.
 abbrev pub image_at : ℕ → ℕ → ℕ → ℕ → ℕ → Option Part
 image_at version n delivery threshold select =
     if nat_lt version (2 ^ 32) && nat_lt n (2 ^ 32) && nat_lt delivery 2

@@ -99,7 +99,7 @@ fn entry_in(given: &Result<Answer, Code>) -> Numbers
 }
 
 /// Gives a part of the image of a virtual hart in memory, as `save VM C K`: its kind, and what its
-/// line has behind that word; all are 0 where the line is refused, and behind the last.
+/// line has after that word; all are 0 where the line is refused, and behind the last.
 #[unsafe(no_mangle)]
 #[tactic(auto, using(crate::proofs::ServingLemmas::all_served))]
 pub extern "C" fn aia_save(
@@ -148,7 +148,7 @@ fn image_at(version: u64, n: u64, delivery: u64, threshold: u64, select: u64) ->
     }
 }
 
-/// Gives the part of a kind and five numbers, `None` where they are of none.
+/// Gives the part of a kind and five numbers, `None` where they spell none.
 fn part_at(kind: u32, first: u64, second: u64, third: u64, fourth: u64, fifth: u64) -> Option<Part>
     ensures { result ≡ part_at kind first second third fourth fifth }
 {
@@ -172,7 +172,7 @@ fn part_at(kind: u32, first: u64, second: u64, third: u64, fourth: u64, fifth: u
 }
 
 /// Loads a part of an image into a virtual hart in memory, as `load VM C PART`: its kind, and what
-/// the line has behind that word. The numbers behind the last are not looked at; those that are of
+/// the line has after that word. The numbers behind the last are not looked at; those that are of
 /// no part name no line.
 #[unsafe(no_mangle)]
 pub extern "C" fn aia_load_part(
@@ -198,7 +198,7 @@ pub extern "C" fn aia_load_part(
 }
 
 /// Says what an entry of these words is, as `entry W0 W1`: its kind, and the numbers that are
-/// printed behind that word; all are 0 where the line is refused, and behind the last.
+/// printed after that word; all are 0 where the line is refused, and behind the last.
 #[unsafe(no_mangle)]
 #[tactic(auto, using(crate::proofs::ServingLemmas::all_served))]
 pub extern "C" fn aia_entry(

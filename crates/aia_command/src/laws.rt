@@ -22,7 +22,7 @@ pub fn limits()
 
 /// What words ask for is what they spell: `replay` and nothing more, or `gen` and two numbers, or
 /// `audit`, the word of a kind of move and a width. The delimiter `--` may stand once, anywhere
-/// behind the subcommand, and says nothing. All else is refused.
+/// after the subcommand, and says nothing. All else is refused.
 pub fn words_ask_for_what_they_spell()
     ensures { (words : List (List ℕ)) → subcommand_of words ≡ subcommand_spelled words }
 {}
@@ -51,7 +51,7 @@ pub fn numbers_are_in_range()
         → subcommand_of words ≡ Some (Subcommand.Audit kind width) → IsWidth width }
 {}
 
-/// The word `replay` is taken, with the delimiter behind it or not.
+/// The word `replay` is taken, with the delimiter after it or not.
 pub fn replay_is_taken()
     ensures alone { subcommand_of (codes "replay" ∷ []) ≡ Some Subcommand.Replay }
     ensures delimiter { subcommand_of (codes "replay" ∷ codes "--" ∷ [])

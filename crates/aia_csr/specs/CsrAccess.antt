@@ -25,7 +25,7 @@ register_access level reg = reaches.File reg
 
 -- The table, by level, CSR and instruction, the select number, and hvictl's VTI.
 -- AIA 1.0, IMSIC, and Interrupts for Virtual Machines (VS Level). A host's access to stopi, sip or
--- sie is not modelled: no text spells one, and the last row is of these alone.
+-- sie is not modelled: no text spells one, and the last row is only of these.
 abbrev pub csr_access : Level → Csr → Op → ℕ → Bool → CsrAccess
 csr_access level csrs.Select op select vti = reaches.Select
 csr_access level csrs.Topei op select vti = reaches.Top
@@ -48,7 +48,7 @@ is_file_csr csr = false
 abbrev pub IsFileCsr : Csr → Type 0
 IsFileCsr csr = T (is_file_csr csr)
 
--- The CSR is one that the table has at the level: a host has those of its files alone.
+-- The CSR is one that the table has at the level: a host has only those of its files.
 abbrev pub IsInTable : Level → Csr → Type 0
 IsInTable levels.Guest csr = Unit {0}
 IsInTable level csr = IsFileCsr csr

@@ -1,5 +1,6 @@
 -- A domain as it is kept: what a store makes of it, and what a load reads.
--- AIA 1.0, APLIC, where no comment names another source; a heading of that chapter is named alone.
+-- AIA 1.0, APLIC, where no comment names another source; a heading of that chapter is named without
+-- it.
 use Rattle.std.specs.Prelude.{◌≡◌, ℕ, suc, ◌-◌, ◌*◌, ◌^◌, ◌<◌, ◌≤◌, Bool, true, false, ◌&&◌, if◌then◌else◌, List, length, All, filter}
 use Rattle.std.specs.List.{range_with_len}
 use Rattle.aia_word.specs.Sets.{word_of}

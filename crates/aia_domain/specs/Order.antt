@@ -14,7 +14,7 @@ is_pair p q = nat_eq p.0 q.0 && nat_eq p.1 q.1
 abbrev pub IsRising : List Pair → Type 0
 IsRising = AllPairs (λ p q. comes_before q p ≡ false)
 
--- Pairs with one more, which stands behind those that come before it, and ahead of all others.
+-- Pairs with one more, which stands after those that come before it, and ahead of all others.
 abbrev pub put_in : Pair → List Pair → List Pair
 put_in p [] = p ∷ []
 put_in p (q ∷ qs) = if comes_before q p then q ∷ put_in p qs else p ∷ q ∷ qs

@@ -53,7 +53,7 @@ impl Candidates {
         }
     }
 
-    /// Puts a pair at its place, behind those that come before it. There is room for it.
+    /// Puts a pair at its place, after those that come before it. There is room for it.
     #[inline(always)]
     pub fn put(&mut self, pair: (u32, u32))
         requires room { length self.old.pairs < self.old.room }
@@ -147,7 +147,7 @@ impl Candidates {
     }
 }
 
-/// Gives the place behind all pairs that don't come before this one, in falling order.
+/// Gives the place after all pairs that don't come before this one, in falling order.
 fn place_of(falling: &[(u32, u32)], pair: (u32, u32)) -> usize
     requires rising { IsRising (reverse falling.now) }
     ensures within { result ≤ length falling.now }

@@ -109,7 +109,7 @@ impl Flights {
         self.kept[vm as usize].count()
     }
 
-    /// Puts a store behind those of a VM that stands and has fewer than `STORES_IN_FLIGHT`.
+    /// Puts a store after those of a VM that stands and has fewer than `STORES_IN_FLIGHT`.
     pub fn push(&mut self, vm: u32, store: Flying)
         requires there { vm < length self.old }
         requires room { length (slice_index_or self.old vm []) < STORES_IN_FLIGHT }

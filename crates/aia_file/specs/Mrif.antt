@@ -26,7 +26,7 @@ abbrev pub enable_place : ℕ → ℕ → ℕ
 enable_place q k = SLOT_WORDS * q + 2 * k + 1
 
 -- The set whose word k stands at `place k`: identity i, up to the greatest, is bit i mod 64 of word
--- i / 64. Bit 0 of the first word, which shows as number 0, is of no identity.
+-- i / 64. Bit 0 of the first word, which shows as number 0, belongs to no identity.
 abbrev pub set_at : (ℕ → ℕ) → List ℕ → ℕ → Bool
 set_at place words i =
     nat_le i IDENTITIES && has_bit (slice_index words (place (i / 64))) (i % 64)

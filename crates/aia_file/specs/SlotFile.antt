@@ -27,7 +27,7 @@ IsOfSets (Pending k) = (k % 2 ≡ 0) × (k < SLOT_WORDS)
 IsOfSets (Enable k) = (k % 2 ≡ 0) × (k < SLOT_WORDS)
 IsOfSets r = ⊥
 
--- Memory changes in the bits of the identities 1 to n of slot q alone: it keeps its size, the other
+-- Memory changes only in the bits of the identities 1 to n of slot q: it keeps its size, the other
 -- bits of the slot and every word elsewhere.
 pub record KeepsAllElse (old new : List ℕ) (q n : ℕ) : Type 0 where
   pub size : length new ≡ length old

@@ -12,6 +12,6 @@ abbrev pub SummarizesBothAllBut : ℕ → ℕ → (ℕ → Bool) → (ℕ → Bo
 SummarizesBothAllBut k summary pending enabled =
     SummarizesAllBut k summary (λ i. pending i && enabled i)
 
--- A set has identities of so many words alone, and not 0, which is no identity.
+-- A set has only identities of so many words, and not 0, which is no identity.
 abbrev pub AreIdentities : ℕ → (ℕ → Bool) → Type 0
 AreIdentities words members = (i : ℕ) → members i ≡ true → (1 ≤ i) × (i < 64 * words)

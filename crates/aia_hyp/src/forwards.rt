@@ -189,7 +189,7 @@ impl Core {
         self.passes.number_of(source?)
     }
 
-    /// Delivers an MSI that is of no passed source.
+    /// Delivers an MSI that comes from no passed source.
     fn hear(&mut self, spot: Spot, msi: Msi)
         requires may { MayGo self.old (Delivered msi) }
         requires at { spot

@@ -297,8 +297,8 @@ impl Core {
 
     /// Tells how many notices were sent; the count stays at `2^64 - 1`.
     ///
-    /// Its second clause is of every core, whatever was asked of it, and whenever an APLIC's MSIs
-    /// were delivered: it stands for some history whose events may happen. So the laws of such
+    /// Its second clause holds of every core, whatever was asked of it, and whenever an APLIC's
+    /// MSIs were delivered: it stands for some history whose events may happen. So the laws of such
     /// histories are laws of cores, that no notice is lost among them.
     ///
     /// AIA 1.0, IOMMU Support for MSIs to Virtual Machines, "Memory-resident interrupt files".

@@ -73,7 +73,7 @@ impl Passes {
         None
     }
 
-    /// Puts one behind the others, where there is room.
+    /// Puts one after the others, where there is room.
     pub fn push(&mut self, pass: Passed)
         requires { length self.old < PASSES }
         ensures { self.new ≡ self.old ++ pass_shown pass ∷ [] }
@@ -93,7 +93,7 @@ impl Passes {
     }
 }
 
-/// Puts pass k behind others where it is to a virtual hart.
+/// Puts pass k after others where it is to a virtual hart.
 fn put_own(own: &mut ArrayVec<Pass, PASSES>, vm: u32, vcpu: u32, k: u32, pass: Passed)
     requires { length own.old.items < PASSES }
     ensures { own.new.items

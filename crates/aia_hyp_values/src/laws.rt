@@ -68,7 +68,7 @@ pub fn a_core_stands_in_the_middle_of_a_leave()
 /// virtual hart holds it, and so none that is free: once a guest file is given back, no store, also
 /// none that was in flight, reaches it but through the routes of the virtual hart that holds it
 /// next. In a core that stands for a history the entry and the record that are in force are these
-/// routes, and a VM has no other entries, so that a store of its devices touches its own alone.
+/// routes, and a VM has no other entries, so that a store of its devices touches only its own.
 pub fn stores_reach_files_that_are_held()
     ensures devices { (h : History) (g : Vcpu) (p : GuestPlace) → in_force_of h g ≡ Some p
         → holds p (home h g) ≡ true }
@@ -181,8 +181,8 @@ pub fn all_is_known_of_who_is_at_rest_in_a_core()
 /// its virtual hart and one for another one, and with a passed source: what is promised of plans
 /// that know all is not promised of none. The targets stand for the history that leads there.
 /// Nothing leads to the guest file that is left; the first of these stores lands in the interrupt
-/// file, and the second one leaves it as it is. All is known of the other virtual hart too, which
-/// is at rest.
+/// file, and the second one leaves it as it is. Of the world before both were sent all is known of
+/// the other virtual hart too, which is at rest.
 pub fn a_plan_knows_all_in_the_middle_of_a_leave()
     ensures knows { KnowsAll flying_world example_targets leave_plan None leaver_interrupts false }
     ensures targets { TargetsStand example_targets leaving_history }

@@ -120,7 +120,7 @@ impl Imsic {
         &self.files[place]
     }
 
-    /// Lends the file at a place that is there; what is made of it is made of that file alone.
+    /// Lends the file at a place that is there; what is made of it is made only of that file.
     pub fn file_mut(&mut self, spot: Spot) -> &mut File
         requires { IsThere self.old spot }
         ensures* writes_back { sem 𝓛 (LendsFile self.entry spot result) }

@@ -5,7 +5,7 @@ ghost use Rattle.aia_io.specs.Ends.{Writes, WriteHasCause};
 use crate::sink::{Sink, Write};
 use std::marker::Model;
 
-/// Takes all that it is offered, keeps the number of bytes alone, and never fails.
+/// Takes all that it is offered, keeps only the number of bytes, and never fails.
 #[derive(Drop)]
 pub struct QuietSink {
     count: u64,

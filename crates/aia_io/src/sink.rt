@@ -24,7 +24,7 @@ pub trait Sink {
     /// Takes bytes from the front of `bytes`, which isn't empty.
     ///
     /// Where the sink tells its bytes: at `Took(n)`, with n between 1 and `bytes.len()`, the first
-    /// n now stand behind those taken before, and at `Failed` they are as before. At `Failed` the
+    /// n now stand after those taken before, and at `Failed` they are as before. At `Failed` the
     /// count of faults rose (or stood at its last value).
     fn write(&mut self, bytes: &[u8]) -> Write
         requires { 0 < length bytes.now }

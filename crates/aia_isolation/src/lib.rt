@@ -1,6 +1,6 @@
-//! Isolation: what a virtual hart is and reads is a function of what was said to it alone, which an
+//! Isolation: what a virtual hart is and reads is a function only of what was said to it, which an
 //! image carries to another one; a VM is answered as if it were alone, and it reaches the host by
-//! its notices alone. Each function does nothing, and its clauses are what was proved.
+//! nothing but its notices. Each function does nothing, and its clauses are what was proved.
 #![tactic(auto)]
 
 pub mod guests;

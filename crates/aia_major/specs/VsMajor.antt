@@ -137,7 +137,7 @@ majors_word members =
     bit_number (members 1) * 2 ^ 1 + bit_number (members 5) * 2 ^ 5
     + bit_number (members 9) * 2 ^ 9 + bit_number (members 13) * 2 ^ 13
 
--- Whether a number may say which majors are injected or enabled: its ones are majors alone.
+-- Whether a number may say which majors are injected or enabled: its ones are only at majors.
 abbrev pub fits_hvip : ℕ → Bool
 fits_hvip v = nat_eq (majors_word (has_bit v)) v
 
@@ -162,7 +162,7 @@ pub record Candidate : Type 0 where
 abbrev pub comes_first : Candidate → Candidate → Bool
 comes_first a b = nat_lt a.number b.number || nat_eq a.number b.number && nat_le a.rank b.rank
 
--- A candidate alone, where it is one.
+-- A list of this one candidate, if it is one; else the empty list.
 abbrev pub one_if : Bool → Candidate → List Candidate
 one_if is c = if is then c ∷ [] else []
 

@@ -111,7 +111,7 @@ pub fn registers_show_majors()
         → has_bit (sie_value m) j ≡ (is_major j && m.enabled j) }
 {}
 
-/// A number that may say which majors are injected or enabled has ones at majors alone; one that
+/// A number that may say which majors are injected or enabled has ones only at majors; one that
 /// shows a set of majors is such a number, and written whole it makes the injected ones anew.
 ///
 /// The hypervisor extension 1.0: `hvip` and `vsie`.

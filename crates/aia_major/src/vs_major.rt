@@ -305,7 +305,7 @@ impl VsMajor {
 }
 
 /// Tells whether a number may say which majors are injected or enabled: its ones are at the bits 1,
-/// 5, 9 and 13 alone, where `sip` and `sie` have them.
+/// 5, 9 and 13 only, where `sip` and `sie` have them.
 ///
 /// The hypervisor extension 1.0: `hvip` and `vsie`. Profile: the four majors.
 pub fn fits_hvip(v: u64) -> bool

@@ -27,7 +27,7 @@ phase_at phases.Enable = Some EnablePhase
 phase_at phases.Look = Some LookPhase
 phase_at phases.Last = Some LastPhase
 
--- The plan that a state is of.
+-- The plan of which a state is.
 abbrev pub plan_of : State → PlanState
 plan_of (states.LeaveFirst m) = record { moving = m; phase = Some FirstPhase }
 plan_of (states.LeaveClosing m) = record { moving = m; phase = Some ClosingPhase }

@@ -164,7 +164,7 @@ impl<D: Direction> Move<D, Enable> {
 }
 
 impl<D: Direction> Move<D, Look> {
-    /// Looks at a word of both sets of the slot, in a leave alone. Why here: each word is watched,
+    /// Looks at a word of both sets of the slot, only in a leave. Why here: each word is watched,
     /// so that a look misses only what the host is told of; it finds what had come before.
     pub fn step(mut self, fabric: &mut Fabric) -> Turn<Self, Move<D, Last>>
         requires fits { MoveFits fabric.old self }
@@ -223,7 +223,7 @@ impl<D: Direction, P> Move<D, P> {
     }
 
     /// Makes the next step, an access that is not the last one of the plan, and tells whether the
-    /// one after it is of its phase too.
+    /// one after it belongs to its phase too.
     fn step_in(&mut self, phase: PlanPhase, fabric: &mut Fabric) -> bool
         requires fits { MoveFits fabric.old self.old }
         requires access { is_none (phase_at phase) ≡ false }

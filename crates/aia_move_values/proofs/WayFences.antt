@@ -150,7 +150,7 @@ same_then w u x first later = record {
   guests = later.guests ∙ first.guests;
 }
 
-landed_machine : (w u : World) (vm k : ℕ) → Lands w u vm k → SameMachine w u
+pub landed_machine : (w u : World) (vm k : ℕ) → Lands w u vm k → SameMachine w u
 landed_machine w u vm k l =
     let same = stored_machine w l.stored (entry_rest l.store.entry w l.stored l.store.offset l.store.value l.reaches) in
     subst (λ (x : World). SameMachine w x) (sym l.taken) (record { n = same.n; vms = same.vms; harts = same.harts; guests = same.guests })
@@ -169,7 +169,7 @@ one_more_lands : (w : World) (m : Moving) (xs : List Flying) (s : Flying) (file 
 one_more_lands w m [] s file = refl
 one_more_lands w m (x ∷ xs) s file = one_more_lands w m xs s (if_here w m x file)
 
-here_within : (n words : ℕ) (b : Bool) (offset value : ℕ) (file : InterruptFile) → IsWithin n words file
+pub here_within : (n words : ℕ) (b : Bool) (offset value : ℕ) (file : InterruptFile) → IsWithin n words file
     → IsWithin n words (landed_if b offset value file)
 here_within n words true offset value file w = landed_within n words offset value file w
 here_within n words false offset value file w = w

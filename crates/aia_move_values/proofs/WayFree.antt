@@ -126,7 +126,7 @@ landed_free w u at v k whole free l = taken_free l.stored at
     (stored_free w l.stored at (entry_rest l.store.entry w l.stored l.store.offset l.store.value l.reaches)
     (entry_words w l.stored l.store.offset l.store.value whole l.store.entry l.reaches) free) u v k l.taken
 
-all_landed_free : (count : ℕ) (w u : World) (at : At) (v : ℕ) → NothingLeadsTo w at → LandsOldest count w u v → NothingLeadsTo u at
+pub all_landed_free : (count : ℕ) (w u : World) (at : At) (v : ℕ) → NothingLeadsTo w at → LandsOldest count w u v → NothingLeadsTo u at
 all_landed_free zero w u at v free same = subst (λ (x : World). NothingLeadsTo x at) (sym same) free
 all_landed_free (suc count) w u at v free (mid, before, whole, l) = landed_free mid u at v 0 whole (all_landed_free count w mid at v free before) l
 

@@ -32,7 +32,7 @@ use Rattle.aia_move_values.proofs.WayLemmas.{entry_elsewhere, record_elsewhere}
 use Rattle.aia_move_values.proofs.WayFrames.{KnowsSo, KeepsWords, entry_words, route_words, record_words, stored_machine, stored_ways, ways_by, taken_was, sent_is, flight_set}
 
 -- an entry that leads somewhere, as a route
-route_leads : (w : World) (e : Entry) → led_by_route w (leads_by e) ≡ led_by_entry w e
+pub route_leads : (w : World) (e : Entry) → led_by_route w (leads_by e) ≡ led_by_entry w e
 route_leads w (Basic page) = refl
 route_leads w (Mrif addr page identity) = refl
 route_leads w NotValid = refl

@@ -171,7 +171,7 @@ module _ (w u : World) (m : Moving) (offset value : ℕ) (whole : IsWhole w) (fi
   entry_elsewhere Misconfigured other same = ap (λ (x : World). places_of x (mover m) m.home) same
 
 -- what a record names is there
-named_there : (i : ImsicState) (q p : GuestPlace) → named_spot i q ≡ spot_of p → IsThere i (spot_of p)
+pub named_there : (i : ImsicState) (q p : GuestPlace) → named_spot i q ≡ spot_of p → IsThere i (spot_of p)
 named_there i q p e = elim (cases_Bool (nat_lt q.hart i.harts && is_in_range 1 i.guests q.file)) [
   | inl is ↦
       let same : spot_of q ≡ spot_of p = sym (cond-true _ _ _ is) ∙ e in

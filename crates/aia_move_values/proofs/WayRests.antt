@@ -1,7 +1,9 @@
--- What happens beside its own doings leaves known what is known of a virtual hart at rest; and the
--- making of a VM what is known of one that is moved.
-use Rattle.std.proofs.Common.{◌≡◌, ◌≢◌, ℕ, ◌+◌, ◌/◌, ◌≤◌, Bool, true, false, if◌then◌else◌, Option, Some, None, ◌⊎◌, inl, inr, refl, sym, ap, ◌∙◌, subst, arith}
-use Rattle.std.proofs.lemmas.Bool.{eqb-true, ne_eqb, false≢true}
+-- What happens beside the doings of a virtual hart leaves known what is known of it, at rest or
+-- moved.
+use Rattle.std.proofs.Common.{◌≡◌, ◌≢◌, ℕ, ◌+◌, ◌/◌, ◌%◌, ◌≤◌, nat_lt, Bool, true, false, if◌then◌else◌, Option, Some, None, ◌⊎◌, inl, inr, refl, sym, ap, ◌∙◌, subst, arith}
+use Rattle.std.proofs.lemmas.Bool.{cases_Bool, eqb-true, ne_eqb, lt-ltb, false≢true}
+use Rattle.std.proofs.lemmas.Bool.Decides.{nat_tests}
+use Rattle.aia_regs.specs.declared.address_map.TheConstants.{PAGE}
 use Rattle.aia_file.specs.InterruptFile.{InterruptFile}
 use Rattle.aia_file.specs.declared.spot.Spot.{Spot}
 use Rattle.aia_file.specs.declared.spot.Spot.TheVariants.{GuestFile}
@@ -9,10 +11,12 @@ use Rattle.aia_file.specs.Imsic.{IsThere}
 use Rattle.aia_vcpu.specs.declared.place.GuestPlace.{GuestPlace}
 use Rattle.aia_vcpu.specs.declared.vm.Vm.{Vm}
 use Rattle.aia_vcpu.specs.Vms.{Vcpu, is_vcpu, is_vcpu_in, vcpus_in, slot_of}
-use Rattle.aia_vcpu.specs.Home.{Home, holds, is_moving, rests_in_memory}
+use Rattle.aia_vcpu.specs.Home.{Home, holds, is_moving}
 use Rattle.aia_vcpu.specs.Home.Home.{InMemory, Resident, OnWay}
-use Rattle.aia_vcpu.specs.Routes.{origin, entry_names, MayLand}
+use Rattle.aia_vcpu.specs.Routes.{origin, entry_names, is_at_fence, MayLand}
+use Rattle.aia_vcpu.specs.Aims.{pass_reaches}
 use Rattle.aia_vcpu.proofs.HomeLemmas.{same_place}
+use Rattle.aia_vcpu.proofs.PassLemmas.{pass_lands}
 use Rattle.aia_vcpu.proofs.VmLemmas.{same_vcpu, same_slot, slot_below}
 use Rattle.aia_vcpu_places.specs.Holds.{Holds, IsWithin}
 use Rattle.aia_vcpu_places.specs.Places.{Places}
@@ -20,24 +24,25 @@ use Rattle.aia_vcpu_places.specs.Stores.{AreApart}
 use Rattle.aia_fabric_values.specs.declared.at.At.{At}
 use Rattle.aia_fabric_values.specs.declared.at.At.TheVariants.{Slot}
 use Rattle.aia_fabric_values.specs.declared.stage.Stage.{Stage}
-use Rattle.aia_fabric_values.specs.World.{World, flight_of, no_stage}
+use Rattle.aia_entry.specs.Tables.{table_of, route_of}
+use Rattle.aia_fabric_values.specs.World.{World, flight_of, stage_of, no_stage}
 use Rattle.aia_fabric_values.specs.Whole.{IsWhole}
 use Rattle.aia_fabric_values.specs.Making.{MakesVm}
-use Rattle.aia_fabric_values.specs.Changes.{spot_of, with_fence}
+use Rattle.aia_fabric_values.specs.Changes.{spot_of}
 use Rattle.aia_fabric_values.specs.Stores.{StoresIn, ReachesByRecord}
 use Rattle.aia_fabric_values.proofs.FrameLemmas.{stores_rest, record_rest}
 use Rattle.aia_move_values.specs.Views.{places_of}
 use Rattle.aia_move_values.specs.Move.{Moving, mover, width}
 use Rattle.aia_move_values.specs.PlanState.{PlanState, moving_of}
-use Rattle.aia_move_values.specs.Targets.{TargetMap}
-use Rattle.aia_move_values.specs.Ways.{led_by_record, leads_here, KnowsAll, landed_if, landed_flight}
-use Rattle.aia_move_values.specs.WorldChanges.{OthersNameNothing, WorldChange, KnowsAtRest, IsOfOthers, file_after}
+use Rattle.aia_move_values.specs.Targets.{TargetMap, pass_count}
+use Rattle.aia_move_values.specs.Ways.{led_by_entry, led_by_route, led_by_record, leads_here, KnowsAll, landed_if, landed_flight, reach_fetched}
+use Rattle.aia_move_values.specs.WorldChanges.{OthersNameNothing, WorldChange, KnowsAtRest, IsAimedAt, IsOfOthers, file_after, reach_after}
 use Rattle.aia_move_values.specs.WorldChanges.WorldChange.{DeviceStores, PeerStores, StoreIsSent, StoreLands, StoreIsTaken, MsiLands, MsiIsRelayed, EntryIsRead, EntryIsFenced, SlotIsReached, FileIsReached, MoveSteps, VmIsMade}
 use Rattle.aia_move_values.proofs.KnowsLemmas.{knows_by, lands_knows, InPhase}
 use Rattle.aia_move_values.proofs.WayLemmas.{record_elsewhere}
 use Rattle.aia_move_values.proofs.WayFrames.{KnowsSo, words_same, record_words, stored_machine, stored_ways, so_of, all_of}
 use Rattle.aia_move_values.proofs.WayKnows.{device_all, peer_all, sent_all, landed_all, taken_all}
-use Rattle.aia_move_values.proofs.WayFences.{fetched_all, fenced_all, no_vcpu}
+use Rattle.aia_move_values.proofs.WayFences.{fetched_all, fenced_all, here_within, flight_within, no_vcpu}
 use Rattle.aia_move_values.proofs.WayMoves.{slot_all, file_all, other_step}
 use Rattle.aia_move_values.proofs.WayMade.{Since, places_made, fits_made, entries_since, written_since, named_since, flight_since, led_made}
 use Rattle.aia_move_values.proofs.WayMade.Since.{AsBefore, ToNewSlot, Nowhere}
@@ -112,99 +117,156 @@ names_rest (InMemory rest) rests = refl
 names_rest (Resident p) rests = refl
 names_rest (OnWay way at) rests = absurd (cc)
 
+never : (r : ℕ) (a b : Option GuestPlace) → (if nat_lt r 0 then a else b) ≡ b
+never r a b = let e : nat_lt r 0 ≡ false = grind (arith, nat_tests) in ap (λ c. if c then a else b) e
+
 lands_rest : (words : ℕ) (there : Home) → is_moving there ≡ false → (p : GuestPlace) → holds p there ≡ true → MayLand words there (Some p)
 lands_rest words (InMemory rest) rests p held = absurd (false≢true held)
 lands_rest words (Resident q) rests p held = inl (ap Some (same_place p q held), refl)
 lands_rest words (OnWay way at) rests p held = absurd (cc)
 
-relays_rest : (words : ℕ) (there : Home) → rests_in_memory there ≡ true → MayLand words there None
-relays_rest words (InMemory rest) rests = inl (refl, refl)
-relays_rest words (Resident p) rests = absurd (cc)
-relays_rest words (OnWay way at) rests = absurd (cc)
+passes_rest : (words r : ℕ) (there : Home) (place : Option GuestPlace) → is_moving there ≡ false → pass_reaches r there ≡ place
+    → MayLand words there place
+passes_rest words r (InMemory rest) place rests reaches = inl (sym reaches ∙ never r None None, refl)
+passes_rest words r (Resident p) place rests reaches = inl (sym reaches ∙ never r None (Some p), refl)
+passes_rest words r (OnWay way at) place rests reaches = absurd (cc)
 
--- none of its own doings
-abbrev NoMore : ℕ → Type 0
-NoMore words = Unit {0}
+-- ---- one of whom all is known, moved or at rest
 
 abbrev spot_back : Spot → GuestPlace
 spot_back (GuestFile hart file) = record { hart = hart; file = file }
 spot_back spot = record { hart = 0; file = 0 }
 
-module _ (w u : World) (map : TargetMap) (m : Moving) (file : InterruptFile) (whole : IsWhole w) (within : IsWithin w.n (width w) file)
-    (all : KnowsAtRest w map m file) where
-  so : KnowsSo NoMore w map m (origin m.home) file false
-  so = record { places = record { fits = all.fits; phase = tt; holds = all.holds }; ways = all.ways; targets = all.targets }
+module _ (w u : World) (map : TargetMap) (Q : ℕ → Type 0) (m : Moving) (reach : Option GuestPlace) (file : InterruptFile) (saw : Bool)
+    (whole : IsWhole w) (apart : AreApart m.home) (within : IsWithin w.n (width w) file) (so : KnowsSo Q w map m reach file saw) where
+  aimed_lands : (place : Option GuestPlace) → IsAimedAt m place → MayLand (width w) m.home place
+  aimed_lands place aimed = elim (cases_Bool (is_moving m.home)) [
+    | inl moves ↦ subst (MayLand (width w) m.home) aimed.reaches (pass_lands (pass_count m.who) (width w) aimed.pass m.home
+        (lt-ltb aimed.pass (pass_count m.who) (aimed.passed moves)) so.targets.come)
+    | inr rests ↦ passes_rest (width w) aimed.pass m.home place rests aimed.reaches
+  ]
 
-  at_rest : (after : InterruptFile) → KnowsSo NoMore u map m (origin m.home) after false → KnowsAtRest u map m after
-  at_rest after s = record { rests = all.rests; fits = s.places.fits; holds = s.places.holds; ways = s.ways; targets = s.targets }
-
-  apart : AreApart m.home
-  apart = no_files m.home all.rests
-
-  fetched : (b : Bool) → (if b then entry_names m.home else origin m.home) ≡ origin m.home
-  fetched true = names_rest m.home all.rests
-  fetched false = refl
+  held_lands : (p : GuestPlace) → holds p m.home ≡ true → (is_moving m.home ≡ true → holds p m.home ≡ true → IsAimedAt m (Some p))
+      → MayLand (width w) m.home (Some p)
+  held_lands p held aimed = elim (cases_Bool (is_moving m.home)) [
+    | inl moves ↦ aimed_lands (Some p) (aimed moves held)
+    | inr rests ↦ lands_rest (width w) m.home rests p held
+  ]
 
   -- an MSI lands in a guest file
-  msi_lands : (p : GuestPlace) (offset value : ℕ) → IsThere w.imsic (spot_of p) → StoresIn w u (spot_of p) offset value → (b : Bool)
-      → holds p m.home ≡ b → KnowsAtRest u map m (landed_if b offset value file)
-  msi_lands p offset value there s true held = at_rest _ (record {
-    places = lands_knows w u NoMore m (origin m.home) file false offset value whole apart within so.places (Some p)
-        (lands_rest (width w) m.home all.rests p held) s;
-    ways = stored_ways w u m (stores_rest w u (spot_of p) offset value s) (words_same w u (ap (λ (x : World). x.memory) s.rest)) all.ways;
-    targets = all.targets;
-  })
-  msi_lands p offset value there s false none = at_rest file (file_all w u map NoMore m (origin m.home) file false so (spot_of p) there other
-      (s.rest ∙ (λ k. record w { imsic = s.lands.others k; notices = (ap (λ (x : World). x.notices) (sym s.rest)) k })))
+  msi_lands : (p : GuestPlace) (offset value : ℕ) → IsThere w.imsic (spot_of p) → StoresIn w u (spot_of p) offset value
+      → (is_moving m.home ≡ true → holds p m.home ≡ true → IsAimedAt m (Some p)) → (b : Bool) → holds p m.home ≡ b
+      → KnowsSo Q u map m reach (landed_if b offset value file) saw
+  msi_lands p offset value there s aimed true held = record {
+    places = lands_knows w u Q m reach file saw offset value whole apart within so.places (Some p) (held_lands p held aimed) s;
+    ways = stored_ways w u m (stores_rest w u (spot_of p) offset value s) (words_same w u (ap (λ (x : World). x.memory) s.rest)) so.ways;
+    targets = so.targets;
+  }
+  msi_lands p offset value there s aimed false none = file_all w u map Q m reach file saw so (spot_of p) there other
+      (s.rest ∙ (λ k. record w { imsic = s.lands.others k; notices = (ap (λ (x : World). x.notices) (sym s.rest)) k }))
     where
       other : (r : GuestPlace) → holds r m.home ≡ true → spot_of p ≢ spot_of r
       other r held e = false≢true (sym none ∙ ap (λ (x : GuestPlace). holds x m.home) (ap spot_back e) ∙ held)
 
   -- one is given on to a slot
-  msi_relayed : (g : Vcpu) (value : ℕ) → is_vcpu_in w.vms g ≡ true → ReachesByRecord None w u g value
-      → (g ≡ mover m → rests_in_memory m.home ≡ true) → (b : Bool) → is_vcpu g (mover m) ≡ b → KnowsAtRest u map m (landed_if b 0 value file)
-  msi_relayed g value there s rests true own =
+  msi_relayed : (g : Vcpu) (value : ℕ) → is_vcpu_in w.vms g ≡ true → ReachesByRecord None w u g value → (g ≡ mover m → IsAimedAt m None)
+      → (b : Bool) → is_vcpu g (mover m) ≡ b → KnowsSo Q u map m reach (landed_if b 0 value file) saw
+  msi_relayed g value there s aimed true own =
       let is = same_vcpu g (mover m) own in
       let its = subst (λ (x : Vcpu). ReachesByRecord None w u x value) is s in
-      at_rest _ (record {
-        places = lands_knows w u NoMore m (origin m.home) file false 0 value whole apart within so.places None
-            (relays_rest (width w) m.home (rests is)) its;
-        ways = stored_ways w u m (record_rest None w u g value s) (record_words w u g None value whole there s) all.ways;
-        targets = all.targets;
-      })
-  msi_relayed g value there s rests false none =
+      record {
+        places = lands_knows w u Q m reach file saw 0 value whole apart within so.places None (aimed_lands None (aimed is)) its;
+        ways = stored_ways w u m (record_rest None w u g value s) (record_words w u g None value whole there s) so.ways;
+        targets = so.targets;
+      }
+  msi_relayed g value there s aimed false none =
       let other : leads_here m (led_by_record w g None) ≡ false = ne_eqb (slot_of w.vms g) m.who.found.slot
-      (λ e. no_vcpu g (mover m) none (same_slot w.vms g (mover m) there all.fits.there (e ∙ all.fits.slot))) in
+      (λ e. no_vcpu g (mover m) none (same_slot w.vms g (mover m) there so.places.fits.there (e ∙ so.places.fits.slot))) in
       let rest = record_rest None w u g value s in
-      at_rest file (record {
-        places = knows_by w u NoMore m (origin m.home) false (stored_machine w u rest) file file so.places (places_of w (mover m) m.home)
-            (record_elsewhere w u m value whole all.fits g None there other s) all.holds;
-        ways = stored_ways w u m rest (record_words w u g None value whole there s) all.ways;
-        targets = all.targets;
-      })
+      record {
+        places = knows_by w u Q m reach saw (stored_machine w u rest) file file so.places (places_of w (mover m) m.home)
+            (record_elsewhere w u m value whole so.places.fits g None there other s) so.places.holds;
+        ways = stored_ways w u m rest (record_words w u g None value whole there s) so.ways;
+        targets = so.targets;
+      }
+
+  happens_so : (h : WorldChange w u) → IsOfOthers w u m h → KnowsSo Q u map m (reach_after w u m h reach) (file_after w u m h file) saw
+  happens_so (DeviceStores v addr value s) others = device_all w u map Q m reach file saw whole apart within so v addr value s
+  happens_so (PeerStores g value there s) others = peer_all w u map Q m reach file saw whole apart within so g value there s
+  happens_so (StoreIsSent v addr value s) others = sent_all w map Q m reach file saw so u v addr value s
+  happens_so (StoreLands v k l) others = landed_all w u map Q m reach file saw whole apart within so v k l
+  happens_so (StoreIsTaken v k e) others = taken_all w map Q m reach file saw so u v k e
+  happens_so (MsiLands p offset value there s) others = msi_lands p offset value there s others (holds p m.home) refl
+  happens_so (MsiIsRelayed g value there s) others = msi_relayed g value there s others (is_vcpu g (mover m)) refl
+  happens_so (EntryIsRead g there e) others =
+      subst (λ (x : World). KnowsSo Q x map m (reach_fetched (is_vcpu (mover m) g) m reach) file saw) (sym e)
+      (fetched_all w g map Q m reach file saw whole there so)
+  happens_so (EntryIsFenced g there f) others = fenced_all w u g map Q m reach file saw whole apart within there so f
+  happens_so (SlotIsReached q threshold deed low done) others = slot_all w u map Q m reach file saw so q threshold deed low others done
+  happens_so (FileIsReached spot there changed) others = file_all w u map Q m reach file saw so spot there others changed
+  happens_so (MoveSteps other led theirs seen landed hand two fine knows first step) others =
+      other_step w map Q m other reach led file theirs saw seen whole apart two within fine so knows others.0 others.1 landed u hand first step
+  happens_so (VmIsMade vm after made unnamed) others = made_so w u map Q m reach file saw vm whole after made unnamed so
+
+-- ---- at rest, and moved
+
+-- no step of its own is known
+abbrev NoMore : ℕ → Type 0
+NoMore words = Unit {0}
+
+module _ (w u : World) (map : TargetMap) (m : Moving) (file : InterruptFile) (whole : IsWhole w) (within : IsWithin w.n (width w) file)
+    (all : KnowsAtRest w map m file) where
+  -- its entry leads where it did, read again or not
+  fetched : (b : Bool) → reach_fetched b m (origin m.home) ≡ origin m.home
+  fetched true = names_rest m.home all.rests
+  fetched false = refl
+
+  stays : (h : WorldChange w u) → reach_after w u m h (origin m.home) ≡ origin m.home
+  stays (EntryIsRead g there e) = fetched (is_vcpu (mover m) g)
+  stays (EntryIsFenced g there f) = fetched (is_vcpu (mover m) g)
+  stays h = refl
 
   pub rests_on : (h : WorldChange w u) → IsOfOthers w u m h → KnowsAtRest u map m (file_after w u m h file)
-  rests_on (DeviceStores v addr value s) others = at_rest _ (device_all w u map NoMore m (origin m.home) file false whole apart within so v addr
-      value s)
-  rests_on (PeerStores g value there s) others = at_rest _ (peer_all w u map NoMore m (origin m.home) file false whole apart within so g value there
-      s)
-  rests_on (StoreIsSent v addr value s) others = at_rest file (sent_all w map NoMore m (origin m.home) file false so u v addr value s)
-  rests_on (StoreLands v k l) others = at_rest _ (landed_all w u map NoMore m (origin m.home) file false whole apart within so v k l)
-  rests_on (StoreIsTaken v k e) others = at_rest file (taken_all w map NoMore m (origin m.home) file false so u v k e)
-  rests_on (MsiLands p offset value there s) others = msi_lands p offset value there s (holds p m.home) refl
-  rests_on (MsiIsRelayed g value there s) others = msi_relayed g value there s others (is_vcpu g (mover m)) refl
-  rests_on (EntryIsRead g there e) others = at_rest file (subst (λ (x : World). KnowsSo NoMore x map m (origin m.home) file false) (sym e)
-      (subst (λ (reach : Option GuestPlace). KnowsSo NoMore (with_fence w g.vm g.vcpu) map m reach file false) (fetched (is_vcpu (mover m) g))
-      (fetched_all w g map NoMore m (origin m.home) file false whole there so)))
-  rests_on (EntryIsFenced g there f) others = at_rest _ (subst (λ (reach : Option GuestPlace). KnowsSo NoMore u map m reach (landed_flight w m
-      (flight_of w g.vm) file) false)
-      (fetched (is_vcpu (mover m) g)) (fenced_all w u g map NoMore m (origin m.home) file false whole apart within there so f))
-  rests_on (SlotIsReached q threshold deed low done) others =
-      at_rest file (slot_all w u map NoMore m (origin m.home) file false so q threshold deed low others done)
-  rests_on (FileIsReached spot there changed) others =
-      at_rest file (file_all w u map NoMore m (origin m.home) file false so spot there others changed)
-  rests_on (MoveSteps other led theirs seen landed hand two fine knows first step) others =
-      at_rest _ (other_step w map NoMore m other (origin m.home) led file theirs false seen whole apart two within fine so knows others.0 others.1
-      landed u hand first step)
-  rests_on (VmIsMade vm after made unnamed) others =
-      at_rest file (made_so w u map NoMore m (origin m.home) file false vm whole after made unnamed so)
+  rests_on h others =
+      let before : KnowsSo NoMore w map m (origin m.home) file false = record {
+        places = record { fits = all.fits; phase = tt; holds = all.holds };
+        ways = all.ways;
+        targets = all.targets;
+      } in
+      let after = subst (λ (reach : Option GuestPlace). KnowsSo NoMore u map m reach (file_after w u m h file) false) (stays h)
+      (happens_so w u map NoMore m (origin m.home) file false whole (no_files m.home all.rests) within before h others) in
+      record { rests = all.rests; fits = after.places.fits; holds = after.places.holds; ways = after.ways; targets = after.targets }
+
+pub happens_all : (w u : World) (map : TargetMap) (plan : PlanState) (reach : Option GuestPlace) (file : InterruptFile) (saw : Bool) → IsWhole w
+    → AreApart (moving_of plan).home → IsWithin w.n (width w) file → KnowsAll w map plan reach file saw → (h : WorldChange w u)
+    → IsOfOthers w u (moving_of plan) h
+    → KnowsAll u map plan (reach_after w u (moving_of plan) h reach) (file_after w u (moving_of plan) h file) saw
+happens_all w u map plan reach file saw whole apart within all h others =
+    all_of u map plan (reach_after w u (moving_of plan) h reach) (file_after w u (moving_of plan) h file) saw
+    (happens_so w u map (InPhase plan) (moving_of plan) reach file saw whole apart within (so_of w map plan reach file saw all) h others)
+
+-- ---- what lands is within its file
+
+pub happens_within : (w u : World) (m : Moving) (n words : ℕ) (file : InterruptFile) → IsWithin n words file → (h : WorldChange w u)
+    → IsWithin n words (file_after w u m h file)
+happens_within w u m n words file within (DeviceStores v addr value s) =
+    here_within n words (leads_here m (led_by_route w (route_of (table_of w.tables v) addr))) (addr % PAGE) value file within
+happens_within w u m n words file within (PeerStores g value there s) =
+    here_within n words (leads_here m (led_by_record w g (stage_of w g).in_force)) 0 value file within
+happens_within w u m n words file within (StoreIsSent v addr value s) = within
+happens_within w u m n words file within (StoreLands v k l) =
+    here_within n words (leads_here m (led_by_entry w l.store.entry)) l.store.offset l.store.value file within
+happens_within w u m n words file within (StoreIsTaken v k e) = within
+happens_within w u m n words file within (MsiLands p offset value there s) = here_within n words (holds p m.home) offset value file within
+happens_within w u m n words file within (MsiIsRelayed g value there s) = here_within n words (is_vcpu g (mover m)) 0 value file within
+happens_within w u m n words file within (EntryIsRead g there e) = within
+happens_within w u m n words file within (EntryIsFenced g there f) = flight_within n words w m (flight_of w g.vm) file within
+happens_within w u m n words file within (SlotIsReached q threshold deed low done) = within
+happens_within w u m n words file within (FileIsReached spot there changed) = within
+happens_within w u m n words file within (MoveSteps other led theirs seen landed hand two fine knows first step) =
+    by_fence (is_at_fence (moving_of other).home)
+  where
+    by_fence : (b : Bool) → IsWithin n words (if b then landed_flight w m (flight_of w (moving_of other).who.found.vm) file else file)
+    by_fence true = flight_within n words w m (flight_of w (moving_of other).who.found.vm) file within
+    by_fence false = within
+happens_within w u m n words file within (VmIsMade vm after made unnamed) = within

@@ -15,8 +15,8 @@ use Rattle.aia_fabric_values.specs.World.{World, OnlyStores}
 use Rattle.aia_fabric_values.specs.Making.{entry_word_place}
 use Rattle.aia_fabric_values.specs.Changes.{spot_of}
 
--- A store for a virtual hart, which is led to a guest file or, with None, to its slot, touches that
--- virtual hart's own alone.
+-- A store for a virtual hart, which is led to a guest file or, with None, to its slot, touches only
+-- what that virtual hart owns.
 pub record TouchesOwn (w u : World) (g : Vcpu) (reach : Option GuestPlace) : Type 0 where
   -- the machine, its VMs, all that is in force in their tables, and the G-stage records stay
   pub rest : OnlyStores w u
@@ -53,7 +53,7 @@ pub record LeadsToOwn (w : World) (v : ℕ) (reach : Vcpu → Option GuestPlace)
   pub no_other : (g : Vcpu) → g.vm ≡ v → is_vcpu_in w.vms g ≡ false
       → entry_in_force (table_of w.tables g.vm) g.vcpu ≡ NotValid
 
--- A store touches one virtual hart of a VM, and its own alone.
+-- A store touches one virtual hart of a VM, and only what that one owns.
 pub record TouchesOneOf (w u : World) (v : ℕ) (reach : Vcpu → Option GuestPlace) : Type 0 where
   pub g : Vcpu
   pub its : g.vm ≡ v

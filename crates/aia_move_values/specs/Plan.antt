@@ -78,8 +78,8 @@ kept_hand kept =
 
 -- ---- a step of a phase
 
--- A step of this phase is done, and the next one can be. Stores in flight land before one step
--- alone, the fence of the entry, which is of the first phase.
+-- A step of this phase is done, and the next one can be. Stores in flight land before only one
+-- step, the fence of the entry, which belongs to the first phase.
 abbrev pub GoesOnIn : Phase → World → Moving → World → Moving → Type 0
 GoesOnIn FirstPhase w m u t = OnceLanded w m (λ landed. GoesOn landed m u t)
 GoesOnIn phase w m u t = GoesOn w m u t

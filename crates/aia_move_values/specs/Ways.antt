@@ -102,8 +102,8 @@ pub record IsItsFlight (m : Moving) (v : ℕ) (s : Flying) : Type 0 where
   pub entry : s.entry ≡ leads_to m.who.found.slot m.who.found.notice place
   pub may : MayReach m.home place
 
--- Of all routes, in force and as they are written, its own alone lead to one of its places; and of
--- all stores in flight those for its virtual hart alone.
+-- Of all routes, in force and as they are written, only its own lead to one of its places; and of
+-- all stores in flight only those for its virtual hart.
 pub record KnowsWays (w : World) (m : Moving) : Type 0 where
   pub entries : (g : Vcpu) → leads_here m (led_by_entry w (entry_of w g)) ≡ true → g ≡ mover m
   pub written : (g : Vcpu) → is_vcpu_in w.vms g ≡ true

@@ -1,6 +1,6 @@
 -- What may happen to a world beside the steps of a virtual hart's own move, and what is known then
 -- of a virtual hart at rest.
-use Rattle.std.specs.Prelude.{◌≡◌, ◌≢◌, ℕ, ◌%◌, ◌≤◌, ◌<◌, Bool, true, false, remove, slice_index_or, Option, None}
+use Rattle.std.specs.Prelude.{◌≡◌, ◌≢◌, ℕ, ◌%◌, ◌≤◌, ◌<◌, Bool, true, false, remove, slice_index_or, Option, Some, None}
 use Rattle.aia_regs.specs.declared.limits.TheConstants.{VCPUS}
 use Rattle.aia_regs.specs.declared.address_map.TheConstants.{PAGE}
 use Rattle.aia_file.specs.InterruptFile.{InterruptFile}
@@ -10,8 +10,9 @@ use Rattle.aia_entry.specs.Tables.{table_of, route_of}
 use Rattle.aia_vcpu.specs.declared.place.GuestPlace.{GuestPlace}
 use Rattle.aia_vcpu.specs.declared.vm.Vm.{Vm}
 use Rattle.aia_vcpu.specs.Vms.{Vcpu, is_vcpu, is_vcpu_in, vcpus_in}
-use Rattle.aia_vcpu.specs.Home.{holds, is_moving, rests_in_memory}
+use Rattle.aia_vcpu.specs.Home.{holds, is_moving}
 use Rattle.aia_vcpu.specs.Routes.{origin}
+use Rattle.aia_vcpu.specs.Aims.{pass_reaches}
 use Rattle.aia_vcpu_places.specs.Holds.{Holds, Hand, IsWithin}
 use Rattle.aia_vcpu_places.specs.Stores.{AreApart}
 use Rattle.aia_fabric_values.specs.World.{World, flight_of, stage_of, no_stage}
@@ -25,9 +26,9 @@ use Rattle.aia_move_values.specs.Views.{places_of}
 use Rattle.aia_move_values.specs.Move.{Moving, mover, width, MoveFits, MakesNext}
 use Rattle.aia_move_values.specs.PlanState.{PlanState, moving_of}
 use Rattle.aia_move_values.specs.Landings.{LandsFirst}
-use Rattle.aia_move_values.specs.Targets.{TargetMap}
+use Rattle.aia_move_values.specs.Targets.{TargetMap, pass_count}
 use Rattle.aia_move_values.specs.Knows.{Knows}
-use Rattle.aia_move_values.specs.Ways.{led_by_entry, led_by_route, led_by_record, leads_here, KnowsWays, KnowsTargets, landed_if, landed_flight, landed_before}
+use Rattle.aia_move_values.specs.Ways.{led_by_entry, led_by_route, led_by_record, leads_here, KnowsWays, KnowsTargets, landed_if, landed_flight, landed_before, reach_fetched}
 
 -- ---- virtual harts that are not there yet
 
@@ -75,6 +76,13 @@ pub data WorldChange (w u : World) : Type 0 where
 
 -- ---- at rest
 
+-- What is passed to a virtual hart comes to a place: while it is moved one of its passed sources is
+-- aimed there by now.
+pub record IsAimedAt (m : Moving) (place : Option GuestPlace) : Type 0 where
+  pub pass : ℕ
+  pub passed : is_moving m.home ≡ true → pass < pass_count m.who
+  pub reaches : pass_reaches pass m.home ≡ place
+
 -- What is known of a virtual hart that is not moved: its places hold an interrupt file, the ways
 -- that lead to them are its own, and what is passed to it is aimed there.
 pub record KnowsAtRest (w : World) (map : TargetMap) (m : Moving) (file : InterruptFile)
@@ -87,14 +95,16 @@ pub record KnowsAtRest (w : World) (map : TargetMap) (m : Moving) (file : Interr
   pub targets : KnowsTargets map m
 
 -- What happens is none of its own doings: a slot or a file that is reached is not one of its
--- places, a move that steps is that of another virtual hart, and of other files. What is given on to
--- its slot comes while its interrupts rest in memory.
+-- places, a move that steps is that of another virtual hart, and of other files. What is given on
+-- to its slot, and what lands in its files while it is moved, comes where one of its passed sources
+-- is aimed.
 abbrev pub IsOfOthers : (w u : World) → Moving → WorldChange w u → Type 0
 IsOfOthers w u m (SlotIsReached q threshold deed low done) = q ≢ m.who.found.slot
 IsOfOthers w u m (FileIsReached spot there changed) =
     (p : GuestPlace) → holds p m.home ≡ true → spot ≢ spot_of p
-IsOfOthers w u m (MsiIsRelayed g value there relayed) =
-    g ≡ mover m → rests_in_memory m.home ≡ true
+IsOfOthers w u m (MsiLands p offset value there stores) =
+    is_moving m.home ≡ true → holds p m.home ≡ true → IsAimedAt m (Some p)
+IsOfOthers w u m (MsiIsRelayed g value there relayed) = g ≡ mover m → IsAimedAt m None
 IsOfOthers w u m (MoveSteps other led theirs seen landed hand apart within knows first step) =
     (mover (moving_of other) ≢ mover m)
     × ((p : GuestPlace) → holds p m.home ≡ true → holds p (moving_of other).home ≡ false)
@@ -121,6 +131,15 @@ file_after w u m (MoveSteps other led theirs seen landed hand apart within knows
     landed_before w (moving_of other) m file
 file_after w u m change file = file
 
+-- What becomes of the place to which its entry in force leads: where an entry is read again that is
+-- its own, its words say it.
+abbrev pub reach_after : (w u : World) → Moving → WorldChange w u → Option GuestPlace
+    → Option GuestPlace
+reach_after w u m (EntryIsRead g there read) reach = reach_fetched (is_vcpu (mover m) g) m reach
+reach_after w u m (EntryIsFenced g there fences) reach =
+    reach_fetched (is_vcpu (mover m) g) m reach
+reach_after w u m change reach = reach
+
 -- ---- a guest file that nobody has
 
 -- What happens is no step of a move that holds a guest file.
@@ -128,3 +147,11 @@ abbrev pub IsElsewhere : (w u : World) → GuestPlace → WorldChange w u → Ty
 IsElsewhere w u p (MoveSteps other led theirs seen landed hand apart within knows first step) =
     holds p (moving_of other).home ≡ false
 IsElsewhere w u p change = Unit {0}
+
+-- Nor does an MSI of a passed source land in it, and it is not the file that is reached.
+abbrev pub IsUntouched : (w u : World) → GuestPlace → WorldChange w u → Type 0
+IsUntouched w u p (MsiLands q offset value there stores) = q ≢ p
+IsUntouched w u p (FileIsReached spot there changed) = spot ≢ spot_of p
+IsUntouched w u p (MoveSteps other led theirs seen landed hand apart within knows first step) =
+    holds p (moving_of other).home ≡ false
+IsUntouched w u p change = Unit {0}

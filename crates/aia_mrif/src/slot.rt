@@ -176,7 +176,7 @@ pub(crate) fn pair_at(q: u32, k: usize) -> usize
     SLOT as usize * q as usize + 16 * k
 }
 
-/// Gives the word that has the identity's bit alone.
+/// Gives the word that has only the identity's bit.
 #[tactic(auto, using(aia_file::proofs::SlotLemmas::one_bit))]
 fn bit_of(identity: u32) -> u64
     ensures { result ≡ 2 ^ (identity % 64) }

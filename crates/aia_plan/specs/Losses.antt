@@ -11,7 +11,7 @@ use Rattle.aia_plan.specs.Transit.Happening.{Does, Stores, PeerStores}
 use Rattle.aia_plan.specs.Safe.{IsStart}
 use Rattle.aia_plan.specs.declared.step.Step.TheVariants.{Quiet, Word1, Word0, Fence, Map, Unmap, Remap, GFence, TakeP, PutP, TakeE, PutE, TakeT, PutT, Post, Wake}
 
--- A plan of a move fails one part of the rule alone.
+-- A plan of a move fails just one part of the rule.
 abbrev pub FailsAlone : ℕ → Kind → ℕ → WrittenPlan → Type 0
 FailsAlone part kind words plan =
     parts_kept kind words plan ≡ map (λ p. not (nat_eq p part)) (1 ∷ 2 ∷ 3 ∷ 4 ∷ [])

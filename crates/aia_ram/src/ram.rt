@@ -22,7 +22,7 @@ impl Model for Ram {
 }
 
 impl Ram {
-    /// Makes memory of `len` bytes, all 0; bytes behind the last whole word are not reached.
+    /// Makes memory of `len` bytes, all 0; bytes after the last whole word are not reached.
     /// `Err`: there is no memory for it.
     #[tactic(auto, using(crate::proofs::RamLemmas::zeros_are_words))]
     pub fn new(alloc: Global, len: usize) -> Result<Ram, AllocError>

@@ -91,7 +91,7 @@ abbrev pub IsFileThere : World → ends.Place → Type 0
 IsFileThere w (File p) = IsThere w.imsic (spot_of p)
 IsFileThere w Slot = ⊤
 
--- Who is moved is of a fabric, and both places are.
+-- Who is moved is on a fabric, and so are both places.
 pub record IsOf (w : World) (p : Passage) : Type 0 where
   pub who : IsWho w p.who
   pub old : IsFileThere w p.old

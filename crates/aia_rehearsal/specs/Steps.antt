@@ -21,7 +21,7 @@ use Rattle.aia_rehearsal.specs.declared.place.Place as ends
 use Rattle.aia_rehearsal.specs.declared.place.Place.TheVariants.{File, Slot}
 use Rattle.aia_rehearsal.specs.Rehearsed.{Passage, Carried, Rehearsed, mover_of, at, names_on}
 
--- The bits of a word that are of identities: bit 0 of the first word is of none.
+-- The bits of a word that belong to identities: bit 0 of the first word belongs to none.
 abbrev pub identities_in : ℕ → ℕ → ℕ
 identities_in k bits = if nat_eq k 0 then bit_and bits (bit_not w64 1) else bits
 
@@ -115,7 +115,7 @@ access_made PutT p = number_at p.new accesses.PutThreshold
 access_made Post p = Some accesses.Post
 access_made Wake p = number_at p.new accesses.PutDelivery
 
--- The word that an access puts: the one of its set that is carried, with its identities alone.
+-- The word that an access puts: the one of its set that is carried, with only its identities.
 abbrev pub word_put : Access → Carried → ℕ
 word_put (accesses.PutPending k) carried = identities_in k carried.pending
 word_put (accesses.PutEnables k) carried = identities_in k carried.enables

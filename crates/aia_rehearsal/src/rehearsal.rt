@@ -47,7 +47,8 @@ impl Model for Rehearsal {
     ghost invariant = { λ r. NotBothSlots r.from r.to };
 }
 
-/// Gives the bits of word `word` of a set that are of identities: bit 0 of word 0 is of none.
+/// Gives the bits of word `word` of a set that belong to identities: bit 0 of word 0 belongs to
+/// none.
 fn identities(word: u32, bits: u64) -> u64
     ensures { result ≡ identities_in word bits }
 {
@@ -83,7 +84,7 @@ impl Rehearsal {
     }
 
     /// Makes a step of a plan, one access of the fabric: `word` of a step is below the words of the
-    /// machine's files, and who is moved and both places are of the fabric.
+    /// machine's files, and who is moved and both places are on the fabric.
     ///
     /// `map`, `unmap` and `remap` each write the record of the new place, none of a slot, whatever
     /// their name; `quiet`, `taket`, `putt` and `wake` make their access at a file and none at a

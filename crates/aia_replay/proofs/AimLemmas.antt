@@ -32,7 +32,7 @@ use Rattle.aia_model.proofs.OwnPassLemmas.{own_is}
 use Rattle.aia_model.proofs.HistoryLemmas.{line_happens}
 use Rattle.aia_aplic_values.specs.Aplic.{AplicStands}
 use Rattle.aia_aplic_values.specs.Passing.{is_passable_source}
-use Rattle.aia_aplic_values.proofs.PassingLemmas.{harts-stand}
+use Rattle.aia_aplic_values.proofs.PassingLemmas.{harts-stand, target_in-stands}
 use Rattle.aia_aplic_values.proofs.AimSteps.{passable-stands}
 use Rattle.aia_model.specs.declared.want.Want.{Want}
 use Rattle.aia_model.specs.declared.want.Want.TheVariants as wants
@@ -40,6 +40,7 @@ use Rattle.aia_model.specs.Move.{wanted_move}
 use Rattle.aia_hyp_values.specs.Moves.{UnlessRefused, WholeAims}
 use Rattle.aia_hyp_values.specs.Passes.{AimsBy, StepsAim, TellsOf}
 use Rattle.aia_hyp_values.specs.Stands.{CoreStands, CoreTakes, CorePasses, MayPass}
+use Rattle.aia_hyp_values.specs.Targets.{StandsWith}
 use Rattle.aia_hyp_values.proofs.ForwardLemmas.{each_at}
 use Rattle.aia_hyp_values.proofs.MoveWhole.{one_step_more}
 use Rattle.aia_replay.specs.declared.machine.Machine.{Machine}
@@ -254,6 +255,21 @@ may_pass m source there some = record {
   happens = some.stands.happens;
   stands = some.stands.holds.core;
   tells = tells_of m some.past source there some.stands;
+}
+
+-- the targets of a machine that stands do so too
+pub stands_with : (m : Machine) (h : History) → MachineStands m h → StandsWith m.core (targets_of m.wires.aplic) h
+stands_with m h some = record {
+  core = some.holds.core;
+  targets = record {
+    harts = harts-stand m.wires.aplic (acts_of h) some.holds.aplic ∙ same_harts h;
+    tells = λ s there. passable-stands m.wires.aplic (acts_of h) s some.holds.aplic
+        ∙ ap (λ b. b && is_passable (acts_of h) s) (source_in h s there);
+    ready = λ p low. passable-stands m.wires.aplic (acts_of h) (nth_pass h p).source some.holds.aplic ∙ passed_ready h p some.happens low;
+    aimed = λ p low. target_in-stands m.wires.aplic (acts_of h) (nth_pass h p).source some.holds.aplic
+        (and_parts _ _ (passed_ready h p some.happens low)).0
+        ∙ ((passes_stand h some.happens).pass p low).target;
+  };
 }
 
 -- while some source is passed the child domain delivers by MSIs, so a write of its domaincfg keeps

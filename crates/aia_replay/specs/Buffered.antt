@@ -2,7 +2,7 @@
 use Rattle.std.specs.Prelude.{◌≡◌, ℕ, List, ◌++◌, Option}
 use Rattle.std.specs.Io.KnownBytes.{Appends}
 
--- The sink took some bytes, and those still waiting stand behind them: together they are all that
+-- The sink took some bytes, and those still waiting stand after them: together they are all that
 -- was waiting and what was added.
 pub record Gathers (waiting still : List ℕ) (before now : Option (List ℕ)) (added : List ℕ)
     : Type 0 where

@@ -137,7 +137,7 @@ abbrev pub CutsVerdict : Kind → ℕ → Supply → Option (List ℕ) → Optio
 CutsVerdict kind words = CutsAll (audit_text kind words)
 
 -- A run of `audit`, of a plan of a move of a kind, of files of so many words: it writes once all is
--- read, and nothing before. Memory may lack for the words of the command line alone.
+-- read, and nothing before. Only for the words of the command line may memory lack.
 pub record EndsAudit (status : Status) (kind : Kind) (words : ℕ) (left rest : Supply)
     (before now : Option (List ℕ)) : Type 0 where
   pub done : status ≡ Done → WritesVerdict kind words left before now × TakesAll left rest

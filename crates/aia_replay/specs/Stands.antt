@@ -85,7 +85,7 @@ pub record MachineServes (old new : Machine) (line : Line) (given : Answer) : Ty
 abbrev pub EngineState : Type 0
 EngineState = Option Machine
 
--- An engine stands for a history: with no machine for the empty history alone.
+-- An engine stands for a history: with no machine only for the empty history.
 abbrev pub StandsFor : EngineState → History → Type 0
 StandsFor machine h = MatchOption machine (h ≡ []) (λ m. MachineStands m h)
 

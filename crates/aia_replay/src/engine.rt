@@ -36,7 +36,7 @@ impl Engine {
         Engine { machine: None }
     }
 
-    /// Answers a line. `Err` is want of memory, which an accepted `machine` line alone takes: no
+    /// Answers a line. `Err` is want of memory, which only an accepted `machine` line takes: no
     /// machine stands then, and all is as before. After a refused line it stands for the same
     /// history. The line's CSR is one that lines of its form name.
     pub fn line(&mut self, alloc: Global, line: &Line) -> Result<Answer, AllocError>

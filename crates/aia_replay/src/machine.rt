@@ -307,7 +307,7 @@ impl Machine {
     }
 }
 
-// Lines of the core alone, which leave the APLIC as it is.
+// Lines of only the core, which leave the APLIC as it is.
 #[tactic(auto, using(crate::proofs::MachineLemmas::core_line))]
 impl Machine {
     /// Makes the next VM, by the core.

@@ -40,7 +40,7 @@ pub enum Status {
 /// other list of words is refused, as clap refuses it.
 ///
 /// It returns always. Answers are written at the latest before the next read and before it returns.
-/// Memory is taken for the words and for the machine alone.
+/// Memory is taken only for the words and for the machine.
 pub fn run<S: Source, K: Sink>(
     alloc: Global,
     words: &[&str],

@@ -9,7 +9,7 @@ use std::test::Fail;
 
 /// Tells whether a front of a line of the row, not an empty one, still spells a line: where its
 /// last word is begun, and is not the `0x` of a number without digits. Each line of the row ends
-/// with a number, whose value its answer does not turn on.
+/// with a number, whose value its answer does not depend on.
 fn spells_a_line(line: &[u8], cut: &[u8]) -> bool {
     let words = line.iter().filter(|byte| **byte == b' ').count();
     let spaces = cut.iter().filter(|byte| **byte == b' ').count();

@@ -17,7 +17,7 @@ fn serves(alloc: Global, engine: &mut Engine, line: &Line) -> Result<Answer, All
     engine.line(alloc, line)
 }
 
-/// Takes a line whose answer is put in a place, likewise.
+/// Takes a line whose answer is put in a place.
 fn answers(alloc: Global, engine: &mut Engine, line: &Line) -> Result<Answer, AllocError>
     requires { IsListed line.now }
 {
@@ -26,7 +26,7 @@ fn answers(alloc: Global, engine: &mut Engine, line: &Line) -> Result<Answer, Al
     Ok(answer)
 }
 
-/// Takes the text of a line, likewise.
+/// Takes the text of a line.
 fn reads(alloc: Global, engine: &mut Engine, text: &str) -> Result<Option<Answer>, AllocError> {
     engine.text(alloc, text.as_bytes())
 }

@@ -2,7 +2,7 @@
 //! the line. Lines are read and printed by its rows.
 //!
 //! Those that end with a CSR instruction or a part of an image, `begin`, and those that have a word
-//! of their own behind a hart or a virtual hart, have functions beside it.
+//! of their own after a hart or a virtual hart, have functions beside it.
 
 ghost use Rattle.std.specs.Prelude.{◌≡◌, ◌≤◌, [], ◌∷◌, length, map};
 ghost use Rattle.std.specs.List.{join_with_byte, AllByRecursion};
@@ -42,7 +42,7 @@ macro_rules! stores {
     };
 }
 
-/// Hands on the rows of a virtual hart, likewise.
+/// Hands on the rows of a virtual hart in the same way.
 macro_rules! virtual_harts {
     (($take:ident $args:tt) $($rows:tt)*) => {
         $take! { $args $($rows)*
@@ -55,7 +55,7 @@ macro_rules! virtual_harts {
     };
 }
 
-/// Hands on the rows of the majors of a virtual hart, likewise.
+/// Hands on the rows of the majors of a virtual hart in the same way.
 macro_rules! majors {
     (($take:ident $args:tt) $($rows:tt)*) => {
         $take! { $args $($rows)*
@@ -69,7 +69,7 @@ macro_rules! majors {
     };
 }
 
-/// Hands on the rows of the machine, VMs, passes, pins and entries, likewise.
+/// Hands on the rows of the machine, VMs, passes, pins and entries in the same way.
 macro_rules! machine {
     (($take:ident $args:tt) $($rows:tt)*) => {
         $take! { $args $($rows)*

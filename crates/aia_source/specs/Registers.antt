@@ -1,6 +1,7 @@
 -- The registers of a domain that concern its wired sources: what a write of each keeps, and which
 -- sources it names.
--- AIA 1.0, APLIC, where no comment names another source; a heading of that chapter is named alone.
+-- AIA 1.0, APLIC, where no comment names another source; a heading of that chapter is named without
+-- it.
 use Rattle.std.specs.Prelude.{ℕ, ◌+◌, ◌/◌, ◌%◌, ◌^◌, Bool, true, false, not, ◌&&◌, ◌||◌, nat_eq, nat_lt, if◌then◌else◌, Option, Some, None}
 use Rattle.std.specs.Int.{swap_bytes, w32}
 use Rattle.aia_regs.specs.declared.domain_registers.DomainReg.{DomainReg}

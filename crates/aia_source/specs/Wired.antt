@@ -1,5 +1,6 @@
 -- One wired source in one domain of an APLIC: what becomes of its pending bit.
--- AIA 1.0, APLIC, where no comment names another source; a heading of that chapter is named alone.
+-- AIA 1.0, APLIC, where no comment names another source; a heading of that chapter is named without
+-- it.
 use Rattle.std.specs.Prelude.{◌≡◌, Bool, true, false, not, ◌&&◌, if◌then◌else◌}
 use Rattle.aia_regs.specs.BitUpdate.{BitUpdate, settle}
 use Rattle.aia_regs.specs.BitUpdate.BitUpdate.{Ask, Clear, Nothing}

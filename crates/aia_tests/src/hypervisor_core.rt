@@ -362,7 +362,7 @@ fn the_core_reads_an_entry_again(rt: HostRuntime) -> Result<(), Fail> {
     Ok(())
 }
 
-/// Delivers an MSI that is of no source.
+/// Delivers an MSI that comes from no source.
 fn heard(core: &mut Core, address: u64, value: u32) {
     let _some = core.notices();
     core.deliver(Msi {

@@ -212,7 +212,7 @@ pub(crate) fn steps(plan: Plan, fabric: &mut Fabric) -> Option<Plan>
     }
 }
 
-/// Makes the next step likewise, and tells whether the plan goes on.
+/// Makes the next step in the same way, and tells whether the plan goes on.
 pub(crate) fn goes_on(plan: Plan, fabric: &mut Fabric) -> bool
     requires fits { MoveFits fabric.old (moving_of plan) }
     requires phase { IsInPhase (width fabric.old) plan }

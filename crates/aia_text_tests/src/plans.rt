@@ -13,7 +13,7 @@ fn reads(rt: &impl Abort, text: &str, words: u32, want: Option<Step>) {
     same!(rt; parse_step(text.as_bytes(), words), want; text);
 }
 
-/// The names of steps that stand alone, and what they name.
+/// The names of steps that are one word, and what they name.
 const ALONE: [(&str, Step); 12] = [
     ("quiet", Step::Quiet),
     ("word1", Step::Word1),

@@ -8,7 +8,7 @@ use Rattle.aia_model.specs.Event.{History}
 use Rattle.aia_model.specs.Passes.{nth_pass, passed_by}
 use Rattle.aia_model.specs.Sent.{msis_sent_by}
 
--- An MSI that is sent within the line is of a source that is passed to the virtual hart as i.
+-- An MSI that is sent within the line comes from a source that is passed to the virtual hart as i.
 abbrev pub IsForwarded : History → Line → Vcpu → ℕ → Type 0
 IsForwarded h line g i = (msi : Msi) × (p : ℕ) × Contains (msis_sent_by h line) msi
     × (passed_by h msi.source ≡ Some p) × ((nth_pass h p).to ≡ g)

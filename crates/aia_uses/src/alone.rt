@@ -71,7 +71,7 @@ pub fn what_is_no_line()
     ensures bad { (test : Line → Bool) → is_line_of test parsed.Bad ≡ false }
 {}
 
-/// What a VM is answered, by the texts that concern it alone.
+/// What a VM is answered, by only the texts that concern it.
 pub fn what_a_vm_is_answered()
     ensures left_out { (v : ℕ) (script : List ℕ) → passes_of (history_of script) ≡ []
         → answers_among (concerns v) [] (texts_of script)
@@ -91,7 +91,7 @@ pub fn what_a_vm_is_answered()
     a_vm_is_answered_as_if_it_were_alone();
 }
 
-/// What the machine level is answered, by its own texts alone.
+/// What the machine level is answered, by only its own texts.
 pub fn what_the_machine_level_is_answered()
     ensures left_out { (script : List ℕ) → passes_of (history_of script) ≡ []
         → answers_among is_of_machine_level [] (texts_of script)

@@ -91,7 +91,7 @@ inject 0 0 5 1
 ";
 
 /// One script that passes a source, beside what is left of it for VM 0 and for the machine level;
-/// and one where the host loads and stores at its file, which nothing for the VM turns on.
+/// and one where the host loads and stores at its file, on which nothing for the VM depends.
 pub fn one_script_beside_its_parts()
     ensures vm { answers_to (concerns_by_sources 0) BESIDE.now ≡ answers BESIDE_VM.now }
     ensures vm_in_two { answers_to (concerns_by_sources 0) BESIDE.now

@@ -126,7 +126,7 @@ pub fn what_a_line_loads()
     a_line_loads_its_part();
 }
 
-/// One part of an image is loaded, into its virtual hart alone.
+/// One part of an image is loaded, only into its virtual hart.
 pub fn one_part_is_loaded()
     ensures own { (guest_file (after made (LoadPart 0 1 (parts.Word 0 2 2)))
         (vcpu_of 0 1)).pending 1

@@ -92,7 +92,7 @@ is_leaving there = false
 abbrev pub look_step : ℕ → ℕ → ℕ
 look_step words w = plan_step File Memory words (Look w)
 
--- At which word the next step looks, where it looks at one: so many looks are made.
+-- At which word the next step looks, where it looks at one: as many looks are made before it.
 abbrev pub look_word : ℕ → Home → ℕ
 look_word words there = steps_done there - look_step words 0
 

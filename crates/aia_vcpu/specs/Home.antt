@@ -10,8 +10,8 @@ use Rattle.aia_vcpu.specs.declared.rest.Rest.TheVariants.{Parked, Entered}
 abbrev pub is_place : GuestPlace → GuestPlace → Bool
 is_place p q = nat_eq p.hart q.hart && nat_eq p.file q.file
 
--- How far a move has come: so many of its steps are done, those that aim a passed source aside, and
--- so many that aim one.
+-- How far a move has come: how many of its steps are done, without those that aim a passed source,
+-- and how many of those that aim one.
 pub record Progress : Type 0 where
   pub steps : ℕ
   pub aims : ℕ
@@ -97,7 +97,7 @@ holds p (InMemory rest) = false
 holds p (Resident q) = is_place p q
 holds p (OnWay way at) = is_end_of p way
 
--- ---- it rests in memory another way
+-- ---- it begins to run from memory, or ceases to
 
 -- Where its interrupts rest in memory, they stay there, and it rests as `rest` says from then on:
 -- it begins to run from there, or ceases to.

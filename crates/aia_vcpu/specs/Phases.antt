@@ -7,7 +7,7 @@ use Rattle.aia_vcpu.specs.Home.Home.{OnWay}
 use Rattle.aia_vcpu.specs.Plans.{plan_steps, plan_step, steps_done}
 use Rattle.aia_vcpu.specs.declared.access.Access.TheVariants.{Map, TakePending, TakeEnables, Look, TakeThreshold}
 
--- The phases, in order. A leave alone has looks.
+-- The phases, in order. Only a leave has looks.
 pub data Phase : Type 0 where
   -- the old file is made silent, and the entry leads to the new place
   FirstPhase : Phase
@@ -49,7 +49,7 @@ abbrev pub begins : ℕ → Home → Phase → ℕ
 begins words (OnWay way at) phase = phase_begins (old_end way) (new_end way) words phase
 begins words there phase = 0
 
--- Which phase comes after those that all plans share: a leave alone has looks.
+-- Which phase comes after those that all plans share: only a leave has looks.
 abbrev pub after_shared : Home → Phase
 after_shared (OnWay way at) = if is_file (new_end way) then LastPhase else LookPhase
 after_shared there = LastPhase

@@ -40,7 +40,7 @@ is_at_fence there = is_early_next there Fence
 
 -- Where stores of devices may go: where it was, as long as the fence is to come; and where its move
 -- leads, once the entry is written. The entry in force leads to such a place: a law says so.
--- Answers don't turn on this, laws and contracts do. AIA 1.0, IOMMU Support for MSIs to Virtual
+-- Answers don't depend on this; laws and contracts do. AIA 1.0, IOMMU Support for MSIs to Virtual
 -- Machines: an entry may be fetched before it is fenced.
 abbrev pub MayReach : Home → Option GuestPlace → Type 0
 MayReach there place = ((place ≡ origin there) × (is_closed there ≡ false))

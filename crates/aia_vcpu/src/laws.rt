@@ -59,7 +59,7 @@ pub fn a_step_makes_one_access()
 
 /// The routes of a move change at their steps: what is written when it is written, and what is in
 /// force when it is fenced. Where the entry in force may lead turns on both: until the entry is
-/// written to the old place alone, and from its fence on to the new place alone.
+/// written only to the old place, and from its fence on only to the new place.
 pub fn routes_change_at_their_steps()
     ensures entry { (words : ℕ) (there : Home) → is_moving there ≡ true → entry_names there
         ≡ (if is_made words there WriteEntry then new_file there else old_file there) }

@@ -186,9 +186,10 @@ abbrev pub is_left_old : Run → Trace → Bool
 is_left_old run t = is_pending run.case.bank && t.old
 
 -- Whether an end shows that a rule of safety is broken: a pending bit is left in the old place, or,
--- of a run without a store, the producer's route leads there; a bit is missing, or an enable is left there; a bit is missing, or left over in the new place; the
--- number is not where it has to be; the old place is reached after it was given back, or the number
--- is left there. No such end shows that the rule on notices is.
+-- of a run without a store, the producer's route leads there; a bit is missing, or an enable is
+-- left there; a bit is missing, or left over in the new place; the number is not where it has to
+-- be; the old place is reached after it was given back, or the number is left there. No such end
+-- shows that the rule on notices is.
 abbrev pub shows : Rule → Run → ℕ → Terms → Trace → Bool
 shows rules.Routes run producers terms t = is_left_old run t || is_unled run producers t
 shows rules.Words run producers terms t =
@@ -218,8 +219,8 @@ left_by plan run producers t = elim (nat_lt run.case.producer producers && is_ol
   ]
 ]
 
--- What becomes of the bit: it is left in the old place, it is left over in the new one, it is in
--- the hand alone, or it is nowhere.
+-- What becomes of the bit: it is left in the old place, it is left over in the new one, it is only
+-- in the hand, or it is nowhere.
 abbrev pub bit_fate : List AnyStep → Run → ℕ → Trace → Fate
 bit_fate plan run producers t = elim t.old [
   | true ↦ left_by plan run producers t

@@ -141,7 +141,7 @@ abbrev pub one_more : List AnyStep → ℕ → ℕ
 one_more plan at = if nat_le (length plan) at then at else at + 1
 
 -- The first that shows it of the runs with a store of a producer into a word, which a rule that is
--- broken with so many steps before it asks for: behind the step, or before it; before the last step
+-- broken with so many steps before it asks for: after the step, or before it; before the last step
 -- that lifts the word; or ahead. Then that without a store, by where the producer's route leads.
 unfoldable pub by_producer : Rule → List RouteKind → Terms → List AnyStep → ℕ → ℕ → ℕ
     → Option Losing
@@ -177,7 +177,7 @@ scope_by (Some (steps.Put s w)) = scopes.One s w
 scope_by step = scopes.All
 
 -- The first run that shows it, in such a scope: of a word of the pending set those without a store
--- and then those with one, of the enables those without; of all words likewise.
+-- and then those with one, of the enables those without; so of each word.
 unfoldable pub found_in : Rule → List RouteKind → Terms → List AnyStep → ℕ → Scope → Option Losing
 found_in rule producers terms plan at (scopes.One Pending word) =
     or_else (without_store rule producers terms plan (pending_case word (2 ^ 64 - 1)))

@@ -63,7 +63,7 @@ stored_before producers terms plan word producer before =
       route = Written;
     })))
 
--- The first such run with a store of a producer that comes before one of the steps, or behind the
+-- The first such run with a store of a producer that comes before one of the steps, or after the
 -- last one.
 unfoldable pub stored_by : List RouteKind → Terms → List AnyStep → ℕ → ℕ → Option UntoldRun
 stored_by producers terms plan word producer =

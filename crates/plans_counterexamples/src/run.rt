@@ -57,7 +57,7 @@ pub enum Fate {
     /// It is not there, and the route of the producer that is followed leads there still.
     Unled,
 
-    /// It is in the hand alone.
+    /// It is only in the hand.
     Held,
 
     /// It is nowhere.

@@ -106,8 +106,8 @@ fn without_store(
     left_run(case).tried(rule, producers, terms, plan)
 }
 
-/// Gives how many steps at most, of so many, are done where a store of the producer comes to the old
-/// place by the route in force, or to the new one by the written route; 0 if it never does.
+/// Gives how many steps at most, of so many, are done where a store of the producer comes to the
+/// old place by the route in force, or to the new one by the written route; 0 if it never does.
 fn last_by(route: StoreRoute, case: Case, terms: Terms, plan: &[AnyStep], count: usize) -> usize
     requires { count ≤ length plan.now }
     ensures { result ≡ last_by route case terms plan.now count }
@@ -122,8 +122,8 @@ fn last_by(route: StoreRoute, case: Case, terms: Terms, plan: &[AnyStep], count:
     last
 }
 
-/// Tells whether a store of the producer comes to the old place by the route in force, or to the new
-/// one by the written route.
+/// Tells whether a store of the producer comes to the old place by the route in force, or to the
+/// new one by the written route.
 fn reaches_by(route: StoreRoute, trace: Trace) -> bool
     ensures { result ≡ reaches_by route trace }
 {
@@ -231,8 +231,8 @@ fn one_more(plan: &[AnyStep], at: usize) -> usize
 }
 
 /// Looks for a run with a store of a producer into a word, which a rule that is broken with so many
-/// steps before it asks for, and then for that without a store, by where the producer's route leads.
-/// `None`: there is none.
+/// steps before it asks for, and then for that without a store, by where the producer's route
+/// leads. `None`: there is none.
 #[tactic(auto, unfolding(crate::specs::Search::by_producer))]
 fn by_producer(
     rule: Rule,

@@ -116,7 +116,7 @@ fn stored_before(
     untold_with_numbers(producers, terms, plan, word, Some(by_written))
 }
 
-/// Looks for an untold run with a store of a producer before any of the steps, or behind the last
+/// Looks for an untold run with a store of a producer before any of the steps, or after the last
 /// one. `None`: there is none.
 #[tactic(auto, unfolding(crate::specs::UntoldSearch::stored_by))]
 fn stored_by(

@@ -162,7 +162,7 @@ flags_first is_fresh = record {
   blank = is_fresh;
 }
 
--- What is kept of a word before the first step, likewise.
+-- What is kept of a word before the first step.
 abbrev pub word_first : Bool → Word
 word_first is_fresh = record {
   pending = flags_first is_fresh;
@@ -231,7 +231,7 @@ is_taken_at words w = elim (slice_get words w) [
 ]
 
 -- Whether the word in a place of the list passes what an end asks of what was lifted: nothing due
--- may stand in the hand alone, and none of its enables in the old place.
+-- may stand only in the hand, and none of its enables in the old place.
 abbrev pub is_kept_at : List Word → ℕ → Bool
 is_kept_at words w = elim (slice_get words w) [
   | None ↦ false
@@ -272,7 +272,7 @@ word_at d done w = record {
 
 -- ---- a number
 
--- In which spots a number stands as it was at the start; before the first step in `from` alone.
+-- In which spots a number stands as it was at the start; before the first step only in `from`.
 abbrev pub standing_first : NumberSpot → Standing
 standing_first from = record {
   old = same_spot from InOld;

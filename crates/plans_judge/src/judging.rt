@@ -30,7 +30,7 @@ pub(crate) struct Break {
     pub(crate) before: usize,
 }
 
-/// Judges a plan whose steps name words of the file alone, with these producers and on these terms.
+/// Judges a plan whose steps name only words of the file, with these producers and on these terms.
 ///
 /// `Accepted` says that the plan keeps all rules: so it is safe, and into memory it tells its host,
 /// wherever between its steps the producers store. `Refused` has the first break of a rule of

@@ -15,7 +15,7 @@ pub(crate) struct Lead {
     /// It leads to the new place, as it is written.
     pub(crate) turned: bool,
 
-    /// A fence stood behind that.
+    /// A fence stood after that.
     pub(crate) fenced: bool,
 
     /// It was switched.
@@ -74,8 +74,8 @@ impl Lead {
         pauses(step, place) || !resumes(step, place) && self.paused
     }
 
-    /// Tells whether the route of producer `place` is in force after a step, with none of its stores
-    /// in flight to the old place.
+    /// Tells whether the route of producer `place` is in force after a step, with none of its
+    /// stores in flight to the old place.
     fn drained_after(self, step: AnyStep, place: usize) -> bool
         ensures { result ≡ drained_after step place self }
     {

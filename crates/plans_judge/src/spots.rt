@@ -28,7 +28,7 @@ pub(crate) struct Spots {
     pub(crate) old_hand_new: bool,
 }
 
-/// Where a store alone may make one stand.
+/// Where a store by itself may make one stand.
 #[derive(Clone, Copy)]
 pub(crate) struct Stores {
     /// Nobody stores into the old place.
@@ -183,7 +183,7 @@ fn alike(a: bool, b: bool) -> bool
 }
 
 impl Stores {
-    /// Tells whether a store alone may make one stand in these places.
+    /// Tells whether a store by itself may make one stand in these places.
     fn alone(self, at: Places) -> bool
         ensures { result ≡ rules.alone_by self.still self.reached at.old at.hand at.new }
     {

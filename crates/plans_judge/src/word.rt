@@ -28,12 +28,12 @@ pub(crate) struct Word {
     /// and nobody may have stored into it since.
     pub(crate) seen: bool,
 
-    /// It was looked at, and all that was so but for the stores. Behind an `untell` that counts only
-    /// if nobody may have stored since the look.
+    /// It was looked at, and all that was so but for the stores. Behind an `untell` that counts
+    /// only if nobody may have stored since the look.
     pub(crate) looked: bool,
 
-    /// It was told of, or posted after such a look, if there was reason to, and all that was so then
-    /// and since.
+    /// It was told of, or posted after such a look, if there was reason to, and all that was so
+    /// then and since.
     pub(crate) reported: bool,
 }
 
@@ -155,7 +155,8 @@ impl Word {
         (looks(step, word) || self.is_looked_at(step)) && settled
     }
 
-    /// Tells whether the host was told of the word by a step, or before it and it is not taken back.
+    /// Tells whether the host was told of the word by a step, or before it and it is not taken
+    /// back.
     fn is_told_by(self, step: AnyStep) -> bool
         ensures { result ≡ told_by step self }
     {
@@ -227,7 +228,7 @@ pub(crate) fn all_taken(words: &[Word]) -> bool
     holds
 }
 
-/// Tells whether no enable may stand in the old place, and nothing due in the hand alone.
+/// Tells whether no enable may stand in the old place, and nothing due only in the hand.
 pub(crate) fn all_kept(words: &[Word]) -> bool
     ensures { result ≡ all_below (is_kept_at words.now) (length words.now) }
 {
@@ -239,7 +240,7 @@ pub(crate) fn all_kept(words: &[Word]) -> bool
     holds
 }
 
-/// Tells whether nothing of a word may stand in the old place, nor in the hand alone.
+/// Tells whether nothing of a word may stand in the old place, nor only in the hand.
 fn is_lifted(flags: Flags) -> bool
     ensures { result ≡ (not (spots_any_old flags.spots) && not flags.spots.hand) }
 {

@@ -45,8 +45,8 @@ abbrev pub given_back : End → List AnyStep
 given_back File = Free ∷ []
 given_back Memory = []
 
--- The plan of a move from one end to another, of files of so many words: its accesses, each as that
--- step, in their order.
+-- The plan of a move from one end to another, of files of so many words: its accesses, each as a
+-- step of such a plan, in their order.
 abbrev pub told_plan : End → End → ℕ → List AnyStep
 told_plan from to words = map told (plan from to words) ++ given_back from
 

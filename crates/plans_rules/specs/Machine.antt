@@ -115,7 +115,7 @@ flights_beside p (f ∷ later) =
 abbrev pub without : WhichSet → ℕ → Sets → Sets
 without s w sets t i = not (names s w t (i / 64)) && sets t i
 
--- That word of one of them alone.
+-- That word of one set, with no other identity.
 abbrev pub only : WhichSet → ℕ → Sets → Sets
 only s w sets t i = names s w t (i / 64) && sets t i
 
@@ -209,7 +209,7 @@ abbrev pub route_of : By → ℕ → AnyMachine → AnyPlace
 route_of Written p z = z.written p
 route_of InForce p z = z.in_force p
 
--- A step of the plan, or what may come before it or behind it: a store that lands at once; one
+-- A step of the plan, or what may come before it or after it: a store that lands at once; one
 -- that is sent, and is in flight from then on; a landing of the k-th store in flight, counted from
 -- 0, the newest first; a route that comes in force as it is written, before its fence. A producer
 -- that is paused makes no store and sends none.

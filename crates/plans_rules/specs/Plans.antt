@@ -57,13 +57,13 @@ kvm_arrive_with devices words =
     zeroed words ++ (Route 1 ∷ Fence 1 ∷ Switch 0 ∷ devices) ++ copied words ++ joined words
     ++ put_numbers
 
--- The plan of a shift, likewise.
+-- The plan of a shift, given the same.
 abbrev pub kvm_shift_with : List AnyStep → ℕ → List AnyStep
 kvm_shift_with devices words =
     zeroed words ++ (Route 1 ∷ Fence 1 ∷ Switch 0 ∷ devices) ++ swapped words ++ Free ∷ joined words
     ++ put_numbers
 
--- The plan of a leave, likewise.
+-- The plan of a leave, given the same.
 abbrev pub kvm_leave_with : List AnyStep → ℕ → List AnyStep
 kvm_leave_with devices words =
     (Switch 0 ∷ Route 1 ∷ Fence 1 ∷ devices) ++ swapped words

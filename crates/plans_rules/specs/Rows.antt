@@ -32,7 +32,7 @@ abbrev pub BreakAlone : Rule → Setting → List (List AnyStep) → Type 0
 BreakAlone rule d [] = Unit {0}
 BreakAlone rule d (plan ∷ plans) = (broken d plan ≡ rule ∷ []) × BreakAlone rule d plans
 
--- Each of these plans breaks the rule on notices alone, and leaves its host untold.
+-- Each of these plans breaks only the rule on notices, and leaves its host untold.
 abbrev pub LeaveUntold : Setting → List (List AnyStep) → Type 0
 LeaveUntold d [] = Unit {0}
 LeaveUntold d (plan ∷ plans) =
@@ -105,7 +105,7 @@ abbrev pub break_routes : List (List AnyStep)
 break_routes =
     -- the fence is left out
     (Route 0 ∷ pending_moved ++ enables_moved)
-    -- it stands behind the take: a store in flight lands there
+    -- it stands after the take: a store in flight lands there
     ∷ (Route 0 ∷ Take Pending 0 ∷ Fence 0 ∷ Join Pending 0 ∷ enables_moved)
     -- the producer is forgotten
     ∷ (pending_moved ++ enables_moved)
@@ -236,7 +236,7 @@ told_shut =
 abbrev pub looked_last : List AnyStep
 looked_last = all_moved ++ Look 0 ∷ Post ∷ []
 
--- It looks likewise, and writes then where notices go.
+-- It looks so too, and then writes where notices go.
 abbrev pub written_late : List AnyStep
 written_late = all_moved ++ Look 0 ∷ WriteNotice ∷ Post ∷ []
 
@@ -266,7 +266,7 @@ old_zeroed = Zero Old Pending 0 ∷ Zero Old Enabled 0 ∷ []
 abbrev pub told_of_copies : List AnyStep
 told_of_copies = lead ++ copied ++ Tell ∷ old_zeroed
 
--- It tells likewise, zeroes the new enables after that, and copies them again.
+-- It tells so too, zeroes the new enables after that, and copies them again.
 abbrev pub copied_again : List AnyStep
 copied_again =
     lead ++ copied

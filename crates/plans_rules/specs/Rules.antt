@@ -1,7 +1,7 @@
 -- The rules of plans: what each says of a step that stands after the steps `done`, the newest
--- first, and of an end after these. They turn on the places in which an identity of a word *may
--- stand* that is due: one stands in the old place at the start, and steps bring it on; and a store
--- alone may make one stand in the old place, or in the new one, while it may reach that. Profile.
+-- first, and of an end after these. They depend on where an identity of a word that is due *may
+-- stand*: one stands in the old place at the start, and steps bring it on; and a store by itself
+-- may make one stand in the old place, or in the new one, while it may reach that. Profile.
 use Rattle.std.specs.Prelude.{ℕ, length, Bool, true, false, not, ◌&&◌, ◌||◌, nat_eq, List, [], ◌∷◌, Option, Some, None, slice_get}
 use Rattle.std.specs.List.{list_any}
 use Rattle.plans_rules.specs.declared.step.AnyPlace.TheVariants.{Old, New}
@@ -116,7 +116,7 @@ Done = List AnyStep
 abbrev pub is_turned : ℕ → Done → Bool
 is_turned p done = list_any (turns p) done
 
--- A fence stood behind a step that writes that route: so it is in force.
+-- A fence stood after a step that writes that route: so it is in force.
 abbrev pub is_fenced : ℕ → Done → Bool
 is_fenced p [] = false
 is_fenced p (x ∷ done) = elim (fences p x) [
@@ -134,7 +134,7 @@ is_paused p [] = false
 is_paused p (x ∷ done) = pauses p x || (not (resumes p x) && is_paused p done)
 
 -- The route is in force, and no store of the producer is in flight to the old place: a fence stood
--- behind the step that writes it, or the producer was paused once it was in force, or it was
+-- after the step that writes it, or the producer was paused once it was in force, or it was
 -- switched while the producer was paused.
 abbrev pub is_drained : ℕ → Done → Bool
 is_drained p [] = false
@@ -189,7 +189,7 @@ is_still d s done = elim s [
 
 -- ---- where an identity that is due may stand
 
--- Whether two are so, or two are not.
+-- Whether two truth values are the same.
 abbrev pub alike : Bool → Bool → Bool
 alike true b = b
 alike false b = not b
@@ -204,7 +204,7 @@ brings e l f z a k b o h n =
     && (alike h ((l && a) || (not l && (not f && k)))
     && alike n ((f && k) || (not z && b)))
 
--- Whether any of these passes: places that an identity stands in, or not.
+-- Whether a test of places passes for some choice of whether an identity stands in each.
 abbrev pub any_of_two : (Bool → Bool → Bool) → Bool
 any_of_two passes =
     passes true true || (passes true false || (passes false true || passes false false))
@@ -237,7 +237,7 @@ may_stand d s w (x ∷ done) o h n =
     brought (empties s w x) (lifts s w x) (fills s w x) (blanks s w x) (may_stand d s w done) o h n
     || stored_alone d s (x ∷ done) o h n
 
--- One may stand in the old place, the hand, the new place alone.
+-- One may stand in the old place only, the hand only, the new place only.
 abbrev pub only_old : Setting → WhichSet → ℕ → Done → Bool
 only_old d s w done = may_stand d s w done true false false
 
@@ -343,7 +343,7 @@ is_seen d w (x ∷ done) =
     (looks w x || is_seen d w done)
     && (is_settled d w (x ∷ done) && not (is_reached d Pending (x ∷ done)))
 
--- A word was looked at, and settled then and since. Behind an `untell` that counts only if nobody
+-- A word was looked at, and settled then and since. After an `untell` that counts only if nobody
 -- may have stored since the look.
 abbrev pub is_looked : Setting → ℕ → Done → Bool
 is_looked d w [] = false
@@ -351,7 +351,7 @@ is_looked d w (x ∷ done) =
     (looks w x || elim (untells x) [ true ↦ is_seen d w done | false ↦ is_looked d w done ])
     && is_settled d w (x ∷ done)
 
--- A word was told of, or posted after such a look, and settled then and since. Behind an `untell`
+-- A word was told of, or posted after such a look, and settled then and since. After an `untell`
 -- that counts only if a look saw the word before, and nobody may have stored since that look.
 abbrev pub is_reported : Setting → ℕ → Done → Bool
 is_reported d w [] = false
@@ -373,7 +373,7 @@ lets Words d (Copy s w) done = not (only_hand d s w done)
 lets Words d (Put s w) done = not (only_new d s w done)
 lets Words d (Zero Old s w) done = not (only_old d s w done)
 lets Words d (Zero New s w) done = not (only_new d s w done)
--- What may stand in the hand alone is joined to a blank word.
+-- What may stand only in the hand is joined to a blank word.
 lets Blank d (Join s w) done = not (only_hand d s w done) || is_blank d s w done
 -- The old place is given back once, when nobody stores there and nothing is left to its next owner,
 -- and not accessed after that; and nobody is resumed then who would store there.
@@ -393,7 +393,7 @@ abbrev pub lets_end : Rule → Setting → Done → Bool
 -- All producers are led to the new place, and no pending word may stand in the old one.
 lets_end Routes d done =
     all_led d done && all_below (λ w. not (any_old d Pending w done)) d.words
--- No enables may stand in the old place, and no word in the hand alone.
+-- No enables may stand in the old place, and no word only in the hand.
 lets_end Words d done =
     all_below (λ w. not (only_hand d Pending w done)
     && (not (any_old d Enabled w done) && not (only_hand d Enabled w done))) d.words

@@ -23,7 +23,7 @@ abbrev pub IsRouted : Setting → ℕ → Type 0
 IsRouted d p = (p < length d.producers) × (slice_get d.producers p ≡ Some Routed)
 
 -- Only producers store. One that is switched has nothing in flight, and its route comes into
--- force by a step alone.
+-- force only by a step.
 abbrev pub CanHappen : Setting → AnyHappening → Type 0
 CanHappen d (Stores p by x) = IsProducer d p
 CanHappen d (Sends p by x) = IsRouted d p
@@ -35,11 +35,11 @@ pub record IsRun (d : Setting) (plan : List AnyStep) (run : List AnyHappening) :
   pub steps : steps_in run ≡ plan
   pub others : AllByRecursion (CanHappen d) run
 
--- How a run begins. All leads to the old place, and so does what is in flight, of routed producers
--- alone; nobody is paused; what stands there is due; the hand is empty, and the old place is not
--- given back; notices go to the host where that is declared. What stands in the old place, and in a
--- new one that is not fresh, the numbers, what is in flight, what was seen or told before, and where
--- notices go that were not declared to go, are free.
+-- How a run begins. All leads to the old place, and so does what is in flight, only of routed
+-- producers; nobody is paused; what stands there is due; the hand is empty, and the old place is
+-- not given back; notices go to the host where that is declared. What stands in the old place, and
+-- in a new one that is not fresh, the numbers, what is in flight, what was seen or told before, and
+-- where notices go that were not declared to go, are free.
 pub record IsStartOfAny (d : Setting) (z : AnyMachine) : Type 0 where
   pub written : (p : ℕ) → IsProducer d p → z.written p ≡ Old
   pub in_force : (p : ℕ) → IsProducer d p → z.in_force p ≡ Old

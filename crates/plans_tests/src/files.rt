@@ -73,7 +73,7 @@ enabled in the new place, and the host was not told, or that was taken back\n"
 const UNSET: &[u8] = b"fresh\nmemory\nnotices unset\nproducer routed\nnumbers old old\nroute 0\n\
 fence 0\ntake pending 0\njoin pending 0\ntake enabled 0\njoin enabled 0\n";
 
-/// What is answered of such a plan with a store behind line 12 that nobody is told of.
+/// What is answered of such a plan with a store after line 12 that nobody is told of.
 const UNTOLD_BEHIND_LINE_12: &[u8] = b"refused notice in the end\n  run: identity 1 is enabled in \
 the old place at the start; producer 0 stores it behind line 12 by its route in force; in the end \
 it is pending and enabled in the new place, and the host was not told, or that was taken back\n";
@@ -145,7 +145,7 @@ rule may ask for more than that the host is told\n"
     Ok(())
 }
 
-/// One that leaves a store untold which was in flight as its route was switched: it lands behind
+/// One that leaves a store untold which was in flight as its route was switched: it lands after
 /// the tell. No such run is tried.
 const IN_FLIGHT: &[u8] = b"fresh\nmemory\nproducer routed\nnumbers old old\ntake enabled 0\n\
 join enabled 0\nswitch 0\ntake pending 0\njoin pending 0\ntell\nfence 0\ntake pending 0\n\

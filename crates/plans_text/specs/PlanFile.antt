@@ -1,4 +1,4 @@
--- The plans of a file, and what is answered: a line for each plan, in their order, and behind that
+-- The plans of a file, and what is answered: a line for each plan, in their order, and after that
 -- of a refused one a line about a run. Profile.
 use Rattle.std.specs.Prelude.{ℕ, ◌+◌, ◌-◌, Bool, true, false, ◌&&◌, nat_eq, nat_lt, nat_le, if◌then◌else◌, List, [], ◌∷◌, ◌++◌, length, map, Option, Some, None, codes, decimal, slice_get}
 use Rattle.std.specs.List.{All, onto_first}
@@ -121,7 +121,7 @@ with_terms line (Some terms) plan =
     if nat_eq (length plan.steps) 0 then record plan { is_begun = true; terms = terms }
     else bad_at line plan
 
--- A plan with one producer more, likewise.
+-- A plan with one producer more.
 abbrev pub with_producer : ℕ → RouteKind → PlanAsRead → PlanAsRead
 with_producer line kind plan =
     if nat_eq (length plan.steps) 0 && nat_lt (length plan.producers) PRODUCERS then record plan {
@@ -197,7 +197,7 @@ abbrev pub route_word : StoreRoute → Text
 route_word Written = codes " by its written route"
 route_word InForce = codes " by its route in force"
 
--- Behind which line a store comes.
+-- After which line a store comes.
 abbrev pub behind_text : Option StepLine → Text
 behind_text None = codes " before the first step"
 behind_text (Some place) = codes " behind line " ++ decimal place.line

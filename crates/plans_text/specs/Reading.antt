@@ -49,11 +49,11 @@ word_end text = elim (position (λ byte. nat_eq byte 32) text) [
   | Some at ↦ at
 ]
 
--- A text cut behind the word with which it begins.
+-- A text cut after the word with which it begins.
 abbrev pub cut_word : Text → Text × Text
 cut_word text = (take (word_end text) text, drop (word_end text) text)
 
--- The next word of a text, and the text behind it: any number of spaces stands before a word.
+-- The next word of a text, and the text after it: any number of spaces stands before a word.
 unfoldable pub next_word : Text → Option (Text × Text)
 next_word text = elim (position (λ byte. not (nat_eq byte 32)) text) [
   | None ↦ None
@@ -77,7 +77,7 @@ numeral_of (d ∷ e ∷ []) =
     if is_digit d then (if is_digit e then Some (10 * (d - 48) + (e - 48)) else None) else None
 numeral_of word = None
 
--- The number that the next word spells, and the text behind it.
+-- The number that the next word spells, and the text after it.
 unfoldable pub numeral_at : Text → Option (ℕ × Text)
 numeral_at text = do
   word ← next_word text
@@ -119,7 +119,7 @@ kind_named word =
 
 -- ---- what a step moves: a number, or a word of a set
 
--- The word of a set that the next two words name, and the text behind them.
+-- The word of a set that the next two words name, and the text after them.
 unfoldable pub word_at : Text → Option (Thing × Text)
 word_at text = do
   word ← next_word text
@@ -127,14 +127,14 @@ word_at text = do
   number ← numeral_at word.1
   Some (things.Word bank number.0, number.1)
 
--- The number, threshold or delivery, that the next word names, and the text behind it.
+-- The number, threshold or delivery, that the next word names, and the text after it.
 unfoldable pub number_thing_at : Text → Option (Thing × Text)
 number_thing_at text = do
   word ← next_word text
   number ← number_named word.0
   Some (things.Number number, word.1)
 
--- The number or the word of a set that a text names, and the text behind it.
+-- The number or the word of a set that a text names, and the text after it.
 unfoldable pub thing_at : Text → Option (Thing × Text)
 thing_at text = elim (number_thing_at text) [ Some thing ↦ Some thing | None ↦ word_at text ]
 
@@ -204,7 +204,7 @@ join_at text = do
   step ← join_of thing.0
   at_end thing.1 step
 
--- A step about routes, by its name and the text behind it.
+-- A step about routes, by its name and the text after it.
 abbrev pub routing_named : Text → Text → Option AnyStep
 routing_named name text =
     if bytes_eq name (codes "route") then numbered_at steps.Route text
@@ -213,7 +213,7 @@ routing_named name text =
     else if bytes_eq name (codes "pause") then numbered_at steps.Pause text
     else if bytes_eq name (codes "resume") then numbered_at steps.Resume text else None
 
--- A step that moves something, likewise.
+-- A step that moves something, by its name and the text after it.
 abbrev pub moving_named : Text → Text → Option AnyStep
 moving_named name text =
     if bytes_eq name (codes "zero") then zero_at text
@@ -222,7 +222,7 @@ moving_named name text =
     else if bytes_eq name (codes "join") then join_at text
     else if bytes_eq name (codes "put") then put_at text else None
 
--- The step that the word behind `write` names.
+-- The step that the word after `write` names.
 abbrev pub notice_named : Text → Option AnyStep
 notice_named word =
     if bytes_eq word (codes "notice") then Some steps.WriteNotice else None
@@ -234,7 +234,7 @@ write_at text = do
   step ← notice_named word.0
   at_end word.1 step
 
--- A step about notices, or `free`, likewise.
+-- A step about notices, or `free`, by its name and the text after it.
 abbrev pub telling_named : Text → Text → Option AnyStep
 telling_named name text =
     if bytes_eq name (codes "look") then numbered_at steps.Look text
@@ -244,7 +244,7 @@ telling_named name text =
     else if bytes_eq name (codes "write") then write_at text
     else if bytes_eq name (codes "free") then at_end text steps.Free else None
 
--- The step that a name spells with the text behind it.
+-- The step that a name spells with the text after it.
 unfoldable pub step_named : Text → Text → Option AnyStep
 step_named name text =
     or_else (routing_named name text)
@@ -274,7 +274,7 @@ numbers_at text = do
   to ← spot_named second.0
   at_end second.1 (lines.Numbers from to)
 
--- The declaration that the word behind `notices` makes.
+-- The declaration that the word after `notices` makes.
 abbrev pub unset_named : Text → Option PlanLine
 unset_named word = if bytes_eq word (codes "unset") then Some lines.NoticesUnset else None
 
@@ -285,7 +285,7 @@ notices_at text = do
   line ← unset_named word.0
   at_end word.1 line
 
--- A line that is one word, by that and the text behind it.
+-- A line that is one word, by that and the text after it.
 abbrev pub flag_named : Text → Text → Option PlanLine
 flag_named name text =
     if bytes_eq name (codes "plan") then at_end text lines.Plan
@@ -294,7 +294,7 @@ flag_named name text =
     else if bytes_eq name (codes "heeds") then at_end text lines.Heeds
     else if bytes_eq name (codes "inherited") then at_end text lines.Inherited else None
 
--- A declaration, or the begin of a plan, by its name and the text behind it.
+-- A declaration, or the begin of a plan, by its name and the text after it.
 abbrev pub declaration_named : Text → Text → Option PlanLine
 declaration_named name text =
     if bytes_eq name (codes "words") then words_at text
@@ -307,7 +307,7 @@ abbrev pub step_line : Option AnyStep → Option PlanLine
 step_line None = None
 step_line (Some step) = Some (lines.Step step)
 
--- The line that a name spells with the text behind it.
+-- The line that a name spells with the text after it.
 abbrev pub line_named : Text → Text → Option PlanLine
 line_named name text =
     or_else (declaration_named name text) (step_line (step_named name text))
@@ -323,12 +323,12 @@ abbrev pub line_or_bad : Text → Option PlanLine → Reading
 line_or_bad word None = bad_by word
 line_or_bad word (Some line) = readings.Line line
 
--- What a text says, by its first word and the text behind that.
+-- What a text says, by its first word and the text after that.
 abbrev pub words_read : Option (Text × Text) → Reading
 words_read None = readings.Skip
 words_read (Some word) = line_or_bad word.0 (line_named word.0 word.1)
 
--- What one that is too long is, likewise.
+-- What one that is too long is.
 abbrev pub long_read : Option (Text × Text) → Reading
 long_read None = readings.Bad
 long_read (Some word) = bad_by word.0

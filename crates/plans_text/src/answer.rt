@@ -59,7 +59,7 @@ fn push_place(out: &mut Vec<u8>, marks: &[Mark], before: usize) -> Result<(), Al
     }
 }
 
-/// Appends behind which line a store comes, or that it comes before all. `Err`: there is no memory
+/// Appends after which line a store comes, or that it comes before all. `Err`: there is no memory
 /// for it.
 #[tactic(auto, using(crate::proofs::FileLemmas::place_lemmas))]
 fn push_behind_any(out: &mut Vec<u8>, marks: &[Mark], at: usize) -> Result<(), AllocError>
@@ -85,7 +85,7 @@ fn push_between(out: &mut Vec<u8>, marks: &[Mark], before: usize) -> Result<(), 
     }
 }
 
-/// Appends behind which line a store comes. `Err`: there is no memory for it.
+/// Appends after which line a store comes. `Err`: there is no memory for it.
 fn push_behind(out: &mut Vec<u8>, mark: &Mark) -> Result<(), AllocError>
     ensures { OnOk result (out.new.items
         ≡ out.old.items ++ file.behind_text (Some (place_of mark.now))) }

@@ -9,14 +9,14 @@ ghost use Rattle.plans_text.specs.CommandLine.{subcommand_of};
 
 use crate::command_line::PlansSubcommand;
 
-/// The word `judge` is taken, with the delimiter `--` behind it or not.
+/// The word `judge` is taken, with the delimiter `--` after it or not.
 pub fn judge_is_taken()
     ensures alone { subcommand_of (codes "judge" ∷ []) ≡ Some PlansSubcommand.Judge }
     ensures delimiter { subcommand_of (codes "judge" ∷ codes "--" ∷ [])
         ≡ Some PlansSubcommand.Judge }
 {}
 
-/// These words, which are not `judge` alone, are refused; so are requests for help and for the
+/// These words, which are not just `judge`, are refused; so are requests for help and for the
 /// version.
 pub fn other_words_are_refused()
     ensures others { RefusesOthers subcommand_of }

@@ -142,7 +142,7 @@ fn join_at(text: &[u8]) -> Option<AnyStep>
     at_end(rest, step)
 }
 
-/// Reads the number with which a text ends. `None`: it is none, or a word stands behind it.
+/// Reads the number with which a text ends. `None`: it is none, or a word stands after it.
 #[tactic(auto, unfolding(crate::specs::Reading::numbered_at))]
 fn last_number(text: &[u8]) -> Option<u32>
     ensures { (step : ℕ → AnyStep) → option_map step result ≡ reading.numbered_at step text.now }
@@ -151,7 +151,7 @@ fn last_number(text: &[u8]) -> Option<u32>
     at_end(rest, number)
 }
 
-/// Reads a step about a producer. `None`: the name or what stands behind it spells none.
+/// Reads a step about a producer. `None`: the name or what stands after it spells none.
 fn routing_named(name: &[u8], text: &[u8]) -> Option<AnyStep>
     ensures { result ≡ reading.routing_named name.now text.now }
 {
@@ -170,7 +170,7 @@ fn routing_named(name: &[u8], text: &[u8]) -> Option<AnyStep>
     }
 }
 
-/// Reads a step that moves something. `None`: the name or what stands behind it spells none.
+/// Reads a step that moves something. `None`: the name or what stands after it spells none.
 fn moving_named(name: &[u8], text: &[u8]) -> Option<AnyStep>
     ensures { result ≡ reading.moving_named name.now text.now }
 {
@@ -189,7 +189,7 @@ fn moving_named(name: &[u8], text: &[u8]) -> Option<AnyStep>
     }
 }
 
-/// Gives the step that the word behind `write` names. `None`: it names none.
+/// Gives the step that the word after `write` names. `None`: it names none.
 fn notice_named(word: &[u8]) -> Option<AnyStep>
     ensures { result ≡ reading.notice_named word.now }
 {
@@ -210,7 +210,7 @@ fn write_at(text: &[u8]) -> Option<AnyStep>
     at_end(rest, step)
 }
 
-/// Reads a step about the host, or `free`. `None`: the name or what stands behind it spells none.
+/// Reads a step about the host, or `free`. `None`: the name or what stands after it spells none.
 fn telling_named(name: &[u8], text: &[u8]) -> Option<AnyStep>
     ensures { result ≡ reading.telling_named name.now text.now }
 {
@@ -231,7 +231,7 @@ fn telling_named(name: &[u8], text: &[u8]) -> Option<AnyStep>
     }
 }
 
-/// Reads the step that a name spells with the text behind it. `None`: they spell none.
+/// Reads the step that a name spells with the text after it. `None`: they spell none.
 #[tactic(auto, unfolding(crate::specs::Reading::step_named))]
 fn step_named(name: &[u8], text: &[u8]) -> Option<AnyStep>
     ensures { result ≡ reading.step_named name.now text.now }
@@ -276,7 +276,7 @@ fn numbers_at(text: &[u8]) -> Option<PlanLine>
     at_end(rest, PlanLine::Numbers(from, to))
 }
 
-/// Gives the declaration that the word behind `notices` makes. `None`: it makes none.
+/// Gives the declaration that the word after `notices` makes. `None`: it makes none.
 fn unset_named(word: &[u8]) -> Option<PlanLine>
     ensures { result ≡ reading.unset_named word.now }
 {
@@ -316,7 +316,7 @@ fn flag_named(name: &[u8], text: &[u8]) -> Option<PlanLine>
     }
 }
 
-/// Reads a declaration. `None`: the name and the text behind it spell none.
+/// Reads a declaration. `None`: the name and the text after it spell none.
 fn declaration_named(name: &[u8], text: &[u8]) -> Option<PlanLine>
     ensures { result ≡ reading.declaration_named name.now text.now }
 {
@@ -333,7 +333,7 @@ fn declaration_named(name: &[u8], text: &[u8]) -> Option<PlanLine>
     }
 }
 
-/// Reads the line that a name spells with the text behind it. `None`: they spell none.
+/// Reads the line that a name spells with the text after it. `None`: they spell none.
 fn line_named(name: &[u8], text: &[u8]) -> Option<PlanLine>
     ensures { result ≡ reading.line_named name.now text.now }
 {

@@ -100,7 +100,7 @@ impl PlanFile {
         self.add(alloc, text, parse_line(text))
     }
 
-    /// Reads what stands behind the last LF, where anything does. `Err`: there is no memory for it.
+    /// Reads what stands after the last LF, where anything does. `Err`: there is no memory for it.
     pub(crate) fn add_last(&mut self, alloc: Global, text: &[u8]) -> Result<(), AllocError>
         requires inside { AreInFile self.old.draft }
         requires room { self.old.lines < 2 ^ 64 - 1 }

@@ -16,7 +16,7 @@ use std::alloc::{AllocError, Global};
 pub struct PlanFileReader {
     file: PlanFile,
 
-    /// What was read behind the last LF.
+    /// What was read after the last LF.
     rest: Vec<u8>,
 }
 

@@ -6,7 +6,7 @@ ghost use Rattle.plans_text.specs.Reading as reading;
 
 use plans_rules::{AnyPlace, Number, NumberSpot, RouteKind, WhichSet};
 
-/// A word, and the text behind it.
+/// A word, and the text after it.
 pub(crate) type Cut<'a> = (&'a [u8], &'a [u8]);
 
 /// Finds the first place of a byte in a text. `None`: it has none.

@@ -204,6 +204,16 @@ static void moved_all(void)
 	moved("APLIC-MSI", "/dev/vdb", 4 * scale, 1);
 }
 
+/* The machine is powered off while virtual machines run. */
+static void alive(const struct load *load)
+{
+	if (!fork()) {
+		machines(load);
+		_exit(0);
+	}
+	sleep(3);
+}
+
 #define OF(...) do { struct load load = { __VA_ARGS__ }; machines(&load); } while (0)
 #define FILES_ALONE KVM_DEV_RISCV_AIA_MODE_HWACCEL
 #define MEMORY_ALONE KVM_DEV_RISCV_AIA_MODE_EMUL
@@ -237,6 +247,10 @@ static void workload(const char *name, int number)
 		OF(1, 2, FILES_ALONE, 60 * scale, 0, 6000, 0, 1);
 	else if (!strcmp(name, "senders"))
 		OF(1, 2, EITHER, 400 * scale, 0, 3000, 0, 0, 1);
+	else if (!strcmp(name, "stream"))
+		OF(1, 2, EITHER, 400 * scale, 0, 3000, 0, 0, 1, 1);
+	else if (!strcmp(name, "alive"))
+		alive(&(struct load){ 1, 2, FILES_ALONE, 1000 * scale, 0, 6000 });
 	else
 		printf("there is no workload %s\n", name);
 }

@@ -16,6 +16,7 @@ typedef unsigned int u32;
 /* Bits of the task. */
 #define MAJORS(task) ((task) >> 60 & 1)
 #define SENDS(task) ((task) >> 61 & 1)
+#define CLAIMS(task) ((task) >> 62 & 1)
 
 enum { READ = 0, SWAP = 1, SET = 3, CLEAR = 5 };
 struct self { u64 page; u32 me, peers; u64 seed; };
@@ -157,8 +158,8 @@ static u32 step_of_file(struct self *self, u32 draw, u32 kind, int majors)
 	return 0;
 }
 
-/* All is disabled, and nothing pending; then many identities are enabled. */
-static void set_up(struct self *self, int majors, u64 priorities)
+/* All is disabled, and nothing pending; then many identities are enabled, or all. */
+static void set_up(struct self *self, int majors, int all, u64 priorities)
 {
 	u32 word;
 
@@ -174,7 +175,7 @@ static void set_up(struct self *self, int majors, u64 priorities)
 	WRITE(0x151, 1);
 	for (word = 0; word < WORDS; word++) {
 		SELECT(ENABLED + 2 * word);
-		PUT_BITS(0x151, word ? 0x0000ffff0000ffffUL : 0x00000000ffffffffUL);
+		PUT_BITS(0x151, all ? ~0UL : word ? 0x0000ffff0000ffffUL : 0x00000000ffffffffUL);
 	}
 	if (majors) {	/* its priorities are as user space set them: told alone */
 		put(self->page + 0x10, 0x646 | SWAP << 12);
@@ -194,13 +195,17 @@ void guest(u64 me, u64 task, u64 priorities)
 			   task >> 28 ^ me * 77 ^ vm * 1234567 }, *self = &of;
 	u32 claimed = 0;
 
-	set_up(self, majors, priorities);
+	set_up(self, majors, CLAIMS(task), priorities);
+	if (CLAIMS(task) && !me)	/* its rounds take longer than those of the peer that sends */
+		rounds /= 2;
 	while (rounds--) {
 		draw = drawn(self);
 		if (SENDS(task) && me) {	/* a peer that sends, much and to the first */
 			for (sent = 0; sent < 16; sent++)
 				put(FILES, 1 + (drawn(self) % 255));
 		}
+		for (sent = 0; CLAIMS(task) && !me && sent < 8 && CLAIM(); sent++)
+			claimed++;
 		if (majors && !(draw >> 20 & 3))
 			step_of_majors(self, draw, draw & 31);
 		else

@@ -14,6 +14,7 @@ struct load {	/* what a workload asks of its virtual machines */
 	int pause;	/* microseconds between two turns, at most */
 	int plugs;	/* whether a hart of the machine goes and comes */
 	int majors, sends;
+	int stream;	/* whether a device sends much too, and what comes is claimed */
 };
 
 uint32_t drawn(void);

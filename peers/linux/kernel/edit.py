@@ -97,7 +97,8 @@ def fail(message):
 
 
 def edited(text, where, function, words, side, put):
-    """The text of a file with one edit made."""
+    """The text of a file with one edit made: what is put stands before words, behind them, or
+    instead of them."""
     start, end = 0, len(text)
     if function:
         head = rf"^\w[^\n;]*\b{function}\((?:[^;{{]*)\)\n{{\n"
@@ -109,8 +110,9 @@ def edited(text, where, function, words, side, put):
     if text.count(words, start, end) != 1:
         fail(f"{where} has {text.count(words, start, end)} times, within {function or 'it'}:"
              f" {words}")
-    at = text.index(words, start, end) + len(words) * (side == "behind")
-    return text[:at] + put + text[at:]
+    at = text.index(words, start, end)
+    end = at + len(words)
+    return text[:end if side == "behind" else at] + put + text[at if side == "before" else end:]
 
 
 def csr_header(text):

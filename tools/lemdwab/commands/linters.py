@@ -5,7 +5,7 @@
     shellcheck  each script of a shell, by .shellcheckrc
     cc          each file of C that this machine can compile, with -Wall -Wextra -Werror
     ruff        Python, by tools/pyproject.toml; where it is not installed flake8, by tools/.flake8
-    mypy        the package tools/lemdwab, strictly, by tools/pyproject.toml
+    mypy        the package tools/lemdwab and bindings/python, strictly, by tools/pyproject.toml
 
 Runs all of these, or those named, and says of one that is not installed that it is not. What a
 linter finds is printed as it says it. C that is compiled for RISC-V is looked at where
@@ -26,10 +26,10 @@ CONFIGURATION = str(TOP / "tools/pyproject.toml")
 LONGEST, MOST = 300, 1 << 22
 WARNINGS = ["-std=gnu11", "-Wall", "-Wextra", "-Werror", "-fsyntax-only"]
 # What is compiled where: on this machine, or for RISC-V by a cross compiler. The rest of peers/ is
-# compiled within the sources of Linux.
+# compiled within the sources of Linux, or with its headers.
 HERE = ("examples/*.c", "suite/library/*.c")
 CROSS = "riscv64-linux-gnu-gcc"
-THERE = ("peers/linux/guest/guest.c", "peers/linux/guest/machines.c")
+THERE = ("peers/linux/guest/guest.c",)
 FLAGS = ["-I", str(TOP / "include"), "-I", str(TOP / "suite/library")]
 COMPILERS: tuple[tuple[str, tuple[str, ...], list[str]], ...] = (
     ("cc", HERE, FLAGS), (CROSS, THERE, []))
@@ -78,7 +78,8 @@ def commands_of(name: str, files: list[Path]) -> Iterator[list[str]]:
         is_there = shutil.which("ruff") or not shutil.which(IN_ITS_PLACE[0])
         yield [*(RUFF if is_there else IN_ITS_PLACE), *python]
     if name == "mypy":
-        yield ["mypy", "--config-file", CONFIGURATION, *CACHES, str(TOP / "tools/lemdwab")]
+        yield ["mypy", "--config-file", CONFIGURATION, *CACHES, str(TOP / "tools/lemdwab"),
+               str(TOP / "bindings/python/aia.py")]
 
 
 LINTERS = ("shellcheck", "cc", "ruff", "mypy")

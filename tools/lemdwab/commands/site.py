@@ -5,19 +5,23 @@
 Looks for dead links and anchors, and for what a page loads from elsewhere; that links lead from the
 start page to each page, each law, and what carries each sentence of README's 'What is proved'
 (docs/make/proved.txt); that each module, law and public call stands there as in its source; that
-the tree of each law and of the theorem ends, and leaves out nothing that its lines name; and that
-the sliders show what the program answers. The program is that of the
-variable PROGRAM, or without one peers/apart/model.py, as the site has it.
+the tree of each law and of the theorem ends, and leaves out nothing that its lines name; that each
+word in which a tree ends leads to its row, and each row of a tree has its sentence and its text;
+that the theorem's page has the box of what has to be believed, with each chapter's count of lines,
+and leads to the forms of lines with their answers; and that the sliders show what the program
+answers. The program is that of the variable PROGRAM, or without one peers/apart/model.py, as the
+site has it.
 
 Where chromium is installed all this is looked at in it too, without a window: each page is opened,
 its links are followed to a place, and its tree is unfolded by clicks down to its ends; a press of
-the mouse on the start page has to lead to each law and clause that carries a sentence of README;
-each slider is moved over all its lines, and shows what the program answers; six pages fit a small
+the mouse on the start page has to lead to each law and clause that carries a sentence of README,
+and to what has to be believed; rows of a law's tree that are pressed show their texts;
+each slider is moved over all its lines, and shows what the program answers; eight pages fit a small
 screen, in light and dark; no script fails, and nothing outside the site is asked for. Where it is
 not installed it says so. The browser has ten minutes, and what it writes is taken away.
 
 Prints a line for each thing that is wrong, how much was looked at in the browser, and how many
-things are wrong. Takes two to four minutes. Ends with status 1 where something is wrong, 2 where it
+things are wrong. Takes some five minutes. Ends with status 1 where something is wrong, 2 where it
 could not look: words are wrong, a package is missing, or the browser ends or takes too long. Needs
 Python 3.10 or later, git, and pandoc; Debian has chromium too.
 """
@@ -28,6 +32,7 @@ import tempfile
 from pathlib import Path
 
 from lemdwab import browsing, clicking, running, siting
+from lemdwab.documents import site_scripts
 from lemdwab.running import TOP
 
 MAKER = TOP / "docs/make/site"
@@ -48,6 +53,7 @@ def main() -> int:
     if len(rest) > 1 or rest and not (Path(rest[0]) / "index.html").is_file():
         running.usage("one FOLDER at most is wanted" if len(rest) > 1
                       else f"there is no site in {rest[0]}")
+    site_scripts.check_program()
     with running.Workers(1) as workers, tempfile.TemporaryDirectory() as own:
         folder = Path(rest[0]) if rest else made(workers, Path(own) / "site")
         site = siting.Pages(folder)

@@ -179,8 +179,10 @@ def block_after(text: str, marker: str) -> str:
 
 
 def documented(trial: Trial) -> list[Path]:
-    """What docs/TRACES.md says that three of the tools print. Gives its two files."""
-    text = (TOP / "docs/TRACES.md").read_text(encoding="utf-8")
+    """What docs/TRACES.md and suite/TOOLS.md say that three of the tools print. Gives the two files
+    of the former."""
+    text = "".join((TOP / name).read_text(encoding="utf-8")
+                   for name in ("docs/TRACES.md", "suite/TOOLS.md"))
     files = []
     for name in ("mine.script", "mine.out"):
         _, _, rest = text.partition(f"cat > {name} <<'END'\n")
@@ -195,7 +197,7 @@ def documented(trial: Trial) -> list[Path]:
     for marker, tool, given in commands:
         ran = trial.run(tool, *given)
         trial.sees(answers.shown(ran.output) == block_after(text, marker),
-                   f"{tool.name} does not print what docs/TRACES.md says")
+                   f"{tool.name} does not print what the documents say")
     return files
 
 

@@ -12,7 +12,8 @@ from collections.abc import Iterator, Sequence
 
 from lemdwab.documents import carried
 from lemdwab.documents.antt import read_module
-from lemdwab.documents.carried import all_carriers, below, goes_on, is_rested_on, rested_on
+from lemdwab.documents.carried import (all_carriers, all_functions, below, goes_on, is_rested_on,
+                                       keys_in, rested_on)
 from lemdwab.documents.definitions import TARGET, first_lines
 from lemdwab.documents.naming import DEFINED, ITEM, all_definitions, rests_on
 from lemdwab.documents.site_documents import claims, leads_to
@@ -60,6 +61,15 @@ def of_sentences() -> Iterator[str]:
                 yield f"docs/make/proved.txt names {' '.join(reference)}, which is not there"
 
 
+def of_clauses() -> Iterator[str]:
+    """Says which clause of a law or a public call names something that is defined nowhere."""
+    for one in all_functions():
+        for key in keys_in(one):
+            if key.startswith("?"):
+                yield (f"{one.called()} of {one.crate} names {key[2:]}, of which nobody knows where"
+                       " it is defined")
+
+
 def with_neighbours() -> set[str]:
     """Gives what is rested on, and what stands under one comment with that."""
     found = set(rested_on())
@@ -89,7 +99,8 @@ def drifts() -> Iterator[str]:
     """Says each definition that part I lacks, once, with what first rests on it, and each that it
     has too much."""
     seen = set()
-    for line in [*of_sentences(), *amiss(TARGET.read_text(encoding="utf-8"))]:
+    found = [*of_sentences(), *of_clauses(), *amiss(TARGET.read_text(encoding="utf-8"))]
+    for line in found:
         lacked = line.partition(" rests on ")[2] if line.endswith(" lacks") else line
         if lacked not in seen:
             yield line

@@ -10,8 +10,8 @@ from __future__ import annotations
 import sys
 import traceback
 
-from lemdwab.documents import (believed, checks, claims, definitions, header, pictures, registers,
-                               statements, strength)
+from lemdwab.documents import (believed, bindings, checks, claims, definitions, forms, header,
+                               pictures, registers, statements, strength, words)
 
 
 def looked() -> int:
@@ -22,8 +22,8 @@ def looked() -> int:
         return 0
     if sys.argv[1] == "claims":
         return claims.accept(sys.argv[2:])
-    parts = (definitions, believed, pictures, strength, statements, claims, header, registers,
-             checks)
+    parts = (definitions, believed, words, forms, pictures, strength, statements, claims, header,
+             bindings, registers, checks)
     found = list(dict.fromkeys(line for part in parts for line in part.drifts()))
     for line in checks.aged():
         print(f"note: {line}")

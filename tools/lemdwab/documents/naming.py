@@ -8,11 +8,12 @@ from collections.abc import Iterable, Iterator
 from functools import cache
 from typing import NamedTuple
 
-from lemdwab.documents.antt import all_modules, read_item, read_module
+from lemdwab.documents.antt import all_modules, module_path, read_item, read_module
 from lemdwab.documents.functions import dedented, source_files, source_lines
 from lemdwab.running import TOP
 
 USE = re.compile(r"(?m)^[ \t]*(?:ghost )?use Rattle\.(\w+)\.([^;\n]*);?$")
+HANDED_ON = re.compile(r"(?m)^pub use Rattle\.(\w+)\.([\w.]*)\.\{([^}]*)\}")
 RUST_USE = re.compile(r"(?m)^[ \t]*(?:pub(?:\([a-z]+\))? )?use ([^;]*);")
 DEFINED = re.compile(
     r"(?:(?:abbrev|unfoldable|inductive) )*(?:pub |(?<=abbrev ))(data |record )?(\S+)")
@@ -194,7 +195,7 @@ def space(crate: str, path: list[str]) -> dict[str, Target] | None:
     _, first, *rest = path
     if first not in ("declared", "contracts"):
         if not rest:
-            return in_module(crate, first)
+            return handed_on(crate, first) | in_module(crate, first)
         return inside(next(one for one in defined(crate, first) if one.name == rest[0]))
     if rest[-1] == "TheConstants":
         return {one.name: target(one) for one in items(crate)
@@ -204,6 +205,16 @@ def space(crate: str, path: list[str]) -> dict[str, Target] | None:
     if one is None:
         return None
     return inside(one) if rest[-1] == "TheVariants" else {one.name: target(one), "": target(one)}
+
+
+def handed_on(crate: str, module: str) -> dict[str, Target]:
+    """Gives the names of other modules that a module offers as its own, by its `pub use`."""
+    text = module_path(crate, module).read_text(encoding="utf-8")
+    found: dict[str, Target] = {}
+    for of, path, names in HANDED_ON.findall(text):
+        offered = space(of, path.split(".")) or {}
+        found |= {name: offered[name] for name in re.split(r"[,\s]+", names) if name in offered}
+    return found
 
 
 def library(crate: str) -> str:

@@ -3,7 +3,8 @@
     docs/make/site FOLDER
 
 FOLDER is empty, or not there yet in a folder that is. FOLDER/index.html is the start page. The
-pages need no network and no server, and scripts of theirs only for the sliders and to find names.
+pages need no network and no server, and scripts of theirs only for the sliders, to find names, and
+to show the texts of definitions in trees.
 
 What stands in a page is read off the repository: the documents, the definitions of crates/*/specs,
 the laws and public calls of crates/*/src with their clauses, and the examples. These are answered
@@ -15,13 +16,13 @@ install pandoc).
 
 from __future__ import annotations
 
-import os
 import sys
 from pathlib import Path
 from typing import TYPE_CHECKING
 
 from lemdwab import running
-from lemdwab.documents import site_definitions, site_documents, site_laws, site_pages, site_scripts
+from lemdwab.documents import (site_definitions, site_documents, site_laws, site_pages,
+                               site_scripts, site_theorem, site_trees)
 from lemdwab.documents.carried import all_functions, keys_in
 from lemdwab.running import TOP
 
@@ -47,9 +48,11 @@ def made() -> Site:
     for name in site_pages.ASSETS:
         site.files[name] = (HERE / name).read_bytes()
     site_pages.Prose.make([*site_definitions.comments(), *site_laws.comments(),
-                           site_laws.headline_words()])
+                           site_theorem.headline_words()])
     site_documents.make(site)
     site_laws.make(site)
+    site_theorem.make(site)
+    site_trees.make(site)
     functions = [(one, site_laws.place_of(one), keys_in(one)) for one in all_functions()]
     site_definitions.make(site, functions)
     with running.Workers(1) as workers:
@@ -65,9 +68,7 @@ def main() -> int:
     if not site_pages.prepared():
         running.fail("pandoc is missing, which makes HTML of the documents; Debian has it:"
                      " apt-get install pandoc")
-    program = os.environ.get("PROGRAM")
-    if program and not os.access(site_scripts.answering()[0][0], os.X_OK):
-        running.fail(f"PROGRAM is {program}, which can't be run")
+    site_scripts.check_program()
     folder = checked(rest[0])
     try:
         site = made()

@@ -18,7 +18,8 @@ from lemdwab.documents.naming import (all_definitions, blocks, code_page, crates
 from lemdwab.documents.order import (CONTENTS, FULL, ITEM as PLACED_ITEM, OTHERS, PASSED, TABLE,
                                      order_lines)
 from lemdwab.documents.site_pages import (Prose, first_sentence, link, linked_code, pandoc,
-                                          shown_file)
+                                          shown_file, word_place)
+from lemdwab.documents.words import shown
 
 if TYPE_CHECKING:
     from lemdwab.documents.functions import Function
@@ -41,20 +42,22 @@ def comments() -> Iterator[str]:
 
 
 def links(page: str, keys: list[str]) -> str:
-    """Gives keys of definitions and of names of libraries as links, the latter in words."""
-    found = []
-    leaves: dict[str, list[str]] = {}
+    """Gives keys of definitions and of words of libraries as links."""
     definitions = all_definitions()
-    for key in keys:
-        if key in definitions:
-            one = definitions[key]
-            found.append(link(page, one.place, escape(one.name)))
-        else:
-            of, _, name = key.partition(" ")
-            leaves.setdefault(of, []).append(escape(name))
-    for of, names in leaves.items():
-        found.append(f'<span class="leaves">{library_words(of)}: {" ".join(names)}</span>')
+    found = [link(page, definitions[key].place, escape(definitions[key].name))
+             for key in keys if key in definitions]
+    found += [f'<span class="leaves">{one}</span>'
+              for one in word_links(page, [key for key in keys if key not in definitions])]
     return ", ".join(found)
+
+
+def word_links(page: str, keys: Sequence[str]) -> list[str]:
+    """Gives words of libraries as links to what they mean, those of each library after its name."""
+    of_libraries: dict[str, list[str]] = {}
+    for key in keys:
+        of, _, name = key.partition(" ")
+        of_libraries.setdefault(of, []).append(link(page, word_place(key), escape(shown(name))))
+    return [f"{library_words(of)}: {' '.join(found)}" for of, found in of_libraries.items()]
 
 
 def library_words(of: str) -> str:

@@ -13,8 +13,9 @@ from lemdwab.documents.carried import all_functions
 from lemdwab.documents.markdown import documents, read, section
 from lemdwab.documents.naming import all_definitions
 from lemdwab.documents.site_definitions import DEFINITIONS
-from lemdwab.documents.site_laws import THEOREM, anchor_of, place_of
+from lemdwab.documents.site_laws import anchor_of, place_of
 from lemdwab.documents.site_pages import document_page, link, pandoc
+from lemdwab.documents.site_theorem import THEOREM
 from lemdwab.running import TOP
 
 if TYPE_CHECKING:

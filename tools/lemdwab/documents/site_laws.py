@@ -1,28 +1,23 @@
-"""The pages of the site on what is proved: the laws, the clauses of public calls, and the theorem,
-each with the definitions that it rests on."""
+"""The pages of the site on what is proved: the laws, each with the definitions that it rests on,
+and the clauses of public calls."""
 
 from __future__ import annotations
 
 from collections import Counter
-from collections.abc import Sequence
 from functools import cache
 from html import escape
 from typing import TYPE_CHECKING
 
-from lemdwab.documents.antt import prose
-from lemdwab.documents.carried import HEADLINE, all_functions, keys_in, meaning
+from lemdwab.documents.carried import all_functions, keys_in, meaning
 from lemdwab.documents.functions import dedented
-from lemdwab.documents.naming import all_definitions, rests_on
-from lemdwab.documents.site_definitions import DEFINITIONS, code_of, library_words
 from lemdwab.documents.site_pages import Prose, first_sentence, link, linked_code
-from lemdwab.running import TOP
+from lemdwab.documents.site_trees import Tree
 
 if TYPE_CHECKING:
     from lemdwab.documents.functions import Clause, Function
-    from lemdwab.documents.naming import Definition
     from lemdwab.documents.site_pages import Site
 
-LAWS, CALLS, THEOREM = "laws/index.html", "calls/index.html", "theorem.html"
+LAWS, CALLS = "laws/index.html", "calls/index.html"
 # Crates whose laws are worked scripts, each law one row: they stand together, and rest on what the
 # answers of a script rest on.
 WORKED = ("aia_guest_vectors", "aia_vectors")
@@ -30,10 +25,10 @@ WORKED = ("aia_guest_vectors", "aia_vectors")
 FOR_USERS = ("aia_laws", "aia_isolation", "aia_model")
 # What stands at the head of the two lists.
 OF_LAWS = ("Functions that do nothing, whose clauses were proved of the definitions. Each page has"
-           " a law's clauses, and what they rest on. Beside a name stands the first sentence of its"
-           " comment alone: where others bound it, they stand on the page.")
+           " a law's clauses, and what they rest on. Beside a name stands only the first sentence"
+           " of its comment: if others bound it, they stand on the page.")
 OF_CALLS = ("What each crate offers to others, with the clauses of its contract. Beside a name"
-            " stands the first sentence of its comment alone.")
+            " stands only the first sentence of its comment.")
 
 
 def is_worked(one: Function) -> bool:
@@ -107,78 +102,6 @@ def clause_mark(clause: Clause | None, of: str, html: str) -> str:
     return f'<a id="{of}.{clause.name}"></a>{html}'
 
 
-# ---- what something rests on
-
-def tree(keys: tuple[str, ...]) -> dict[str, list[str]]:
-    """Gives each definition that keys rest on below the one that names it first, breadth first:
-    for each key the keys below it that stand there first."""
-    definitions = all_definitions()
-    level = [key for key in keys if key in definitions]
-    below, seen = {}, set(level)
-    while level:
-        following = []
-        for key in level:
-            below[key] = [other for other in rests_on(key)
-                          if other in definitions and other not in seen]
-            seen |= set(below[key])
-            following += below[key]
-        level = following
-    return below
-
-
-class Tree:
-    """What some keys rest on, as lists that unfold, down to names of libraries."""
-
-    def __init__(self, page: str, keys: tuple[str, ...], has_code: bool = False) -> None:
-        self.page, self.has_code = page, has_code
-        self.below = tree(keys)
-        self.numbers = {key: number for number, key in enumerate(self.below)}
-        self.keys = keys
-
-    def html(self) -> str:
-        """Gives the tree as HTML."""
-        return f'<ul class="tree">{self.rows(self.keys, self.keys)}</ul>'
-
-    def rows(self, keys: tuple[str, ...], own: Sequence[str]) -> str:
-        """Gives the rows of what something names: those that stand here first unfold."""
-        definitions = all_definitions()
-        found = "".join(self.row(key) for key in keys if key in own and key in definitions)
-        again = [key for key in keys if key in definitions and key not in own]
-        if again:
-            words = " ".join(f'<a href="#t{self.numbers[key]}">{escape(definitions[key].name)}</a>'
-                             for key in again)
-            found += f'<li class="again">{words}</li>'
-        leaves: dict[str, list[str]] = {}
-        for key in keys:
-            if key not in definitions:
-                of, _, name = key.partition(" ")
-                leaves.setdefault(of, []).append(escape(name))
-        for of, names in leaves.items():
-            found += f'<li class="leaves">{library_words(of)}: {" ".join(names)}</li>'
-        return found
-
-    def row(self, key: str) -> str:
-        """Gives one definition, with what it names below it."""
-        one = all_definitions()[key]
-        where = one.crate if one.is_item else f"{one.module} of {one.crate}"
-        named_keys = rests_on(key)
-        inner = self.rows(named_keys, self.below[key])
-        code, is_open = "", ""
-        if self.has_code:
-            is_open = " open" if key in self.keys else ""
-            code = Prose.of("\n".join(shown_comment(one)))
-            code += code_of(self.page, one, ids=False)
-        head = f"{link(self.page, one.place, escape(one.name))} <small>{where}</small>"
-        rest = f"<ul>{inner}</ul>" if inner else '<p class="leaves">names nothing</p>'
-        return (f'<li id="t{self.numbers[key]}"><details{is_open}><summary>{head}</summary>'
-                f"{code}{rest}</details></li>")
-
-
-def shown_comment(one: Definition) -> list[str]:
-    """Gives a definition's comment as the lines of its prose."""
-    return one.comment if one.is_item else prose(one.comment)
-
-
 # ---- pages
 
 def law_page(site: Site, one: Function) -> None:
@@ -193,7 +116,8 @@ def law_page(site: Site, one: Function) -> None:
             f" definitions. <code>crates/{one.crate}/{one.file}</code>, line {one.line}.</p>",
             "<h2>What it rests on</h2>",
             f'<p class="note">{len(rests.below)} definitions, each below the one that names it'
-            " first. Where one is named again it is a plain link.</p>", rests.html()]
+            " first. A click on a name unfolds its text and what it names. If it is named again, it"
+            " is a plain link there.</p>", rests.html()]
     site.write(page, one.name, "\n".join(body), LAWS)
 
 
@@ -247,37 +171,6 @@ def shared_tree(crate: str, own: list[Function]) -> str:
             f" besides, each names its script.</p>\n{rests.html()}")
 
 
-def theorem(site: Site) -> None:
-    """Writes the page of the theorem: the clauses of `run` that carry it, and all below them."""
-    crate, name, names = HEADLINE
-    one = next(one for one in all_functions() if one.crate == crate and one.called() == name)
-    rests = Tree(THEOREM, keys_in(one, names), has_code=True)
-    told = link(THEOREM, "docs/PROMISES.html#premises-and-limits", "what is told")
-    trusted = link(THEOREM, "docs/PROMISES.html#what-is-trusted", "what is trusted")
-    words = link(THEOREM, f"{DEFINITIONS}#how-to-read-antt", "how to read them")
-    body = ["<h1>The theorem</h1>", Prose.of(headline_words()),
-            f"<pre>{contract(THEOREM, one, names)}</pre>",
-            f'<p class="note">Two of the clauses of {link(THEOREM, place_of(one), "run")}'
-            f" (<code>{crate}</code>), as they stand in its source; its other clauses say why a run"
-            " ends otherwise, and what is written then. <code>S.supply source.old</code> is what"
-            " the source has left before the run, <code>K.taken sink.new</code> what the sink has"
-            " taken after it. Of a source that does not tell its bytes, as the standard input does"
-            f" not, these lines say nothing: {told}.</p>",
-            f'<p class="note">See also {trusted} beside these lines, and {words}.</p>',
-            "<h2>Walking down</h2>",
-            f'<p class="note">All that these lines are made of, down to names of libraries:'
-            f" {len(rests.below)} definitions, each below the one that names it first. The triangle"
-            " unfolds one, its name opens its page.</p>",
-            rests.html()]
-    site.write(THEOREM, "The theorem", "\n".join(body))
-
-
-def headline_words() -> str:
-    """Gives what docs/PROMISES.md says in words of the theorem."""
-    text = (TOP / "docs/PROMISES.md").read_text(encoding="utf-8")
-    return text.partition("### The headline\n\n")[2].partition("\n\n")[0]
-
-
 def make(site: Site) -> None:
     """Writes all pages on what is proved."""
     laws: dict[str, list[Function]] = {}
@@ -303,4 +196,3 @@ def make(site: Site) -> None:
                                         if crate not in FOR_USERS},
             "Worked scripts": worked})
     listed(site, CALLS, "Public calls", OF_CALLS, {"": calls})
-    theorem(site)

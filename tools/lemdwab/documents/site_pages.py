@@ -21,6 +21,8 @@ if TYPE_CHECKING:
     from lemdwab.documents.naming import Meaning
 
 ASSETS = ("site.css", "site.js")
+# The page of the words of libraries.
+WORDS = "words.html"
 # What stands at the head of each page: places with their names.
 ROAD = (("index.html", "Start"), ("theorem.html", "The theorem"), ("laws/index.html", "Laws"),
         ("calls/index.html", "Calls"), ("docs/DEFINITIONS.html", "Definitions"),
@@ -133,6 +135,11 @@ def link(page: str, place: str, words: str, kind: str = "") -> str:
     return f'<a{of} href="{escape(way(page, place))}">{words}</a>'
 
 
+def word_place(key: str) -> str:
+    """Gives the place of a word of a library."""
+    return f"{WORDS}#{key.replace(' ', '.')}"
+
+
 # ---- prose
 
 def pandoc(text: str) -> str:
@@ -198,7 +205,7 @@ def linked_code(block: str, meaning: Meaning, page: str, own: str = "") -> str:
         if leads.place and leads.place != own:
             words = link(page, leads.place, words)
         elif not leads.place:
-            words = f'<i title="{escape(leads.key.split(" ")[0])}">{words}</i>'
+            words = link(page, word_place(leads.key), words, "word")
         found.append(words)
         at = first + length
     found.append(escape(block[at:], quote=False))

@@ -45,6 +45,12 @@ def answering() -> tuple[list[str], str]:
     return [sys.executable, "-B", str(MODEL)], "the independent Python model, which is not proved"
 
 
+def check_program() -> None:
+    """Ends with status 2 where the variable PROGRAM names none that can be run."""
+    if os.environ.get("PROGRAM") and not os.access(answering()[0][0], os.X_OK):
+        running.fail(f"PROGRAM is {os.environ['PROGRAM']}, which can't be run")
+
+
 def answered(workers: Workers, command: list[str], script: bytes) -> list[tuple[Line, str]]:
     """Gives the lines of a script that have an answer, each with its answer."""
     ran = workers.submit(running.run, command, script, LONGEST,

@@ -335,9 +335,9 @@ def hunts_signals(trial: Trial) -> None:
 
 
 def hunts_a_file_alone(trial: Trial) -> None:
-    """The recipe of docs/TRACES.md for the supervisor file of one hart finds that eidelivery is
+    """The recipe of suite/TOOLS.md for the supervisor file of one hart finds that eidelivery is
     ignored."""
-    text = (TOP / "docs/TRACES.md").read_text(encoding="utf-8")
+    text = (TOP / "suite/TOOLS.md").read_text(encoding="utf-8")
     _, _, recipe = text.partition("suite/hunt --refused 0 ")
     words = shlex.split(recipe.partition("./mine")[0].replace("\\\n", " "))
     ignores = trial.file("ignores", f"""#!{sys.executable}

@@ -562,13 +562,13 @@ def lints_with_the_program(trial: Trial) -> None:
 
 
 def lints_documented(trial: Trial) -> None:
-    """What docs/TRACES.md says that lint prints."""
-    text = (TOP / "docs/TRACES.md").read_text(encoding="utf-8").partition("\n## Lint\n")[2]
+    """What suite/TOOLS.md says that lint prints."""
+    text = (TOP / "suite/TOOLS.md").read_text(encoding="utf-8").partition("\n## Lint\n")[2]
     script = text.partition("cat > my.script <<'END'\n")[2].partition("END\n")[0]
     wanted = text.partition("what the file is:\n\n```\n")[2].partition("```\n")[0]
     trial.file("my.script", script)
     said = trial.prints(1, [], "env", "-C", trial.folder, LINT, "my.script")
-    trial.sees(said == wanted and script, f"lint does not print what docs/TRACES.md says: {said}")
+    trial.sees(said == wanted and script, f"lint does not print what suite/TOOLS.md says: {said}")
 
 
 PARTS = (lints_by_reasons, lints_as_documents, lints_documented, lints_files, lints_much,

@@ -11,8 +11,10 @@ from pathlib import Path
 from typing import TYPE_CHECKING
 from unittest import mock
 
-from lemdwab import browsing, clicking, siting
+from lemdwab import browsing, clicking, siting, walking
 from lemdwab.documents import carried
+from lemdwab.documents.site_pages import WORDS
+from lemdwab.documents.site_theorem import LINES, THEOREM
 from lemdwab.running import TOP, sure
 
 if TYPE_CHECKING:
@@ -113,13 +115,37 @@ def plants(planted: Planted, workers: Workers) -> None:
     planted.lacks("the law no_notice_is_lost of aia_laws has no place", LAW, siting.laws)
     planted.lacks(f"links to {LAW}, which is not there", LAW, siting.dead_links)
     planted.tells(f"{LAW} does not show no_notice_is_lost as its source has it", LAW,
-                  "true</i> }", "false</i> }", siting.whole_contracts)
+                  "true</a> }", "false</a> }", siting.whole_contracts)
     planted.tells("Script.html does not show the line text_answer h", SCRIPT,
                   "text_answer h (", "text_answer k (", siting.whole_modules)
-    planted.tells(f"the tree of {LAW} does not end", LAW, "</summary><ul>", "</summary>",
-                  siting.trees)
-    planted.tells(f"the tree of {LAW} leaves out", LAW, '<summary><a href="../../definitions/',
-                  '<summary><a href="../../definition/', siting.trees)
+    planted.tells(f"the tree of {LAW} does not end", LAW, "</div><ul>", "</div>", walking.trees)
+    planted.tells(f"the tree of {LAW} leaves out", LAW, '<p class="at"><a href="../../definitions/',
+                  '<p class="at"><a href="../../definition/', walking.trees)
+    planted.tells(f"the tree of {LAW} ends in words without a row", LAW,
+                  f'href="../../{WORDS}#std.', 'href="../../names.html#std.', walking.ends)
+    planted.tells(f"{WORDS} has no row of std Appends", WORDS, 'id="std.Appends"',
+                  'id="std.Append"', walking.ends)
+    planted.tells(f"the tree of {LAW} says nothing beside", LAW,
+                  "<small>What has happened, the newest first</small>", "<small></small>",
+                  walking.texts)
+    planted.tells("has no box of what has to be believed", THEOREM, 'class="believed"',
+                  'class="believe"', walking.believed)
+    planted.tells(f"the box of {THEOREM} does not lead to {WORDS}", THEOREM,
+                  f'<td><a href="{WORDS}">', "<td><a>", walking.believed)
+    planted.tells("does not show number of start", THEOREM, "ensures number", "ensures numbers",
+                  walking.believed)
+    planted.tells(f"{THEOREM} does not lead to {LINES}", THEOREM, f'href="{LINES}"',
+                  'href="names.html"', walking.forms)
+    planted.tells(f"{LINES} says of ld A", LINES, "<code>guarded</code>", "<code>fault</code>",
+                  walking.forms)
+    text = next((planted.site.folder / "texts/definitions/aia_laws").iterdir())
+    text.rename(text.with_suffix(".kept"))
+    planted.site.fetched.clear()
+    found = planted.looks(walking.texts)
+    planted.trial.sees(any("no tree can show the text of" in line for line in found),
+                       f"no {text.name} is not told: {found[:3]}")
+    text.with_suffix(".kept").rename(text)
+    planted.site.fetched.clear()
     planted.tells("the slider of stores-in-flight.script", "moves/stores-in-flight.html",
                   '"0x0000000000000000"', '"0x0000000000000001"', sliders)
     planted.lacks("claim.script has no slider", "moves/claim.html", sliders)
@@ -160,6 +186,10 @@ SEEN_IN_A_BROWSER = [
     ("index.html", f'href="{LAW}#no_notice_is_lost.sent"', f'href="{LAW}"', "no press on the"),
     (LAW, 'id="no_notice_is_lost.sent"', "", "is not seen behind a press"),
     (LAW, '<li class="leaves">', "<li>", "does not unfold"),
+    ("site.js", "if (head) fill(head.parentElement);", "", "does not show the text of t0"),
+    ("site.js", "if (row) link.setAttribute(", "if (!row) link.setAttribute(", "leads to a row"),
+    (THEOREM, 'class="believed"', 'class="believed" style="display: none"',
+     "does not show what has to be"),
     (LAW, '<li class="again"><a href="#t', '<li class="again"><a href="#u', "stands nowhere in it"),
     (LAW, "<main>", '<main><p id="twice"></p><p id="twice"></p>', "has two places twice"),
     (LAW, "<main>", '<main><a href="nosuch.html">x</a>', "nosuch.html, which is not there"),
@@ -167,7 +197,7 @@ SEEN_IN_A_BROWSER = [
     (LAW, "<main>", "<main><script>nosuch()</script>", "a script of the site fails"),
 ]
 # The pages that are opened there.
-OPENED = ("index.html", LAW, clicking.SLIDER)
+OPENED = ("index.html", THEOREM, LAW, clicking.SLIDER)
 
 
 def in_a_browser(trial: Trial, folder: Path) -> None:

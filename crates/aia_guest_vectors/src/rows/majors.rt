@@ -66,8 +66,8 @@ pub fn identities_above_255_in_stopi()
         ≡ answers_of IDENTITIES_ABOVE_255_IN_STOPI }
 {}
 
-/// A major that isn't one of the four is refused; of sip a guest writes the majors 1 and 13 alone;
-/// a virtual hart that is parked reaches no CSR, whatever would be wrong with the access.
+/// A major that isn't one of the four is refused; of sip a guest writes only the majors 1 and 13; a
+/// virtual hart that is parked reaches no CSR, whatever would be wrong with the access.
 pub const MAJORS_THAT_A_GUEST_WRITES: [(&str, &str); 10] = [
     ("machine 1 1 63 8", "ok"),
     ("vm 1 0x8 0", "ok"),

@@ -195,8 +195,7 @@ pub fn four_pins_of_a_hart()
     ensures { answers (script_of FOUR_PINS_OF_A_HART) ≡ answers_of FOUR_PINS_OF_A_HART }
 {}
 
-/// A source that is delegated is on top in the child domain alone, for the hart that it is aimed
-/// at.
+/// A source that is delegated is on top only in the child domain, for the hart that it is aimed at.
 pub const CHILD_SHOWS_A_DELEGATED_SOURCE: [(&str, &str); 15] = [
     ("machine 2 0 63 8", "ok"),
     ("st 0x0c000008 0x400", "ok"),

@@ -254,7 +254,7 @@ pub fn identities_up_to_1023()
     ensures { answers (script_of IDENTITIES_UP_TO_1023) ≡ answers_of IDENTITIES_UP_TO_1023 }
 {}
 
-/// Memory has twelve pages from 0x80000000 on: what is there is guarded, and before it, behind it
+/// Memory has twelve pages from 0x80000000 on: what is there is guarded, and before it, after it
 /// and at its copies above 2^32 there is no place.
 pub const MEMORY_IS_GUARDED: [(&str, &str); 17] = [
     ("ld 0x80000000", "nomachine"),

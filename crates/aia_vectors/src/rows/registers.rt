@@ -317,8 +317,8 @@ pub fn nothing_is_at_other_offsets()
     ensures { answers (script_of NOTHING_AT_OTHER_OFFSETS) ≡ answers_of NOTHING_AT_OTHER_OFFSETS }
 {}
 
-/// The ends of the two control regions, the child's right behind the root's; addresses that are not
-/// aligned, and such as differ in their high bits alone.
+/// The ends of the two control regions, the child's directly after the root's; addresses that are
+/// not aligned, and such as differ in their high bits alone.
 pub const ADDRESSES_OF_DOMAINS: [(&str, &str); 20] = [
     ("machine 1 0 63 8", "ok"),
     ("ld 0x0bfffffc", "fault"),

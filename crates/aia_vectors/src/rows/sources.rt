@@ -163,8 +163,8 @@ pub fn a_source_begins_anew()
     ensures { answers (script_of SOURCES_BEGIN_ANEW) ≡ answers_of SOURCES_BEGIN_ANEW }
 {}
 
-/// A source that is delegated has its registers in the child domain alone, until it is taken back;
-/// a source that isn't has none there, and another child index and a reserved mode make the root
+/// A source that is delegated has its registers only in the child domain, until it is taken back; a
+/// source that isn't has none there, and another child index and a reserved mode make the root
 /// domain's register 0.
 pub const DELEGATION_GIVEN_AND_TAKEN_BACK: [(&str, &str); 19] = [
     ("machine 1 0 63 8", "ok"),
