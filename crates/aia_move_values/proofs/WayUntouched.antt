@@ -43,6 +43,7 @@ use Rattle.aia_move_values.specs.Landings.{LandsFirst}
 use Rattle.aia_move_values.specs.Ways.{guest_at, led_by_entry, led_by_route, led_by_record, NothingLeadsTo}
 use Rattle.aia_move_values.specs.WorldChanges.{WorldChange, IsUntouched}
 use Rattle.aia_move_values.specs.WorldChanges.WorldChange.{DeviceStores, PeerStores, StoreIsSent, StoreLands, StoreIsTaken, MsiLands, MsiIsRelayed, EntryIsRead, EntryIsFenced, SlotIsReached, FileIsReached, MoveSteps, VmIsMade}
+use Rattle.aia_move_values.proofs.StepLemmas.{file_stays}
 use Rattle.aia_move_values.proofs.TouchLemmas.{step_touches}
 use Rattle.aia_move_values.proofs.WayLemmas.{named_there}
 use Rattle.aia_move_values.proofs.WayKnows.{route_leads}
@@ -134,13 +135,6 @@ landed_kept : (w u : World) (p : GuestPlace) (vm k : ℕ) → IsWhole w → IsTh
 landed_kept w u p vm k whole there free l = ap (λ (x : World). file_at x.imsic (spot_of p)) l.taken
     ∙ by_entry w l.stored p l.store.offset l.store.value whole there l.store.entry (free.flights vm k l.store l.is) l.reaches
 
-still_there : (w u : World) (p : GuestPlace) → SameMachine w u → IsThere w.imsic (spot_of p) → IsThere u.imsic (spot_of p)
-still_there w u p same there = (
-  subst (λ n. p.hart < n) (sym same.harts) there.0,
-  there.1,
-  subst (λ n. p.file ≤ n) (sym same.guests) there.2,
-)
-
 all_machine : (count : ℕ) (w u : World) (vm : ℕ) → LandsOldest count w u vm → SameMachine w u
 all_machine zero w u vm same =
     subst (λ (x : World). SameMachine w x) (sym same) (record { n = refl; vms = refl; harts = refl; guests = refl })
@@ -151,7 +145,7 @@ all_kept : (count : ℕ) (w u : World) (p : GuestPlace) (vm : ℕ) → IsThere w
     → LandsOldest count w u vm → same_files w u p
 all_kept zero w u p vm there free same = ap (λ (x : World). file_at x.imsic (spot_of p)) same
 all_kept (suc count) w u p vm there free (mid, before, whole, l) =
-    landed_kept mid u p vm 0 whole (still_there w mid p (all_machine count w mid vm before) there)
+    landed_kept mid u p vm 0 whole (file_stays w mid p (all_machine count w mid vm before) there)
     (all_landed_free count w mid (File (spot_of p)) vm free before) l
     ∙ all_kept count w mid p vm there free before
 

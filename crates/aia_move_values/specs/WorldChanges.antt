@@ -152,6 +152,4 @@ IsElsewhere w u p change = Unit {0}
 abbrev pub IsUntouched : (w u : World) → GuestPlace → WorldChange w u → Type 0
 IsUntouched w u p (MsiLands q offset value there stores) = q ≢ p
 IsUntouched w u p (FileIsReached spot there changed) = spot ≢ spot_of p
-IsUntouched w u p (MoveSteps other led theirs seen landed hand apart within knows first step) =
-    holds p (moving_of other).home ≡ false
-IsUntouched w u p change = Unit {0}
+IsUntouched w u p change = IsElsewhere w u p change

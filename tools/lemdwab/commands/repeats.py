@@ -6,7 +6,8 @@ Reads the code, definitions and lemmas, crates/**/*.rt and *.antt, without comme
 rows, and finds
 
     passage     a run of 70 words and marks or more that stands in two places to the letter
-    lemma       two of one statement, but for the names that it binds
+    lemma       two of one statement, but for the names that it binds; what a relation or a set is,
+                of some `Type`, is no statement
     definition  two of one type and the same clauses, but for their own names and those they bind
 
 docs/make/repeats.txt names what is kept, with its reason. Prints all else with its places, and each
@@ -204,7 +205,7 @@ def meaning(place: Place, statement: str, clauses: list[str]) -> tuple[str, tupl
     """Gives the kind of a declaration and what it says, None where that is too short to count."""
     found = ANTT_TOKEN.findall(statement)
     names = bound_names(found)
-    if any(found.count(name) > 1 for name in names):
+    if found[-2:-1] != ["Type"] and any(found.count(name) > 1 for name in names):
         said = by_number(found, names)
         return ("lemma", said) if len(said) >= STATEMENT else None
     for clause in clauses:
@@ -272,6 +273,10 @@ PLANTED = [
      "b : List ℕ → List ℕ\nb [] = []\nb (k ∷ ks) =\n    suc k ∷ b ks", ["definition"]),
     ("abbrev pub a : List ℕ → List ℕ\na [] = []\na (x ∷ xs) = suc x ∷ a xs",
      "b : List ℕ → List ℕ\nb [] = []\nb (k ∷ ks) = k ∷ suc k ∷ b ks", []),
+    ("a : (x y : ℕ) → IsIn x y → Type 0\na x y i = P x",
+     "b : (n m : ℕ) → IsIn n m → Type 0\nb n m i = P m", []),
+    ("a : (x y : ℕ) → IsIn x y → Type 0\na x y i = P x",
+     "b : (n m : ℕ) → IsIn n m → Type 0\nb n m i = P n", ["definition"]),
     ("pub record A (x : ℕ) : Type 0 where\n  pub near : x ≤ 7\n  pub more : P x\n  pub all : Q x",
      "record B (n : ℕ) : Type 0 where\n  pub near : n ≤ 7\n  pub more : P n\n  pub all : Q n",
      ["definition"]),
