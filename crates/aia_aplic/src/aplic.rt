@@ -107,6 +107,7 @@ impl Aplic {
         self.load_register(name, domain_reg(offset))
     }
 
+    #[inline(always)]
     fn load_register(&mut self, name: DomainName, reg: DomainReg) -> u32
         ensures reads { (past : Past) → AplicStands self.old past →
             result ≡ register_read past name reg }

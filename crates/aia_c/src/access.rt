@@ -9,6 +9,7 @@ use aia_model::Line;
 use aia_regs::{Csr, Op};
 
 /// Gives the instruction of a number, `None` where it names none.
+#[inline(always)]
 fn op_of(funct: u32, operand: u64) -> Option<Op>
     ensures { result ≡ op_of funct operand }
 {
@@ -22,6 +23,7 @@ fn op_of(funct: u32, operand: u64) -> Option<Op>
 }
 
 /// Gives the line of an instruction at the CSR of a number, `None` where a hart has no such CSR.
+#[inline(always)]
 fn hart_line(hart: u64, csr: u32, op: Op) -> Option<Line>
     ensures line { result ≡ hart_line hart csr op }
     ensures listed { IfSome result IsListed }
@@ -41,6 +43,7 @@ fn hart_line(hart: u64, csr: u32, op: Op) -> Option<Line>
 }
 
 /// Gives the line of an instruction of a hart, `None` where a number names none.
+#[inline(always)]
 pub fn hart_access(hart: u64, csr: u32, funct: u32, operand: u64) -> Option<Line>
     ensures line { result ≡ hart_access hart csr funct operand }
     ensures listed { IfSome result IsListed }
@@ -51,6 +54,7 @@ pub fn hart_access(hart: u64, csr: u32, funct: u32, operand: u64) -> Option<Line
 }
 
 /// Gives the CSR of a number, `None` where a virtual hart has no such CSR.
+#[inline(always)]
 fn guest_csr(csr: u32) -> Option<Csr>
     ensures { result ≡ guest_csr csr }
 {
@@ -66,6 +70,7 @@ fn guest_csr(csr: u32) -> Option<Csr>
 }
 
 /// Gives the line of an instruction of a virtual hart, `None` where a number names none.
+#[inline(always)]
 pub fn guest_access(vm: u64, vcpu: u64, csr: u32, funct: u32, operand: u64) -> Option<Line>
     ensures line { result ≡ guest_access vm vcpu csr funct operand }
     ensures listed { IfSome result IsListed }

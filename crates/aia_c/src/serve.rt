@@ -13,6 +13,7 @@ use std::alloc::Global;
 
 /// Serves a line by a handle's engine. `Err` says what stood in the way: the handle is closed, or
 /// there is no memory for a machine.
+#[inline(always)]
 pub fn serve(handle: &mut Handle, line: &Line, alloc: Global) -> Result<Answer, Code>
     requires { IsListed line.now }
     ensures { Serving handle.old.engine handle.new.engine line.now result }
@@ -20,15 +21,17 @@ pub fn serve(handle: &mut Handle, line: &Line, alloc: Global) -> Result<Answer, 
     let Some(mut engine) = handle.take(alloc) else {
         return Err(Code::Closed);
     };
-    let given = engine.line(alloc, line);
+    let mut answer = Answer::Okay;
+    let given = engine.answer(alloc, line, &mut answer);
     handle.put(engine);
     match given {
-        Ok(answer) => Ok(answer),
+        Ok(()) => Ok(answer),
         Err(_) => Err(Code::NoMemory),
     }
 }
 
 /// Gives the number of the code of what a line was served.
+#[inline(always)]
 pub fn number_of(given: Result<Answer, Code>) -> i32
     ensures { result ≡ number_of given }
 {
@@ -79,6 +82,7 @@ pub fn pins_in(given: &Result<Answer, Code>) -> u32
 }
 
 /// Serves a line that reads a CSR, and gives what was read, 0 where nothing was.
+#[inline(always)]
 pub fn read(handle: &mut Handle, line: &Line, value: &mut u64, alloc: Global) -> i32
     requires listed { IsListed line.now }
     requires plain { makes_machine [] line.now ≡ false }
@@ -90,6 +94,7 @@ pub fn read(handle: &mut Handle, line: &Line, value: &mut u64, alloc: Global) ->
 }
 
 /// Does so with a line that numbers named; `None` is no line, and has a code of its own.
+#[inline(always)]
 pub fn access(handle: &mut Handle, line: Option<Line>, value: &mut u64, alloc: Global) -> i32
     requires listed { IfSome line IsListed }
     requires plain { IfSome line (λ line. makes_machine [] line ≡ false) }

@@ -83,6 +83,7 @@ impl Domain {
     /// not kept here.
     ///
     /// AIA 1.0, APLIC, "Memory-mapped control region for an interrupt domain".
+    #[inline(always)]
     pub fn load(&self, reg: DomainReg) -> u32
         ensures { result ≡ domain_read self.now reg }
     {

@@ -151,6 +151,7 @@ impl Fabric {
     ///
     /// AIA 1.0, IMSIC, "Memory region for an interrupt file": each file is a page. Profile: where
     /// the pages lie.
+    #[inline(always)]
     pub fn locate(&self, addr: u64) -> Spot
         ensures spot { result ≡ spot_at self.now.imsic.harts self.now.imsic.guests addr }
         ensures there { result ≢ Spot.Nowhere → IsThere self.now.imsic result }
@@ -292,6 +293,7 @@ impl Fabric {
     /// that is there. Every other file stays, and all else.
     ///
     /// AIA 1.0, IMSIC, "Memory region for an interrupt file".
+#[inline(always)]
     pub fn host_store(&mut self, spot: Spot, offset: u32, value: u32)
         requires { IsThere self.old.imsic spot }
         ensures { StoresIn self.old self.new spot offset value }

@@ -20,6 +20,7 @@ impl Fabric {
     /// due. Tells the route. All but files, memory and the count of notices stays.
     ///
     /// AIA 1.0, IOMMU Support for MSIs to Virtual Machines.
+    #[inline(always)]
     #[tactic(auto, using(aia_fabric_values::proofs::FrameLemmas::reaches_rest))]
     pub fn device_store(&mut self, vm: u32, addr: u64, value: u32) -> Route
         requires { vm < length self.old.vms }
@@ -81,6 +82,7 @@ impl Fabric {
     }
 
     /// Takes a store that an entry leads to its place.
+#[inline(always)]
     pub(crate) fn store_by(&mut self, entry: Entry, offset: u32, value: u32)
         ensures { ReachesBy entry self.old self.new offset value }
     {
@@ -88,8 +90,7 @@ impl Fabric {
             Entry::Basic(page) => self.store_at(page, offset, value),
             Entry::Mrif(addr, page, identity) => {
                 if let Some(q) = slot_at(addr) {
-                    let spot = self.page_spot(page);
-                    self.store_in(q, spot, identity, offset, value);
+                    self.store_noticed(q, page, identity, offset, value);
                 }
             }
             Entry::NotValid | Entry::Custom | Entry::Misconfigured => {}
@@ -98,6 +99,7 @@ impl Fabric {
 
     /// Takes a store to the page of this number: it lands in a guest file, and is dropped at every
     /// other page.
+    #[inline(always)]
     fn store_at(&mut self, page: u64, offset: u32, value: u32)
         ensures { StoresInGuestFile self.old self.new (page_spot self.old.imsic page) offset value }
     {
@@ -106,6 +108,7 @@ impl Fabric {
     }
 
     /// Takes a store to a guest file; at every other file it is dropped.
+    #[inline(always)]
     fn store_guest(&mut self, spot: Spot, offset: u32, value: u32)
         requires { spot ≢ Spot.Nowhere → IsThere self.old.imsic spot }
         ensures { StoresInGuestFile self.old self.new spot offset value }
@@ -116,7 +119,25 @@ impl Fabric {
         }
     }
 
+    /// Takes a store to a slot, with notices to the page of this number, which is looked for only
+    /// where one is due.
+    #[inline(always)]
+    fn store_noticed(&mut self, q: u32, page: u64, identity: u32, offset: u32, value: u32)
+        requires { q < VCPUS }
+        ensures { StoresInSlot self.old self.new (Some q) (page_spot self.old.imsic page) identity
+            offset value }
+    {
+        match self.store_slot(q, offset, value) {
+            Stored::Notice => {
+                let spot = self.page_spot(page);
+                self.notice_at(spot, identity);
+            }
+            Stored::Quiet | Stored::Discarded => {}
+        }
+    }
+
     /// Takes a store to a slot, with notices to a file.
+#[inline(always)]
     fn store_in(&mut self, q: u32, spot: Spot, identity: u32, offset: u32, value: u32)
         requires slot { q < VCPUS }
         requires there { spot ≢ Spot.Nowhere → IsThere self.old.imsic spot }

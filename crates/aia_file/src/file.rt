@@ -9,7 +9,7 @@ ghost use Rattle.aia_file.specs.FileState.{shown};
 ghost use Rattle.aia_file.specs.Summary.{SummarizesBoth, AreIdentities};
 
 use crate::looks::search;
-use crate::summary::refreshed;
+use crate::summary::{refreshed, refreshed_anywhere};
 use crate::view::View;
 use aia_regs::{FileReg, Op, requested};
 use aia_word::{Bank, Steps, sets};
@@ -92,7 +92,7 @@ impl File {
             }
             FileReg::Pending(k) => {
                 access_set(&mut self.pending, k, op);
-                self.summary = refreshed(
+                self.summary = refreshed_anywhere(
                     self.summary,
                     &self.pending,
                     &self.enabled,
@@ -101,7 +101,7 @@ impl File {
             }
             FileReg::Enable(k) => {
                 access_set(&mut self.enabled, k, op);
-                self.summary = refreshed(
+                self.summary = refreshed_anywhere(
                     self.summary,
                     &self.pending,
                     &self.enabled,
@@ -190,6 +190,7 @@ impl File {
 
     /// Takes a 32-bit store of `value` at `offset` of the file's page: it makes the identity that
     /// it names pending, and does nothing where it names none.
+#[inline(always)]
     pub fn land(&mut self, offset: u32, value: u32)
         ensures { SameFile (shown self.new) (landed offset value (shown self.old)) }
     {

@@ -123,6 +123,7 @@ impl Core {
     /// `Illegal` where the access raises an illegal-instruction exception; nothing is changed then.
     ///
     /// AIA 1.0, IMSIC, "Indirectly accessed interrupt-file registers".
+#[inline(always)]
     pub fn host(&mut self, level: Level, hart: u64, csr: Csr, op: Op) -> Result<u64, Refusal>
         requires listed { IsInTable level csr }
         requires host { IsHost level }
@@ -135,6 +136,7 @@ impl Core {
     }
 
     /// Does the access of a hart that is there.
+#[inline(always)]
     fn access(&mut self, level: Level, hart: u32, csr: Csr, op: Op) -> Result<u64, Refusal>
         requires listed { IsInTable level csr }
         requires host { IsHost level }
@@ -170,6 +172,7 @@ impl Core {
     /// them, and `Guarded` in a guest's page or in memory; nothing is changed then.
     ///
     /// AIA 1.0, IMSIC, "Memory region for an interrupt file".
+#[inline(always)]
     pub fn store(&mut self, addr: u64, value: u32) -> Result<(), Refusal>
         ensures takes { domain_at addr ≡ None → CoreTakes self.old self.new (Store addr value)
             (answer_by (λ _. Okay) result) }
@@ -184,6 +187,7 @@ impl Core {
     /// Loads 32 bits from an address: a file's page reads 0. `Err` as of [`Core::store`].
     ///
     /// AIA 1.0, IMSIC, "Memory region for an interrupt file".
+#[inline(always)]
     pub fn load(&self, addr: u64) -> Result<u32, Refusal>
         ensures takes { domain_at addr ≡ None → CoreTakes self.now self.now (Load addr)
             (answer_by Narrow result) }
@@ -195,6 +199,7 @@ impl Core {
 
     /// Finds the file of the host in whose page the address lies, or the word that refuses a load
     /// or store there.
+#[inline(always)]
     fn reach(&self, addr: u64) -> Result<Spot, Refusal>
         ensures at { IfOk result (λ spot. spot
             ≡ spot_at self.now.world.imsic.harts self.now.world.imsic.guests addr) }
@@ -264,6 +269,7 @@ impl Core {
     /// the VM, `NotValid` where it names no virtual hart; nothing is changed then.
     ///
     /// AIA 1.0, IOMMU Support for MSIs to Virtual Machines.
+#[inline(always)]
     pub fn msi(&mut self, vm: u64, addr: u64, value: u32) -> Result<(), Refusal>
         ensures { CoreTakes self.old self.new (lines.Msi vm addr value)
             (answer_by (λ _. Okay) result) }
@@ -409,6 +415,7 @@ pub(crate) fn select_after(op: Op, before: u64) -> u64
 
 /// Reads the topei CSR of a file that is there, and claims the identity on top where the
 /// instruction writes; all else stays.
+#[inline(always)]
 #[tactic(auto, using(aia_hyp_values::proofs::EventLemmas::kept_file))]
 pub(crate) fn claim_or_read(fabric: &mut Fabric, spot: Spot, op: Op) -> u64
     requires { IsThere fabric.old.imsic spot }

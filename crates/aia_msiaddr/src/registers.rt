@@ -54,6 +54,7 @@ impl Addresses {
     }
 
     /// Reads one of them; `None` exactly for every other register.
+    #[inline(always)]
     pub fn load(&self, reg: DomainReg) -> Option<u32>
         ensures { result ≡ address_read self.now reg }
     {

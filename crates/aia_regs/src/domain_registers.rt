@@ -70,6 +70,7 @@ pub enum DomainReg {
 /// Gives the register at an offset of a domain's control region; `Nothing` where none is there.
 ///
 /// AIA 1.0, APLIC, "Memory-mapped control region for an interrupt domain".
+#[inline(always)]
 #[tactic(auto, unfolding(crate::specs::DomainRegisters::domain_register_of))]
 pub fn domain_reg(offset: u32) -> DomainReg
     ensures { result ≡ domain_register_of offset }

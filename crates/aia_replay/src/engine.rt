@@ -124,7 +124,8 @@ impl Engine {
     {
         match parse_line(text) {
             Parsed::Line(line) => {
-                let answer = self.line(alloc, &line)?;
+                let mut answer = Answer::Okay;
+                self.answer(alloc, &line, &mut answer)?;
                 Ok(Some(answer))
             }
             Parsed::Skip => Ok(None),

@@ -197,6 +197,7 @@ impl Machine {
     }
 
     /// Gives the wire of a source a level; `Range` where the source isn't there.
+#[inline(always)]
     fn wire(&mut self, source: u64, level: bool) -> Answer
         ensures { MachineTakes self.old self.new (Line.Wire source level) result }
     {
@@ -217,6 +218,7 @@ impl Machine {
     }
 
     /// Loads from a register of the APLIC, or else by the core.
+#[inline(always)]
     fn load(&mut self, addr: u64) -> Answer
         ensures { MachineTakes self.old self.new (Line.Load addr) result }
     {
@@ -231,6 +233,7 @@ impl Machine {
 
     /// Loads from a register of a domain in whose control region the address lies; `Fault` where it
     /// is no multiple of 4.
+    #[inline(always)]
     fn load_register(&mut self, name: DomainName, addr: u64) -> Answer
         requires { domain_at addr ≡ Some name }
         ensures { MachineTakes self.old self.new (Line.Load addr) result }
@@ -242,6 +245,7 @@ impl Machine {
     }
 
     /// Stores to a register of the APLIC, or else by the core.
+#[inline(always)]
     fn store(&mut self, addr: u64, value: u32) -> Answer
         requires { EngineStandsForSome self.old }
         ensures { MachineTakes self.old self.new (Line.Store addr value) result }
@@ -318,6 +322,7 @@ impl Machine {
     }
 
     /// Takes a store of a device of a VM, by the core.
+#[inline(always)]
     fn msi(&mut self, vm: u64, addr: u64, value: u32) -> Answer
         ensures { MachineTakes self.old self.new (Line.Msi vm addr value) result }
     {
@@ -423,6 +428,7 @@ impl Machine {
     }
 
     /// Does a CSR instruction of a hart at a level of the host.
+    #[inline(always)]
     fn access(&mut self, level: Level, hart: u64, csr: Csr, op: Op) -> Answer
         requires listed { IsInTable level csr }
         requires host { IsHost level }
