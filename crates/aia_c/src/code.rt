@@ -59,7 +59,7 @@ fn refusal_number(word: Refusal) -> i32
 
 impl Code {
     /// Gives the number of the code.
-#[inline(always)]
+    #[inline(always)]
     pub fn number(self) -> i32
         ensures { result ≡ number self }
     {
@@ -79,7 +79,7 @@ impl Code {
     }
 
     /// Gives the code of an answer.
-#[inline(always)]
+    #[inline(always)]
     pub fn of(answer: &Answer) -> Code
         ensures { result ≡ code_of answer.now }
     {

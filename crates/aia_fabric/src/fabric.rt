@@ -293,7 +293,7 @@ impl Fabric {
     /// that is there. Every other file stays, and all else.
     ///
     /// AIA 1.0, IMSIC, "Memory region for an interrupt file".
-#[inline(always)]
+    #[inline(always)]
     pub fn host_store(&mut self, spot: Spot, offset: u32, value: u32)
         requires { IsThere self.old.imsic spot }
         ensures { StoresIn self.old self.new spot offset value }

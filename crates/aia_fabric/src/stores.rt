@@ -82,7 +82,7 @@ impl Fabric {
     }
 
     /// Takes a store that an entry leads to its place.
-#[inline(always)]
+    #[inline(always)]
     pub(crate) fn store_by(&mut self, entry: Entry, offset: u32, value: u32)
         ensures { ReachesBy entry self.old self.new offset value }
     {
@@ -127,17 +127,14 @@ impl Fabric {
         ensures { StoresInSlot self.old self.new (Some q) (page_spot self.old.imsic page) identity
             offset value }
     {
-        match self.store_slot(q, offset, value) {
-            Stored::Notice => {
-                let spot = self.page_spot(page);
-                self.notice_at(spot, identity);
-            }
-            Stored::Quiet | Stored::Discarded => {}
+        if let Stored::Notice = self.store_slot(q, offset, value) {
+            let spot = self.page_spot(page);
+            self.notice_at(spot, identity);
         }
     }
 
     /// Takes a store to a slot, with notices to a file.
-#[inline(always)]
+    #[inline(always)]
     fn store_in(&mut self, q: u32, spot: Spot, identity: u32, offset: u32, value: u32)
         requires slot { q < VCPUS }
         requires there { spot ≢ Spot.Nowhere → IsThere self.old.imsic spot }

@@ -190,7 +190,7 @@ impl File {
 
     /// Takes a 32-bit store of `value` at `offset` of the file's page: it makes the identity that
     /// it names pending, and does nothing where it names none.
-#[inline(always)]
+    #[inline(always)]
     pub fn land(&mut self, offset: u32, value: u32)
         ensures { SameFile (shown self.new) (landed offset value (shown self.old)) }
     {

@@ -15,8 +15,8 @@ pub(crate) fn refreshed(summary: u64, pending: &[u64], enabled: &[u64], k: usize
     requires others { SummarizesBothAllBut k summary (is_in pending.now) (is_in enabled.now) }
     ensures { SummarizesBoth result (is_in pending.now) (is_in enabled.now) }
 {
-    let asked = sets::word_there(pending, k);
-    refreshed_by(summary, asked, sets::word_there(enabled, k), k)
+    let pending_word = sets::word_there(pending, k);
+    refreshed_by(summary, pending_word, sets::word_there(enabled, k), k)
 }
 
 /// Gives it of two sets that may lack word `k`, one below `FILE_WORDS`.

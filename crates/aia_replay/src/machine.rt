@@ -197,7 +197,7 @@ impl Machine {
     }
 
     /// Gives the wire of a source a level; `Range` where the source isn't there.
-#[inline(always)]
+    #[inline(always)]
     fn wire(&mut self, source: u64, level: bool) -> Answer
         ensures { MachineTakes self.old self.new (Line.Wire source level) result }
     {
@@ -218,7 +218,7 @@ impl Machine {
     }
 
     /// Loads from a register of the APLIC, or else by the core.
-#[inline(always)]
+    #[inline(always)]
     fn load(&mut self, addr: u64) -> Answer
         ensures { MachineTakes self.old self.new (Line.Load addr) result }
     {
@@ -245,7 +245,7 @@ impl Machine {
     }
 
     /// Stores to a register of the APLIC, or else by the core.
-#[inline(always)]
+    #[inline(always)]
     fn store(&mut self, addr: u64, value: u32) -> Answer
         requires { EngineStandsForSome self.old }
         ensures { MachineTakes self.old self.new (Line.Store addr value) result }
@@ -322,7 +322,7 @@ impl Machine {
     }
 
     /// Takes a store of a device of a VM, by the core.
-#[inline(always)]
+    #[inline(always)]
     fn msi(&mut self, vm: u64, addr: u64, value: u32) -> Answer
         ensures { MachineTakes self.old self.new (Line.Msi vm addr value) result }
     {

@@ -19,8 +19,15 @@ pub refreshed-self-inside-requires-clause-pending : goal.refreshed-self-inside-r
 refreshed-self-inside-requires-clause-pending c =
     let named = top_named c.self.inside c.args.self.now c.args.top c.self.invariant c.self.view_is c.requires c.if-top-ne0.true in
     let back = items_written c.self.inside.pending c.remove.new.words (c.remove.auto.words ∙ c.deref_mut.ensures.len) in
-    omega (arith, named.1, ap length c.deref.ensures.value, ap length back, c.remove.auto.words, ap length c.deref_mut.ensures.value,
-      c.self.invariant.pending_words)
+    omega (
+      arith,
+      named.1,
+      ap length c.deref.ensures.value,
+      ap length back,
+      c.remove.auto.words,
+      ap length c.deref_mut.ensures.value,
+      c.self.invariant.pending_words,
+    )
 
 pub refreshed-self-inside-requires-clause-enabled : goal.refreshed-self-inside-requires-clause-enabled
 refreshed-self-inside-requires-clause-enabled c =
