@@ -141,7 +141,7 @@ impl Side {
     }
 
     /// Reads a register.
-#[inline(always)]
+    #[inline(always)]
     pub(crate) fn load(&mut self, reg: DomainReg) -> u32
         ensures reads { (past : Past) (name : DomainName) → SideStands self.old past name
             → result ≡ own_read past name reg }

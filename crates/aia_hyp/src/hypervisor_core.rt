@@ -123,7 +123,7 @@ impl Core {
     /// `Illegal` where the access raises an illegal-instruction exception; nothing is changed then.
     ///
     /// AIA 1.0, IMSIC, "Indirectly accessed interrupt-file registers".
-#[inline(always)]
+    #[inline(always)]
     pub fn host(&mut self, level: Level, hart: u64, csr: Csr, op: Op) -> Result<u64, Refusal>
         requires listed { IsInTable level csr }
         requires host { IsHost level }
@@ -136,7 +136,7 @@ impl Core {
     }
 
     /// Does the access of a hart that is there.
-#[inline(always)]
+    #[inline(always)]
     fn access(&mut self, level: Level, hart: u32, csr: Csr, op: Op) -> Result<u64, Refusal>
         requires listed { IsInTable level csr }
         requires host { IsHost level }
@@ -172,7 +172,7 @@ impl Core {
     /// them, and `Guarded` in a guest's page or in memory; nothing is changed then.
     ///
     /// AIA 1.0, IMSIC, "Memory region for an interrupt file".
-#[inline(always)]
+    #[inline(always)]
     pub fn store(&mut self, addr: u64, value: u32) -> Result<(), Refusal>
         ensures takes { domain_at addr ≡ None → CoreTakes self.old self.new (Store addr value)
             (answer_by (λ _. Okay) result) }
@@ -187,7 +187,7 @@ impl Core {
     /// Loads 32 bits from an address: a file's page reads 0. `Err` as of [`Core::store`].
     ///
     /// AIA 1.0, IMSIC, "Memory region for an interrupt file".
-#[inline(always)]
+    #[inline(always)]
     pub fn load(&self, addr: u64) -> Result<u32, Refusal>
         ensures takes { domain_at addr ≡ None → CoreTakes self.now self.now (Load addr)
             (answer_by Narrow result) }
@@ -199,7 +199,7 @@ impl Core {
 
     /// Finds the file of the host in whose page the address lies, or the word that refuses a load
     /// or store there.
-#[inline(always)]
+    #[inline(always)]
     fn reach(&self, addr: u64) -> Result<Spot, Refusal>
         ensures at { IfOk result (λ spot. spot
             ≡ spot_at self.now.world.imsic.harts self.now.world.imsic.guests addr) }
@@ -269,7 +269,7 @@ impl Core {
     /// the VM, `NotValid` where it names no virtual hart; nothing is changed then.
     ///
     /// AIA 1.0, IOMMU Support for MSIs to Virtual Machines.
-#[inline(always)]
+    #[inline(always)]
     pub fn msi(&mut self, vm: u64, addr: u64, value: u32) -> Result<(), Refusal>
         ensures { CoreTakes self.old self.new (lines.Msi vm addr value)
             (answer_by (λ _. Okay) result) }

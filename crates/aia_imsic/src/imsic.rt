@@ -81,7 +81,7 @@ impl Imsic {
     ///
     /// AIA 1.0, IMSIC, "Memory region for an interrupt file": each file is a page. Profile: where
     /// the pages lie.
-#[inline(always)]
+    #[inline(always)]
     pub fn locate(&self, addr: u64) -> Spot
         ensures spot { result ≡ spot_at self.now.harts self.now.guests addr }
         ensures there { result ≢ Spot.Nowhere → IsThere self.now result }
@@ -122,7 +122,7 @@ impl Imsic {
     }
 
     /// Lends the file at a place that is there; what is made of it is made only of that file.
-#[inline(always)]
+    #[inline(always)]
     pub fn file_mut(&mut self, spot: Spot) -> &mut File
         requires { IsThere self.old spot }
         ensures* writes_back { sem 𝓛 (LendsFile self.entry spot result) }
@@ -137,7 +137,7 @@ impl Imsic {
     /// there; every other file stays.
     ///
     /// AIA 1.0, IMSIC, "Memory region for an interrupt file".
-#[inline(always)]
+    #[inline(always)]
     pub fn store(&mut self, spot: Spot, offset: u32, value: u32)
         requires { IsThere self.old spot }
         ensures lands { SameFile (shown (file_at self.new spot))
@@ -167,7 +167,7 @@ impl Imsic {
     }
 
     /// Tells where the file is kept.
-#[inline(always)]
+    #[inline(always)]
     fn place(&self, spot: Spot) -> usize
         requires { IsThere self.now spot }
         ensures value { result ≡ place_of self.now spot }
