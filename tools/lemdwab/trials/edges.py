@@ -84,7 +84,7 @@ def refused_words(trial: Trial) -> Iterator[tuple[Path, list[list[Word]]]]:
         yield TOP / "suite" / name, [["--x"], ["a", "b", "c"]]
     for name in ("isolation", "from-memory", "migrations", "no-sense"):
         yield TOP / "suite" / name, [["0"], ["x"], ["1", "x"]]
-    for name in ("any_plans.py", "generated.py", "plans.py", "sweeps.py", "compare.py",
+    for name in ("any_plans.py", "generated.py", "judge.py", "plans.py", "sweeps.py", "compare.py",
                  "plants_told.py", "random_scripts.py", "plants.py", "run"):
         yield APART / name, [["--x"], ["a", "x", "y"]]
     yield APART / "plants.py", [[], ["a_priority_of_0_is_kep"], ["gfault_comes_before_away", "x"]]
