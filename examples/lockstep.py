@@ -2,13 +2,14 @@
 # SPDX-License-Identifier: Apache-2.0
 """lockstep.py [PROGRAM]: holds a machine against the model access by access, in Python.
 
-The model is PROGRAM with the word `replay`, else ../aia. Here the machine is a list of accesses and
-of what each of them read, of one that claims the wrong identity; yours calls `ask` for each access
-as it makes it. Ends with status 1 and a message at the first answer that differs, else with 0, and
+The model is PROGRAM with the word `replay`, else that of the variable PROGRAM, else ../aia. Here
+the machine is a list of accesses and of what each of them read, of one that claims the wrong
+identity; yours calls `ask` for each access as it makes it. Ends with status 1 and a message at the first answer that differs, else with 0, and
 says how many were the same; and with 2 where the words are wrong, or the model can't be run, ends
 before its time or with another status than 0. A PROGRAM has a minute for each answer.
 """
 
+import os
 import signal
 import subprocess
 import sys
@@ -98,6 +99,7 @@ def main():
                "lockstep.py -h says more")
     if words and words[0].startswith("-"):
         end(2, f"lockstep.py: there is no option {words[0]!r}\nlockstep.py -h says more")
+    words = words or [name for name in [os.environ.get("PROGRAM")] if name]
     program = program_of(words)
     signal.signal(signal.SIGALRM, too_long)
     try:
