@@ -4,9 +4,10 @@
 
 The model is PROGRAM with the word `replay`, else that of the variable PROGRAM, else ../aia. Here
 the machine is a list of accesses and of what each of them read, of one that claims the wrong
-identity; yours calls `ask` for each access as it makes it. Ends with status 1 and a message at the first answer that differs, else with 0, and
-says how many were the same; and with 2 where the words are wrong, or the model can't be run, ends
-before its time or with another status than 0. A PROGRAM has a minute for each answer.
+identity; yours calls `ask` for each access as it makes it. Ends with status 1 and a message at the
+first answer that differs, else with 0, and says how many were the same; and with 2 where the words
+are wrong, or the model can't be run, ends before its time or with another status than 0. A PROGRAM
+has a minute for each answer.
 """
 
 import os
