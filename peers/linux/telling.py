@@ -404,6 +404,9 @@ class Telling:
             if who in self.owed:
                 self.host(out, f"g {who[0]} {who[1]} csrrw sie {self.owed.pop(who):#x}")
         elif kind == LEAVES:
+            if who in self.coming:
+                raise ValueError(f"virtual hart {who[1]} of VM {who[0]} leaves a file while it is"
+                                 " moved: docs/PEERS.md has what KVM loses then")
             self.host(out, "begin leave %d %d" % who, "ok")
             self.coming[who] = place, "parked"
             self.count("moves", "leave")
