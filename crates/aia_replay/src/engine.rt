@@ -69,7 +69,7 @@ impl Engine {
     {
         match &mut self.machine {
             Some(machine) => machine.line(line, answer),
-            None => *answer = self.first_line(alloc, *line)?,
+            None => *answer = self.first_line(alloc, line)?,
         }
         Ok(())
     }
@@ -77,19 +77,19 @@ impl Engine {
     /// Answers a line where no machine stands.
     #[cold]
     #[inline(never)]
-    fn first_line(&mut self, alloc: Global, line: Line) -> Result<Answer, AllocError>
+    fn first_line(&mut self, alloc: Global, line: &Line) -> Result<Answer, AllocError>
         requires { self.old ≡ None }
-        ensures serves { IfOk result (Serves self.old self.new line) }
+        ensures serves { IfOk result (Serves self.old self.new line.now) }
         ensures err { OnErr result (self.new ≡ self.old) }
         ensures none { OnErr result (StandsFor self.new []) }
-        ensures memory { OnErr result (WantsMachine self.old line) }
+        ensures memory { OnErr result (WantsMachine self.old line.now) }
     {
         let Line::Machine {
             harts,
             guests,
             n,
             sources,
-        } = line
+        } = *line
         else {
             return Ok(Answer::NoMachine);
         };

@@ -80,59 +80,57 @@ impl Machine {
         self.core.notices()
     }
 
-    /// Answers it, and does what it does itself. Each arm writes the answer, which spares a copy.
+    /// Answers it, and does what it does itself.
     #[inline(always)]
     fn serve(&mut self, line: &Line, answer: &mut Answer)
         requires listed { IsListed line.now }
         requires stands { EngineStandsForSome self.old }
         ensures { MachineTakes self.old self.new line.now answer.new }
     {
-        match *line {
-            Line::Machine { .. } => *answer = Answer::Again,
-            Line::Vm { vcpus, mask, hart } => *answer = self.vm(vcpus, mask, hart),
-            Line::Wire { source, level } => *answer = self.wire(source, level),
-            Line::Load { addr } => *answer = self.load(addr),
-            Line::Store { addr, value } => *answer = self.store(addr, value),
-            Line::Msi { vm, addr, value } => *answer = self.msi(vm, addr, value),
-            Line::Send { vm, addr, value } => *answer = self.send(vm, addr, value),
-            Line::Land { vm, k } => *answer = self.land(vm, k),
-            Line::Refetch { vm, vcpu } => *answer = self.refetch(vm, vcpu),
+        *answer = match *line {
+            Line::Machine { .. } => Answer::Again,
+            Line::Vm { vcpus, mask, hart } => self.vm(vcpus, mask, hart),
+            Line::Wire { source, level } => self.wire(source, level),
+            Line::Load { addr } => self.load(addr),
+            Line::Store { addr, value } => self.store(addr, value),
+            Line::Msi { vm, addr, value } => self.msi(vm, addr, value),
+            Line::Send { vm, addr, value } => self.send(vm, addr, value),
+            Line::Land { vm, k } => self.land(vm, k),
+            Line::Refetch { vm, vcpu } => self.refetch(vm, vcpu),
             Line::Pass {
                 source,
                 vm,
                 vcpu,
                 identity,
-            } => *answer = self.pass(source, vm, vcpu, identity),
-            Line::MachineCsr { hart, csr, op } => {
-                *answer = self.access(Level::Machine, hart, csr, op);
-            }
-            Line::HostCsr { hart, csr, op } => *answer = self.access(Level::Host, hart, csr, op),
-            Line::Hgeip { hart } => *answer = self.hgeip(hart),
-            Line::GuestCsr { vm, vcpu, csr, op } => *answer = self.guest(vm, vcpu, csr, op),
+            } => self.pass(source, vm, vcpu, identity),
+            Line::MachineCsr { hart, csr, op } => self.access(Level::Machine, hart, csr, op),
+            Line::HostCsr { hart, csr, op } => self.access(Level::Host, hart, csr, op),
+            Line::Hgeip { hart } => self.hgeip(hart),
+            Line::GuestCsr { vm, vcpu, csr, op } => self.guest(vm, vcpu, csr, op),
             Line::Ipi {
                 vm,
                 vcpu,
                 to,
                 value,
-            } => *answer = self.ipi(vm, vcpu, to, value),
-            Line::Move { vm, vcpu, want } => *answer = self.whole_move(vm, vcpu, want),
-            Line::Begin { vm, vcpu, want } => *answer = self.begin_move(vm, vcpu, want),
-            Line::Step { vm, vcpu } => *answer = self.step(vm, vcpu),
-            Line::Enter { vm, vcpu } => *answer = self.enter(vm, vcpu),
-            Line::Exit { vm, vcpu } => *answer = self.exit(vm, vcpu),
-            Line::Save { vm, vcpu, k } => *answer = self.save(vm, vcpu, k),
-            Line::LoadPart { vm, vcpu, part } => *answer = self.load_part(vm, vcpu, &part),
+            } => self.ipi(vm, vcpu, to, value),
+            Line::Move { vm, vcpu, want } => self.whole_move(vm, vcpu, want),
+            Line::Begin { vm, vcpu, want } => self.begin_move(vm, vcpu, want),
+            Line::Step { vm, vcpu } => self.step(vm, vcpu),
+            Line::Enter { vm, vcpu } => self.enter(vm, vcpu),
+            Line::Exit { vm, vcpu } => self.exit(vm, vcpu),
+            Line::Save { vm, vcpu, k } => self.save(vm, vcpu, k),
+            Line::LoadPart { vm, vcpu, part } => self.load_part(vm, vcpu, &part),
             Line::Inject {
                 vm,
                 vcpu,
                 bit,
                 level,
-            } => *answer = self.inject(vm, vcpu, bit, level),
-            Line::Hvictl { vm, vcpu, value } => *answer = self.hvictl(vm, vcpu, value),
-            Line::Hviprio { vm, vcpu, value } => *answer = self.hviprio(vm, vcpu, value),
-            Line::Pins { hart } => *answer = self.pins(hart),
-            Line::Entry { w0, w1 } => *answer = self.entry(w0, w1),
-        }
+            } => self.inject(vm, vcpu, bit, level),
+            Line::Hvictl { vm, vcpu, value } => self.hvictl(vm, vcpu, value),
+            Line::Hviprio { vm, vcpu, value } => self.hviprio(vm, vcpu, value),
+            Line::Pins { hart } => self.pins(hart),
+            Line::Entry { w0, w1 } => self.entry(w0, w1),
+        };
     }
 
     /// Sends all MSIs that wait, each of which the core hears.
@@ -468,7 +466,6 @@ fn wide(given: Result<u64, Refusal>) -> Answer
 }
 
 /// Gives the domain in whose control region the address lies, `None` in none.
-#[inline(always)]
 fn domain_at(addr: u64) -> Option<DomainName>
     ensures { result ≡ domain_at addr }
 {

@@ -49,22 +49,22 @@ impl Replayer {
 
     /// Answers what a text reads as.
     #[inline(always)]
-    fn answer<K: Sink>(&mut self, alloc: Global, sink: &mut K, read: Parsed) -> Result<(), Stop>
-        requires { (line : Line) → read ≡ Parsed.Line line → IsListed line }
+    fn answer<K: Sink>(&mut self, alloc: Global, sink: &mut K, read: &Parsed) -> Result<(), Stop>
+        requires { (line : Line) → read.now ≡ Parsed.Line line → IsListed line }
         ensures ok { OnOk result (AnswersRead self.old self.new (K.taken sink.old)
-            (K.taken sink.new) read) }
+            (K.taken sink.new) read.now) }
         ensures line { self.new.line ≡ self.old.line }
         ensures sink { result ≡ Err Stop.Sink → Rose (K.faults sink.old) (K.faults sink.new) }
         ensures cut { result ≡ Err Stop.Sink
             → CutOff (K.taken sink.old) (K.taken sink.new) self.old.out.bytes.items }
         ensures memory { result ≡ Err Stop.Memory
-            → LacksMemoryFor self.old self.new (K.taken sink.old) (K.taken sink.new) read }
+            → LacksMemoryFor self.old self.new (K.taken sink.old) (K.taken sink.new) read.now }
         ensures later { K.faults sink.old ≤ K.faults sink.new }
     {
         match read {
             Parsed::Line(line) => {
                 let mut answer = Answer::Bad;
-                self.engine.answer(alloc, &line, &mut answer)?;
+                self.engine.answer(alloc, line, &mut answer)?;
                 self.out.add_answer(sink, &answer)?;
             }
             Parsed::Skip => {}
@@ -88,7 +88,7 @@ impl Replayer {
         ensures later { K.faults sink.old ≤ K.faults sink.new }
     {
         let read = parse_line(self.line.as_slice());
-        self.answer(alloc, sink, read)?;
+        self.answer(alloc, sink, &read)?;
         self.line.clear();
         Ok(())
     }
@@ -110,7 +110,7 @@ impl Replayer {
             self.keep(part);
             return self.answer_kept(alloc, sink);
         }
-        self.answer(alloc, sink, parse_line(part))
+        self.answer(alloc, sink, &parse_line(part))
     }
 
     /// Reads a piece of the script: answers each line that ends in it, and keeps what is left of
