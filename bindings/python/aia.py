@@ -197,7 +197,7 @@ def loaded(library: str | None = None) -> ctypes.CDLL:
     if path not in LOADED:
         calls = ctypes.CDLL(path)
         for name, takes in CALLS.items():
-            call = calls[f"aia_{name}"]
+            call = getattr(calls, f"aia_{name}")  # one object for each name, as [] does not give
             call.restype = ctypes.c_int32
             call.argtypes = [HANDLE] + [of for letter in takes for of in C_TYPES[letter]]
         calls.aia_close.restype, calls.aia_close.argtypes = None, [HANDLE]
@@ -256,7 +256,7 @@ class Model:
 
     def code(self, name: str, *words: object) -> Code:
         """Makes a call, with what it takes after its handle; gives its code."""
-        call: Callable[..., int] = self.calls[f"aia_{name}"]
+        call: Callable[..., int] = getattr(self.calls, f"aia_{name}")
         return Code(call(ctypes.byref(self.handle), *words))
 
     def done(self, name: str, *words: object) -> None:
