@@ -51,7 +51,7 @@ def members(archive: Path, seconds: int) -> Iterator[str]:
     with tarfile.open(archive) as packed:
         found = packed.getmembers()
     names = [each.name for each in found]
-    if names != sorted(names):
+    if names != sorted(names, key=lambda name: name.split("/")):
         yield f"{archive.name} has its files in no order"
     for each in found:
         if (each.uid, each.gid, each.uname, each.gname, each.mtime) != (0, 0, "", "", seconds):
