@@ -4,7 +4,7 @@ ghost use Rattle.aia_regs.specs.declared.limits.TheConstants.{HARTS, IDENTITIES,
 ghost use Rattle.aia_regs.specs.DomainRegisters.{domain_register_of};
 ghost use Rattle.aia_model.specs.Act.{Past};
 ghost use Rattle.aia_model.specs.declared.sender.Sender.{Sender};
-ghost use Rattle.aia_model.specs.declared.domain_name.DomainName.TheVariants.{Root};
+ghost use Rattle.aia_model.specs.declared.domain_name.DomainName.TheVariants.{Root, Child};
 ghost use Rattle.aia_model.specs.Act.Act.{Made, Driven, Written, Loaded, Sent, Aimed};
 ghost use Rattle.aia_model.specs.Sent.{msi_of};
 ghost use Rattle.aia_domain.specs.Domain.{is_ready};
@@ -104,23 +104,31 @@ impl Aplic {
         ensures stands { (past : Past) → AplicStands self.old past
             → AplicStands self.new (Loaded name (domain_register_of offset) ∷ past) }
     {
-        self.load_register(name, domain_reg(offset))
+        match name {
+            DomainName::Root => self.load_root(domain_reg(offset)),
+            DomainName::Child => self.load_child(domain_reg(offset)),
+        }
     }
 
     #[inline(always)]
-    fn load_register(&mut self, name: DomainName, reg: DomainReg) -> u32
+    fn load_root(&mut self, reg: DomainReg) -> u32
         ensures reads { (past : Past) → AplicStands self.old past →
-            result ≡ register_read past name reg }
+            result ≡ register_read past Root reg }
         ensures stands { (past : Past) → AplicStands self.old past →
-            AplicStands self.new (Loaded name reg ∷ past) }
+            AplicStands self.new (Loaded Root reg ∷ past) }
     {
-        match name {
-            DomainName::Root => {
-                let read = self.root.load(reg);
-                self.addresses.load(reg).unwrap_or(read)
-            }
-            DomainName::Child => self.child.load(reg),
-        }
+        let read = self.root.load(reg);
+        self.addresses.load(reg).unwrap_or(read)
+    }
+
+    #[inline(always)]
+    fn load_child(&mut self, reg: DomainReg) -> u32
+        ensures reads { (past : Past) → AplicStands self.old past →
+            result ≡ register_read past Child reg }
+        ensures stands { (past : Past) → AplicStands self.old past →
+            AplicStands self.new (Loaded Child reg ∷ past) }
+    {
+        self.child.load(reg)
     }
 
     /// Stores to the register at an offset of a domain's control region.

@@ -29,6 +29,7 @@ pub enum CsrAccess {
 /// the host's supervisor level the CSR is `Select`, `Reg` or `Topei`.
 ///
 /// AIA 1.0, IMSIC, and Interrupts for Virtual Machines (VS Level).
+#[inline(always)]
 pub fn decide(level: Level, csr: Csr, op: Op, select: u64, vti: bool) -> CsrAccess
     requires { IsInTable level csr }
     ensures table { result ≡ csr_access level csr op select vti }

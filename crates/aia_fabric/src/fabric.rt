@@ -161,6 +161,7 @@ impl Fabric {
     }
 
     /// Gives the file at a place that is there.
+    #[inline(always)]
     pub fn file(&self, spot: Spot) -> &File
         requires { IsThere self.now.imsic spot }
         ensures { result.now ≡ file_at self.now.imsic spot }
@@ -277,6 +278,7 @@ impl Fabric {
     /// and all else.
     ///
     /// AIA 1.0, IMSIC, "Top external interrupt CSRs".
+    #[inline(always)]
     pub fn claim(&mut self, spot: Spot) -> u64
         requires { IsThere self.old.imsic spot }
         ensures value { result ≡ top_value (top_of (shown (file_at self.old.imsic spot))) }

@@ -155,6 +155,7 @@ impl Core {
     }
 
     /// Tells what the access reaches, by the select number of the hart and level.
+    #[inline(always)]
     fn reached(&self, level: Level, hart: u32, csr: Csr, op: Op) -> CsrAccess
         requires listed { IsInTable level csr }
         requires host { IsHost level }

@@ -113,6 +113,7 @@ impl Imsic {
     }
 
     /// Gives the file at a place that is there.
+    #[inline(always)]
     pub fn file(&self, spot: Spot) -> &File
         requires { IsThere self.now spot }
         ensures { result.now ≡ file_at self.now spot }

@@ -66,6 +66,9 @@ impl Wired {
     {
         let before = self.rectified();
         self.wire = level;
+        if matches!(self.mode, Mode::Inactive | Mode::Detached) {
+            return;
+        }
         let after = self.rectified();
         if after && !before {
             self.pending = true;
