@@ -4,6 +4,8 @@
 use Rattle.std.specs.Prelude.{ℕ, nat_eq, if◌then◌else◌, Option, Some, None}
 use Rattle.aia_regs.specs.declared.access.Op.{Op}
 use Rattle.aia_regs.specs.declared.access.Op.TheVariants as ops
+use Rattle.aia_regs.specs.declared.access.Level.{Level}
+use Rattle.aia_regs.specs.declared.access.Level.TheVariants as levels
 use Rattle.aia_regs.specs.declared.access.Csr.{Csr}
 use Rattle.aia_regs.specs.declared.access.Csr.TheVariants.{Select, Reg, Topei, Topi, Sip, Sie}
 use Rattle.aia_model.specs.declared.line.Line.{Line}
@@ -17,16 +19,16 @@ op_of funct operand =
     else (if nat_eq funct 2 then Some (ops.Set operand)
     else (if nat_eq funct 3 then Some (ops.Clear operand) else None)))
 
--- The line of an instruction of a hart, by the address of its CSR: `miselect` 0x350, `mireg` 0x351,
--- `mtopei` 0x35c, `siselect` 0x150, `sireg` 0x151, `stopei` 0x15c.
-abbrev pub hart_line : ℕ → ℕ → Op → Option Line
-hart_line hart csr op =
-    if nat_eq csr 848 then Some (MachineCsr hart Select op)
-    else (if nat_eq csr 849 then Some (MachineCsr hart Reg op)
-    else (if nat_eq csr 860 then Some (MachineCsr hart Topei op)
-    else (if nat_eq csr 336 then Some (HostCsr hart Select op)
-    else (if nat_eq csr 337 then Some (HostCsr hart Reg op)
-    else (if nat_eq csr 348 then Some (HostCsr hart Topei op) else None)))))
+-- The CSR of a hart at an address, and its level: `miselect` 0x350, `mireg` 0x351, `mtopei` 0x35c,
+-- `siselect` 0x150, `sireg` 0x151, `stopei` 0x15c.
+abbrev pub hart_csr : ℕ → Option (Level × Csr)
+hart_csr csr =
+    if nat_eq csr 848 then Some (levels.Machine, Select)
+    else (if nat_eq csr 849 then Some (levels.Machine, Reg)
+    else (if nat_eq csr 860 then Some (levels.Machine, Topei)
+    else (if nat_eq csr 336 then Some (levels.Host, Select)
+    else (if nat_eq csr 337 then Some (levels.Host, Reg)
+    else (if nat_eq csr 348 then Some (levels.Host, Topei) else None)))))
 
 -- The CSR of a virtual hart at an address: also `stopi` 0xdb0, `sip` 0x144, `sie` 0x104.
 abbrev pub guest_csr : ℕ → Option Csr
@@ -38,14 +40,16 @@ guest_csr csr =
     else (if nat_eq csr 324 then Some Sip
     else (if nat_eq csr 260 then Some Sie else None)))))
 
--- The line of an instruction of a hart, where it is one.
-abbrev pub hart_line_by : ℕ → ℕ → Option Op → Option Line
-hart_line_by hart csr None = None
-hart_line_by hart csr (Some op) = hart_line hart csr op
+-- The line of an instruction of a hart, where it is one of a CSR that it has.
+abbrev pub hart_line : ℕ → Option (Level × Csr) → Option Op → Option Line
+hart_line hart None op = None
+hart_line hart (Some at) None = None
+hart_line hart (Some (levels.Machine, csr)) (Some op) = Some (MachineCsr hart csr op)
+hart_line hart (Some (level, csr)) (Some op) = Some (HostCsr hart csr op)
 
 -- The line of an instruction of a hart, None where a number names none.
 abbrev pub hart_access : ℕ → ℕ → ℕ → ℕ → Option Line
-hart_access hart csr funct operand = hart_line_by hart csr (op_of funct operand)
+hart_access hart csr funct operand = hart_line hart (hart_csr csr) (op_of funct operand)
 
 -- The line of an instruction of a virtual hart, where it is one of a CSR that it has.
 abbrev pub guest_line : ℕ → ℕ → Option Csr → Option Op → Option Line

@@ -1,12 +1,13 @@
 //! CSR instructions by numbers.
 
-ghost use Rattle.std.specs.Prelude.{◌≡◌, false, [], IfSome};
+ghost use Rattle.std.specs.Prelude.{◌≡◌, ℕ, false, [], Some, IfSome};
+ghost use Rattle.aia_regs.specs.declared.access.Op.{Op};
 ghost use Rattle.aia_model.specs.Forms.{IsListed};
 ghost use Rattle.aia_model.specs.Refusal.{makes_machine};
-ghost use Rattle.aia_c.specs.Access.{op_of, hart_line, hart_access, guest_csr, guest_access};
+ghost use Rattle.aia_c.specs.Access.{op_of, hart_csr, hart_line, hart_access, guest_csr, guest_access};
 
 use aia_model::Line;
-use aia_regs::{Csr, Op};
+use aia_regs::{Csr, Level, Op};
 
 /// Gives the instruction of a number, `None` where it names none.
 #[inline(always)]
@@ -22,22 +23,20 @@ fn op_of(funct: u32, operand: u64) -> Option<Op>
     }
 }
 
-/// Gives the line of an instruction at the CSR of a number, `None` where a hart has no such CSR.
+/// Gives the CSR of a number and its level, `None` where a hart has no such CSR.
 #[inline(always)]
-fn hart_line(hart: u64, csr: u32, op: Op) -> Option<Line>
-    ensures line { result ≡ hart_line hart csr op }
-    ensures listed { IfSome result IsListed }
-    ensures plain { IfSome result (λ line. makes_machine [] line ≡ false) }
+fn hart_csr(csr: u32) -> Option<(Level, Csr)>
+    ensures csr { result ≡ hart_csr csr }
+    ensures listed { IfSome result (λ at. (hart : ℕ) (op : Op)
+        → IfSome (hart_line hart (Some at) (Some op)) IsListed) }
 {
-    let machine = |csr| Some(Line::MachineCsr { hart, csr, op });
-    let host = |csr| Some(Line::HostCsr { hart, csr, op });
     match csr {
-        0x350 => machine(Csr::Select),
-        0x351 => machine(Csr::Reg),
-        0x35c => machine(Csr::Topei),
-        0x150 => host(Csr::Select),
-        0x151 => host(Csr::Reg),
-        0x15c => host(Csr::Topei),
+        0x350 => Some((Level::Machine, Csr::Select)),
+        0x351 => Some((Level::Machine, Csr::Reg)),
+        0x35c => Some((Level::Machine, Csr::Topei)),
+        0x150 => Some((Level::Host, Csr::Select)),
+        0x151 => Some((Level::Host, Csr::Reg)),
+        0x15c => Some((Level::Host, Csr::Topei)),
         _ => None,
     }
 }
@@ -49,8 +48,12 @@ pub fn hart_access(hart: u64, csr: u32, funct: u32, operand: u64) -> Option<Line
     ensures listed { IfSome result IsListed }
     ensures plain { IfSome result (λ line. makes_machine [] line ≡ false) }
 {
+    let (level, csr) = hart_csr(csr)?;
     let op = op_of(funct, operand)?;
-    hart_line(hart, csr, op)
+    Some(match level {
+        Level::Machine => Line::MachineCsr { hart, csr, op },
+        Level::Host | Level::Guest => Line::HostCsr { hart, csr, op },
+    })
 }
 
 /// Gives the CSR of a number, `None` where a virtual hart has no such CSR.

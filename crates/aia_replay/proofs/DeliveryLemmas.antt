@@ -17,10 +17,11 @@ use Rattle.aia_model.proofs.AnswerLemmas.{after_by}
 use Rattle.aia_aplic_values.specs.Aplic.{AplicState, AplicStands}
 use Rattle.aia_aplic_values.specs.Sending.{Next}
 use Rattle.aia_aplic_values.proofs.SendingLemmas.{msis_next, settled_next}
+use Rattle.aia_replay.proofs.WaitingLemmas.{none_does_wait}
 use Rattle.aia_replay.specs.declared.machine.Machine.{Machine}
 use Rattle.aia_hyp_values.specs.Core.{CoreState}
 use Rattle.aia_hyp_values.specs.Stands.{CoreStands, CoreHears, line_served, MayGo}
-use Rattle.aia_replay.specs.Stands.{MachineHolds, MachineTakes, MachineServes, Delivers, act_taken, EngineStandsForSome, CanDeliver, CanDeliverSome}
+use Rattle.aia_replay.specs.Stands.{MachineHolds, MachineTakes, MachineServes, Delivers, SendsNone, NoneWaits, act_taken, EngineStandsForSome, CanDeliver, CanDeliverSome}
 use Rattle.aia_model.specs.Passes.{passed_by}
 use Rattle.aia_model.specs.Aim.{pass_reach, IsForwardIf}
 use Rattle.aia_model.specs.PassesStand.{AreForwards}
@@ -146,6 +147,16 @@ served m taken n line given takes delivers = record {
     happens = after_happens h line stands.happens;
   };
 }
+
+-- where the line has none wait, none waits after it, refused or not
+pub none_after : (m n : Machine) (line : Line) (given : Answer) → EngineStandsForSome m → MachineTakes m n line given → SendsNone line → NoneWaits n
+none_after m n line given some takes sends =
+    let h = some.past in
+    none_does_wait n.wires.aplic (act_taken (refusal h line) h line) (takes.takes h some.stands).aplic (by_refusal h (refusal h line))
+  where
+    by_refusal : (h : History) (r : Option Answer) → senders (act_taken r h line) ≡ []
+    by_refusal h None = sends h
+    by_refusal h (Some word) = none_waits h
 
 -- ---- the loop
 

@@ -4,6 +4,7 @@ pub mod HeldLemmas
 pub mod FeedLemmas
 pub mod StreamLemmas
 pub mod ProgramLemmas
+pub mod WaitingLemmas
 pub mod DeliveryLemmas
 pub mod EngineLemmas
 pub mod TallyLemmas

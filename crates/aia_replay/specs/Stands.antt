@@ -1,6 +1,6 @@
 -- When a machine, and the engine, stand for a history: the core for the history, the APLIC for the
 -- past that the history is to it. Vocabulary.
-use Rattle.std.specs.Prelude.{◌≡◌, true, [], Option, Some, None, MatchOption}
+use Rattle.std.specs.Prelude.{◌≡◌, true, false, [], Option, Some, None, MatchOption}
 use Rattle.aia_model.specs.declared.answer.Answer.{Answer}
 use Rattle.aia_model.specs.declared.line.Line.{Line}
 use Rattle.aia_model.specs.declared.parsed.Parsed.{Parsed}
@@ -13,12 +13,14 @@ use Rattle.aia_model.specs.Event.Event.{Accepted}
 use Rattle.aia_model.specs.Aim.{aimed_by}
 use Rattle.aia_model.specs.Histories.{IsHistory}
 use Rattle.aia_model.specs.PassesStand.{AreForwards}
-use Rattle.aia_model.specs.Sent.{with_act, acts_of, with_all_sent, waiting_msis}
+use Rattle.aia_model.specs.declared.sender.Sender.{Sender}
+use Rattle.aia_model.specs.Sent.{with_act, acts_of, senders, with_all_sent, waiting_msis}
 use Rattle.aia_model.specs.Refusal.{refusal, makes_machine}
 use Rattle.aia_model.specs.Answer.{answer, after, line_taken, delivered}
 use Rattle.aia_model.specs.Script.{text_answer, after_text}
 use Rattle.aia_hyp_values.specs.Stands.{CoreStands, line_served}
 use Rattle.aia_aplic_values.specs.Aplic.{AplicStands}
+use Rattle.aia_aplic_values.specs.Sending.{does_wait}
 use Rattle.aia_replay.specs.declared.machine.Machine.{Machine}
 
 -- ---- a machine
@@ -67,6 +69,14 @@ pub record CanDeliverSome (m : Machine) : Type 0 where
   pub events : History
   pub acts : Past
   pub can : CanDeliver m events acts
+
+-- A line that, where it is accepted, has no MSI wait: none waited before it, as before any line.
+abbrev pub SendsNone : Line → Type 0
+SendsNone line = (h : History) → senders (act_taken None h line) ≡ []
+
+-- No MSI waits in a machine.
+abbrev pub NoneWaits : Machine → Type 0
+NoneWaits m = (sender : Sender) → does_wait m.wires.aplic sender ≡ false
 
 -- All MSIs that wait are delivered.
 abbrev pub Delivers : Machine → Machine → Type 0

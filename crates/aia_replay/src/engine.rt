@@ -1,4 +1,4 @@
-ghost use Rattle.std.specs.Prelude.{◌≡◌, ◌↔◌, ◌-◌, ◌^◌, min, [], None, IsTrue, IsNone, IfOk, OnOk, OnErr};
+ghost use Rattle.std.specs.Prelude.{◌≡◌, ◌↔◌, ◌-◌, ◌^◌, min, [], None, IsTrue, IsNone, IfOk, OnErr, if◌then◌else◌};
 ghost use Rattle.aia_model.specs.Forms.{IsListed};
 ghost use Rattle.aia_model.specs.Text.{is_skipped};
 ghost use Rattle.aia_model.specs.Event.{History};
@@ -39,6 +39,7 @@ impl Engine {
     /// Answers a line. `Err` is want of memory, which only an accepted `machine` line takes: no
     /// machine stands then, and all is as before. After a refused line it stands for the same
     /// history. The line's CSR is one that lines of its form name.
+    #[inline(always)]
     pub fn line(&mut self, alloc: Global, line: &Line) -> Result<Answer, AllocError>
         requires { IsListed line.now }
         ensures serves { IfOk result (Serves self.old self.new line.now) }
@@ -46,37 +47,14 @@ impl Engine {
         ensures none { OnErr result (StandsFor self.new []) }
         ensures memory { OnErr result (WantsMachine self.old line.now) }
     {
-        let mut answer = Answer::Okay;
-        self.answer(alloc, line, &mut answer)?;
-        Ok(answer)
-    }
-
-    /// Answers a line as [`Engine::line`] does, and puts the answer where it is read, which spares
-    /// copies of it.
-    #[inline(always)]
-    pub fn answer(
-        &mut self,
-        alloc: Global,
-        line: &Line,
-        answer: &mut Answer,
-    ) -> Result<(), AllocError>
-        requires { IsListed line.now }
-        ensures serves { OnOk result (Serves self.old self.new line.now answer.new) }
-        ensures err { OnErr result (self.new ≡ self.old) }
-        ensures kept { OnErr result (answer.new ≡ answer.old) }
-        ensures none { OnErr result (StandsFor self.new []) }
-        ensures memory { OnErr result (WantsMachine self.old line.now) }
-    {
         match &mut self.machine {
-            Some(machine) => machine.line(line, answer),
-            None => *answer = self.first_line(alloc, line)?,
+            Some(machine) => Ok(machine.line(line)),
+            None => self.first_line(alloc, line),
         }
-        Ok(())
     }
 
     /// Answers a line where no machine stands.
-    #[cold]
-    #[inline(never)]
+    #[inline(always)]
     fn first_line(&mut self, alloc: Global, line: &Line) -> Result<Answer, AllocError>
         requires { self.old ≡ None }
         ensures serves { IfOk result (Serves self.old self.new line.now) }
@@ -93,11 +71,39 @@ impl Engine {
         else {
             return Ok(Answer::NoMachine);
         };
+        if self.begin(alloc, harts, guests, n, sources)? {
+            Ok(Answer::Okay)
+        } else {
+            Ok(Answer::Refused(Refusal::Range))
+        }
+    }
+
+    /// Makes the machine of these numbers, where none stands. `false` exactly where a machine may
+    /// not have them, and `Err` is want of memory; none is made then.
+    #[cold]
+    #[inline(never)]
+    fn begin(
+        &mut self,
+        alloc: Global,
+        harts: u64,
+        guests: u64,
+        n: u64,
+        sources: u64,
+    ) -> Result<bool, AllocError>
+        requires { self.old ≡ None }
+        ensures serves { IfOk result (λ made. Serves self.old self.new
+            (Line.Machine harts guests n sources)
+            (if made then Answer.Okay else Answer.Refused Refusal.Range)) }
+        ensures err { OnErr result (self.new ≡ self.old) }
+        ensures none { OnErr result (StandsFor self.new []) }
+        ensures memory { OnErr result
+            (WantsMachine self.old (Line.Machine harts guests n sources)) }
+    {
         let Some(machine) = Machine::of_size(alloc, harts, guests, n, sources)? else {
-            return Ok(Answer::Refused(Refusal::Range));
+            return Ok(false);
         };
         let _ = self.machine.insert(machine);
-        Ok(Answer::Okay)
+        Ok(true)
     }
 
     /// Tells how many notices were sent, 0 where no machine stands; the count stays at `2^64 - 1`.
@@ -123,11 +129,7 @@ impl Engine {
         ensures memory { OnErr result (ReadsAsMachine self.old (reading text.now)) }
     {
         match parse_line(text) {
-            Parsed::Line(line) => {
-                let mut answer = Answer::Okay;
-                self.answer(alloc, &line, &mut answer)?;
-                Ok(Some(answer))
-            }
+            Parsed::Line(line) => Ok(Some(self.line(alloc, &line)?)),
             Parsed::Skip => Ok(None),
             Parsed::Bad => Ok(Some(Answer::Bad)),
         }

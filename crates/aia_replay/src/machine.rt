@@ -1,4 +1,4 @@
-ghost use Rattle.std.specs.Prelude.{◌≡◌, ◌∷◌, ℕ, ◌≤◌, ◌-◌, ◌^◌, min, [], true, None, Some, is_some, IfOk, OnErr, IfSome};
+ghost use Rattle.std.specs.Prelude.{◌≡◌, ◌∷◌, ℕ, ◌≤◌, ◌-◌, ◌^◌, min, [], true, None, Some, is_some, IfOk, OnErr, IfSome, IsFalse};
 ghost use Rattle.aia_csr.specs.CsrAccess.{IsInTable};
 ghost use Rattle.aia_file.specs.InterruptFile.{is_greatest_identity};
 ghost use Rattle.aia_model.specs.Forms.{IsListed};
@@ -10,7 +10,7 @@ ghost use Rattle.aia_model.specs.Act.Act.{Made};
 ghost use Rattle.aia_model.specs.Refusal.{is_machine_size};
 ghost use Rattle.aia_hyp_values.specs.HostFiles.{IsHost, csr_line};
 ghost use Rattle.aia_hyp_values.specs.Stands.{answer_by};
-ghost use Rattle.aia_replay.specs.Stands.{MachineHolds, MachineStands, EngineStandsForSome, CanDeliverSome, MachineTakes, MachineServes, Delivers};
+ghost use Rattle.aia_replay.specs.Stands.{MachineHolds, MachineStands, EngineStandsForSome, CanDeliverSome, MachineTakes, MachineServes, SendsNone, NoneWaits, Delivers};
 ghost use Rattle.aia_aplic_values.specs.Aplic.{AplicStands};
 ghost use Rattle.aia_model.specs.SourceOf.{is_source};
 ghost use Rattle.aia_model.specs.Passes.{has_passes};
@@ -63,13 +63,14 @@ impl Machine {
     /// Answers a line after the one that made this machine. All MSIs that wait then are sent and
     /// land before it returns.
     #[inline(always)]
-    pub fn line(&mut self, line: &Line, answer: &mut Answer)
+    pub fn line(&mut self, line: &Line) -> Answer
         requires listed { IsListed line.now }
         requires stands { EngineStandsForSome self.old }
-        ensures { MachineServes self.old self.new line.now answer.new }
+        ensures { MachineServes self.old self.new line.now result }
     {
-        self.serve(line, answer);
-        self.deliver();
+        let answer = self.serve(line);
+        self.deliver_after(line);
+        answer
     }
 
     /// Tells how many notices were sent; the count stays at `2^64 - 1`.
@@ -82,12 +83,12 @@ impl Machine {
 
     /// Answers it, and does what it does itself.
     #[inline(always)]
-    fn serve(&mut self, line: &Line, answer: &mut Answer)
+    fn serve(&mut self, line: &Line) -> Answer
         requires listed { IsListed line.now }
         requires stands { EngineStandsForSome self.old }
-        ensures { MachineTakes self.old self.new line.now answer.new }
+        ensures { MachineTakes self.old self.new line.now result }
     {
-        *answer = match *line {
+        match *line {
             Line::Machine { .. } => Answer::Again,
             Line::Vm { vcpus, mask, hart } => self.vm(vcpus, mask, hart),
             Line::Wire { source, level } => self.wire(source, level),
@@ -130,7 +131,19 @@ impl Machine {
             Line::Hviprio { vm, vcpu, value } => self.hviprio(vm, vcpu, value),
             Line::Pins { hart } => self.pins(hart),
             Line::Entry { w0, w1 } => self.entry(w0, w1),
-        };
+        }
+    }
+
+    /// Sends all MSIs that wait after a line, each of which the core hears.
+    #[inline(always)]
+    fn deliver_after(&mut self, line: &Line)
+        requires can { CanDeliverSome self.old }
+        requires none { SendsNone line.now → NoneWaits self.old }
+        ensures { Delivers self.old self.new }
+    {
+        if may_send(line) {
+            self.deliver();
+        }
     }
 
     /// Sends all MSIs that wait, each of which the core hears.
@@ -156,6 +169,7 @@ impl Machine {
     }
 
     /// Passes a wired source to a virtual hart, by the core; `Range` where the source isn't there.
+    #[inline(always)]
     fn pass(&mut self, source: u64, vm: u64, vcpu: u64, identity: u64) -> Answer
         requires { EngineStandsForSome self.old }
         ensures { MachineTakes self.old self.new (Line.Pass source vm vcpu identity) result }
@@ -170,6 +184,7 @@ impl Machine {
     }
 
     /// Moves a virtual hart, by all steps of its move.
+    #[inline(always)]
     fn whole_move(&mut self, vm: u64, vcpu: u64, want: Want) -> Answer
         requires { EngineStandsForSome self.old }
         ensures { MachineTakes self.old self.new (Line.Move vm vcpu want) result }
@@ -178,6 +193,7 @@ impl Machine {
     }
 
     /// Does the next step of the move of a virtual hart.
+    #[inline(always)]
     fn step(&mut self, vm: u64, vcpu: u64) -> Answer
         requires { EngineStandsForSome self.old }
         ensures { MachineTakes self.old self.new (Line.Step vm vcpu) result }
@@ -190,6 +206,7 @@ impl Machine {
     }
 
     /// Tells what an entry of an MSI page table says.
+    #[inline(always)]
     fn entry(&self, w0: u64, w1: u64) -> Answer
         ensures { MachineTakes self.now self.now (Line.Entry w0 w1) result }
     {
@@ -252,26 +269,27 @@ impl Machine {
     {
         match domain_at(addr) {
             None => okay(self.core.store(addr, value)),
-            Some(name) => self.store_register(name, addr, value),
+            Some(name) => okay(self.store_register(name, addr, value)),
         }
     }
 
     /// Stores to a register of a domain in whose control region the address lies; `Fault` where it
     /// is no multiple of 4, `Guarded` where the store would redirect the MSIs of passed sources.
-    fn store_register(&mut self, name: DomainName, addr: u64, value: u32) -> Answer
+    fn store_register(&mut self, name: DomainName, addr: u64, value: u32) -> Result<(), Refusal>
         requires named { domain_at addr ≡ Some name }
         requires stands { EngineStandsForSome self.old }
-        ensures { MachineTakes self.old self.new (Line.Store addr value) result }
+        ensures { MachineTakes self.old self.new (Line.Store addr value)
+            (answer_by (λ _. Answer.Okay) result) }
     {
         if addr % 4 != 0 {
-            return Answer::Refused(Refusal::Fault);
+            return Err(Refusal::Fault);
         }
         let offset = (addr % REGION) as u32;
         if self.core.passes() > 0 && self.redirects(name, domain_reg(offset), value) {
-            return Answer::Refused(Refusal::Guarded);
+            return Err(Refusal::Guarded);
         }
         self.wires.aplic.store(name, offset, value);
-        Answer::Okay
+        Ok(())
     }
 
     /// Tells whether a store to a register of a domain would redirect the MSIs of passed sources,
@@ -296,6 +314,7 @@ impl Machine {
     }
 
     /// Tells the four signals of a hart; `Range` where the hart isn't there.
+    #[inline(always)]
     fn pins(&self, hart: u64) -> Answer
         ensures { MachineTakes self.now self.now (Line.Pins hart) result }
     {
@@ -315,6 +334,7 @@ impl Machine {
 #[tactic(auto, using(crate::proofs::MachineLemmas::core_line))]
 impl Machine {
     /// Makes the next VM, by the core.
+    #[inline(always)]
     fn vm(&mut self, vcpus: u64, mask: u64, hart: u64) -> Answer
         ensures { MachineTakes self.old self.new (Line.Vm vcpus mask hart) result }
     {
@@ -330,6 +350,7 @@ impl Machine {
     }
 
     /// Sends a store of a device of a VM, by the core.
+    #[inline(always)]
     fn send(&mut self, vm: u64, addr: u64, value: u32) -> Answer
         ensures { MachineTakes self.old self.new (Line.Send vm addr value) result }
     {
@@ -337,6 +358,7 @@ impl Machine {
     }
 
     /// Lands a store in flight, by the core.
+    #[inline(always)]
     fn land(&mut self, vm: u64, k: u64) -> Answer
         ensures { MachineTakes self.old self.new (Line.Land vm k) result }
     {
@@ -344,6 +366,7 @@ impl Machine {
     }
 
     /// Has the entry of a virtual hart read again, by the core.
+    #[inline(always)]
     fn refetch(&mut self, vm: u64, vcpu: u64) -> Answer
         ensures { MachineTakes self.old self.new (Line.Refetch vm vcpu) result }
     {
@@ -351,6 +374,7 @@ impl Machine {
     }
 
     /// Tells which guest files of a hart signal.
+    #[inline(always)]
     fn hgeip(&self, hart: u64) -> Answer
         ensures { MachineTakes self.now self.now (Line.Hgeip hart) result }
     {
@@ -358,6 +382,7 @@ impl Machine {
     }
 
     /// Does a CSR instruction of a virtual hart.
+    #[inline(always)]
     fn guest(&mut self, vm: u64, vcpu: u64, csr: Csr, op: Op) -> Answer
         ensures { MachineTakes self.old self.new (Line.GuestCsr vm vcpu csr op) result }
     {
@@ -365,6 +390,7 @@ impl Machine {
     }
 
     /// Takes a store of a virtual hart for one of its VM, by the core.
+    #[inline(always)]
     fn ipi(&mut self, vm: u64, vcpu: u64, to: u64, value: u32) -> Answer
         ensures { MachineTakes self.old self.new (Line.Ipi vm vcpu to value) result }
     {
@@ -372,6 +398,7 @@ impl Machine {
     }
 
     /// Begins to move a virtual hart.
+    #[inline(always)]
     fn begin_move(&mut self, vm: u64, vcpu: u64, want: Want) -> Answer
         ensures { MachineTakes self.old self.new (Line.Begin vm vcpu want) result }
     {
@@ -379,6 +406,7 @@ impl Machine {
     }
 
     /// Has a virtual hart run from memory, by the core.
+    #[inline(always)]
     fn enter(&mut self, vm: u64, vcpu: u64) -> Answer
         ensures { MachineTakes self.old self.new (Line.Enter vm vcpu) result }
     {
@@ -386,6 +414,7 @@ impl Machine {
     }
 
     /// Has a virtual hart cease to run from memory, by the core.
+    #[inline(always)]
     fn exit(&mut self, vm: u64, vcpu: u64) -> Answer
         ensures { MachineTakes self.old self.new (Line.Exit vm vcpu) result }
     {
@@ -393,6 +422,7 @@ impl Machine {
     }
 
     /// Gives a part of the image of a virtual hart, by the core.
+    #[inline(always)]
     fn save(&self, vm: u64, vcpu: u64, k: u64) -> Answer
         ensures { MachineTakes self.now self.now (Line.Save vm vcpu k) result }
     {
@@ -400,6 +430,7 @@ impl Machine {
     }
 
     /// Loads a part of an image into a virtual hart, by the core.
+    #[inline(always)]
     fn load_part(&mut self, vm: u64, vcpu: u64, part: &Part) -> Answer
         ensures { MachineTakes self.old self.new (Line.LoadPart vm vcpu part.now) result }
     {
@@ -407,6 +438,7 @@ impl Machine {
     }
 
     /// Gives a major interrupt of a virtual hart a level in `hvip`, by the core.
+    #[inline(always)]
     fn inject(&mut self, vm: u64, vcpu: u64, bit: u64, level: bool) -> Answer
         ensures { MachineTakes self.old self.new (Line.Inject vm vcpu bit level) result }
     {
@@ -414,6 +446,7 @@ impl Machine {
     }
 
     /// Writes `hvictl` of a virtual hart, by the core.
+    #[inline(always)]
     fn hvictl(&mut self, vm: u64, vcpu: u64, value: u64) -> Answer
         ensures { MachineTakes self.old self.new (Line.Hvictl vm vcpu value) result }
     {
@@ -421,6 +454,7 @@ impl Machine {
     }
 
     /// Writes `hviprio1` of a virtual hart, by the core.
+    #[inline(always)]
     fn hviprio(&mut self, vm: u64, vcpu: u64, value: u64) -> Answer
         ensures { MachineTakes self.old self.new (Line.Hviprio vm vcpu value) result }
     {
@@ -465,17 +499,36 @@ fn wide(given: Result<u64, Refusal>) -> Answer
     given.map_or_else(Answer::Refused, Answer::Wide)
 }
 
+/// Tells whether an MSI may wait after a line. It says so of rare lines too, after which none does.
+#[inline(always)]
+#[tactic(auto, using(crate::proofs::WaitingLemmas::load_sends_none, crate::proofs::WaitingLemmas::silent_sends_none))]
+fn may_send(line: &Line) -> bool
+    ensures { IsFalse result → SendsNone line.now }
+{
+    match *line {
+        Line::Store { addr, .. } => domain_at(addr).is_some(),
+        Line::Load { .. }
+        | Line::Msi { .. }
+        | Line::MachineCsr { .. }
+        | Line::HostCsr { .. }
+        | Line::GuestCsr { .. } => false,
+        _ => true,
+    }
+}
+
 /// Gives the domain in whose control region the address lies, `None` in none.
+#[inline(always)]
 fn domain_at(addr: u64) -> Option<DomainName>
     ensures { result ≡ domain_at addr }
 {
-    if (ROOT_DOMAIN..ROOT_DOMAIN + REGION).contains(&addr) {
-        Some(DomainName::Root)
-    } else if (ROOT_DOMAIN + REGION..ROOT_DOMAIN + 2 * REGION).contains(&addr) {
-        Some(DomainName::Child)
-    } else {
-        None
+    if !(ROOT_DOMAIN..ROOT_DOMAIN + 2 * REGION).contains(&addr) {
+        return None;
     }
+    Some(if addr < ROOT_DOMAIN + REGION {
+        DomainName::Root
+    } else {
+        DomainName::Child
+    })
 }
 
 /// Tells whether a machine may have these numbers.

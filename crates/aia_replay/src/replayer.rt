@@ -63,8 +63,7 @@ impl Replayer {
     {
         match read {
             Parsed::Line(line) => {
-                let mut answer = Answer::Bad;
-                self.engine.answer(alloc, line, &mut answer)?;
+                let answer = self.engine.line(alloc, line)?;
                 self.out.add_answer(sink, &answer)?;
             }
             Parsed::Skip => {}

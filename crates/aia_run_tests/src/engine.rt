@@ -17,15 +17,6 @@ fn serves(alloc: Global, engine: &mut Engine, line: &Line) -> Result<Answer, All
     engine.line(alloc, line)
 }
 
-/// Takes a line whose answer is put in a place.
-fn answers(alloc: Global, engine: &mut Engine, line: &Line) -> Result<Answer, AllocError>
-    requires { IsListed line.now }
-{
-    let mut answer = Answer::Again;
-    engine.answer(alloc, line, &mut answer)?;
-    Ok(answer)
-}
-
 /// Takes the text of a line.
 fn reads(alloc: Global, engine: &mut Engine, text: &str) -> Result<Option<Answer>, AllocError> {
     engine.text(alloc, text.as_bytes())
@@ -57,8 +48,6 @@ fn converses(rt: &impl Abort, alloc: Global, engine: &mut Engine) -> Result<(), 
         op: Op::Write(0),
     };
     same!(rt; serves(alloc, engine, &claim)?, Answer::Wide(0x5_0005));
-    same!(rt; answers(alloc, engine, &store)?, Answer::Okay);
-    same!(rt; answers(alloc, engine, &claim)?, Answer::Wide(0x5_0005));
     same!(rt; serves(alloc, engine, &claim)?, Answer::Wide(0));
     Ok(())
 }
