@@ -7,7 +7,7 @@ ghost use Rattle.aia_c.specs.Codes.{narrow_of, wide_of, pins_of};
 
 use crate::access::hart_access;
 use crate::handle::Handle;
-use crate::serve::{access, fetch, number_of, pins_in, read, serve};
+use crate::serve::{access, narrow_in, number_of, pins_in, read, serve};
 use aia_model::Line;
 use std::alloc::Global;
 
@@ -73,7 +73,10 @@ pub extern "C" fn aia_load(handle: &mut Handle, addr: u64, value: &mut u32, allo
     ensures { Fetches narrow_of handle.old.engine handle.new.engine (Line.Load addr)
         result value.new }
 {
-    fetch(handle, &Line::Load { addr }, value, alloc)
+    let line = Line::Load { addr };
+    let given = serve(handle, &line, alloc);
+    *value = narrow_in(&given);
+    number_of(given)
 }
 
 /// Gives the signals of a hart, as `pins H`: the bits 1 of the APLIC's root domain, 2 of its child,

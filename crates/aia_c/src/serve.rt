@@ -37,6 +37,26 @@ pub fn number_of(given: Result<Answer, Code>) -> i32
     }
 }
 
+/// Gives what a load read, 0 where it was not served or its answer has no 32 bits.
+pub fn narrow_in(given: &Result<Answer, Code>) -> u32
+    ensures { result ≡ read_in narrow_of given.now }
+{
+    match given {
+        Ok(Answer::Narrow(value)) => *value,
+        _ => 0,
+    }
+}
+
+/// Gives what a CSR read, 0 where it was not served or its answer has no 64 bits.
+fn wide_in(given: &Result<Answer, Code>) -> u64
+    ensures { result ≡ read_in wide_of given.now }
+{
+    match given {
+        Ok(Answer::Wide(value)) => *value,
+        _ => 0,
+    }
+}
+
 /// Gives a signal as a bit of a value.
 fn bit_at(place: u32, level: bool) -> u32
     ensures value { result ≡ bit_at place level }
@@ -57,44 +77,6 @@ pub fn pins_in(given: &Result<Answer, Code>) -> u32
     }
 }
 
-/// Gives what a load read, 0 where it was not served or its answer has no 32 bits, and the number
-/// of the code.
-#[inline(always)]
-fn narrow_in(given: Result<Answer, Code>) -> (u32, i32)
-    ensures value { result.0 ≡ read_in narrow_of given }
-    ensures code { result.1 ≡ number_of given }
-{
-    match given {
-        Ok(Answer::Narrow(value)) => (value, Code::Done.number()),
-        given => (0, number_of(given)),
-    }
-}
-
-/// Gives what a CSR read, 0 where it was not served or its answer has no 64 bits, and the number of
-/// the code.
-#[inline(always)]
-fn wide_in(given: Result<Answer, Code>) -> (u64, i32)
-    ensures value { result.0 ≡ read_in wide_of given }
-    ensures code { result.1 ≡ number_of given }
-{
-    match given {
-        Ok(Answer::Wide(value)) => (value, Code::Done.number()),
-        given => (0, number_of(given)),
-    }
-}
-
-/// Serves a line that loads, and gives what was read, 0 where nothing was.
-#[inline(always)]
-pub fn fetch(handle: &mut Handle, line: &Line, value: &mut u32, alloc: Global) -> i32
-    requires listed { IsListed line.now }
-    requires plain { makes_machine [] line.now ≡ false }
-    ensures { Fetches narrow_of handle.old.engine handle.new.engine line.now result value.new }
-{
-    let (read, code) = narrow_in(serve(handle, line, alloc));
-    *value = read;
-    code
-}
-
 /// Serves a line that reads a CSR, and gives what was read, 0 where nothing was.
 #[inline(always)]
 pub fn read(handle: &mut Handle, line: &Line, value: &mut u64, alloc: Global) -> i32
@@ -102,9 +84,9 @@ pub fn read(handle: &mut Handle, line: &Line, value: &mut u64, alloc: Global) ->
     requires plain { makes_machine [] line.now ≡ false }
     ensures { Fetches wide_of handle.old.engine handle.new.engine line.now result value.new }
 {
-    let (read, code) = wide_in(serve(handle, line, alloc));
-    *value = read;
-    code
+    let given = serve(handle, line, alloc);
+    *value = wide_in(&given);
+    number_of(given)
 }
 
 /// Does so with a line that numbers named; `None` is no line, and has a code of its own.
