@@ -62,7 +62,7 @@ static void device_free(struct device *device)
 /* Where the device answers on the bus: the files of both levels, and the APLIC's two domains. */
 static bool is_mine(uint64_t addr)
 {
-    return (addr >= 0x0c000000 && addr < 0x0c00c000) ||
+    return (addr >= 0x0c000000 && addr < 0x0c010000) ||
            (addr >= 0x24000000 && addr < 0x24000000 + HARTS * 0x1000) ||
            (addr >= 0x28000000 && addr < 0x28000000 + HARTS * 0x20000);
 }
