@@ -33,16 +33,17 @@ use Rattle.aia_replay.specs.Stands.{SendsNone, act_taken}
 
 -- ---- what waits is among what has an MSI to send
 
--- a pending source is one that is there, which no source 0 is
+-- no source 0 is pending, so what is forwarded is there
 both_end : (a b c : Bool) → c ≡ false → (d : Bool) → (a && b && c && d) ≡ false
 both_end true true c e d = ap (λ x. x && d) e
 both_end true false c e d = refl
 both_end false b c e d = refl
 
-numbered : (past : Past) (name : DomainName) (s : ℕ) → forwards past name s ≡ true → 1 ≤ s
-numbered past name zero ready = absurd (false≢true (sym (both_end (delivers_by_msis past name) (is_on past name) (pending past name 0)
+is_there : (past : Past) (name : DomainName) (s : ℕ) → s ≤ sources_in past → forwards past name s ≡ true
+    → Contains (all_senders (sources_in past)) (BySource name s)
+is_there past name zero few ready = absurd (false≢true (sym (both_end (delivers_by_msis past name) (is_on past name) (pending past name 0)
     ((source-idle past name 0).pending (mode-zero past name)) (enabled past name 0)) ∙ ready))
-numbered past name (suc s) ready = omega arith
+is_there past name (suc s) few ready = all_sources (sources_in past) name (suc s) (omega arith) few
 
 has_none : {A : Type 0} (past : Past) (sender : Sender) → senders past ≡ [] → Contains (all_senders (sources_in past)) sender
     → has_msi past sender ≡ true → A
@@ -61,11 +62,11 @@ none_does_wait a past stands none sender = elim (cases_Bool (does_wait a sender)
     waits (BySource Root s) is =
         let low : s < suc (sources_in past) = subst (λ n. s < n) stands.root.domain.count (ready_within a.root.domain s is) in
         let ready : forwards past Root s ≡ true = sym (ready_is a.root.domain past Root s stands.root.domain low) ∙ is in
-        has_none past (BySource Root s) none (all_sources (sources_in past) Root s (numbered past Root s ready) (omega (arith, low))) ready
+        has_none past (BySource Root s) none (is_there past Root s (omega (arith, low)) ready) ready
     waits (BySource Child s) is =
         let low : s < suc (sources_in past) = subst (λ n. s < n) stands.child.domain.count (ready_within a.child.domain s is) in
         let ready : forwards past Child s ≡ true = sym (ready_is a.child.domain past Child s stands.child.domain low) ∙ is in
-        has_none past (BySource Child s) none (all_sources (sources_in past) Child s (numbered past Child s ready) (omega (arith, low))) ready
+        has_none past (BySource Child s) none (is_there past Child s (omega (arith, low)) ready) ready
 
 -- ---- a load makes nothing wait
 

@@ -21,7 +21,7 @@ NAMES = {"funct": "op"}
 # What a CSR is called behind the letter of its level, and the letter of each kind of line.
 CSRS = {"Select": "ISELECT", "Reg": "IREG", "Topei": "TOPEI", "Topi": "TOPI", "Sip": "IP",
         "Sie": "IE"}
-LEVELS = {"MachineCsr": "M", "HostCsr": "S"}
+LEVELS = {"Machine": "M", "Host": "S"}
 OPS = {"Read": "CSRR", "Write": "CSRRW", "Set": "CSRRS", "Clear": "CSRRC"}
 
 
@@ -118,8 +118,8 @@ def instructions() -> dict[str, int]:
 def addresses() -> dict[str, int]:
     """Gives the address of each CSR of a hart or of a virtual hart, by its name in the header."""
     found = {}
-    for number, gives in numbered("hart_line"):
-        found[LEVELS[gives[0]] + CSRS[gives[2]]] = number
+    for number, gives in numbered("hart_csr"):
+        found[LEVELS[gives[1]] + CSRS[gives[2]]] = number
     for number, gives in numbered("guest_csr"):
         found["S" + CSRS[gives[0]]] = number
     return found
