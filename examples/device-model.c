@@ -8,7 +8,6 @@
 
 #include <inttypes.h>
 #include <stdio.h>
-#include <string.h>
 
 /* ---- the device */
 
@@ -42,16 +41,17 @@ static void tell_signals(struct device *device)
 
 static bool device_reset(struct device *device)
 {
-    aia_close(&device->model);
-    memset(device->pins, 0, sizeof device->pins);
-    return aia_open(&device->model) == AIA_DONE &&
-           aia_machine(&device->model, HARTS, 0, GREATEST, SOURCES) == AIA_DONE;
+    aia_reset(&device->model);
+    if (aia_machine(&device->model, HARTS, 0, GREATEST, SOURCES) != AIA_DONE)
+        return false;
+    tell_signals(device); /* set_wire comes next, for each wire that is high */
+    return true;
 }
 
 static bool device_new(struct device *device, signal_changed *changed, void *emulator)
 {
     *device = (struct device){.changed = changed, .emulator = emulator};
-    return device_reset(device);
+    return aia_open(&device->model) == AIA_DONE && device_reset(device);
 }
 
 static void device_free(struct device *device)
